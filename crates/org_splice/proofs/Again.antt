@@ -1,0 +1,141 @@
+-- Laying twice is laying once, also where only a part of the work was done the first time.
+use Rattle.std.proofs.Common.{◌≡◌, ◌⊎◌, inl, inr, ⊎_elim, ℕ, zero, suc, ◌+◌, ◌-◌, ◌<◌, ◌≤◌, min, List, [], ◌∷◌, length, get_or, take, drop, Some, refl, sym, ◌∙◌, ap, subst, arith, length-drop, length-take}
+use Rattle.std.specs.Prelude.{slice_get}
+use Rattle.std.proofs.lemmas.Bool.{cases_lt}
+use Rattle.std.proofs.lemmas.List.{get_or-drop, get_or-take}
+use Rattle.org_splice.specs.Patches.{lay_at, end_of, last_end, Rise, AreWellFormed, BeginWithin, Fit, LayTo, IsOutside, IsPartlyLaid}
+use Rattle.org_splice.proofs.Laying.{length-lay_at, lay_at-outside, last_end-place, length-lay, lay-outside, lay-same}
+
+-- Patches that fit a text of one size, and another size
+
+-- what begins within a text of one size begins within one of another, if that is no shorter or reaches the final length
+begin_shorter : (size other final place : ℕ) (patches : List (ℕ × List ℕ)) → min size final ≤ other → Rise place patches → last_end place patches ≤ final → BeginWithin size place patches → BeginWithin other place patches
+begin_shorter size other final place [] long rise within begin = tt
+begin_shorter size other final place (patch ∷ patches) long rise within begin =
+    let later : end_of patch ≤ last_end (end_of patch) patches = last_end-place (end_of patch) patches rise.1 in
+    (omega (arith, begin.0, long, within, later), begin_shorter size other final (end_of patch) patches long rise.1 within begin.1)
+
+pub Fit-between : (patches : List (ℕ × List ℕ)) (final size other : ℕ) → Rise 0 patches → last_end 0 patches ≤ final → min size final ≤ other → Fit patches final size → Fit patches final other
+Fit-between patches final size other rise within long fit = record {
+  begin = begin_shorter size other final 0 patches long rise within fit.begin;
+  ends = omega (arith, fit.ends, long);
+}
+
+-- the sizes don't matter to the patches that begin behind them
+begin_behind : (size other place : ℕ) (patches : List (ℕ × List ℕ)) → size ≤ place → Rise place patches → BeginWithin size place patches → BeginWithin other place patches
+begin_behind size other place [] short rise begin = tt
+begin_behind size other place (patch ∷ patches) short rise begin =
+    (omega (arith, begin.0, short), begin_behind size other (end_of patch) patches (omega (arith, rise.0, short)) rise.1 begin.1)
+
+-- one of these patches lies between the first place and the last end
+inside_all : (place : ℕ) (patches : List (ℕ × List ℕ)) (k from : ℕ) (bytes : List ℕ) → Rise place patches → slice_get patches k ≡ Some (from, bytes) → (place ≤ from) × (from + length bytes ≤ last_end place patches)
+inside_all place [] k from bytes rise is = cc
+inside_all place (patch ∷ patches) zero from bytes rise is =
+    let same : patch ≡ (from, bytes) = cc in
+    let start : patch.0 ≡ from = ap (λ (p : ℕ × List ℕ). p.0) same in
+    let long : length patch.1 ≡ length bytes = ap (λ (p : ℕ × List ℕ). length p.1) same in
+    (omega (arith, rise.0, start), omega (arith, start, long, last_end-place (end_of patch) patches rise.1))
+inside_all place (patch ∷ patches) (suc k) from bytes rise is =
+    let rest = inside_all (end_of patch) patches k from bytes rise.1 is in
+    (omega (arith, rest.0, rise.0), rest.1)
+
+-- a position outside all of them is outside this one
+outside_one : (patches : List (ℕ × List ℕ)) (k from : ℕ) (bytes : List ℕ) (i : ℕ) → slice_get patches k ≡ Some (from, bytes) → IsOutside patches i → (i < from) ⊎ (from + length bytes ≤ i)
+outside_one [] k from bytes i is outside = cc
+outside_one (patch ∷ patches) zero from bytes i is outside =
+    let same : patch ≡ (from, bytes) = cc in
+    let P : ℕ × List ℕ → Type 0 = λ p. (i < p.0) ⊎ (p.0 + length p.1 ≤ i) in
+    subst P same outside.0
+outside_one (patch ∷ patches) (suc k) from bytes i is outside = outside_one patches k from bytes i is outside.1
+
+-- two sizes within one of these patches are as good as one another
+begin_at : (size other place : ℕ) (patches : List (ℕ × List ℕ)) (k from : ℕ) (bytes : List ℕ) → slice_get patches k ≡ Some (from, bytes) → size ≤ from + length bytes → from ≤ other → Rise place patches
+    → BeginWithin size place patches → BeginWithin other place patches
+begin_at size other place [] k from bytes is short long rise begin = tt
+begin_at size other place (patch ∷ patches) zero from bytes is short long rise begin =
+    let same : patch ≡ (from, bytes) = cc in
+    let start : patch.0 ≡ from = ap (λ (p : ℕ × List ℕ). p.0) same in
+    let size_of : length patch.1 ≡ length bytes = ap (λ (p : ℕ × List ℕ). length p.1) same in
+    (omega (arith, start, long), begin_behind size other (end_of patch) patches (omega (arith, short, start, size_of)) rise.1 begin.1)
+begin_at size other place (patch ∷ patches) (suc k) from bytes is short long rise begin =
+    (omega (arith, (inside_all (end_of patch) patches k from bytes rise.1 is).0, long), begin_at size other (end_of patch) patches k from bytes is short long rise.1 begin.1)
+
+-- Texts on which a part of the work may have been done
+
+pub IsPartlyLaid-refl : (patches : List (ℕ × List ℕ)) (final : ℕ) (text : List ℕ) → IsPartlyLaid patches final text text
+IsPartlyLaid-refl patches final text = record { no_shorter = omega arith; no_longer = omega arith; same = λ i below outside. refl }
+
+-- They take the same patches to the same text.
+pub LayTo-partly : (patches : List (ℕ × List ℕ)) (final : ℕ) (text part to : List ℕ) → AreWellFormed patches final → IsPartlyLaid patches final text part → LayTo patches final text to → LayTo patches final part to
+LayTo-partly patches final text part to formed partly lays =
+    let fit : Fit patches final (length part) = Fit-between patches final (length text) (length part) formed.rise formed.within partly.no_shorter lays.fit in
+    record { fit = fit; makes = lay-same patches final part text formed.rise fit lays.fit partly.same ∙ lays.makes }
+
+-- so does the text that they make: laying twice is laying once
+pub IsPartlyLaid-lay : (patches : List (ℕ × List ℕ)) (final : ℕ) (text to : List ℕ) → AreWellFormed patches final → LayTo patches final text to → IsPartlyLaid patches final text to
+IsPartlyLaid-lay patches final text to formed lays =
+    let long : length to ≡ final = ap length (sym lays.makes) ∙ length-lay patches final text formed.rise lays.fit in
+    record {
+      no_shorter = omega (arith, long);
+      no_longer = omega (arith, long);
+      same = λ i below outside. ap (λ (t : List ℕ). get_or t i 0) (sym lays.makes) ∙ lay-outside patches final text i formed.rise lays.fit below outside;
+    }
+
+pub LayTo-twice : (patches : List (ℕ × List ℕ)) (final : ℕ) (text to : List ℕ) → AreWellFormed patches final → LayTo patches final text to → LayTo patches final to to
+LayTo-twice patches final text to formed lays = LayTo-partly patches final text to to formed (IsPartlyLaid-lay patches final text to formed lays) lays
+
+-- one of the patches written, at a place within the text
+pub IsPartlyLaid-lay_at : (patches : List (ℕ × List ℕ)) (final : ℕ) (text part : List ℕ) (k from : ℕ) (bytes : List ℕ) → AreWellFormed patches final → slice_get patches k ≡ Some (from, bytes) → from ≤ length part
+    → IsPartlyLaid patches final text part → IsPartlyLaid patches final text (lay_at from bytes part)
+IsPartlyLaid-lay_at patches final text part k from bytes formed is fits partly =
+    let long = length-lay_at from bytes part fits in
+    let within : from + length bytes ≤ last_end 0 patches = (inside_all 0 patches k from bytes formed.rise is).1 in
+    record {
+      no_shorter = omega (arith, long, partly.no_shorter);
+      no_longer = omega (arith, long, partly.no_longer, within, formed.within);
+      same = λ i below outside. lay_at-outside from bytes part i fits (outside_one patches k from bytes i is outside) ∙ partly.same i below outside;
+    }
+
+-- a cut to the final length
+pub IsPartlyLaid-take : (patches : List (ℕ × List ℕ)) (final : ℕ) (text part : List ℕ) → final ≤ length part → IsPartlyLaid patches final text part → IsPartlyLaid patches final text (take final part)
+IsPartlyLaid-take patches final text part long partly = record {
+  no_shorter = omega (arith, length-take final part, long);
+  no_longer = omega (arith, length-take final part, long);
+  same = λ i below outside. get_or-take final part i 0 below ∙ partly.same i below outside;
+}
+
+-- The same of two texts, where one differs from the other only where a call may have changed it
+
+-- equal outside one of the patches: what a write of it, done in part, may leave
+pub LayTo-written : (patches : List (ℕ × List ℕ)) (final : ℕ) (a b to : List ℕ) (k from : ℕ) (bytes : List ℕ) → AreWellFormed patches final → slice_get patches k ≡ Some (from, bytes)
+    → take from a ≡ take from b → drop (from + length bytes) a ≡ drop (from + length bytes) b → LayTo patches final b to → LayTo patches final a to
+LayTo-written patches final a b to k from bytes formed is before after lays =
+    let fronts : min from (length a) ≡ min from (length b) = sym (length-take from a) ∙ ap length before ∙ length-take from b in
+    let backs : length a - (from + length bytes) ≡ length b - (from + length bytes) = sym (length-drop (from + length bytes) a) ∙ ap length after ∙ length-drop (from + length bytes) b in
+    let within : from + length bytes ≤ last_end 0 patches = (inside_all 0 patches k from bytes formed.rise is).1 in
+    let begin : BeginWithin (length a) 0 patches = ⊎_elim
+    (λ (short : length b < from). subst (λ (n : ℕ). BeginWithin n 0 patches) (omega (arith, short, fronts, backs)) lays.fit.begin)
+    (λ (long : from ≤ length b). ⊎_elim
+    (λ (past : from + length bytes < length b). subst (λ (n : ℕ). BeginWithin n 0 patches) (omega (arith, past, fronts, backs)) lays.fit.begin)
+    (λ (inside : length b ≤ from + length bytes). begin_at (length b) (length a) 0 patches k from bytes is inside (omega (arith, long, fronts)) formed.rise lays.fit.begin)
+    (cases_lt (from + length bytes) (length b)))
+    (cases_lt (length b) from) in
+    let fit : Fit patches final (length a) = record { begin = begin; ends = omega (arith, lays.fit.ends, fronts, backs, within) } in
+    record { fit = fit; makes = lay-same patches final a b formed.rise fit lays.fit (λ i below outside. agree i (outside_one patches k from bytes i is outside)) ∙ lays.makes }
+  where
+    agree : (i : ℕ) → (i < from) ⊎ (from + length bytes ≤ i) → get_or a i 0 ≡ get_or b i 0
+    agree i (inl first) = sym (get_or-take from a i 0 first) ∙ ap (λ (t : List ℕ). get_or t i 0) before ∙ get_or-take from b i 0 first
+    agree i (inr last) =
+        let place : from + length bytes + (i - (from + length bytes)) ≡ i = omega (arith, last) in
+        ap (λ (j : ℕ). get_or a j 0) (sym place) ∙ sym (get_or-drop (from + length bytes) a (i - (from + length bytes)) 0) ∙ ap (λ (t : List ℕ). get_or t (i - (from + length bytes)) 0) after
+        ∙ get_or-drop (from + length bytes) b (i - (from + length bytes)) 0 ∙ ap (λ (j : ℕ). get_or b j 0) place
+
+-- equal below the final length: what a cut to it, done in part, may leave
+pub LayTo-cut : (patches : List (ℕ × List ℕ)) (final : ℕ) (a b to : List ℕ) → AreWellFormed patches final → take final a ≡ take final b → LayTo patches final b to → LayTo patches final a to
+LayTo-cut patches final a b to formed same lays =
+    let fronts : min final (length a) ≡ min final (length b) = sym (length-take final a) ∙ ap length same ∙ length-take final b in
+    let fit : Fit patches final (length a) = Fit-between patches final (length b) (length a) formed.rise formed.within (omega (arith, fronts)) lays.fit in
+    record {
+      fit = fit;
+      makes = lay-same patches final a b formed.rise fit lays.fit (λ i below outside. sym (get_or-take final a i 0 below) ∙ ap (λ (t : List ℕ). get_or t i 0) same ∙ get_or-take final b i 0 below) ∙ lays.makes;
+    }

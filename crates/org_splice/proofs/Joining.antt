@@ -1,0 +1,55 @@
+-- The ranges with one more, made from the first range to the last.
+use Rattle.std.proofs.Common.{◌≡◌, ◌<◌, ◌≤◌, ◌+◌, ℕ, min, max, List, [], ◌∷◌, ◌++◌, sym, ◌∙◌, ap, arith, cond, ltb, append_assoc}
+use Rattle.std.proofs.lemmas.Bool.{lt-ltb, le-ltb, cond-true, cond-false}
+use Rattle.org_splice.specs.declared.Span.{Span}
+use Rattle.org_splice.specs.Ranges.{LieApart, joined}
+use Rattle.org_splice.proofs.Apart.{LieApart-earlier, joined-apart}
+
+-- what is done of it: the ranges in front, the one at hand, and those that are left
+pub record IsJoinedSoFar (size : ℕ) (first : Span) (ranges all : List Span) (own : Span) (rest : List Span) : Type 0 where
+  pub so_far : all ++ joined own rest ≡ joined first ranges
+  pub full : own.start < own.end
+  pub apart : LieApart 0 size rest
+
+-- one that lies before it goes in front
+pub joined_before : (size : ℕ) (first : Span) (ranges all : List Span) (own range : Span) (rest : List Span) → range.end < own.start → IsJoinedSoFar size first ranges all own (range ∷ rest)
+    → IsJoinedSoFar size first ranges (all ++ range ∷ []) own rest
+joined_before size first ranges all own range rest before done =
+    let both : Span = record { start = min own.start range.start; end = max own.end range.end } in
+    record {
+      so_far = append_assoc all (range ∷ []) (joined own rest)
+          ∙ ap (λ (t : List Span). all ++ t) (sym (cond-true (ltb range.end own.start) (range ∷ joined own rest) (cond (ltb own.end range.start) (own ∷ range ∷ rest) (joined both rest)) (lt-ltb range.end own.start before)))
+          ∙ done.so_far;
+      full = done.full;
+      apart = LieApart-earlier (range.end + 1) 0 size rest (omega arith) done.apart.3;
+    }
+
+-- one that lies behind it is at hand then
+pub joined_behind : (size : ℕ) (first : Span) (ranges all : List Span) (own range : Span) (rest : List Span) → own.end < range.start → IsJoinedSoFar size first ranges all own (range ∷ rest)
+    → IsJoinedSoFar size first ranges (all ++ own ∷ []) range rest
+joined_behind size first ranges all own range rest behind done =
+    let both : Span = record { start = min own.start range.start; end = max own.end range.end } in
+    record {
+      so_far = append_assoc all (own ∷ []) (joined range rest)
+          ∙ ap (λ (t : List Span). all ++ own ∷ t) (joined-apart size range rest done.apart.1 done.apart.3)
+          ∙ ap (λ (t : List Span). all ++ t)
+          (sym (cond-false (ltb range.end own.start) (range ∷ joined own rest) (cond (ltb own.end range.start) (own ∷ range ∷ rest) (joined both rest)) (le-ltb range.end own.start (omega (arith, behind, done.full, done.apart.1)))
+          ∙ cond-true (ltb own.end range.start) (own ∷ range ∷ rest) (joined both rest) (lt-ltb own.end range.start behind)))
+          ∙ done.so_far;
+      full = done.apart.1;
+      apart = LieApart-earlier (range.end + 1) 0 size rest (omega arith) done.apart.3;
+    }
+
+-- one that touches or overlaps it becomes one with it
+pub joined_touching : (size : ℕ) (first : Span) (ranges all : List Span) (own range : Span) (rest : List Span) → own.start ≤ range.end → range.start ≤ own.end → IsJoinedSoFar size first ranges all own (range ∷ rest)
+    → IsJoinedSoFar size first ranges all (record { start = min own.start range.start; end = max own.end range.end }) rest
+joined_touching size first ranges all own range rest not_before not_behind done =
+    let both : Span = record { start = min own.start range.start; end = max own.end range.end } in
+    record {
+      so_far = ap (λ (t : List Span). all ++ t)
+          (sym (cond-false (ltb range.end own.start) (range ∷ joined own rest) (cond (ltb own.end range.start) (own ∷ range ∷ rest) (joined both rest)) (le-ltb range.end own.start not_before)
+          ∙ cond-false (ltb own.end range.start) (own ∷ range ∷ rest) (joined both rest) (le-ltb own.end range.start not_behind)))
+          ∙ done.so_far;
+      full = omega (arith, done.full);
+      apart = LieApart-earlier (range.end + 1) 0 size rest (omega arith) done.apart.3;
+    }

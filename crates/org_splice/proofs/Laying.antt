@@ -1,0 +1,88 @@
+-- Patches laid over texts: what stands where afterwards, and that a text on which a part of the work was done takes
+-- the same patches to the same text.
+use Rattle.std.proofs.Common.{◌≡◌, ◌⊎◌, inl, inr, ⊎_elim, ℕ, ◌+◌, ◌-◌, ◌<◌, ◌≤◌, ◌++◌, max, List, [], ◌∷◌, length, get_or, take, drop, refl, sym, ◌∙◌, ap, arith, length-append, length-drop, length-take}
+use Rattle.std.proofs.lemmas.Bool.{cases_lt}
+use Rattle.std.proofs.lemmas.List.{get_or-drop, get_or-take, get_or_append_left, get_or-append_right, length-take-le, ext_get_or}
+use Rattle.org_splice.specs.Patches.{lay_at, lay_each, lay, end_of, last_end, Rise, BeginWithin, Fit, IsOutside}
+
+-- One patch
+
+pub length-lay_at : (from : ℕ) (bytes text : List ℕ) → from ≤ length text → length (lay_at from bytes text) ≡ max (length text) (from + length bytes)
+length-lay_at from bytes text le =
+    omega (arith, length-append (take from text ++ bytes) (drop (from + length bytes) text), length-append (take from text) bytes, length-drop (from + length bytes) text, length-take-le from text le)
+
+-- outside the range nothing changes
+pub lay_at-outside : (from : ℕ) (bytes text : List ℕ) (i : ℕ) → from ≤ length text → (i < from) ⊎ (from + length bytes ≤ i) → get_or (lay_at from bytes text) i 0 ≡ get_or text i 0
+lay_at-outside from bytes text i le (inl before) =
+    get_or_append_left (take from text ++ bytes) (drop (from + length bytes) text) 0 i (omega (arith, before, length-append (take from text) bytes, length-take-le from text le))
+    ∙ get_or_append_left (take from text) bytes 0 i (omega (arith, before, length-take-le from text le))
+    ∙ get_or-take from text i 0 before
+lay_at-outside from bytes text i le (inr after) =
+    get_or-append_right (take from text ++ bytes) (drop (from + length bytes) text) (from + length bytes) i 0 (omega (arith, length-append (take from text) bytes, length-take-le from text le)) after
+    ∙ get_or-drop (from + length bytes) text (i - (from + length bytes)) 0
+    ∙ ap (λ (k : ℕ). get_or text k 0) (omega (arith, after))
+
+-- what was laid stands there
+pub lay_at-inside : (from : ℕ) (bytes text : List ℕ) (i : ℕ) → from ≤ length text → from ≤ i → i < from + length bytes → get_or (lay_at from bytes text) i 0 ≡ get_or bytes (i - from) 0
+lay_at-inside from bytes text i le after within =
+    get_or_append_left (take from text ++ bytes) (drop (from + length bytes) text) 0 i (omega (arith, within, length-append (take from text) bytes, length-take-le from text le))
+    ∙ get_or-append_right (take from text) bytes from i 0 (length-take-le from text le) after
+
+-- Patches, one after the other
+
+pub last_end-place : (place : ℕ) (patches : List (ℕ × List ℕ)) → Rise place patches → place ≤ last_end place patches
+last_end-place place [] rise = omega arith
+last_end-place place (patch ∷ patches) rise = omega (arith, rise.0, last_end-place (end_of patch) patches rise.1)
+
+-- A text that reaches as far as a text of this size and the patches up to this place do. With the patches behind it
+-- laid over it, it reaches as far as they do.
+pub length-lay_each : (size place : ℕ) (patches : List (ℕ × List ℕ)) (text : List ℕ) → length text ≡ max size place → Rise place patches → BeginWithin size place patches → length (lay_each patches text) ≡ max size (last_end place patches)
+length-lay_each size place [] text long rise begin = long
+length-lay_each size place (patch ∷ patches) text long rise begin =
+    length-lay_each size (end_of patch) patches (lay_at patch.0 patch.1 text) (omega (arith, long, rise.0, begin.0, length-lay_at patch.0 patch.1 text (omega (arith, long, begin.0)))) rise.1 begin.1
+
+pub lay_each-outside : (size place : ℕ) (patches : List (ℕ × List ℕ)) (text : List ℕ) (i : ℕ) → length text ≡ max size place → Rise place patches → BeginWithin size place patches → IsOutside patches i
+    → get_or (lay_each patches text) i 0 ≡ get_or text i 0
+lay_each-outside size place [] text i long rise begin outside = refl
+lay_each-outside size place (patch ∷ patches) text i long rise begin outside =
+    let fits : patch.0 ≤ length text = omega (arith, long, begin.0) in
+    lay_each-outside size (end_of patch) patches (lay_at patch.0 patch.1 text) i (omega (arith, long, rise.0, begin.0, length-lay_at patch.0 patch.1 text fits)) rise.1 begin.1 outside.1
+    ∙ lay_at-outside patch.0 patch.1 text i fits outside.0
+
+-- texts that agree at a place, if it is outside the patches, agree there after the patches
+pub lay_each-same : (size other place : ℕ) (patches : List (ℕ × List ℕ)) (a b : List ℕ) (i : ℕ)
+    → length a ≡ max size place → length b ≡ max other place → Rise place patches → BeginWithin size place patches → BeginWithin other place patches
+    → (IsOutside patches i → get_or a i 0 ≡ get_or b i 0) → get_or (lay_each patches a) i 0 ≡ get_or (lay_each patches b) i 0
+lay_each-same size other place [] a b i long_a long_b rise begin_a begin_b same = same tt
+lay_each-same size other place (patch ∷ patches) a b i long_a long_b rise begin_a begin_b same =
+    let fits_a : patch.0 ≤ length a = omega (arith, long_a, begin_a.0) in
+    let fits_b : patch.0 ≤ length b = omega (arith, long_b, begin_b.0) in
+    lay_each-same size other (end_of patch) patches (lay_at patch.0 patch.1 a) (lay_at patch.0 patch.1 b) i
+    (omega (arith, long_a, rise.0, begin_a.0, length-lay_at patch.0 patch.1 a fits_a)) (omega (arith, long_b, rise.0, begin_b.0, length-lay_at patch.0 patch.1 b fits_b)) rise.1 begin_a.1 begin_b.1
+    (λ outside. ⊎_elim
+    (λ before. lay_at-outside patch.0 patch.1 a i fits_a (inl before) ∙ same (inl before, outside) ∙ sym (lay_at-outside patch.0 patch.1 b i fits_b (inl before)))
+    (λ behind. ⊎_elim
+    (λ inside. lay_at-inside patch.0 patch.1 a i fits_a behind inside ∙ sym (lay_at-inside patch.0 patch.1 b i fits_b behind inside))
+    (λ after. lay_at-outside patch.0 patch.1 a i fits_a (inr after) ∙ same (inr after, outside) ∙ sym (lay_at-outside patch.0 patch.1 b i fits_b (inr after)))
+    (cases_lt i (end_of patch)))
+    (cases_lt i patch.0))
+
+-- What patches that rise make of a text
+
+pub length-lay : (patches : List (ℕ × List ℕ)) (final : ℕ) (text : List ℕ) → Rise 0 patches → Fit patches final (length text) → length (lay patches final text) ≡ final
+length-lay patches final text rise fit =
+    omega (arith, fit.ends, length-take final (lay_each patches text), length-lay_each (length text) 0 patches text (omega arith) rise fit.begin)
+
+pub lay-outside : (patches : List (ℕ × List ℕ)) (final : ℕ) (text : List ℕ) (i : ℕ) → Rise 0 patches → Fit patches final (length text) → i < final → IsOutside patches i → get_or (lay patches final text) i 0 ≡ get_or text i 0
+lay-outside patches final text i rise fit below outside =
+    get_or-take final (lay_each patches text) i 0 below ∙ lay_each-outside (length text) 0 patches text i (omega arith) rise fit.begin outside
+
+-- one text of two that agree outside the patches
+pub lay-same : (patches : List (ℕ × List ℕ)) (final : ℕ) (a b : List ℕ) → Rise 0 patches → Fit patches final (length a) → Fit patches final (length b)
+    → ((i : ℕ) → i < final → IsOutside patches i → get_or a i 0 ≡ get_or b i 0) → lay patches final a ≡ lay patches final b
+lay-same patches final a b rise fit_a fit_b same =
+    ext_get_or 0 (lay patches final a) (lay patches final b) (length-lay patches final a rise fit_a ∙ sym (length-lay patches final b rise fit_b)) (λ i within.
+    let below : i < final = omega (arith, within, length-lay patches final a rise fit_a) in
+    get_or-take final (lay_each patches a) i 0 below
+    ∙ lay_each-same (length a) (length b) 0 patches a b i (omega arith) (omega arith) rise fit_a.begin fit_b.begin (same i below)
+    ∙ sym (get_or-take final (lay_each patches b) i 0 below))

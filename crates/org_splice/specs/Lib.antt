@@ -1,0 +1,5 @@
+pub mod Lines
+pub mod Patches
+pub mod Ranges
+pub mod Texts
+pub mod ChangeSet

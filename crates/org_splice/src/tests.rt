@@ -1,0 +1,213 @@
+ghost use Rattle.std.specs.Prelude.{◌<◌};
+
+use crate::{ChangeSet, Patch, Text};
+use std::alloc::{AllocError, Global};
+use std::process::Abort;
+
+/// A text after splices, each of a place, how many bytes are removed there, and the bytes that take their place.
+fn edited<R: AllocGlobal + Abort>(
+    rt: &R,
+    old: &[u8],
+    splices: &[(usize, usize, &[u8])],
+) -> Result<Text, AllocError> {
+    let mut text = Text::new(Vec::from_slice(rt.alloc(), old)?);
+    for (at, removed, bytes) in splices {
+        let size = text.bytes().len();
+        assert!(rt;
+            *at <= size && *removed <= size - *at,
+            "a splice lies in the text"
+        );
+        text.splice(*at, *removed, bytes)?;
+    }
+    Ok(text)
+}
+
+/// Whether these are the patches, each of a place and its bytes.
+fn are(patches: &[Patch], expected: &[(usize, &[u8])]) -> bool {
+    patches.len() == expected.len()
+        && patches.iter().zip(expected).all(|(patch, (from, bytes))| patch.from == *from
+            && patch.bytes.as_slice() == *bytes)
+}
+
+#[test]
+fn splices_of_worked_texts(rt: HostRuntime) -> Result<(), AllocError> {
+    let headings: &[u8] = b"* A\n* B\n";
+    let rows: [(&[u8], &[(usize, usize, &[u8])], &[u8], &[(usize, &[u8])]); 10] = [
+        (headings, &[], b"* A\n* B\n", &[(0, b"")]),
+        (headings, &[(2, 1, b"C")], b"* C\n* B\n", &[(2, b"C")]),
+        (
+            headings,
+            &[(2, 1, b"C"), (6, 1, b"D")],
+            b"* C\n* D\n",
+            &[(2, b"C"), (6, b"D")],
+        ),
+        (
+            headings,
+            &[(6, 1, b"D"), (2, 1, b"C")],
+            b"* C\n* D\n",
+            &[(2, b"C"), (6, b"D")],
+        ),
+        (
+            headings,
+            &[(2, 1, b"C"), (3, 1, b" ")],
+            b"* C * B\n",
+            &[(2, b"C ")],
+        ),
+        (
+            headings,
+            &[(2, 1, b"CC")],
+            b"* CC\n* B\n",
+            &[(2, b"CC\n* B\n")],
+        ),
+        (headings, &[(4, 4, b"")], b"* A\n", &[(0, b"")]),
+        (
+            headings,
+            &[(5, 2, b"xy"), (6, 2, b"")],
+            b"* A\n*x",
+            &[(5, b"x")],
+        ),
+        (
+            headings,
+            &[(8, 0, b"* N\n")],
+            b"* A\n* B\n* N\n",
+            &[(8, b"* N\n")],
+        ),
+        (headings, &[(3, 0, b"")], b"* A\n* B\n", &[(0, b"")]),
+    ];
+    for (i, (old, splices, new, expected)) in rows.iter().enumerate() {
+        let text = edited(&rt, old, splices)?;
+        assert!(rt; text.bytes() == *new, "the bytes of row {i}");
+        assert!(rt; are(&text.patches()?, expected), "the patches of row {i}");
+    }
+    Ok(())
+}
+
+#[test]
+fn more_than_a_thousand_ranges(rt: HostRuntime) -> Result<(), AllocError> {
+    let mut text = Text::new(vec![in rt.alloc(); b'a'; 2_002]?);
+    for i in 0..1_001usize {
+        assert!(rt; 2 * i + 1 <= text.bytes().len());
+        text.splice(2 * i, 1, b"b")?;
+        let patches = text.patches()?;
+        assert!(rt; patches.len() == (i + 1).min(1_000), "after splice {i}");
+    }
+    let patches = text.patches()?;
+    for (i, patch) in patches.iter().enumerate() {
+        let bytes: &[u8] = if i == 999 { b"bab" } else { b"b" };
+        assert!(rt;
+            patch.from == 2 * i && patch.bytes.as_slice() == bytes,
+            "patch {i}"
+        );
+    }
+    Ok(())
+}
+
+#[test]
+fn texts_with_a_newline_at_their_end(rt: HostRuntime) -> Result<(), AllocError> {
+    let rows: [(&[u8], &[u8], &[(usize, &[u8])]); 4] = [
+        (b"", b"", &[(0, b"")]),
+        (b"* A\n", b"* A\n", &[(0, b"")]),
+        (b"* A", b"* A\n", &[(3, b"\n")]),
+        (b"\n\n", b"\n\n", &[(0, b"")]),
+    ];
+    for (i, (old, new, expected)) in rows.iter().enumerate() {
+        let mut text = edited(&rt, old, &[])?;
+        text.close_line()?;
+        assert!(rt; text.bytes() == *new, "the bytes of row {i}");
+        assert!(rt; are(&text.patches()?, expected), "the patches of row {i}");
+    }
+    Ok(())
+}
+
+#[test]
+fn settled_texts_and_copies(rt: HostRuntime) -> Result<(), AllocError> {
+    let mut text = edited(&rt, b"* A\n", &[(2, 1, b"B")])?;
+    let copy = text.copy()?;
+    text.settled();
+    assert!(rt; text.bytes() == b"* B\n".as_slice() && are(&text.patches()?, &[(0, b"")]));
+    assert!(rt; copy.bytes() == b"* B\n".as_slice() && are(&copy.patches()?, &[(2, b"B")]));
+    Ok(())
+}
+
+#[test]
+fn a_name_put_twice_keeps_its_place(rt: HostRuntime) -> Result<(), AllocError> {
+    let mut changes: ChangeSet<u32> = ChangeSet::new(rt.alloc());
+    assert!(rt; changes.is_empty());
+    for (name, bytes) in [(7, b"one"), (3, b"two"), (7, b"six")] {
+        let text = Text::new(Vec::from_slice(rt.alloc(), bytes)?);
+        changes.put(name, text)?;
+    }
+    assert!(rt; changes.len() == 2);
+    let (first, text) = changes.pair(0);
+    assert!(rt; *first == 7 && text.bytes() == b"six".as_slice());
+    let (second, text) = changes.pair(1);
+    assert!(rt; *second == 3 && text.bytes() == b"two".as_slice());
+    assert!(rt;
+        changes
+            .get(&3)
+            .is_some_and(|text| text.bytes() == b"two".as_slice())
+    );
+    assert!(rt; changes.get(&5).is_none());
+    Ok(())
+}
+
+/// A number below a bound, from a state that goes on.
+fn below(state: &mut u64, bound: usize) -> usize
+    requires { 0 < bound }
+    ensures { result < bound }
+{
+    *state = state
+        .wrapping_mul(6_364_136_223_846_793_005)
+        .wrapping_add(1_442_695_040_888_963_407);
+    (*state >> 40) as usize % bound
+}
+
+/// The patches written over a text, byte by byte, and the text cut to a length.
+fn written(
+    alloc: Global,
+    old: &[u8],
+    patches: &[Patch],
+    size: usize,
+) -> Result<Vec<u8>, AllocError> {
+    let mut text = Vec::from_slice(alloc, old)?;
+    for patch in patches {
+        for (i, byte) in patch.bytes.as_slice().iter().enumerate() {
+            match text.get_mut(patch.from.saturating_add(i)) {
+                Some(place) => *place = *byte,
+                None => text.push(*byte)?,
+            }
+        }
+    }
+    text.truncate(size);
+    Ok(text)
+}
+
+#[test]
+fn patches_of_random_splices(rt: HostRuntime) -> Result<(), AllocError> {
+    let mut state = 1;
+    for run in 0..4_000u32 {
+        let mut text = Text::new(Vec::new(rt.alloc()));
+        let mut old = Vec::new(rt.alloc());
+        let splices = 1 + below(&mut state, 6);
+        for step in 0..splices {
+            let size = text.bytes().len();
+            let at = below(&mut state, size + 1);
+            let removed = below(&mut state, size - at + 1);
+            let added = if below(&mut state, 2) == 0 {
+                removed
+            } else {
+                below(&mut state, 9)
+            };
+            let letters: &[u8] = b"abcdefghijklmnop";
+            let first = below(&mut state, 9);
+            text.splice(at, removed, &letters[first..first + added.min(8)])?;
+            if step == 0 {
+                text.settled();
+                old = Vec::from_slice(rt.alloc(), text.bytes())?;
+            }
+        }
+        let now = written(rt.alloc(), &old, &text.patches()?, text.bytes().len())?;
+        assert!(rt; now.as_slice() == text.bytes(), "run {run}");
+    }
+    Ok(())
+}
