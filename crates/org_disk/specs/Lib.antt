@@ -1,0 +1,6 @@
+pub mod Disk
+pub mod Fuse
+pub mod Memory
+pub mod Names
+pub mod Record
+pub mod RecordLaws

@@ -1,0 +1,108 @@
+// A disk as the layers above see it: what a read gives, and what a stop may leave.
+ghost use Rattle.std.specs.Prelude.{◌≡◌, ◌+◌, ◌^◌, ◌<◌, ◌≤◌, ◌↔◌, List, ℕ, length, take, drop, IfOk, OnOk, OnErr};
+ghost use Rattle.org_disk.specs.Disk.{FileState, IsImage, AreImages, AreLeftBy, Changes, Passes, write, cut, sync, IsCounted};
+
+use crate::FileName;
+use thiserror::Error;
+
+/// A call of a disk failed. It is the only fault, and it comes with a counted failure.
+#[derive(Clone, Copy, Debug, PartialEq, Eq, Error)]
+#[error("device failure")]
+pub struct DiskFault;
+
+/// A disk that holds files by name; an absent file and an empty one are the same.
+///
+/// What is said of contents, lengths and images, and what a call asks of them, is said and asked of an honest disk
+/// alone. A call that fails adds one to the failures, whose greatest number is 2^64 - 1.
+pub trait Disk {
+    /// The disk is as it says: a read gives the content, and each call has its effect.
+    ghost honest: { Self → Type 0 };
+
+    /// The file of each name, a name being its bytes.
+    ghost files: { Self → List ℕ → FileState };
+
+    /// A clock, which no call sets back.
+    ghost moment: { Self → ℕ };
+
+    /// What a stop might have left of the disk at this moment or later, within a call or between two.
+    ghost left_since: { Self → ℕ → (List ℕ → List ℕ) → Type 0 };
+
+    /// How many calls have failed.
+    ghost failures: { Self → ℕ };
+
+    /// The length of a file in bytes. It changes nothing, failed or not.
+    fn length(&mut self, name: &FileName) -> Result<u64, DiskFault>
+        ensures value { IfOk result (λ n. honest self.old →
+            n ≡ length (files self.old name.now).content) }
+        ensures same { honest self.old → files self.new ≡ files self.old }
+        ensures time { honest self.old →
+            Passes (moment self.old) (moment self.new) (left_since self.old) (left_since self.new)
+            (AreImages (files self.old)) }
+        ensures count_ok { OnOk result (failures self.new ≡ failures self.old) }
+        ensures count_err { OnErr result (IsCounted (failures self.old) (failures self.new)) }
+        ensures honest { honest self.new ↔ honest self.old };
+
+    /// Fills the buffer with the bytes of a file from `from` on; they lie within its length. It changes nothing of the
+    /// disk, failed or not; what the buffer holds after a failure is open.
+    fn read_at(&mut self, name: &FileName, from: u64, into: &mut [u8]) -> Result<(), DiskFault>
+        requires { honest self.old → from + length into.old ≤ length (files self.old name.now).content }
+        ensures bytes { OnOk result (honest self.old →
+            into.new ≡ take (length into.old) (drop from (files self.old name.now).content)) }
+        ensures same { honest self.old → files self.new ≡ files self.old }
+        ensures time { honest self.old →
+            Passes (moment self.old) (moment self.new) (left_since self.old) (left_since self.new)
+            (AreImages (files self.old)) }
+        ensures count_ok { OnOk result (failures self.new ≡ failures self.old) }
+        ensures count_err { OnErr result (IsCounted (failures self.old) (failures self.new)) }
+        ensures honest { honest self.new ↔ honest self.old };
+
+    /// Writes bytes over a file from `from` on, which is at most its length; the file grows where they reach past its
+    /// end. Until the next sync a stop may leave any bytes in that range, and any length that the file had.
+    fn write_at(&mut self, name: &FileName, from: u64, bytes: &[u8]) -> Result<(), DiskFault>
+        requires within { honest self.old → from ≤ length (files self.old name.now).content }
+        requires fits { honest self.old → from + length bytes.now < 2 ^ 64 }
+        ensures effect { honest self.old →
+            Changes (write from bytes.now) name.now (files self.old) (files self.new) result }
+        ensures time { honest self.old →
+            Passes (moment self.old) (moment self.new) (left_since self.old) (left_since self.new)
+            (AreLeftBy (write from bytes.now) name.now (files self.old)) }
+        ensures count_ok { OnOk result (failures self.new ≡ failures self.old) }
+        ensures count_err { OnErr result (IsCounted (failures self.old) (failures self.new)) }
+        ensures honest { honest self.new ↔ honest self.old };
+
+    /// Takes away the bytes of a file from `to` on, which is at most its length. Until the next sync a stop may leave
+    /// any length that the file had.
+    fn cut(&mut self, name: &FileName, to: u64) -> Result<(), DiskFault>
+        requires { honest self.old → to ≤ length (files self.old name.now).content }
+        ensures effect { honest self.old →
+            Changes (cut to) name.now (files self.old) (files self.new) result }
+        ensures time { honest self.old →
+            Passes (moment self.old) (moment self.new) (left_since self.old) (left_since self.new)
+            (AreLeftBy (cut to) name.now (files self.old)) }
+        ensures count_ok { OnOk result (failures self.new ≡ failures self.old) }
+        ensures count_err { OnErr result (IsCounted (failures self.old) (failures self.new)) }
+        ensures honest { honest self.new ↔ honest self.old };
+
+    /// Puts a file on the disk: from then on a stop leaves its content, and nothing else.
+    fn sync(&mut self, name: &FileName) -> Result<(), DiskFault>
+        ensures effect { honest self.old →
+            Changes sync name.now (files self.old) (files self.new) result }
+        ensures time { honest self.old →
+            Passes (moment self.old) (moment self.new) (left_since self.old) (left_since self.new)
+            (AreLeftBy sync name.now (files self.old)) }
+        ensures count_ok { OnOk result (failures self.new ≡ failures self.old) }
+        ensures count_err { OnErr result (IsCounted (failures self.old) (failures self.new)) }
+        ensures honest { honest self.new ↔ honest self.old };
+
+    /// The content is one of the images.
+    ghost content_is_image: { (disk : Self) (name : List ℕ) → honest disk →
+        IsImage (files disk name) (files disk name).content };
+
+    /// A stop at this moment may leave each image of the disk.
+    ghost counts_now: { (disk : Self) (t : ℕ) (image : List ℕ → List ℕ) → honest disk →
+        t ≤ moment disk → AreImages (files disk) image → left_since disk t image };
+
+    /// A stop at this moment leaves an image of the disk, and nothing else.
+    ghost only_now: { (disk : Self) (image : List ℕ → List ℕ) → honest disk →
+        left_since disk (moment disk) image → AreImages (files disk) image };
+}

@@ -1,0 +1,19 @@
+//! Disks that hold files by name, and what a stop may leave of them.
+//!
+//! The trait `Disk` says what each call does to the content of a file, and to its images: what a stop at that moment,
+//! or within the call, may leave of it. `MemoryDisk` meets it, and can be told to fail or to stop; `Fuse` fails from
+//! some call on. Lemmas for callers are public in `proofs/`: `Moments` (one run after another), `Images` and `Back`
+//! (what a write, a cut and a sync leave), `Laid` (bytes laid over a text).
+#![tactic(auto)]
+
+mod disk;
+mod fuse;
+mod memory;
+mod name;
+#[cfg(test)]
+mod tests;
+
+pub use disk::{Disk, DiskFault};
+pub use fuse::Fuse;
+pub use memory::{MemoryDisk, Outcome};
+pub use name::{FileName, NameFault};

@@ -1,0 +1,223 @@
+// The names of files.
+ghost use Rattle.std.specs.Prelude.{◌≡◌, ◌≢◌, ◌≤◌, ◌↔◌, false, nat_eq, refl, Some, length, IsTrue, IsFalse, IsUtf8, IfOk, OnOk, IsErrOf};
+ghost use Rattle.std.specs.List.{list_all};
+ghost use Rattle.std.specs.Ordering.{nat_cmp};
+ghost use Rattle.std.specs.Hash as fed;
+ghost use Rattle.std.specs.Cmp.Lexicographic.{pointwise, slice_cmp, nat_list_eq_equiv, nat_list_cmp_total, texts_ties, texts_po};
+ghost use Rattle.std.specs.Cmp.{partial_equiv_from_equiv};
+ghost use Rattle.std.specs.Cmp.Rules.{hashing};
+ghost use Rattle.std.proofs.Common.{rules};
+ghost use Rattle.org_disk.specs.Names.{is_name_byte, is_org_name, is_archive_name, archive_name, is_file_name, journal_name, IsDiskName};
+
+use std::alloc::{AllocError, Global};
+use std::cmp::Ordering;
+use std::fmt;
+use std::hash::{Hash, Hasher};
+use std::marker::Model;
+use thiserror::Error;
+
+// The suffix that makes an archive file's name of an Org file's.
+const ARCHIVE_SUFFIX: &str = "_archive";
+
+const JOURNAL: &str = "orgstore.journal";
+
+// The most bytes of a name, the suffix of an archive file not counted.
+const MAX_BYTES: usize = 200;
+
+/// The name of an Org file, of an archive file, or of the journal. A clause sees it as its bytes; names are compared
+/// and hashed by them.
+#[derive(Drop)]
+pub struct FileName {
+    text: String,
+}
+
+impl Model for FileName {
+    ghost use Rattle.std.specs.Prelude.{List, ℕ, string_bytes};
+    ghost use Rattle.org_disk.specs.Names.{IsDiskName};
+
+    ghost Value = { List ℕ };
+
+    ghost view = { λ f. string_bytes f.text };
+
+    ghost invariant = { λ f. IsDiskName (string_bytes f.text) };
+}
+
+/// Why a text was not made a file name.
+#[derive(Clone, Copy, Debug, PartialEq, Eq, Error)]
+pub enum NameFault {
+    /// The text is no file name.
+    #[error("bad name")]
+    BadName,
+    /// The allocator had no memory.
+    #[error("out of memory")]
+    OutOfMemory,
+}
+
+impl From<AllocError> for NameFault {
+    ghost use Rattle.std.specs.Prelude.{◌≡◌};
+    ghost use Rattle.org_disk.specs.declared.name.NameFault.TheVariants.{OutOfMemory};
+
+    ghost from_gives = { λ _ e. e ≡ OutOfMemory };
+
+    fn from(_e: AllocError) -> NameFault {
+        NameFault::OutOfMemory
+    }
+}
+
+impl FileName {
+    /// The name that this text is. `BadName` comes exactly where `accepts` refuses the text; the journal's name is one
+    /// of those.
+    pub fn new(alloc: Global, text: &str) -> Result<FileName, NameFault>
+        ensures name { IfOk result (λ name. name ≡ text.now) }
+        ensures accepted { OnOk result (IsTrue (is_file_name text.now)) }
+        ensures bad { IsErrOf result NameFault.BadName ↔ IsFalse (is_file_name text.now) }
+    {
+        if !FileName::accepts(text) {
+            return Err(NameFault::BadName);
+        }
+        let text = String::from_str(alloc, text)?;
+        Ok(FileName { text })
+    }
+
+    /// Whether a text is the name of an Org file or of an archive file: it ends in `.org` or `.org_archive`, holds no
+    /// slash and no byte below 0x20 nor 0x7F, doesn't begin with `.`, and has at most 200 bytes before `_archive`.
+    pub fn accepts(text: &str) -> bool
+        ensures { result ≡ is_file_name text.now }
+    {
+        let name = text.as_bytes();
+        match name.strip_suffix(ARCHIVE_SUFFIX.as_bytes()) {
+            Some(base) => is_org_name(base),
+            None => is_org_name(name),
+        }
+    }
+
+    /// The name of the journal. No text makes it by `new`.
+    pub fn journal_name(alloc: Global) -> Result<FileName, AllocError>
+        ensures { IfOk result (λ name. name ≡ journal_name) }
+    {
+        let text = String::from_str(alloc, JOURNAL)?;
+        Ok(FileName { text })
+    }
+
+    /// The text of the name.
+    pub fn as_str(&self) -> &str
+        ensures value { result.now ≡ self.now }
+        ensures utf8 { IsUtf8 self.now }
+        ensures valid { IsDiskName self.now }
+    {
+        self.text.as_str()
+    }
+
+    /// Whether it is an archive file's name. The journal's isn't.
+    pub fn is_archive(&self) -> bool
+        ensures { result ≡ is_archive_name self.now }
+    {
+        self.text.as_bytes().ends_with(ARCHIVE_SUFFIX.as_bytes())
+    }
+
+    /// The name of this Org file's archive file.
+    pub fn archive(&self) -> Result<FileName, AllocError>
+        requires not_archive { IsFalse (is_archive_name self.now) }
+        requires not_journal { self.now ≢ journal_name }
+        ensures name { IfOk result (λ name. name ≡ archive_name self.now) }
+        ensures accepted { IsTrue (is_file_name (archive_name self.now)) }
+    {
+        let mut text = self.text.clone()?;
+        text.push_str(ARCHIVE_SUFFIX)?;
+        Ok(FileName { text })
+    }
+}
+
+// Whether this is the name of an Org file.
+fn is_org_name(name: &[u8]) -> bool
+    ensures { result ≡ is_org_name name.now }
+{
+    name.len() <= MAX_BYTES
+        && !name.starts_with(b".")
+        && name.ends_with(b".org")
+        && has_name_bytes(name)
+}
+
+// Whether it holds no control character, no DEL and no slash.
+fn has_name_bytes(name: &[u8]) -> bool
+    ensures { result ≡ list_all is_name_byte name.now }
+{
+    name.iter().all(|b| is_name_byte(*b))
+}
+
+fn is_name_byte(byte: u8) -> bool
+    ensures { result ≡ is_name_byte byte }
+{
+    byte >= b' ' && byte != 0x7F && byte != b'/'
+}
+
+impl Clone for FileName {
+    ghost is_clone = { λ name copy. copy ≡ name };
+
+    fn clone(&self) -> Result<FileName, AllocError> {
+        let text = self.text.clone()?;
+        Ok(FileName { text })
+    }
+}
+
+impl PartialEq for FileName {
+    ghost eq = { pointwise nat_eq };
+
+    ghost laws = { partial_equiv_from_equiv nat_list_eq_equiv };
+
+    fn eq(&self, other: &FileName) -> bool {
+        self.as_str() == other.as_str()
+    }
+}
+
+impl Eq for FileName {
+    ghost laws = { nat_list_eq_equiv };
+}
+
+impl PartialOrd for FileName {
+    ghost partial_cmp = { λ x y. Some (slice_cmp nat_cmp x y) };
+
+    ghost laws = { texts_po };
+
+    fn partial_cmp(&self, other: &FileName) -> Option<Ordering> {
+        Some(self.cmp(other))
+    }
+}
+
+impl Ord for FileName {
+    ghost cmp = { slice_cmp nat_cmp };
+
+    ghost total = { nat_list_cmp_total };
+
+    ghost matches_partial_cmp = { λ x y. refl };
+
+    ghost matches_eq = { texts_ties };
+
+    fn cmp(&self, other: &FileName) -> Ordering {
+        self.as_str().cmp(other.as_str())
+    }
+}
+
+impl Hash for FileName {
+    ghost hash_input = { fed.str };
+
+    ghost respects_eq = { Prim.search (hashing, rules) };
+
+    fn hash<H: Hasher>(&self, state: &mut H) {
+        self.as_str().hash(state);
+    }
+}
+
+impl fmt::Debug for FileName {
+    fn fmt<W: fmt::Write>(&self, f: &mut fmt::Formatter<W>) -> fmt::Result {
+        f.write_str(self.as_str())
+    }
+}
+
+impl fmt::Display for FileName {
+    ghost output = { λ name. Some name };
+
+    fn fmt<W: fmt::Write>(&self, f: &mut fmt::Formatter<W>) -> fmt::Result {
+        f.write_str(self.as_str())
+    }
+}
