@@ -1,0 +1,9 @@
+pub mod Runs
+pub mod Cut
+pub mod Found
+pub mod Exact
+pub mod Days
+pub mod Later
+pub mod Ahead
+pub mod Print
+pub mod Rows

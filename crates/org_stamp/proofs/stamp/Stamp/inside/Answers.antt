@@ -1,0 +1,17 @@
+use Rattle.std.proofs.Common.{take, drop, ap, ◌∙◌, subst, sym, arith}
+use Rattle.std.proofs.lemmas.Grind.{common_steps}
+use Rattle.std.proofs.lemmas.List.{take-append-drop, take_rest}
+use Rattle.org_stamp.specs.Reading.{gathered, tail_of}
+use Rattle.org_stamp.proofs.Found.{IsOpen, open_parts, tail_found, writable}
+use Rattle.org_stamp.proofs.Days.{read_day}
+use Rattle.org_stamp.proofs.stamp.Stamp.inside.Goals as goal
+
+pub invariant_of-result : goal.invariant_of-result
+invariant_of-result c =
+    let inside = c.args.inside.now in
+    let halves : IsOpen (take 10 inside) × IsOpen (drop 10 inside) = open_parts (take 10 inside) (drop 10 inside) (subst IsOpen (sym (take-append-drop 10 inside)) c.requires) in
+    let h = gathered c.in_ok-found.found in
+    record { day = read_day (take 10 inside) c.in_ok-day.day (sym c.in_ok-day.ensures); behind = writable (drop 10 inside) h (tail_found (drop 10 inside) h halves.1 (ap tail_of (sym (take_rest inside 10)) ∙ sym c.in_ok-found.ensures)) }
+
+pub returns : goal.returns
+returns c = grind (arith, common_steps)

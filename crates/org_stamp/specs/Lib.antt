@@ -1,0 +1,5 @@
+pub mod Calendar
+pub mod Parts
+pub mod Stamp
+pub mod Reading
+pub mod Repeat

@@ -1,0 +1,78 @@
+-- Repeated timestamps (Org manual, "Repeated tasks").
+use Rattle.std.specs.Prelude.{◌≡◌, ℕ, ◌+◌, ◌*◌, ◌/◌, ◌%◌, ◌<◌, ◌≤◌, ◌==◌, nat_le, nat_lt, ℤ, pos, ◌+ℤ◌, Bool, true, false, not, ◌&&◌, if◌then◌else◌, MatchBool, ◌<ℤ◌, Option, None, Some, Result, Ok, Err}
+use Rattle.org_stamp.specs.Calendar.{CivilDay, CivilMinute, day_number, minutes_of, days_after, months_after}
+use Rattle.org_stamp.specs.declared.kind.Times.{Times}
+use Rattle.org_stamp.specs.declared.kind.Unit.{Unit}
+use Rattle.org_stamp.specs.declared.kind.Unit.TheVariants.{Hour, Day, Week, Month, Year}
+use Rattle.org_stamp.specs.declared.kind.Mark.{Mark}
+use Rattle.org_stamp.specs.declared.kind.Mark.TheVariants.{Cumulate, CatchUp, Restart}
+use Rattle.org_stamp.specs.declared.kind.Interval.{Interval}
+use Rattle.org_stamp.specs.declared.kind.Repeater.{Repeater}
+use Rattle.org_stamp.specs.declared.fault.RepeatFault.{RepeatFault}
+use Rattle.org_stamp.specs.declared.fault.RepeatFault.TheVariants.{BadRepeat, DateRange}
+use Rattle.org_stamp.specs.Stamp.{StampValue, start_of, has_one_time, first_repeater}
+
+abbrev pub is_hour : Unit → Bool
+is_hour Hour = true
+is_hour _ = false
+
+-- that many minutes from the start of the day
+abbrev pub at_total : StampValue → CivilDay → ℕ → StampValue
+at_total s day total = record s { day = days_after day (total / 1440); time = Some (record { start = total % 1440; end = None }) }
+
+-- s moved at once by n units; hours move a time, the other units keep it
+abbrev pub moved : StampValue → Unit → ℕ → StampValue
+moved s Hour n = at_total s s.day ((start_of s).minute + 60 * n)
+moved s Day n = record s { day = days_after s.day n }
+moved s Week n = record s { day = days_after s.day (7 * n) }
+moved s Month n = record s { day = months_after s.day n }
+moved s Year n = record s { day = months_after s.day (12 * n) }
+
+-- s moved at once by k times its repeater
+abbrev pub shifted : StampValue → Interval → ℕ → StampValue
+shifted s i k = moved s i.unit (k * i.value)
+
+-- it starts after that moment, or on a later day where it has no time
+abbrev pub IsLaterBy : Option Times → StampValue → CivilMinute → Type 0
+IsLaterBy None s now = day_number now.day <ℤ day_number s.day
+IsLaterBy (Some t) s now = minutes_of now <ℤ minutes_of (start_of s)
+
+abbrev pub IsLater : StampValue → CivilMinute → Type 0
+IsLater s now = IsLaterBy s.time s now
+
+-- the day of now with the time kept, or now where hours repeat
+abbrev pub restarted : StampValue → Unit → CivilMinute → StampValue
+restarted s Hour now = record s { day = now.day; time = Some (record { start = now.minute; end = None }) }
+restarted s _ now = record s { day = now.day }
+
+-- the value, unless its year is past 9999
+abbrev pub in_range : StampValue → Result StampValue RepeatFault
+in_range s = if nat_le s.day.year 9999 then Ok s else Err DateRange
+
+-- `+` once, `++` the least number of times from 1 on that leads past now, `.+` once from now
+abbrev pub RepeatsBy : Mark → Interval → StampValue → CivilMinute → Result StampValue RepeatFault → Type 0
+RepeatsBy Cumulate i s now r = r ≡ in_range (shifted s i 1)
+RepeatsBy CatchUp i s now r =
+    (k : ℕ) × (1 ≤ k) × IsLater (shifted s i k) now × ((j : ℕ) → 1 ≤ j → j < k → ¬ (IsLater (shifted s i j) now)) × (r ≡ in_range (shifted s i k))
+RepeatsBy Restart i s now r = r ≡ in_range (shifted (restarted s i.unit now) i 1)
+
+-- the value 0 repeats nothing; hours repeat one time alone
+abbrev pub RepeatsAs : Option Repeater → StampValue → CivilMinute → Result StampValue RepeatFault → Type 0
+RepeatsAs None s now r = r ≡ Ok s
+RepeatsAs (Some p) s now r =
+    MatchBool (p.interval.value == 0) (r ≡ Ok s)
+    (MatchBool (is_hour p.interval.unit && not (has_one_time s.time)) (r ≡ Err BadRepeat) (RepeatsBy p.mark p.interval s now r))
+
+-- the timestamp at the next repetition, or the fault
+abbrev pub IsRepeated : StampValue → CivilMinute → Result StampValue RepeatFault → Type 0
+IsRepeated s now r = RepeatsAs (first_repeater s.cookies) s now r
+
+-- with that day and time, unless there is no day
+abbrev pub dated : StampValue → Option CivilDay → Option Times → Result StampValue RepeatFault
+dated s None t = Err DateRange
+dated s (Some d) t = Ok (record s { day = d; time = t })
+
+-- the number of the first day on which a timestamp of that time starts after now
+abbrev pub target_of : Option Times → CivilMinute → ℤ
+target_of None now = day_number now.day +ℤ pos 1
+target_of (Some t) now = if nat_lt now.minute t.start then day_number now.day else day_number now.day +ℤ pos 1

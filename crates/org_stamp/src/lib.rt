@@ -1,0 +1,22 @@
+//! Moments, and Org's timestamps with their repeaters (Org Syntax, "Timestamps"; Org manual, "Repeated tasks").
+#![tactic(auto)]
+
+mod calendar;
+mod fault;
+mod hours;
+mod inside;
+mod kind;
+pub mod laws;
+mod moment;
+mod part;
+mod stamp;
+mod steps;
+mod text;
+
+pub use fault::RepeatFault;
+pub use hours::duration;
+pub use moment::Moment;
+pub use stamp::Stamp;
+
+#[cfg(test)]
+mod tests;
