@@ -1,0 +1,16 @@
+pub mod Lines
+pub mod Trees
+pub mod Nodes
+pub mod LineWalk
+pub mod Placing
+pub mod Shifting
+pub mod Valid
+pub mod Parents
+pub mod Sections
+pub mod HeadsFrom
+pub mod Rests
+pub mod PathWalk
+pub mod TitleLists
+pub mod Edits
+pub mod Changes
+pub mod Rows

@@ -1,0 +1,114 @@
+-- The section of a node in the text.
+use Rattle.std.proofs.Common.{◌≡◌, ℕ, zero, suc, ◌+◌, ◌-◌, ◌<◌, ◌≤◌, List, [], ◌∷◌, ◌++◌, length, drop, take, get_or, Option, Some, None, refl, sym, ap, subst, ◌∙◌, append_assoc, arith, eq-eqb}
+use Rattle.std.specs.Prelude.{◌≢◌}
+use Rattle.std.specs.List.{AllByRecursion}
+use Rattle.std.proofs.lemmas.Bool.{eqb-true}
+use Rattle.std.proofs.lemmas.List.{length-append, length-drop, take-append-drop, take_rest, take_at, drop_at, drop-drop, get_or_at}
+use Rattle.memchr.specs.Find.{IsFirstByte, is_byte}
+use Rattle.org_outline.specs.declared.heads.Heading.{Heading}
+use Rattle.org_splice.specs.Lines.{closed, print_lines, IsLine, lines_of}
+use Rattle.org_outline.specs.Text.{heading_line}
+use Rattle.org_outline.specs.Tree.{Forest, Empty, Tree, Placed, lines, own_lines, print_node, IsForest, tree, nodes_from, nodes_of, node_at, node_count, no_node}
+use Rattle.org_outline.specs.Outline.{headings_of, next_at, start_or, IsSection}
+use Rattle.org_outline.specs.Moves.{IsNode}
+use Rattle.org_outline.proofs.Lines.{AllByRecursion-append, lines_of-lines}
+use Rattle.org_outline.proofs.Trees.{valid-tree_of_lines, IsLine-heading}
+use Rattle.org_outline.proofs.Nodes.{size, size-cons, node_of, own_end, subtree_is, AllByRecursion-at, print_lines-append, heading_read, later_headings}
+
+-- each node of a valid forest is a valid tree
+pub nodes-valid : (at : ℕ) (f : Forest) → IsForest f → AllByRecursion (λ (p : Placed). IsNode p.node) (nodes_from at f)
+nodes-valid at Empty v = tt
+nodes-valid at (Tree n r s kids later) v =
+    let node = node_of n r s kids in (
+      record { heading = v.0; deep = v.1; children = v.2 },
+      AllByRecursion-append (λ (p : Placed). IsNode p.node) (nodes_from (at + size (own_lines node)) kids) (nodes_from (at + length (print_node node)) later)
+          (nodes-valid (at + size (own_lines node)) kids v.2) (nodes-valid (at + length (print_node node)) later v.4),
+    )
+
+pub node-valid : (t : List ℕ) (i : ℕ) → i < node_count t → IsNode (node_at t i).node
+node-valid t i lt =
+    let d = tree t in
+    AllByRecursion-at (λ (p : Placed). IsNode p.node) (nodes_of t) i no_node (nodes-valid (size d.preamble) d.forest (valid-tree_of_lines (lines_of t) (lines_of-lines t)).forest) lt
+
+-- the first newline after a line
+pub first_newline : (l more : List ℕ) (e : ℕ) → IsLine l → ((k : ℕ) → k < e → get_or (l ++ 10 ∷ more) k 0 ≢ 10) → get_or (l ++ 10 ∷ more) e 0 ≡ 10 → e ≡ length l
+first_newline [] more zero p before here = refl
+first_newline [] more (suc e) p before here = absurd (before 0 (omega arith) refl)
+first_newline (b ∷ l) more zero p before here = absurd (p.0 here)
+first_newline (b ∷ l) more (suc e) p before here = ap suc (first_newline l more e p.1 (λ k lt. before (suc k) (omega arith)) here)
+
+-- the first newline, where there is one
+pub line_end : (t : List ℕ) (start : ℕ) (r : Option ℕ) (e : ℕ) → IsFirstByte (is_byte 10) (take (length t - start) (drop start t)) r → r ≡ Some e
+    → (l more : List ℕ) → IsLine l → drop start t ≡ l ++ 10 ∷ more → start + e + 1 ≡ start + length l + 1
+line_end t start r e h is l more p split =
+    let P : List ℕ → Type 0 = λ t. IsFirstByte (is_byte 10) t (Some e) in
+    let Q : Option ℕ → Type 0 = λ r. IsFirstByte (is_byte 10) (take (length t - start) (drop start t)) r in
+    let g = subst P (take_rest t start ∙ split) (subst Q is h) in
+    let same : e ≡ length l = first_newline l more e p (λ k lt e1. g.0.before k (omega arith) lt (eq-eqb (get_or (l ++ 10 ∷ more) k 0) 10 e1)) (eqb-true (get_or (l ++ 10 ∷ more) e 0) 10 g.1) in
+    omega (arith, same)
+
+pub line_none : (t : List ℕ) (start : ℕ) (r : Option ℕ) → IsFirstByte (is_byte 10) (take (length t - start) (drop start t)) r → r ≡ None
+    → (l more : List ℕ) → IsLine l → drop start t ≡ l ++ 10 ∷ more → ⊥
+line_none t start r h is l more p split =
+    let P : List ℕ → Type 0 = λ t. IsFirstByte (is_byte 10) t None in
+    let Q : Option ℕ → Type 0 = λ r. IsFirstByte (is_byte 10) (take (length t - start) (drop start t)) r in
+    let g = subst P (take_rest t start ∙ split) (subst Q is h) in
+    g (length l) (omega arith) (omega (arith, length-append l (10 ∷ more))) (eq-eqb (get_or (l ++ 10 ∷ more) (length l) 0) 10 (get_or_at l 10 more 0 (length l) refl))
+
+-- the text from a node on
+pub from_node : (t : List ℕ) (i : ℕ) (h : Heading) → closed t ≡ t → i < node_count t → h ≡ get_or (headings_of t) i h → (more : List ℕ) × (drop h.start t ≡ print_node (node_at t i).node ++ more)
+from_node t i h c lt e =
+    let s = subtree_is t i h c lt e in
+    let k = next_at h.level (drop (suc i) (headings_of t)) (length t) - h.start in
+    (drop k (drop h.start t), sym (take-append-drop k (drop h.start t)) ∙ ap (λ x. x ++ drop k (drop h.start t)) s.bytes)
+
+-- what the code answers
+pub section_is : (t : List ℕ) (i : ℕ) (h : Heading) (from : ℕ) → closed t ≡ t → i < node_count t → h ≡ get_or (headings_of t) i h
+    → ((l more : List ℕ) → IsLine l → drop h.start t ≡ l ++ 10 ∷ more → from ≡ h.start + length l + 1)
+    → IsSection t (node_at t i) (record { start = from; end = start_or (drop (suc i) (headings_of t)) (length t) })
+section_is t i h from c lt e found =
+    let p = node_at t i in
+    let n = p.node in
+    let v = (node-valid t i lt).heading in
+    let l = heading_line n.level n.rest in
+    let s = subtree_is t i h c lt e in
+    let m = from_node t i h c lt e in
+    let below = print_lines (n.section ++ lines n.children) in
+    let after = below ++ m.0 in
+    let split : drop h.start t ≡ l ++ 10 ∷ after = m.1 ∙ append_assoc l (10 ∷ below) m.0 in
+    let line : from ≡ h.start + length l + 1 = found l after (IsLine-heading n.level n.rest v.rest) split in
+    let own : size (own_lines n) ≡ length l + 1 + size n.section = size-cons l n.section in
+    let start : h.start ≡ p.at = s.start in
+    let end : start_or (drop (suc i) (headings_of t)) (length t) ≡ p.at + size (own_lines n) = own_end t i c lt in
+    let long : start_or (drop (suc i) (headings_of t)) (length t) - from ≡ size n.section = omega (arith, own, start, end, line) in
+    let there : from ≡ h.start + suc (length l) = omega (arith, line) in
+    let rest : drop from t ≡ print_lines n.section ++ (print_lines (lines n.children) ++ m.0) =
+    ap (λ k. drop k t) there ∙ sym (drop-drop (suc (length l)) h.start t) ∙ ap (drop (suc (length l))) (split ∙ sym (append_assoc l (10 ∷ []) after))
+    ∙ drop_at (l ++ 10 ∷ []) after (suc (length l)) (omega (arith, length-append l (10 ∷ [])))
+    ∙ ap (λ x. x ++ m.0) (print_lines-append n.section (lines n.children)) ∙ append_assoc (print_lines n.section) (print_lines (lines n.children)) m.0 in
+    record {
+      start = omega (arith, line, start);
+      end = end;
+      bytes = ap (λ k. take k (drop from t)) long ∙ ap (take (size n.section)) rest ∙ take_at (print_lines n.section) (print_lines (lines n.children) ++ m.0) (size n.section) refl;
+    }
+
+-- the same as the code says it
+pub section_at : (t u : List ℕ) (i j : ℕ) (hs : List Heading) (d : Heading) (from end : ℕ) → u ≡ t → closed t ≡ t → j ≡ i → hs ≡ headings_of t → i < node_count t
+    → ((l more : List ℕ) → IsLine l → drop (get_or hs j d).start u ≡ l ++ 10 ∷ more → from ≡ (get_or hs j d).start + length l + 1)
+    → end ≡ start_or (take (length hs - (j + 1)) (drop (j + 1) hs)) (length u)
+    → IsSection t (node_at t i) (record { start = from; end = end })
+section_at t u i j hs d from end ue c je he lt found ee =
+    let h = get_or hs j d in
+    let ends : start_or (drop (suc i) (headings_of t)) (length t) ≡ end =
+    sym (ee ∙ ap (λ xs. start_or xs (length u)) (later_headings t i j hs je he) ∙ ap (λ u. start_or (drop (suc i) (headings_of t)) (length u)) ue) in
+    let E : ℕ → Type 0 = λ end. IsSection t (node_at t i) (record { start = from; end = end }) in
+    let line : (l more : List ℕ) → IsLine l → drop h.start t ≡ l ++ 10 ∷ more → from ≡ h.start + length l + 1 = λ l more p split. found l more p (ap (drop h.start) ue ∙ split) in
+    subst E ends (section_is t i h from c lt (heading_read t i j hs d je he lt) line)
+
+pub start_room : (t u : List ℕ) (i j : ℕ) (hs : List Heading) (d : Heading) → u ≡ t → closed t ≡ t → j ≡ i → hs ≡ headings_of t → i < node_count t → (get_or hs j d).start ≤ length u
+start_room t u i j hs d ue c je he lt =
+    let h = get_or hs j d in
+    let m = from_node t i h c lt (heading_read t i j hs d je he lt) in
+    let n = (node_at t i).node in
+    let some : 0 < length (print_node n ++ m.0) = omega (arith, length-append (print_node n) m.0, size-cons (heading_line n.level n.rest) (n.section ++ lines n.children)) in
+    omega (arith, some, ap length m.1, length-drop h.start t, ap length ue)

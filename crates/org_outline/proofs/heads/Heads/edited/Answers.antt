@@ -1,0 +1,37 @@
+use Rattle.std.proofs.Common.{◌∙◌, ◌+◌, ◌<◌, ◌^◌, length, ap, List, arith, ℕ}
+use Rattle.std.proofs.lemmas.List.{length-drop}
+use Rattle.org_outline.proofs.Edits.{makes_now, can_move_now, edited_now}
+use Rattle.org_outline.proofs.heads.Heads.edited.Goals as goal
+
+pub overflow_add-to : goal.overflow_add-to
+overflow_add-to c =
+    let small = c.requires.before_small in
+    let within = c.requires.removed_in in
+    let bounds = c.line_end-to.ensures.within in
+    let behind = ap (λ (l : List ℕ). length l) c.requires.back in
+    omega (arith, small, within, bounds.0, bounds.1, behind, length-drop (c.args.at + c.args.added) c.args.after.now, length-drop (c.args.at + c.args.removed) c.requires.before)
+
+pub replace-requires-clause-ordered : goal.replace-requires-clause-ordered
+replace-requires-clause-ordered c =
+    let small : length c.args.after.now < 2 ^ 64 = omega arith in
+    let m = makes_now _ _ _ _ _ _ _ _ _ _ _ _ c.requires small (c.line_start-from.ensures.within, c.line_start-from.ensures.begins) c.line_end-to.ensures.within c.line_end-to.ensures.ends
+    (c.as_slice.ensures.value ∙ c.self.view_is) (c.as_slice-2.ensures.value ∙ c.self.view_is) c.starts_before-first.ensures.count c.starts_before-last.ensures.count c.in_ok-fresh.ensures in
+    m.ordered
+
+pub move_from-requires-clause-room : goal.move_from-requires-clause-room
+move_from-requires-clause-room c =
+    let small : length c.args.after.now < 2 ^ 64 = omega arith in
+    let m = makes_now _ _ _ _ _ _ _ _ _ _ _ _ c.requires small (c.line_start-from.ensures.within, c.line_start-from.ensures.begins) c.line_end-to.ensures.within c.line_end-to.ensures.ends
+    (c.as_slice.ensures.value ∙ c.self.view_is) (c.as_slice-2.ensures.value ∙ c.self.view_is) c.starts_before-first.ensures.count c.starts_before-last.ensures.count c.in_ok-fresh.ensures in
+    let at_cut = c.len.ensures ∙ c.in_ok-fresh.fresh.ok.0 in
+    let now = c.as_mut_slice.ensures.value ∙ c.in_ok-replace.ensures.ok in
+    can_move_now _ _ _ _ _ _ _ _ _ _ _ m at_cut now (c.self.view_is)
+
+pub returns-clause-ok : goal.returns-clause-ok
+returns-clause-ok c =
+    let small : length c.args.after.now < 2 ^ 64 = omega arith in
+    let m = makes_now _ _ _ _ _ _ _ _ _ _ _ _ c.requires small (c.line_start-from.ensures.within, c.line_start-from.ensures.begins) c.line_end-to.ensures.within c.line_end-to.ensures.ends
+    (c.as_slice.ensures.value ∙ c.self.view_is) (c.as_slice-2.ensures.value ∙ c.self.view_is) c.starts_before-first.ensures.count c.starts_before-last.ensures.count c.in_ok-fresh.ensures in
+    let at_cut = c.len.ensures ∙ c.in_ok-fresh.fresh.ok.0 in
+    let now = c.as_mut_slice.ensures.value ∙ c.in_ok-replace.ensures.ok in
+    edited_now _ _ _ _ _ _ _ _ _ _ _ _ _ _ m at_cut now c.self.view_is c.move_from.ensures c.as_mut_slice.ensures.len

@@ -1,0 +1,9 @@
+pub mod Text
+pub mod Tree
+pub mod States
+pub mod Source
+pub mod Outline
+pub mod Kept
+pub mod Moves
+pub mod Parts
+pub mod Paths
