@@ -1,0 +1,61 @@
+-- What a stop leaves of the journal while its gate is written.
+use Rattle.std.proofs.Common.{◌≡◌, ◌≢◌, inr, ⊎_elim, ℕ, ◌+◌, ◌-◌, ◌<◌, ◌≤◌, ◌∷◌, List, [], length, drop, refl, sym, ◌∙◌, ap, subst, arith}
+use Rattle.std.specs.Prelude.{IsFalse}
+use Rattle.std.proofs.lemmas.List.{same_lists, get_or-drop, length-drop, get_or_default}
+use Rattle.org_disk.specs.Disk.{FileState, IsImage, IsStable, AreLeftBy, stable, write, sync, laid}
+use Rattle.org_disk.proofs.Images.{only_image, stable_is, fixed_after_write}
+use Rattle.org_journal.specs.Gate.{is_open, LeavesBody, LeavesClosed}
+
+-- the gate alone
+pub laid_gate : (gate : ℕ) (text : List ℕ) → laid 0 (gate ∷ []) text ≡ gate ∷ drop 1 text
+laid_gate gate [] = refl
+laid_gate gate (x ∷ text) = refl
+
+-- too short for a header
+pub short_is_closed : (bytes : List ℕ) → length bytes < 16 → IsFalse (is_open bytes)
+short_is_closed bytes short = grind arith
+
+module _ (journal : List ℕ) (gate : ℕ) (files : List ℕ → FileState) (is : IsStable (files journal)) where
+  abbrev content : List ℕ
+  content = (files journal).content
+
+  -- the bytes behind the gate are those of the content
+  abbrev HasBody : List ℕ → Type 0
+  HasBody bytes = drop 1 bytes ≡ drop 1 content
+
+  body_before : (bytes : List ℕ) → IsImage (files journal) bytes → HasBody bytes
+  body_before bytes image = ap (λ (l : List ℕ). drop 1 l) (only_image is bytes image)
+
+  body_written : (bytes : List ℕ) → IsImage (write 0 (gate ∷ []) (files journal)) bytes → HasBody bytes
+  body_written bytes image =
+      let at_least : (files journal).least ≤ length bytes = image.no_shorter in
+      let same : length bytes - 1 ≡ length content - 1 = omega (arith, at_least, image.no_longer, is.least, is.greatest) in
+      same_lists (drop 1 bytes) (drop 1 content) (length-drop 1 bytes ∙ same ∙ sym (length-drop 1 content)) (λ k d within.
+      let here : 1 + k < length bytes = omega (arith, within, length-drop 1 bytes) in
+      let inside : 1 + k < length content = omega (arith, here, same) in
+      let below : 1 + k < (files journal).least = omega (arith, inside, is.least) in
+      get_or-drop 1 bytes k d ∙ get_or_default bytes (1 + k) d 0 here
+      ∙ fixed_after_write 0 (gate ∷ []) (files journal) bytes image (omega arith) (1 + k) (below, is.fixed (1 + k) inside) (inr (omega arith))
+      ∙ get_or_default content (1 + k) 0 d inside ∙ sym (get_or-drop 1 content k d))
+
+  pub gate_write : (image : List ℕ → List ℕ) → AreLeftBy (write 0 (gate ∷ [])) journal files image → LeavesBody journal files image
+  gate_write image left =
+      let body : HasBody (image journal) = ⊎_elim (body_before (image journal)) (body_written (image journal)) left.here in
+      record { body = body; others = left.others }
+
+  pub gate_sync : (mid : List ℕ → FileState) → mid journal ≡ write 0 (gate ∷ []) (files journal) → ((other : List ℕ) → other ≢ journal → mid other ≡ files other)
+      → (image : List ℕ → List ℕ) → AreLeftBy sync journal mid image → LeavesBody journal files image
+  gate_sync mid is_written others image left =
+      let synced : (bytes : List ℕ) → IsImage (stable (mid journal).content) bytes → HasBody bytes = λ bytes now.
+      ap (λ (l : List ℕ). drop 1 l) (only_image (stable_is (mid journal).content) bytes now ∙ ap (λ (f : FileState). f.content) is_written ∙ laid_gate gate content) in
+      let body : HasBody (image journal) =
+      ⊎_elim (λ before. body_written (image journal) (subst (λ f. IsImage f (image journal)) is_written before)) (synced (image journal)) left.here in
+      record { body = body; others = λ other apart. subst (λ f. IsImage f (image other)) (others other apart) (left.others other apart) }
+
+-- a journal that is shorter than a header stays so when its gate is written
+pub body_is_short : (journal : List ℕ) (files : List ℕ → FileState) → length (files journal).content < 16
+    → (image : List ℕ → List ℕ) → LeavesBody journal files image → LeavesClosed journal files image
+body_is_short journal files short image left =
+    let same : length (image journal) - 1 ≡ length (files journal).content - 1 =
+    sym (length-drop 1 (image journal)) ∙ ap length left.body ∙ length-drop 1 (files journal).content in
+    record { closed = short_is_closed (image journal) (omega (arith, same, short)); others = left.others }

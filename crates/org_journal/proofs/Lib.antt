@@ -1,0 +1,10 @@
+pub mod Gates
+pub mod Texts
+pub mod Loops
+pub mod Names
+pub mod Numbers
+pub mod Patched
+pub mod Spelled
+pub mod Journal
+pub mod Fitting
+mod Vectors

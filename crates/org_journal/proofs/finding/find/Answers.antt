@@ -1,0 +1,13 @@
+use Rattle.std.proofs.Common.{subst, List, ℕ}
+use Rattle.std.specs.Prelude.{Err}
+use Rattle.std.proofs.lemmas.Result.{err_from_is_err_and}
+use Rattle.org_journal.specs.Standing.{contents}
+use Rattle.org_journal.specs.Finding.{FindsSize}
+use Rattle.org_journal.proofs.Fitting.{bad_size}
+use Rattle.org_journal.proofs.finding.find.Goals as goal
+
+pub returns-in_err-size-clause-found : goal.returns-in_err-size-clause-found
+returns-in_err-size-clause-found g c honest =
+    let p = err_from_is_err_and c.from_residual.result c.from_residual.ensures.1 in
+    let files = g.D.Disk.files c.args.disk.now in
+    rw (p.1, p.2) (bad_size (contents files) c.in_err-size.field-0.0 (subst (λ (name : List ℕ). FindsSize (files name).content (Err c.in_err-size.field-0.0)) c.requires (c.in_err-size.ensures.found honest)))

@@ -1,0 +1,14 @@
+-- What a function that takes memory found, told by a reader that takes none.
+use Rattle.std.specs.Prelude.{◌≡◌, Option, Some, None, Result, Ok, Err}
+use Rattle.org_journal.specs.declared.fault.RecordFault.{RecordFault}
+use Rattle.org_journal.specs.declared.fault.RecordFault.TheVariants.{Malformed, OutOfMemory}
+
+-- a fault that the reader gives, or want of memory
+abbrev pub Fails : {Y : Type 0} → RecordFault → Option Y → Type 0
+Fails Malformed read = read ≡ None
+Fails OutOfMemory read = Unit {0}
+
+-- What a function returned, as view sees it, is what the reader gives, unless memory ran out.
+abbrev pub Gives : {X Y : Type 0} → (X → Y) → Result X RecordFault → Option Y → Type 0
+Gives view (Ok found) read = read ≡ Some (view found)
+Gives view (Err e) read = Fails e read

@@ -1,0 +1,58 @@
+-- What was found of a journal on a disk.
+use Rattle.std.specs.Prelude.{◌≡◌, ℕ, ◌+◌, ◌<◌, ◌≤◌, IsTrue, IsFalse, List, length, drop, Option, Some, None, Result, Ok, Err}
+use Rattle.std.specs.List.{AllByRecursion}
+use Rattle.byteorder.specs.Endian.{big_number}
+use Rattle.org_disk.specs.Names.{journal_name}
+use Rattle.org_journal.specs.declared.record.Entry.{Entry}
+use Rattle.org_journal.specs.declared.fault.FindFault.{FindFault}
+use Rattle.org_journal.specs.declared.fault.FindFault.TheVariants.{BadJournal, Device, OutOfMemory}
+use Rattle.org_journal.specs.declared.finding.Found.{Found}
+use Rattle.org_journal.specs.declared.finding.Found.TheVariants.{Closed, Armed}
+use Rattle.org_journal.specs.declared.record.Version.TheVariants.{Two}
+use Rattle.org_journal.specs.Gate.{is_open}
+use Rattle.org_journal.specs.Reading.{journal_at}
+use Rattle.org_splice.specs.Patches.{AreWellFormed}
+use Rattle.org_journal.specs.Record.{pairs, IsWellFormed}
+use Rattle.org_journal.specs.Standing.{Image, all_fit, stands}
+
+-- the size of the record that a journal's header gives
+abbrev pub record_size : List ℕ → ℕ
+record_size journal = big_number 8 (drop 8 journal)
+
+-- the whole record lies within the journal
+abbrev pub HoldsRecord : List ℕ → Type 0
+HoldsRecord journal = 16 + record_size journal ≤ length journal
+
+-- what was found of a disk with these contents
+abbrev pub Finds : Image → Result Found FindFault → Type 0
+Finds image (Ok Closed) = IsFalse (is_open (image journal_name))
+Finds image (Ok (Armed entries)) =
+    IsTrue (is_open (image journal_name)) × (journal_at (drop 1 (image journal_name)) ≡ Some entries) × IsTrue (all_fit entries image)
+Finds image (Err BadJournal) = IsTrue (is_open (image journal_name)) × (stands image ≡ None)
+Finds image (Err Device) = Unit {0}
+-- memory is wanted only once the record's size was compared with the journal's
+Finds image (Err OutOfMemory) = IsTrue (is_open (image journal_name)) × HoldsRecord (image journal_name)
+
+-- a record that was found is one that could be written, in whichever version it stood
+abbrev pub IsWritable : Found → Type 0
+IsWritable Closed = Unit {0}
+IsWritable (Armed entries) = IsWellFormed Two entries
+
+-- what the header alone tells: None of a closed gate, and the record's size of an open one
+abbrev pub FindsSize : List ℕ → Result (Option ℕ) FindFault → Type 0
+FindsSize journal (Ok None) = IsFalse (is_open journal)
+FindsSize journal (Ok (Some size)) = IsTrue (is_open journal) × (size ≡ record_size journal) × HoldsRecord journal
+FindsSize journal (Err BadJournal) = IsTrue (is_open journal) × (length journal < 16 + record_size journal)
+FindsSize journal (Err Device) = Unit {0}
+FindsSize journal (Err OutOfMemory) = ⊥
+
+-- what the bytes behind an open gate tell, where the whole record lies within them
+abbrev pub FindsRecord : List ℕ → Result (List Entry) FindFault → Type 0
+FindsRecord journal (Ok entries) = journal_at (drop 1 journal) ≡ Some entries
+FindsRecord journal (Err BadJournal) = journal_at (drop 1 journal) ≡ None
+FindsRecord journal (Err Device) = Unit {0}
+FindsRecord journal (Err OutOfMemory) = Unit {0}
+
+-- the patches of each entry are such as can be written
+abbrev pub AreWritten : List Entry → Type 0
+AreWritten entries = AllByRecursion (λ entry. AreWellFormed (pairs entry.patches) entry.length) entries

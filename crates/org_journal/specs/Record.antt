@@ -1,0 +1,88 @@
+-- What a record is, and its bytes in the two versions of the journal's format. All numbers are big-endian.
+use Rattle.std.specs.Prelude.{◌≡◌, ℕ, ◌≤◌, Bool, true, not, ◌&&◌, IsTrue, IsUtf8, List, [], ◌∷◌, ◌++◌, length, map, codes}
+use Rattle.std.specs.List.{flat_map, list_any, AllByRecursion}
+use Rattle.std.specs.Str.{bytes_eq}
+use Rattle.byteorder.specs.Endian.{big_bytes}
+use Rattle.org_disk.specs.Names.{is_file_name}
+use Rattle.org_splice.specs.Patches.{AreWellFormed}
+use Rattle.org_journal.specs.declared.record.Entry.{Entry}
+use Rattle.org_journal.specs.declared.record.Patch.{Patch}
+use Rattle.org_journal.specs.declared.record.Version.{Version}
+use Rattle.org_journal.specs.declared.record.Version.TheVariants.{One, Two}
+
+-- the patches as pairs, each the place from which on its bytes stand, and the bytes
+abbrev pub pairs : List Patch → List (ℕ × List ℕ)
+pairs patches = map (λ p. (p.from, p.bytes)) patches
+
+-- The bytes of a record
+
+abbrev pub name_bytes : List ℕ → List ℕ
+name_bytes name = big_bytes 2 (length name) ++ name
+
+abbrev pub counted_bytes : List ℕ → List ℕ
+counted_bytes bytes = big_bytes 8 (length bytes) ++ bytes
+
+abbrev pub patch_bytes : Patch → List ℕ
+patch_bytes patch = big_bytes 8 patch.from ++ counted_bytes patch.bytes
+
+-- version 1 writes the file's final length into the patch, of which an entry has one
+abbrev pub old_patch_bytes : ℕ → Patch → List ℕ
+old_patch_bytes final patch = big_bytes 8 patch.from ++ (big_bytes 8 final ++ counted_bytes patch.bytes)
+
+abbrev pub entry_bytes : Version → Entry → List ℕ
+entry_bytes One entry = name_bytes entry.name ++ flat_map (old_patch_bytes entry.length) entry.patches
+entry_bytes Two entry = name_bytes entry.name ++ (big_bytes 8 entry.length ++ (big_bytes 4 (length entry.patches) ++ flat_map patch_bytes entry.patches))
+
+abbrev pub record_bytes : Version → List Entry → List ℕ
+record_bytes version entries = big_bytes 4 (length entries) ++ flat_map (entry_bytes version) entries
+
+abbrev pub version_number : Version → ℕ
+version_number One = 1
+version_number Two = 2
+
+-- the journal's bytes behind the gate, up to the record of this size
+abbrev pub header_bytes : Version → ℕ → List ℕ
+header_bytes version size = codes "ORGJ" ++ version_number version ∷ 0 ∷ 0 ∷ big_bytes 8 size
+
+-- the journal's bytes behind the gate
+abbrev pub journal_bytes : Version → List Entry → List ℕ
+journal_bytes version entries = header_bytes version (length (record_bytes version entries)) ++ record_bytes version entries
+
+-- What has such bytes
+
+abbrev pub most_patches : Version → ℕ
+most_patches One = 1
+most_patches Two = 1_000
+
+abbrev pub greatest_length : Version → ℕ
+greatest_length One = 16_777_216
+greatest_length Two = 67_108_864
+
+pub record IsEntry (version : Version) (entry : Entry) : Type 0 where
+  pub text : IsUtf8 entry.name
+  pub name : IsTrue (is_file_name entry.name)
+  pub few : length entry.patches ≤ most_patches version
+  pub patches : AreWellFormed (pairs entry.patches) entry.length
+  pub small : entry.length ≤ greatest_length version
+
+-- an entry has this name
+abbrev pub is_named : List ℕ → List Entry → Bool
+is_named name entries = list_any (λ entry. bytes_eq entry.name name) entries
+
+-- no two entries have one name
+abbrev pub names_differ : List Entry → Bool
+names_differ [] = true
+names_differ (entry ∷ entries) = not (is_named entry.name entries) && names_differ entries
+
+pub record IsWellFormed (version : Version) (entries : List Entry) : Type 0 where
+  pub some : 1 ≤ length entries
+  pub few : length entries ≤ 512
+  pub each : AllByRecursion (IsEntry version) entries
+  pub apart : IsTrue (names_differ entries)
+
+-- The bytes begin with those of a well-formed record, in one of the versions.
+pub record BeginsWith (bytes : List ℕ) (entries : List Entry) : Type 0 where
+  pub version : Version
+  pub rest : List ℕ
+  pub whole : bytes ≡ journal_bytes version entries ++ rest
+  pub well_formed : IsWellFormed version entries

@@ -1,0 +1,112 @@
+//! The bytes of a record, in version 2 of the journal's format.
+ghost use Rattle.std.specs.Prelude.{◌≡◌, ◌≤◌, ◌++◌, List, ℕ, length, take, drop, Some, OnOk, IfOk};
+ghost use Rattle.std.specs.List.{flat_map, AllByRecursion};
+ghost use Rattle.byteorder.specs.Endian.{big_bytes};
+ghost use Rattle.org_journal.specs.declared.record.Version.TheVariants.{Two};
+ghost use Rattle.org_journal.specs.Record.{patch_bytes, entry_bytes, record_bytes, journal_bytes, IsEntry, IsWellFormed};
+ghost use Rattle.org_journal.specs.Reading.{journal_at};
+
+use crate::reading::HEADER;
+use crate::record::{Entry, Patch, Record};
+use byteorder::{BigEndian, ByteOrder};
+use std::alloc::{AllocError, Global};
+
+// Where the record's size stands in the header.
+const SIZE_AT: usize = 7;
+
+fn put_u16(out: &mut Vec<u8>, number: u16) -> Result<(), AllocError>
+    ensures { OnOk result (out.new.items ≡ out.old.items ++ big_bytes 2 number) }
+{
+    let mut bytes = [0; 2];
+    BigEndian::write_u16(&mut bytes, number);
+    out.extend_from_slice(&bytes)?;
+    Ok(())
+}
+
+fn put_u32(out: &mut Vec<u8>, number: u32) -> Result<(), AllocError>
+    ensures { OnOk result (out.new.items ≡ out.old.items ++ big_bytes 4 number) }
+{
+    let mut bytes = [0; 4];
+    BigEndian::write_u32(&mut bytes, number);
+    out.extend_from_slice(&bytes)?;
+    Ok(())
+}
+
+fn put_u64(out: &mut Vec<u8>, number: u64) -> Result<(), AllocError>
+    ensures { OnOk result (out.new.items ≡ out.old.items ++ big_bytes 8 number) }
+{
+    let mut bytes = [0; 8];
+    BigEndian::write_u64(&mut bytes, number);
+    out.extend_from_slice(&bytes)?;
+    Ok(())
+}
+
+fn put_patch(out: &mut Vec<u8>, patch: &Patch) -> Result<(), AllocError>
+    ensures { OnOk result (out.new.items ≡ out.old.items ++ patch_bytes patch.now) }
+{
+    put_u64(out, patch.from)?;
+    put_u64(out, patch.bytes.len() as u64)?;
+    out.extend_from_slice(patch.bytes.as_slice())?;
+    Ok(())
+}
+
+fn put_patches(out: &mut Vec<u8>, patches: &[Patch]) -> Result<(), AllocError>
+    ensures { OnOk result (out.new.items ≡ out.old.items ++ flat_map patch_bytes patches.now) }
+{
+    for patch in patches {
+        put_patch(out, patch)?;
+    }
+    Ok(())
+}
+
+fn put_entry(out: &mut Vec<u8>, entry: &Entry) -> Result<(), AllocError>
+    requires { IsEntry Two entry.now }
+    ensures { OnOk result (out.new.items ≡ out.old.items ++ entry_bytes Two entry.now) }
+{
+    let name = entry.name.as_str();
+    put_u16(out, name.len() as u16)?;
+    out.extend_from_slice(name.as_bytes())?;
+    put_u64(out, entry.length)?;
+    let patches = entry.patches.as_slice();
+    put_u32(out, patches.len() as u32)?;
+    put_patches(out, patches)?;
+    Ok(())
+}
+
+fn put_entries(out: &mut Vec<u8>, entries: &[Entry]) -> Result<(), AllocError>
+    requires { AllByRecursion (IsEntry Two) entries.now }
+    ensures { OnOk result (out.new.items ≡ out.old.items ++ flat_map (entry_bytes Two) entries.now) }
+{
+    for entry in entries {
+        put_entry(out, entry)?;
+    }
+    Ok(())
+}
+
+// Writes the record's size into the header in front of it.
+fn set_size(bytes: &mut [u8], size: u64)
+    requires { 15 ≤ length bytes.old }
+    ensures { bytes.new ≡ take 7 bytes.old ++ (big_bytes 8 size ++ drop 15 bytes.old) }
+{
+    BigEndian::write_u64(&mut bytes[SIZE_AT..], size);
+}
+
+impl Record {
+    /// The journal's bytes behind its gate, in version 2 of the format.
+    pub fn encode(&self, alloc: Global) -> Result<Vec<u8>, AllocError>
+        requires { IsWellFormed Two self.now }
+        ensures bytes { IfOk result (λ bytes. bytes.items ≡ journal_bytes Two self.now) }
+        // The record is read again from them, whatever follows.
+        ensures read { IfOk result (λ bytes. (rest : List ℕ) → journal_at (bytes.items ++ rest) ≡ Some self.now) }
+    {
+        let entries = self.entries();
+        let mut out = Vec::new(alloc);
+        out.extend_from_slice(b"ORGJ\x02\x00\x00")?;
+        put_u64(&mut out, 0)?;
+        put_u32(&mut out, entries.len() as u32)?;
+        put_entries(&mut out, entries)?;
+        let size = (out.len() - HEADER) as u64;
+        set_size(&mut out, size);
+        Ok(out)
+    }
+}

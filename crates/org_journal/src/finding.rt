@@ -1,0 +1,164 @@
+//! What a journal on a disk says: that nothing is to be done, or what a commit had still to do.
+ghost use Rattle.std.specs.Prelude.{◌≡◌, ◌≤◌, ◌<◌, ◌↔◌, ◌+◌, ◌^◌, ℕ, List, length, take, drop, Some, Ok, Err, IfOk, IfSome, OnErr, IsErrOf, IsTrue, IsFalse};
+ghost use Rattle.std.specs.List.{AllByRecursion};
+ghost use Rattle.org_disk.specs.Disk.{HasRisen, Passes, AreImages};
+ghost use Rattle.org_disk.specs.Names.{journal_name};
+ghost use Rattle.org_splice.specs.Patches.{AreWellFormed};
+ghost use Rattle.org_journal.specs.Record.{pairs, IsWellFormed};
+ghost use Rattle.org_journal.specs.Reading.{journal_at};
+ghost use Rattle.org_journal.specs.Standing.{contents, fits, all_fit};
+ghost use Rattle.org_journal.specs.declared.record.Version.TheVariants.{Two};
+ghost use Rattle.org_journal.specs.Finding.{Finds, IsWritable, FindsSize, FindsRecord, HoldsRecord, AreWritten, record_size};
+
+use crate::decoding::decode;
+use crate::fault::{FindFault, RecordFault};
+use crate::gate::OPEN;
+use crate::record::{Entry, Patch, Record};
+use byteorder::{BigEndian, ByteOrder};
+use org_disk::{Disk, DiskFault, FileName};
+use std::alloc::Global;
+
+// The bytes in front of a record, the gate among them.
+const HEADER: u64 = 16;
+
+/// What stands in a journal.
+#[derive(Debug, Drop)]
+pub enum Found {
+    /// The gate is closed.
+    Closed,
+    /// The gate is open over this record, which fits its files.
+    Armed(Record),
+}
+
+// The size of the record behind an open gate, and nothing where the gate is closed.
+fn size_of<D: Disk>(disk: &mut D, journal: &FileName) -> Result<Option<u64>, FindFault>
+    ensures found { D.honest disk.old → FindsSize (D.files disk.old journal.now).content result }
+    ensures small { IfOk result (λ found. IfSome found (λ size. 16 + size < 2 ^ 64)) }
+    ensures same { D.honest disk.old → D.files disk.new ≡ D.files disk.old }
+    ensures any_moment { D.honest disk.old → Passes (D.moment disk.old) (D.moment disk.new) (D.left_since disk.old) (D.left_since disk.new) (AreImages (D.files disk.old)) }
+    ensures failed { IsErrOf result FindFault.Device → HasRisen (D.failures disk.old) (D.failures disk.new) }
+    ensures failures { D.failures disk.old ≤ D.failures disk.new }
+    ensures honest { D.honest disk.new ↔ D.honest disk.old }
+{
+    let length = disk.length(journal)?;
+    if length < HEADER {
+        return Ok(None);
+    }
+    let mut header = [0; 16];
+    disk.read_at(journal, 0, &mut header)?;
+    if header[0] != OPEN {
+        return Ok(None);
+    }
+    let size = BigEndian::read_u64(&header[8..]);
+    if size > length - HEADER {
+        return Err(FindFault::BadJournal);
+    }
+    Ok(Some(size))
+}
+
+// The journal's bytes behind the gate, to the end of a record of this size.
+fn body_of<D: Disk>(
+    alloc: Global,
+    disk: &mut D,
+    journal: &FileName,
+    size: u64,
+) -> Result<Vec<u8>, FindFault>
+    requires small { 16 + size < 2 ^ 64 }
+    requires within { D.honest disk.old → 16 + size ≤ length (D.files disk.old journal.now).content }
+    ensures bytes { IfOk result (λ body. D.honest disk.old → body.items ≡ take (15 + size) (drop 1 (D.files disk.old journal.now).content)) }
+    ensures bad { ¬ (IsErrOf result FindFault.BadJournal) }
+    ensures same { D.honest disk.old → D.files disk.new ≡ D.files disk.old }
+    ensures any_moment { D.honest disk.old → Passes (D.moment disk.old) (D.moment disk.new) (D.left_since disk.old) (D.left_since disk.new) (AreImages (D.files disk.old)) }
+    ensures failed { IsErrOf result FindFault.Device → HasRisen (D.failures disk.old) (D.failures disk.new) }
+    ensures failures { D.failures disk.old ≤ D.failures disk.new }
+    ensures honest { D.honest disk.new ↔ D.honest disk.old }
+{
+    let mut body = vec![in alloc; 0u8; 15 + size as usize]?;
+    disk.read_at(journal, 1, &mut body)?;
+    Ok(body)
+}
+
+// The record behind an open gate, which has this size.
+fn record_of<D: Disk>(
+    alloc: Global,
+    disk: &mut D,
+    journal: &FileName,
+    size: u64,
+) -> Result<Record, FindFault>
+    requires small { 16 + size < 2 ^ 64 }
+    requires size { D.honest disk.old → size ≡ record_size (D.files disk.old journal.now).content }
+    requires within { D.honest disk.old → HoldsRecord (D.files disk.old journal.now).content }
+    ensures found { D.honest disk.old → FindsRecord (D.files disk.old journal.now).content result }
+    ensures written { IfOk result (λ entries. AreWritten entries) }
+    ensures writable { IfOk result (λ entries. IsWellFormed Two entries) }
+    ensures same { D.honest disk.old → D.files disk.new ≡ D.files disk.old }
+    ensures any_moment { D.honest disk.old → Passes (D.moment disk.old) (D.moment disk.new) (D.left_since disk.old) (D.left_since disk.new) (AreImages (D.files disk.old)) }
+    ensures failed { IsErrOf result FindFault.Device → HasRisen (D.failures disk.old) (D.failures disk.new) }
+    ensures failures { D.failures disk.old ≤ D.failures disk.new }
+    ensures honest { D.honest disk.new ↔ D.honest disk.old }
+{
+    let body = body_of(alloc, disk, journal, size)?;
+    match decode(alloc, &body) {
+        Ok(record) => Ok(record),
+        Err(RecordFault::Malformed) => Err(FindFault::BadJournal),
+        Err(RecordFault::OutOfMemory) => Err(FindFault::OutOfMemory),
+    }
+}
+
+// Whether patches and a final length fit a file of this size.
+fn fits(patches: &[Patch], length: u64, size: u64) -> bool
+    requires { AreWellFormed (pairs patches.now) length }
+    ensures { result ≡ fits (pairs patches.now) length size }
+{
+    let mut place = 0;
+    for patch in patches {
+        if patch.from > size.max(place) {
+            return false;
+        }
+        place = patch.from + patch.bytes.len() as u64;
+    }
+    length <= size.max(place)
+}
+
+// Whether each entry fits its file.
+fn all_fit<D: Disk>(disk: &mut D, entries: &[Entry]) -> Result<bool, DiskFault>
+    requires { AreWritten entries.now }
+    ensures fit { IfOk result (λ answer. D.honest disk.old → answer ≡ all_fit entries.now (contents (D.files disk.old))) }
+    ensures same { D.honest disk.old → D.files disk.new ≡ D.files disk.old }
+    ensures any_moment { D.honest disk.old → Passes (D.moment disk.old) (D.moment disk.new) (D.left_since disk.old) (D.left_since disk.new) (AreImages (D.files disk.old)) }
+    ensures failed { OnErr result (HasRisen (D.failures disk.old) (D.failures disk.new)) }
+    ensures failures { D.failures disk.old ≤ D.failures disk.new }
+    ensures honest { D.honest disk.new ↔ D.honest disk.old }
+{
+    for entry in entries {
+        let size = disk.length(&entry.name)?;
+        if !fits(entry.patches.as_slice(), entry.length, size) {
+            return Ok(false);
+        }
+    }
+    Ok(true)
+}
+
+/// Looks at the journal, and changes nothing. `Armed` comes exactly where the gate is open and a well-formed record
+/// that fits its files stands behind it, with that record; `Closed` exactly where the gate is closed; else
+/// `BadJournal`. Memory is taken only where the gate is open and the journal is long enough for the size that its
+/// header gives.
+pub fn find<D: Disk>(alloc: Global, disk: &mut D, journal: &FileName) -> Result<Found, FindFault>
+    requires { journal.now ≡ journal_name }
+    ensures found { D.honest disk.old → Finds (contents (D.files disk.old)) result }
+    ensures writable { IfOk result (λ found. IsWritable found) }
+    ensures same { D.honest disk.old → D.files disk.new ≡ D.files disk.old }
+    ensures any_moment { D.honest disk.old → Passes (D.moment disk.old) (D.moment disk.new) (D.left_since disk.old) (D.left_since disk.new) (AreImages (D.files disk.old)) }
+    ensures failed { IsErrOf result FindFault.Device → HasRisen (D.failures disk.old) (D.failures disk.new) }
+    ensures failures { D.failures disk.old ≤ D.failures disk.new }
+    ensures honest { D.honest disk.new ↔ D.honest disk.old }
+{
+    let Some(size) = size_of(disk, journal)? else {
+        return Ok(Found::Closed);
+    };
+    let record = record_of(alloc, disk, journal, size)?;
+    if !all_fit(disk, record.entries())? {
+        return Err(FindFault::BadJournal);
+    }
+    Ok(Found::Armed(record))
+}

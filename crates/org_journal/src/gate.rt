@@ -1,0 +1,97 @@
+//! The writes of the journal, in the order that lets a stop at any moment leave it whole: while its bytes are written
+//! the gate is closed on the disk, and the gate alone opens and closes it.
+ghost use Rattle.std.specs.Prelude.{◌≡◌, ◌≢◌, ◌≤◌, ◌<◌, ◌↔◌, List, ℕ, length, drop, ◌∷◌, OnOk, OnErr, IsTrue, is_some};
+ghost use Rattle.org_disk.specs.Disk.{IsStable, Passes, HasRisen, laid};
+ghost use Rattle.org_journal.specs.Reading.{journal_at};
+ghost use Rattle.org_journal.specs.Gate.{is_open, HasClosedGate, LeavesClosed, LeavesBody};
+
+use org_disk::{Disk, DiskFault, FileName};
+
+const CLOSED: u8 = 0;
+
+/// The first byte of a journal whose gate is open.
+pub(crate) const OPEN: u8 = 1;
+
+/// Gives a journal that is shorter than a header its gate, closed. At every moment the gate is closed, also where the
+/// call fails.
+pub fn prepare<D: Disk>(disk: &mut D, journal: &FileName) -> Result<(), DiskFault>
+    requires stable { D.honest disk.old → IsStable (D.files disk.old journal.now) }
+    requires short { D.honest disk.old → length (D.files disk.old journal.now).content < 16 }
+    ensures any_moment { D.honest disk.old → Passes (D.moment disk.old) (D.moment disk.new) (D.left_since disk.old) (D.left_since disk.new)
+        (LeavesClosed journal.now (D.files disk.old)) }
+    ensures stable { OnOk result (D.honest disk.old → IsStable (D.files disk.new journal.now)) }
+    ensures content { OnOk result (D.honest disk.old → (D.files disk.new journal.now).content ≡ 0 ∷ drop 1 (D.files disk.old journal.now).content) }
+    ensures others { D.honest disk.old → (other : List ℕ) → other ≢ journal.now → D.files disk.new other ≡ D.files disk.old other }
+    ensures failed { OnErr result (HasRisen (D.failures disk.old) (D.failures disk.new)) }
+    ensures failures { D.failures disk.old ≤ D.failures disk.new }
+    ensures honest { D.honest disk.new ↔ D.honest disk.old }
+{
+    set_gate(disk, journal, CLOSED)
+}
+
+/// Puts a record's bytes behind the closed gate, on the disk. At every moment the gate is closed, also where the call
+/// fails; bytes that stood behind the new ones stay.
+pub fn arm<D: Disk>(disk: &mut D, journal: &FileName, body: &[u8]) -> Result<(), DiskFault>
+    requires { D.honest disk.old → HasClosedGate (D.files disk.old journal.now) }
+    ensures any_moment { D.honest disk.old → Passes (D.moment disk.old) (D.moment disk.new) (D.left_since disk.old) (D.left_since disk.new)
+        (LeavesClosed journal.now (D.files disk.old)) }
+    ensures stable { OnOk result (D.honest disk.old → IsStable (D.files disk.new journal.now)) }
+    ensures content { OnOk result (D.honest disk.old → (D.files disk.new journal.now).content ≡ laid 1 body.now (D.files disk.old journal.now).content) }
+    ensures others { D.honest disk.old → (other : List ℕ) → other ≢ journal.now → D.files disk.new other ≡ D.files disk.old other }
+    ensures failed { OnErr result (HasRisen (D.failures disk.old) (D.failures disk.new)) }
+    ensures failures { D.failures disk.old ≤ D.failures disk.new }
+    ensures honest { D.honest disk.new ↔ D.honest disk.old }
+{
+    disk.write_at(journal, 1, body)?;
+    disk.sync(journal)
+}
+
+/// Opens the gate, on the disk. Where a record stands behind it, the journal is open then. At every moment the journal
+/// differs from what it was at its first byte alone, also where the call fails.
+pub fn open_gate<D: Disk>(disk: &mut D, journal: &FileName) -> Result<(), DiskFault>
+    requires { D.honest disk.old → IsStable (D.files disk.old journal.now) }
+    ensures any_moment { D.honest disk.old → Passes (D.moment disk.old) (D.moment disk.new) (D.left_since disk.old) (D.left_since disk.new)
+        (LeavesBody journal.now (D.files disk.old)) }
+    ensures stable { OnOk result (D.honest disk.old → IsStable (D.files disk.new journal.now)) }
+    ensures content { OnOk result (D.honest disk.old → (D.files disk.new journal.now).content ≡ 1 ∷ drop 1 (D.files disk.old journal.now).content) }
+    ensures opened { OnOk result (D.honest disk.old → IsTrue (is_some (journal_at (drop 1 (D.files disk.old journal.now).content))) → IsTrue (is_open (D.files disk.new journal.now).content)) }
+    ensures others { D.honest disk.old → (other : List ℕ) → other ≢ journal.now → D.files disk.new other ≡ D.files disk.old other }
+    ensures failed { OnErr result (HasRisen (D.failures disk.old) (D.failures disk.new)) }
+    ensures failures { D.failures disk.old ≤ D.failures disk.new }
+    ensures honest { D.honest disk.new ↔ D.honest disk.old }
+{
+    set_gate(disk, journal, OPEN)
+}
+
+/// Closes the gate, on the disk. At every moment the journal differs from what it was at its first byte alone, also
+/// where the call fails.
+pub fn close_gate<D: Disk>(disk: &mut D, journal: &FileName) -> Result<(), DiskFault>
+    requires stable { D.honest disk.old → IsStable (D.files disk.old journal.now) }
+    requires nonempty { D.honest disk.old → 1 ≤ length (D.files disk.old journal.now).content }
+    ensures any_moment { D.honest disk.old → Passes (D.moment disk.old) (D.moment disk.new) (D.left_since disk.old) (D.left_since disk.new)
+        (LeavesBody journal.now (D.files disk.old)) }
+    ensures stable { OnOk result (D.honest disk.old → IsStable (D.files disk.new journal.now)) }
+    ensures content { OnOk result (D.honest disk.old → (D.files disk.new journal.now).content ≡ 0 ∷ drop 1 (D.files disk.old journal.now).content) }
+    ensures others { D.honest disk.old → (other : List ℕ) → other ≢ journal.now → D.files disk.new other ≡ D.files disk.old other }
+    ensures failed { OnErr result (HasRisen (D.failures disk.old) (D.failures disk.new)) }
+    ensures failures { D.failures disk.old ≤ D.failures disk.new }
+    ensures honest { D.honest disk.new ↔ D.honest disk.old }
+{
+    set_gate(disk, journal, CLOSED)
+}
+
+// Writes the gate alone, and syncs it.
+fn set_gate<D: Disk>(disk: &mut D, journal: &FileName, gate: u8) -> Result<(), DiskFault>
+    requires { D.honest disk.old → IsStable (D.files disk.old journal.now) }
+    ensures any_moment { D.honest disk.old → Passes (D.moment disk.old) (D.moment disk.new) (D.left_since disk.old) (D.left_since disk.new)
+        (LeavesBody journal.now (D.files disk.old)) }
+    ensures stable { OnOk result (D.honest disk.old → IsStable (D.files disk.new journal.now)) }
+    ensures content { OnOk result (D.honest disk.old → (D.files disk.new journal.now).content ≡ gate ∷ drop 1 (D.files disk.old journal.now).content) }
+    ensures others { D.honest disk.old → (other : List ℕ) → other ≢ journal.now → D.files disk.new other ≡ D.files disk.old other }
+    ensures failed { OnErr result (HasRisen (D.failures disk.old) (D.failures disk.new)) }
+    ensures failures { D.failures disk.old ≤ D.failures disk.new }
+    ensures honest { D.honest disk.new ↔ D.honest disk.old }
+{
+    disk.write_at(journal, 0, &[gate])?;
+    disk.sync(journal)
+}

@@ -1,0 +1,21 @@
+//! The journal of a store: its record, as bytes and as a value, and its gate.
+#![tactic(auto)]
+
+mod decoding;
+mod encoding;
+mod fault;
+mod fields;
+mod finding;
+mod gate;
+mod reading;
+mod record;
+
+pub use decoding::decode;
+pub use fault::{FindFault, RecordFault};
+pub use finding::{Found, find};
+pub use gate::{arm, close_gate, open_gate, prepare};
+pub use reading::well_formed;
+pub use record::{Entry, Patch, Patches, Record};
+
+#[cfg(test)]
+mod tests;
