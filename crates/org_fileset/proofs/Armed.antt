@@ -1,0 +1,133 @@
+-- A journal that stands open while its record is laid, and is then closed.
+use Rattle.std.proofs.Common.{◌≡◌, ◌≢◌, inl, inr, ℕ, ◌≤◌, List, ◌∷◌, length, drop, get_or, true, false, Some, Result, Ok, Err, OnOk, OnErr, sym, ◌∙◌, ap, subst, arith}
+use Rattle.std.specs.Prelude.{nat_le, slice_index, ◌==◌}
+use Rattle.std.proofs.lemmas.Bool.{cases_Bool, and_parts, leb-true}
+use Rattle.org_disk.specs.Disk.{FileState, IsImage, IsStable}
+use Rattle.org_disk.specs.Names.{journal_name}
+use Rattle.org_disk.proofs.Images.{only_image}
+use Rattle.org_disk.proofs.Moments.{passes_then}
+use Rattle.org_journal.specs.declared.record.Entry.{Entry}
+use Rattle.org_journal.specs.Gate.{is_open, HasClosedGate, LeavesBody}
+use Rattle.org_journal.specs.Reading.{journal_at}
+use Rattle.org_journal.specs.Record.{is_named}
+use Rattle.org_journal.specs.Standing.{Image, SameFiles, StandsFor, IsArmed, contents}
+use Rattle.org_fileset.specs.Replay.{TakesTo, AreLayable, EachTakes, LeavesTaking, Replays, IsOpenOver, IsReplayable, IsAtRest}
+use Rattle.org_fileset.proofs.Takes.{name_cases, journal_unnamed}
+use Rattle.org_fileset.proofs.Stands.{stands_open, stands_closed}
+
+-- one run of calls after another
+pub replays_then : {entries : List Entry} {texts : Image} {m n k : ℕ} {s u v : ℕ → Image → Type 0} {old mid new : List ℕ → FileState} → AreLayable entries
+    → Replays entries texts m n s u old mid → Replays entries texts n k u v mid new → Replays entries texts m k s v old new
+replays_then {entries} layable first second = record {
+  any_moment = passes_then first.any_moment second.any_moment (λ image left. record {
+    same_journal = left.same_journal ∙ ap (λ (f : FileState). f.content) (first.others journal_name (journal_unnamed entries layable.each));
+    each = left.each;
+  });
+  takes = second.takes;
+  others = λ name none. second.others name none ∙ first.others name none;
+}
+
+-- what is left while the record is laid stands for what it makes
+pub taking_stands : (entries : List Entry) (texts : Image) (journal : List ℕ) → AreLayable entries → is_open journal ≡ true → journal_at (drop 1 journal) ≡ Some entries
+    → (image : Image) → LeavesTaking journal entries texts image → StandsFor texts image
+taking_stands entries texts journal layable opened found image left =
+    stands_open entries texts image layable (ap is_open left.same_journal ∙ opened) (ap (λ (l : List ℕ). journal_at (drop 1 l)) left.same_journal ∙ found) left.each
+
+-- such a disk is one with an open record
+pub replayable_armed : (entries : List Entry) (files : List ℕ → FileState) → AreLayable entries → IsOpenOver entries files → IsReplayable entries files → IsArmed files
+replayable_armed entries files layable is can = record {
+  stable = is.stable;
+  opened = is.opened;
+  entries = entries;
+  found = is.found;
+  others = can.others;
+  texts = can.texts;
+  same = λ image left.
+      let journal = only_image is.stable (image journal_name) (left journal_name) in
+      stands_open entries can.texts image layable (ap is_open journal ∙ is.opened) (ap (λ (l : List ℕ). journal_at (drop 1 l)) journal ∙ is.found)
+      (λ name not. can.takes.each name not (image name) (left name));
+}
+
+-- it stays one while the record is laid
+pub still_open : (entries : List Entry) (old new : List ℕ → FileState) → AreLayable entries → IsOpenOver entries old
+    → ((name : List ℕ) → is_named name entries ≡ false → new name ≡ old name) → IsOpenOver entries new
+still_open entries old new layable is others = record {
+  stable = subst IsStable (sym same) is.stable;
+  opened = ap (λ (f : FileState). is_open f.content) same ∙ is.opened;
+  found = ap (λ (f : FileState). journal_at (drop 1 f.content)) same ∙ is.found;
+}
+  where
+    same : new journal_name ≡ old journal_name
+    same = others journal_name (journal_unnamed entries layable.each)
+
+pub still_replayable : {entries : List Entry} {m n : ℕ} {s u : ℕ → Image → Type 0} {old new : List ℕ → FileState} (can : IsReplayable entries old) → Replays entries can.texts m n s u old new
+    → IsReplayable entries new
+still_replayable can replays = record {
+  others = λ name not none. subst IsStable (sym (replays.others name none)) (can.others name not none);
+  texts = can.texts;
+  takes = replays.takes;
+}
+
+-- all files but the journal are on the disk with their new texts
+pub record IsDone (entries : List Entry) (texts : Image) (files : List ℕ → FileState) : Type 0 where
+  pub takes : EachTakes entries texts files
+  pub stable : (name : List ℕ) → IsStable (files name)
+  pub have : SameFiles (contents files) texts
+  pub found : journal_at (drop 1 (files journal_name).content) ≡ Some entries
+
+-- what is left while the gate is closed
+pub closing_stands : (entries : List Entry) (texts : Image) (files : List ℕ → FileState) (journal : List ℕ) → journal ≡ journal_name → AreLayable entries
+    → ((name : List ℕ) → IsImage (files name) (files name).content) → IsDone entries texts files → (image : Image) → LeavesBody journal files image → StandsFor texts image
+closing_stands entries texts files journal name_is layable own done image left = elim (cases_Bool (is_open (image journal_name))) [
+  | inl opened ↦ stands_open entries texts image layable opened (ap journal_at here.body ∙ done.found) (λ name not.
+      subst (λ (t : List ℕ). TakesTo entries name t (texts name)) (sym (same name not)) (done.takes.each name not (files name).content (own name)))
+  | inr shut ↦ stands_closed texts image shut (λ name not. same name not ∙ done.have name not)
+]
+  where
+    here : LeavesBody journal_name files image
+    here = subst (λ (n : List ℕ). LeavesBody n files image) name_is left
+
+    same : (name : List ℕ) → name ≢ journal_name → image name ≡ (files name).content
+    same name not = only_image (done.stable name) (image name) (here.others name not)
+
+-- a gate that was written is closed on the disk
+pub closed_after : (file : FileState) (rest : List ℕ) → IsStable file → file.content ≡ 0 ∷ rest → HasClosedGate file
+closed_after file rest only is =
+    let long : 1 ≤ length file.content = omega (arith, ap length is) in
+    record {
+      nonempty = long;
+      fixed = (omega (arith, long, only.least), only.fixed 0 (omega (arith, long)));
+      closed = λ one. let zero_is_one : 0 ≡ 1 = sym (ap (λ (l : List ℕ). get_or l 0 0) is) ∙ one in omega arith;
+    }
+
+-- the gate closed, all is at rest
+pub rest_after : (old new : List ℕ → FileState) (rest : List ℕ) → IsStable (new journal_name) → (new journal_name).content ≡ 0 ∷ rest
+    → ((other : List ℕ) → other ≢ journal_name → new other ≡ old other) → ((name : List ℕ) → name ≢ journal_name → IsStable (old name)) → IsAtRest new
+rest_after old new rest only is others stable = record {
+  gate = closed_after (new journal_name) rest only is;
+  stable = λ name. elim (name_cases name journal_name) [
+    | inl same ↦ subst (λ (n : List ℕ). IsStable (new n)) (sym same.0) only
+    | inr apart ↦ subst IsStable (sym (others name apart.0)) (stable name apart.0)
+  ];
+}
+
+pub open_long : (journal : List ℕ) → is_open journal ≡ true → 16 ≤ length journal
+open_long journal opened = leb-true 16 (length journal) (and_parts (nat_le 16 (length journal)) (slice_index journal 0 == 1) opened).0
+
+-- what holds anyway
+pub on_err_always : {T E P : Type 0} (r : Result T E) → P → OnErr r P
+on_err_always (Ok x) p = tt
+on_err_always (Err e) p = p
+
+-- two facts of an Ok
+pub on_ok_both : {T E P Q R : Type 0} (r : Result T E) → OnOk r P → OnOk r Q → (P → Q → R) → OnOk r R
+on_ok_both (Ok x) p q both = both p q
+on_ok_both (Err e) p q both = tt
+
+pub on_ok_one : {T E P Q : Type 0} (r : Result T E) → OnOk r P → (P → Q) → OnOk r Q
+on_ok_one (Ok x) p so = so p
+on_ok_one (Err e) p so = tt
+
+pub on_err_one : {T E P Q : Type 0} (r : Result T E) → OnErr r P → (P → Q) → OnErr r Q
+on_err_one (Ok x) p so = tt
+on_err_one (Err e) p so = so p

@@ -1,0 +1,128 @@
+-- What a set's commit needs of its changes, from what is asked of them.
+use Rattle.std.proofs.Common.{◌≡◌, ◌≢◌, inl, inr, ◌≤◌, ℕ, zero, suc, List, [], ◌∷◌, length, map, true, Option, Some, None, refl, ◌∙◌, subst, arith}
+use Rattle.std.specs.Prelude.{IsSomeAnd}
+use Rattle.std.specs.List.{All, AllByRecursion, Contains, IsDistinct}
+use Rattle.std.specs.Map.{keys_of}
+use Rattle.std.specs.Set.{is_member}
+use Rattle.std.specs.Str.{bytes_eq}
+use Rattle.std.proofs.lemmas.Cmp.{nat_list_eq_equiv}
+use Rattle.std.proofs.lemmas.List.{length-map}
+use Rattle.std.proofs.lemmas.List.Elements.{All-from_recursion, recursion_from_All}
+use Rattle.std.proofs.lemmas.Map.Entries.{length-keys_of}
+use Rattle.std.proofs.lemmas.Map.Made.{length-le_from_is_member, is_member-Decides}
+use Rattle.std.proofs.lemmas.Slice.Eq.{bytes_eq-Decides}
+use Rattle.org_disk.specs.Disk.{FileState, AreImages, LeavesOnly}
+use Rattle.org_disk.proofs.Moments.{passes_none, passes_as, leaves_only}
+use Rattle.org_disk.specs.Names.{journal_name}
+use Rattle.org_splice.specs.Texts.{EditedText, IsEditOf}
+use Rattle.org_journal.specs.declared.record.Entry.{Entry}
+use Rattle.org_journal.specs.declared.record.Patch.{Patch}
+use Rattle.org_journal.specs.declared.record.Version.TheVariants.{Two}
+use Rattle.org_journal.specs.Record.{IsEntry, IsWellFormed, greatest_length}
+use Rattle.org_journal.specs.Standing.{Image, SameFiles, contents, replayed, stands}
+use Rattle.org_fileset.specs.Entries.{AreEntriesOf, changed}
+use Rattle.org_fileset.specs.Replay.{IsAtRest, IsBeforeOrAfter}
+use Rattle.org_fileset.specs.Set.{IsWithOrWithout}
+use Rattle.org_fileset.proofs.Commits.{at_rest_stands}
+use Rattle.org_fileset.proofs.Recorded.{IsCommittable, file_named, changes_layable, changes_made}
+
+abbrev Change : Type 0
+Change = List ℕ × EditedText
+
+-- what holds of each name of the set holds of this one
+of_name : (P : List ℕ → Type 0) (names : List (List ℕ)) (name : List ℕ) → AllByRecursion P names → Contains names name → P name
+of_name P names name each at = subst P at.2 (All-from_recursion P names each at.0 name at.1)
+
+all_committable : (names : List (List ℕ)) (changes : List Change) → AllByRecursion (λ name. name ≢ journal_name) names → AllByRecursion (λ (change : Change). Contains names change.0) changes
+    → AllByRecursion (λ (change : Change). length change.1.bytes ≤ greatest_length Two) changes → AllByRecursion IsCommittable changes
+all_committable names [] each named small = tt
+all_committable names (change ∷ changes) each named small =
+    ((of_name (λ name. name ≢ journal_name) names change.0 each named.0, small.0), all_committable names changes each named.1 small.1)
+
+pub committable : (names : List (List ℕ)) (changes : List Change) → AllByRecursion (λ name. name ≢ journal_name) names → All (λ (change : Change). Contains names change.0) changes
+    → All (λ (change : Change). length change.1.bytes ≤ greatest_length Two) changes → AllByRecursion IsCommittable changes
+committable names changes each named small =
+    all_committable names changes each (recursion_from_All (λ (change : Change). Contains names change.0) changes named)
+    (recursion_from_All (λ (change : Change). length change.1.bytes ≤ greatest_length Two) changes small)
+
+pub all_edits : (files : Image) (changes : List Change) → All (λ (change : Change). IsEditOf (files change.0) change.1) changes → AllByRecursion (λ (change : Change). IsEditOf (files change.0) change.1) changes
+all_edits files changes edits = recursion_from_All (λ (change : Change). IsEditOf (files change.0) change.1) changes edits
+
+-- no more changes than names
+key_named : (names : List (List ℕ)) (changes : List Change) → AllByRecursion (λ (change : Change). Contains names change.0) changes → (q : List ℕ) → is_member bytes_eq (keys_of changes) q ≡ true
+    → is_member bytes_eq names q ≡ true
+key_named names changes named q member = (is_member-Decides bytes_eq-Decides names q).1 (found changes named ((is_member-Decides bytes_eq-Decides (keys_of changes) q).0 member))
+  where
+    found : (changes : List Change) → AllByRecursion (λ (change : Change). Contains names change.0) changes → Contains (keys_of changes) q → Contains names q
+    found [] named at = absurd (omega (arith, at.1))
+    found (change ∷ changes) named (zero, within, is) = subst (λ (n : List ℕ). Contains names n) is named.0
+    found (change ∷ changes) named (suc k, within, is) = found changes named.1 (k, omega arith, is)
+
+few_changes : (names : List (List ℕ)) (changes : List Change) → IsDistinct bytes_eq (keys_of changes) → length names ≤ 512 → AllByRecursion (λ (change : Change). Contains names change.0) changes → length changes ≤ 512
+few_changes names changes distinct few named =
+    let fewer = length-le_from_is_member nat_list_eq_equiv (keys_of changes) names distinct (key_named names changes named) in
+    omega (arith, fewer, few, length-keys_of changes)
+
+same_length : (changes : List Change) (entries : List Entry) → AreEntriesOf changes entries → length entries ≡ length changes
+same_length [] [] are = refl
+same_length (change ∷ changes) (entry ∷ entries) are = let rest = same_length changes entries are.1 in omega (arith, rest)
+same_length [] (entry ∷ entries) are = absurd are
+same_length (change ∷ changes) [] are = absurd are
+
+each_entry : (changes : List Change) (entries : List Entry) → AreEntriesOf changes entries → AllByRecursion IsCommittable changes → AllByRecursion (IsEntry Two) entries
+each_entry [] [] are can = tt
+each_entry (change ∷ changes) (entry ∷ entries) are can =
+    let pair : Patch → ℕ × List ℕ = λ p. (p.from, p.bytes) in
+    let long : length (map pair entry.patches) ≡ length entry.patches = length-map entry.patches pair in (
+      record {
+        text = are.0.text;
+        name = file_named change entry are.0 can.0.0;
+        few = omega (arith, long, are.0.patches.few);
+        patches = are.0.patches;
+        small = omega (arith, are.0.length_is, can.0.1);
+      },
+      each_entry changes entries are.1 can.1,
+    )
+each_entry [] (entry ∷ entries) are can = absurd are
+each_entry (change ∷ changes) [] are can = absurd are
+
+pub changes_formed : (names : List (List ℕ)) (changes : List Change) (entries : List Entry) → AreEntriesOf changes entries → IsDistinct bytes_eq (keys_of changes) → (changes ≡ [] → ⊥)
+    → AllByRecursion (λ name. name ≢ journal_name) names → length names ≤ 512 → All (λ (change : Change). Contains names change.0) changes
+    → All (λ (change : Change). length change.1.bytes ≤ greatest_length Two) changes → IsWellFormed Two entries
+changes_formed names changes entries are distinct some each few named small =
+    let can = committable names changes each named small in
+    let long = same_length changes entries are in
+    record {
+      some = omega (arith, long, nonempty changes some);
+      few = omega (arith, long, few_changes names changes distinct few (recursion_from_All (λ (change : Change). Contains names change.0) changes named));
+      each = each_entry changes entries are can;
+      apart = (changes_layable changes entries are distinct can).apart;
+    }
+  where
+    nonempty : (changes : List Change) → (changes ≡ [] → ⊥) → 1 ≤ length changes
+    nonempty [] some = absurd (some refl)
+    nonempty (change ∷ changes) some = omega arith
+
+stands_same : (o : Option Image) (one other : Image) → ((name : List ℕ) → one name ≡ other name) → IsSomeAnd o (λ found. SameFiles found one) → IsSomeAnd o (λ found. SameFiles found other)
+stands_same None one other same stand = absurd stand
+stands_same (Some found) one other same stand = λ name not. stand name not ∙ same name
+
+-- the record's files are the changed ones
+pub with_or_without : (changes : List Change) (entries : List Entry) (files : Image) → AreEntriesOf changes entries → AllByRecursion (λ (change : Change). IsEditOf (files change.0) change.1) changes
+    → (image : Image) → IsBeforeOrAfter entries files image → IsWithOrWithout changes files image
+with_or_without changes entries files are edits image (inl before) = inl before
+with_or_without changes entries files are edits image (inr after) = inr (stands_same (stands image) (replayed entries files) (changed changes files) (λ name. changes_made changes entries files name are edits) after)
+
+-- no call of the disk
+pub only_before : (changes : List Change) (files : List ℕ → FileState) (m : ℕ) (since : ℕ → Image → Type 0) → IsAtRest files → ((image : Image) → since m image → AreImages files image)
+    → LeavesOnly m m since since (IsWithOrWithout changes (contents files))
+only_before changes files m since rest now =
+    leaves_only (passes_none m since (IsWithOrWithout changes (contents files))) (λ image left. inl (at_rest_stands files rest image (now image left)))
+
+-- the calls of the commit
+pub changes_left : (changes : List Change) (entries : List Entry) (files : Image) (m n : ℕ) (past since : ℕ → Image → Type 0) → AreEntriesOf changes entries
+    → AllByRecursion (λ (change : Change). IsEditOf (files change.0) change.1) changes → LeavesOnly m n past since (IsBeforeOrAfter entries files) → LeavesOnly m n past since (IsWithOrWithout changes files)
+changes_left changes entries files m n past since are edits left = record {
+  each = λ image at. with_or_without changes entries files are edits image (left.each image at);
+  passes = passes_as left.passes (with_or_without changes entries files are edits);
+}

@@ -1,0 +1,292 @@
+-- The stages of an opening, and what is left in each.
+use Rattle.std.proofs.Common.{◌≡◌, ◌≢◌, ◌⊎◌, inl, inr, ⊎_elim, ℕ, ◌+◌, ◌<◌, ◌≤◌, List, [], ◌∷◌, length, take, drop, get_or, set, true, false, Option, Some, None, Result, Ok, Err, refl, sym, ◌∙◌, ap, subst, arith, length-set, length-take, length-append, ◌++◌}
+use Rattle.std.specs.Prelude.{IsSomeAnd, is_some, nat_le, slice_index, ◌==◌, if◌then◌else◌}
+use Rattle.std.specs.List.{AllByRecursion}
+use Rattle.std.specs.Str.{bytes_eq}
+use Rattle.std.proofs.lemmas.Bool.{cases_Bool, cases_lt, cases_eq, and_from, and_parts, le-leb, leb-true, eq-eqb, true≢false, false≢true}
+use Rattle.std.proofs.lemmas.List.{get_or-set_same, get_or-set_other, get_or-take, get_or_append_left}
+use Rattle.org_disk.specs.Disk.{FileState, IsOutside, IsImage, IsStable, AreImages, AreLeftBy, MayLeave, Changes, sync, stable}
+use Rattle.org_disk.specs.Names.{journal_name}
+use Rattle.org_disk.specs.declared.disk.DiskFault.{DiskFault}
+use Rattle.org_disk.proofs.Images.{only_image, stable_is}
+use Rattle.org_journal.specs.declared.record.Entry.{Entry}
+use Rattle.org_journal.specs.Gate.{is_open, HasClosedGate, LeavesClosed}
+use Rattle.org_journal.specs.Reading.{journal_at}
+use Rattle.org_journal.specs.declared.record.Version.TheVariants.{Two}
+use Rattle.org_journal.specs.Record.{is_named, IsEntry, IsWellFormed}
+use Rattle.org_journal.specs.Standing.{Image, SameFiles, StandsFor, IsArmed, IsFit, OthersStable, stands, all_fit, replayed, contents}
+use Rattle.org_fileset.specs.Recovery.{EachStands, StandsAsBefore}
+use Rattle.org_fileset.specs.Replay.{TakesTo, IsLayable, AreLayable, IsOpenOver, IsReplayable, IsAtRest}
+use Rattle.org_fileset.proofs.Takes.{name_cases}
+use Rattle.org_fileset.proofs.Stands.{stands_open, stands_closed, open_stands, takes-replayed}
+
+-- A file of which a stop leaves the content and nothing else is all on the disk.
+
+out_or_in : (written : List (ℕ × ℕ)) (i : ℕ) → IsOutside written i ⊎ (IsOutside written i → ⊥)
+out_or_in [] i = inl tt
+out_or_in (range ∷ written) i = elim (out_or_in written i) [
+  | inr not ↦ inr (λ out. not out.1)
+  | inl rest ↦ elim (cases_lt i range.0) [
+    | inl before ↦ inl (inl before, rest)
+    | inr from ↦ elim (cases_lt i (range.0 + range.1)) [
+      | inl inside ↦ inr (λ out. ⊎_elim (λ less. absurd (omega arith)) (λ more. absurd (omega arith)) out.0)
+      | inr past ↦ inl (inr past, rest)
+    ]
+  ]
+]
+
+module _ (file : FileState) (own : IsImage file file.content) (only : (bytes : List ℕ) → IsImage file bytes → bytes ≡ file.content) where
+  least_is : file.least ≡ length file.content
+  least_is = elim (cases_lt file.least (length file.content)) [
+    | inl less ↦
+        let short : List ℕ = take file.least file.content in
+        let size : length short ≡ file.least = omega (arith, length-take file.least file.content, less) in
+        let image : IsImage file short = record {
+          no_shorter = omega (arith, size);
+          no_longer = omega (arith, size, less, own.no_longer);
+          fixed = λ i fixed. get_or-take file.least file.content i 0 fixed.0;
+        } in
+        absurd (omega (arith, ap length (only short image), size, less))
+    | inr enough ↦ omega (arith, enough, own.no_shorter)
+  ]
+
+  greatest_is : file.greatest ≡ length file.content
+  greatest_is = elim (cases_lt (length file.content) file.greatest) [
+    | inl more ↦
+        let long : List ℕ = file.content ++ 0 ∷ [] in
+        let size : length long ≡ length file.content + 1 = length-append file.content (0 ∷ []) in
+        let image : IsImage file long = record {
+          no_shorter = omega (arith, size, own.no_shorter);
+          no_longer = omega (arith, size, more);
+          fixed = λ i fixed. get_or_append_left file.content (0 ∷ []) 0 i (omega (arith, fixed.0, own.no_shorter));
+        } in
+        absurd (omega (arith, ap length (only long image), size))
+    | inr enough ↦ omega (arith, enough, own.no_longer)
+  ]
+
+  all_outside : (i : ℕ) → i < length file.content → IsOutside file.written i
+  all_outside i within = elim (out_or_in file.written i) [
+    | inl out ↦ out
+    | inr inside ↦
+        let other : List ℕ = set file.content i (get_or file.content i 0 + 1) in
+        let size : length other ≡ length file.content = length-set file.content i (get_or file.content i 0 + 1) in
+        let image : IsImage file other = record {
+          no_shorter = omega (arith, size, own.no_shorter);
+          no_longer = omega (arith, size, own.no_longer);
+          fixed = λ j fixed. elim (cases_eq j i) [
+            | inl same ↦ absurd (inside (subst (IsOutside file.written) same fixed.1))
+            | inr apart ↦ get_or-set_other file.content i j (get_or file.content i 0 + 1) 0 apart
+          ];
+        } in
+        let changed : get_or file.content i 0 + 1 ≡ get_or file.content i 0 =
+        sym (get_or-set_same file.content i (get_or file.content i 0 + 1) 0 within) ∙ ap (λ (l : List ℕ). get_or l i 0) (only other image) in
+        absurd (omega (arith, changed))
+  ]
+
+  pub stable_from_only : IsStable file
+  stable_from_only = record { least = least_is; greatest = greatest_is; fixed = all_outside }
+
+-- What the first sync may leave
+
+sync_here : (file : FileState) → IsImage file file.content → (bytes : List ℕ) → MayLeave sync file bytes → IsImage file bytes
+sync_here file own bytes left = ⊎_elim (λ before. before) (λ after. subst (λ (b : List ℕ). IsImage file b) (sym (only_image (stable_is file.content) bytes after)) own) left
+
+-- an image from within the sync is one from before it
+pub sync_left : (name : List ℕ) (files : List ℕ → FileState) (image : Image) → IsImage (files name) (files name).content → AreLeftBy sync name files image → AreImages files image
+sync_left name files image own left other = elim (name_cases other name) [
+  | inl same ↦ subst (λ (n : List ℕ). IsImage (files n) (image n)) (sym same.0) (sync_here (files name) own (image name) left.here)
+  | inr apart ↦ left.others other apart.0
+]
+
+-- so is one from after it
+pub sync_after : (name : List ℕ) (old new : List ℕ → FileState) (r : Result (Unit {0}) DiskFault) → IsImage (old name) (old name).content → Changes sync name old new r
+    → (other bytes : List ℕ) → IsImage (new other) bytes → IsImage (old other) bytes
+sync_after name old new r own changes other bytes image = elim (name_cases other name) [
+  | inl same ↦ subst (λ (n : List ℕ). IsImage (old n) bytes) (sym same.0) (sync_here (old name) own bytes (may r changes (subst (λ (n : List ℕ). IsImage (new n) bytes) same.0 image)))
+  | inr apart ↦ subst (λ f. IsImage f bytes) (changes.others other apart.0) image
+]
+  where
+    may : (r : Result (Unit {0}) DiskFault) → Changes sync name old new r → IsImage (new name) bytes → MayLeave sync (old name) bytes
+    may (Ok x) changes here = inr (subst (λ f. IsImage f bytes) changes.ok here)
+    may (Err e) changes here = changes.err.images bytes here
+
+-- the sync keeps a disk fit, also where it fails
+pub sync_fit : (old new : List ℕ → FileState) (r : Result (Unit {0}) DiskFault) → IsImage (old journal_name) (old journal_name).content → ((name : List ℕ) → IsImage (new name) (new name).content)
+    → Changes sync journal_name old new r → IsFit old → IsFit new
+sync_fit old new r own images changes (inl stable) = inl (λ name not. subst IsStable (sym (changes.others name not)) (stable name not))
+sync_fit old new r own images changes (inr armed) =
+    let only : (bytes : List ℕ) → IsImage (new journal_name) bytes → bytes ≡ (old journal_name).content =
+    λ bytes image. only_image armed.stable bytes (sync_after journal_name old new r own changes journal_name bytes image) in
+    let same : (new journal_name).content ≡ (old journal_name).content = only (new journal_name).content (images journal_name) in
+    inr (record {
+      stable = stable_from_only (new journal_name) (images journal_name) (λ bytes image. only bytes image ∙ sym same);
+      opened = ap is_open same ∙ armed.opened;
+      entries = armed.entries;
+      found = ap (λ (l : List ℕ). journal_at (drop 1 l)) same ∙ armed.found;
+      others = λ name not none. subst IsStable (sym (changes.others name not)) (armed.others name not none);
+      texts = armed.texts;
+      same = λ image left. armed.same image (λ name. sync_after journal_name old new r own changes name (image name) (left name));
+    })
+
+-- What the record of a fit disk makes
+
+-- an image with one file's bytes put in place of its content
+with_bytes : (List ℕ → FileState) → List ℕ → List ℕ → Image
+with_bytes files name bytes other = if bytes_eq other name then bytes else contents files other
+
+module _ (files : List ℕ → FileState) (own : (name : List ℕ) → IsImage (files name) (files name).content) (entries : List Entry) (layable : AreLayable entries)
+    (over : IsOpenOver entries files) (fit : all_fit entries (contents files) ≡ true) where
+  one_image : (name bytes : List ℕ) → IsImage (files name) bytes → AreImages files (with_bytes files name bytes)
+  unfolding with_bytes
+  one_image name bytes image other = elim (name_cases other name) [
+    | inl same ↦ let t : bytes_eq other name ≡ true = same.1 in rw t (subst (λ (n : List ℕ). IsImage (files n) bytes) (sym same.0) image)
+    | inr apart ↦ let f : bytes_eq other name ≡ false = apart.1 in rw f (own other)
+  ]
+
+  here_is : (name bytes : List ℕ) → with_bytes files name bytes name ≡ bytes
+  unfolding with_bytes
+  here_is name bytes = elim (name_cases name name) [
+    | inl same ↦ let t : bytes_eq name name ≡ true = same.1 in rw t refl
+    | inr apart ↦ absurd (apart.0 refl)
+  ]
+
+  journal_is : (name bytes : List ℕ) → name ≢ journal_name → with_bytes files name bytes journal_name ≡ contents files journal_name
+  unfolding with_bytes
+  journal_is name bytes not = elim (name_cases journal_name name) [
+    | inl same ↦ absurd (not (sym same.0))
+    | inr apart ↦ let f : bytes_eq journal_name name ≡ false = apart.1 in rw f refl
+  ]
+
+  -- one of the two kinds of fit disks
+  pub stable_replayable : OthersStable files → IsReplayable entries files
+  stable_replayable stable = record {
+    others = λ name not none. stable name not;
+    texts = replayed entries (contents files);
+    takes = record {
+      each = λ name not text image. subst (λ (t : List ℕ). TakesTo entries name t (replayed entries (contents files) name)) (sym (only_image (stable name not) text image))
+          (takes-replayed entries (contents files) name (replayed entries (contents files) name) fit refl);
+    };
+  }
+
+  -- and the other
+  pub armed_replayable : IsArmed files → IsReplayable entries files
+  armed_replayable armed =
+      let one : Some armed.entries ≡ Some entries = sym armed.found ∙ over.found in
+      let same : armed.entries ≡ entries = cc in
+      record {
+        others = λ name not none. armed.others name not (ap (λ (l : List Entry). is_named name l) same ∙ none);
+        texts = armed.texts;
+        takes = record {
+          each = λ name not text image.
+              let whole = with_bytes files name text in
+              subst (λ (t : List ℕ). TakesTo entries name t (armed.texts name)) (here_is name text)
+              (open_stands entries armed.texts whole (ap is_open (journal_is name text not) ∙ over.opened)
+              (ap (λ (l : List ℕ). journal_at (drop 1 l)) (journal_is name text not) ∙ over.found) (armed.same whole (one_image name text image)) name not);
+        };
+      }
+
+  pub fit_replayable : IsFit files → IsReplayable entries files
+  fit_replayable (inl stable) = stable_replayable stable
+  fit_replayable (inr armed) = armed_replayable armed
+
+  -- the contents stand for what it makes
+  pub contents_stand : (can : IsReplayable entries files) → StandsFor can.texts (contents files)
+  contents_stand can = stands_open entries can.texts (contents files) layable over.opened over.found (λ name not. can.takes.each name not (contents files name) (own name))
+
+-- A closed gate on a fit disk: all other files are on the disk.
+pub closed_stable : (files : List ℕ → FileState) → is_open (contents files journal_name) ≡ false → IsFit files → OthersStable files
+closed_stable files shut (inl stable) = stable
+closed_stable files shut (inr armed) = absurd (false≢true (sym shut ∙ armed.opened))
+
+pub short_shut : (journal : List ℕ) → length journal < 16 → is_open journal ≡ false
+short_shut journal short = elim (cases_Bool (is_open journal)) [
+  | inl opened ↦
+      let long : 16 ≤ length journal = leb-true 16 (length journal) (and_parts (nat_le 16 (length journal)) (slice_index journal 0 == 1) opened).0 in
+      absurd (omega arith)
+  | inr shut ↦ shut
+]
+
+-- a stable journal of which the gate is closed has it on the disk
+pub shut_gate : (file : FileState) → IsStable file → is_open file.content ≡ false → 16 ≤ length file.content → HasClosedGate file
+shut_gate file stable shut long = record {
+  nonempty = omega arith;
+  fixed = (omega (arith, stable.least), stable.fixed 0 (omega arith));
+  closed = λ one.
+      let opened : is_open file.content ≡ true = and_from (nat_le 16 (length file.content)) (slice_index file.content 0 == 1) (le-leb 16 (length file.content) long) (eq-eqb (slice_index file.content 0) 1 one) in
+      true≢false (sym opened ∙ shut);
+}
+
+-- The steps of an opening
+
+some_of : (o : Option Image) → is_some o ≡ true → (found : Image) × (o ≡ Some found)
+some_of None is = absurd (false≢true is)
+some_of (Some found) is = (found, refl)
+
+-- an image from the start stands for what it stands for
+pub as_before : (files : List ℕ → FileState) → EachStands files → (image : Image) → AreImages files image → StandsAsBefore files image
+as_before files each image left =
+    let found = some_of (stands image) (each image left) in
+    let stood : StandsFor found.0 image = subst (λ (o : Option Image). IsSomeAnd o (λ (f : Image). SameFiles f found.0)) (sym found.1) (λ name not. refl) in
+    record { start = image; left = left; texts = found.0; stood = stood; stands_now = stood }
+
+-- after a sync of the journal
+pub record IsSynced (old now : List ℕ → FileState) : Type 0 where
+  pub images : (image : Image) → AreImages now image → AreImages old image
+  pub stable : IsStable (now journal_name)
+  pub same : contents now ≡ contents old
+  pub fit : IsFit old → IsFit now
+
+pub synced : (old mid now : List ℕ → FileState) → IsImage (old journal_name) (old journal_name).content → ((name : List ℕ) → IsImage (mid name) (mid name).content)
+    → Changes sync journal_name old mid (Ok tt) → now ≡ mid → IsSynced old now
+synced old mid now own images changes is = subst (λ (f : List ℕ → FileState). IsSynced old f) (sym is) (record {
+  images = λ image left name. sync_after journal_name old mid (Ok tt) own changes name (image name) (left name);
+  stable = subst IsStable (sym changes.ok) (stable_is (old journal_name).content);
+  same = λ i name. same_content name i;
+  fit = sync_fit old mid (Ok tt) own images changes;
+})
+  where
+    same_content : (name : List ℕ) → contents mid name ≡ contents old name
+    same_content name = elim (name_cases name journal_name) [
+      | inl same ↦ ap (λ (n : List ℕ). contents mid n) same.0 ∙ ap (λ (f : FileState). f.content) changes.ok ∙ ap (λ (n : List ℕ). contents old n) (sym same.0)
+      | inr apart ↦ ap (λ (f : FileState). f.content) (changes.others name apart.0)
+    ]
+
+-- an open gate: what stands for the files that the record makes
+pub armed_before : (old now : List ℕ → FileState) (entries : List Entry) → IsSynced old now → ((name : List ℕ) → IsImage (now name) (now name).content) → AreLayable entries → IsOpenOver entries now
+    → all_fit entries (contents now) ≡ true → (can : IsReplayable entries now) → (image : Image) → StandsFor can.texts image → StandsAsBefore old image
+armed_before old now entries is own layable over fit can image stand = record {
+  start = contents now;
+  left = is.images (contents now) own;
+  texts = can.texts;
+  stood = contents_stand now own entries layable over fit can;
+  stands_now = stand;
+}
+
+-- a closed one: what stands for the files themselves
+pub closed_before : (old now : List ℕ → FileState) → IsSynced old now → ((name : List ℕ) → IsImage (now name) (now name).content) → is_open (contents now journal_name) ≡ false → OthersStable now
+    → (image : Image) → LeavesClosed journal_name now image → StandsAsBefore old image
+closed_before old now is own shut stable image left = record {
+  start = contents now;
+  left = is.images (contents now) own;
+  texts = contents now;
+  stood = stands_closed (contents now) (contents now) shut (λ name not. refl);
+  stands_now = stands_closed (contents now) image left.closed (λ name not. only_image (stable name not) (image name) (left.others name not));
+}
+
+-- what a record that was found is
+each_layable : (entries : List Entry) → AllByRecursion (IsEntry Two) entries → AllByRecursion IsLayable entries
+each_layable [] each = tt
+each_layable (entry ∷ entries) each = (record { name = each.0.name; patches = each.0.patches; small = each.0.small }, each_layable entries each.1)
+
+pub formed_layable : (entries : List Entry) → IsWellFormed Two entries → AreLayable entries
+formed_layable entries formed = record { each = each_layable entries formed.each; apart = formed.apart }
+
+-- all at rest where the gate is closed
+pub closed_rest : (files : List ℕ → FileState) → HasClosedGate (files journal_name) → IsStable (files journal_name) → OthersStable files → IsAtRest files
+closed_rest files gate only stable = record {
+  gate = gate;
+  stable = λ name. elim (name_cases name journal_name) [
+    | inl same ↦ subst (λ (n : List ℕ). IsStable (files n)) (sym same.0) only
+    | inr apart ↦ stable name apart.0
+  ];
+}

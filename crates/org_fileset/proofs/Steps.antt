@@ -1,0 +1,82 @@
+-- The patches of an entry, one after the other.
+use Rattle.std.proofs.Common.{◌≡◌, ℕ, zero, suc, ◌+◌, ◌<◌, ◌≤◌, ◌++◌, max, List, [], ◌∷◌, length, get_or, take, map, Option, Some, refl, sym, ◌∙◌, ap, arith, length-take}
+use Rattle.std.specs.Prelude.{slice_get}
+use Rattle.std.specs.Option.{option_map}
+use Rattle.std.proofs.lemmas.List.{take_more, take_all, length-map}
+use Rattle.std.proofs.lemmas.Option.{slice_get_read, slice_get-map, get_or_from_slice_get, slice_get_within}
+use Rattle.org_splice.specs.Patches.{lay_at, lay_each, lay, end_of, last_end, Rise, BeginWithin, Fit, AreWellFormed}
+use Rattle.org_splice.proofs.Laying.{length-lay_each, last_end-place, length-lay}
+use Rattle.org_journal.specs.declared.record.Patch.{Patch}
+use Rattle.org_journal.specs.Record.{pairs}
+
+-- the pair of an item
+pub pair_at : (items patches : List Patch) (k : ℕ) (patch : Patch) (bytes : List ℕ) → items ≡ patches → k < length items → patch ≡ get_or items k patch → bytes ≡ patch.bytes
+    → slice_get (pairs patches) k ≡ Some (patch.from, bytes)
+pair_at items patches k patch bytes same within is of =
+    ap (λ (l : List Patch). slice_get (pairs l) k) (sym same)
+    ∙ slice_get-map (λ (p : Patch). (p.from, p.bytes)) items k
+    ∙ ap (λ (o : Option Patch). option_map (λ (p : Patch). (p.from, p.bytes)) o) (slice_get_read items (length items) k patch refl within is)
+    ∙ ap (λ (b : List ℕ). let o : Option (ℕ × List ℕ) = Some (patch.from, b) in o) (sym of)
+
+lay_each-append : (first later : List (ℕ × List ℕ)) (text : List ℕ) → lay_each (first ++ later) text ≡ lay_each later (lay_each first text)
+lay_each-append [] later text = refl
+lay_each-append (patch ∷ first) later text = lay_each-append first later (lay_at patch.0 patch.1 text)
+
+-- one patch more
+pub lay_each-more : (patches : List (ℕ × List ℕ)) (k from : ℕ) (bytes text : List ℕ) → slice_get patches k ≡ Some (from, bytes)
+    → lay_each (take (k + 1) patches) text ≡ lay_at from bytes (lay_each (take k patches) text)
+lay_each-more patches k from bytes text is =
+    ap (λ (l : List (ℕ × List ℕ)). lay_each l text)
+    (take_more patches k (from, bytes) (slice_get_within patches k (from, bytes) is)
+    ∙ ap (λ (p : ℕ × List ℕ). take k patches ++ p ∷ []) (get_or_from_slice_get patches k (from, bytes) (from, bytes) is))
+    ∙ lay_each-append (take k patches) ((from, bytes) ∷ []) text
+
+-- what is known of the patch at a place: it begins within what the ones before it made, and ends within the text
+at_place : (patches : List (ℕ × List ℕ)) (size place k from : ℕ) (bytes : List ℕ) → Rise place patches → BeginWithin size place patches → slice_get patches k ≡ Some (from, bytes)
+    → (from ≤ max size (last_end place (take k patches))) × (from + length bytes ≤ last_end place patches)
+at_place [] size place k from bytes rise begin is = absurd (cc)
+at_place (patch ∷ patches) size place zero from bytes rise begin is =
+    let same : patch ≡ (from, bytes) = cc in
+    let start : patch.0 ≡ from = ap (λ (p : ℕ × List ℕ). p.0) same in
+    let long : length patch.1 ≡ length bytes = ap (λ (p : ℕ × List ℕ). length p.1) same in
+    (omega (arith, begin.0, start), omega (arith, start, long, last_end-place (end_of patch) patches rise.1))
+at_place (patch ∷ patches) size place (suc k) from bytes rise begin is = at_place patches size (end_of patch) k from bytes rise.1 begin.1 is
+
+rise_front : (patches : List (ℕ × List ℕ)) (place k : ℕ) → Rise place patches → Rise place (take k patches)
+rise_front patches place zero rise = tt
+rise_front [] place (suc k) rise = tt
+rise_front (patch ∷ patches) place (suc k) rise = (rise.0, rise_front patches (end_of patch) k rise.1)
+
+begin_front : (patches : List (ℕ × List ℕ)) (size place k : ℕ) → BeginWithin size place patches → BeginWithin size place (take k patches)
+begin_front patches size place zero begin = tt
+begin_front [] size place (suc k) begin = tt
+begin_front (patch ∷ patches) size place (suc k) begin = (begin.0, begin_front patches size (end_of patch) k begin.1)
+
+-- the next patch may be written
+pub next_within : (patches : List (ℕ × List ℕ)) (final k from : ℕ) (bytes text now : List ℕ) → AreWellFormed patches final → Fit patches final (length text)
+    → slice_get patches k ≡ Some (from, bytes) → now ≡ lay_each (take k patches) text → from ≤ length now
+next_within patches final k from bytes text now formed fit is laid =
+    let long : length (lay_each (take k patches) text) ≡ max (length text) (last_end 0 (take k patches)) =
+    length-lay_each (length text) 0 (take k patches) text (omega arith) (rise_front patches 0 k formed.rise) (begin_front patches (length text) 0 k fit.begin) in
+    omega (arith, ap length laid, long, (at_place patches (length text) 0 k from bytes formed.rise fit.begin is).0)
+
+pub next_small : (patches : List (ℕ × List ℕ)) (final k from : ℕ) (bytes text : List ℕ) → AreWellFormed patches final → Fit patches final (length text)
+    → slice_get patches k ≡ Some (from, bytes) → from + length bytes ≤ final
+next_small patches final k from bytes text formed fit is =
+    omega (arith, formed.within, (at_place patches (length text) 0 k from bytes formed.rise fit.begin is).1)
+
+-- all of them written, and the file cut
+pub all_laid : (items patches : List Patch) (k final : ℕ) (text now : List ℕ) → items ≡ patches → length items ≤ k → now ≡ lay_each (take k (pairs patches)) text
+    → take final now ≡ lay (pairs patches) final text
+all_laid items patches k final text now same done laid =
+    let pair : Patch → ℕ × List ℕ = λ p. (p.from, p.bytes) in
+    let long : length (map pair patches) ≡ length patches = length-map patches pair in
+    let enough : length (pairs patches) ≤ k = omega (arith, done, long, ap length same) in
+    ap (λ (l : List ℕ). take final l) (laid ∙ ap (λ (l : List (ℕ × List ℕ)). lay_each l text) (take_all k (pairs patches) enough))
+
+-- as long as it is to be, or longer
+pub long_enough : (items patches : List Patch) (k final : ℕ) (text now : List ℕ) → AreWellFormed (pairs patches) final → Fit (pairs patches) final (length text)
+    → items ≡ patches → length items ≤ k → now ≡ lay_each (take k (pairs patches)) text → final ≤ length now
+long_enough items patches k final text now formed fit same done laid =
+    let cut_is = all_laid items patches k final text now same done laid in
+    omega (arith, ap length cut_is, length-take final now, length-lay (pairs patches) final text formed.rise fit)

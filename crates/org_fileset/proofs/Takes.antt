@@ -1,0 +1,101 @@
+-- What a record makes of the file of one name.
+use Rattle.std.proofs.Common.{◌≡◌, ◌≢◌, ◌⊎◌, inl, inr, ⊎_elim, ℕ, zero, suc, List, [], ◌∷◌, Bool, true, false, not, Some, refl, sym, ◌∙◌, ap, subst}
+use Rattle.std.specs.Prelude.{slice_get, ◌||◌}
+use Rattle.std.specs.List.{AllByRecursion}
+use Rattle.std.specs.Str.{bytes_eq}
+use Rattle.std.proofs.lemmas.Bool.{cases_Bool, and_parts, not-true, true≢false, false≢true, MatchBool-at_true, MatchBool-at_false}
+use Rattle.std.proofs.lemmas.Bool.Decides.{not_from_Decides}
+use Rattle.std.proofs.lemmas.Slice.Eq.{bytes_eq-Decides}
+use Rattle.org_disk.specs.Names.{journal_name, is_file_name}
+use Rattle.org_splice.specs.Patches.{LayTo}
+use Rattle.org_journal.specs.declared.record.Entry.{Entry}
+use Rattle.org_journal.specs.Record.{pairs, is_named, names_differ}
+use Rattle.org_fileset.specs.Replay.{TakesTo, IsLayable}
+
+-- two names are one or they aren't
+pub name_cases : (x y : List ℕ) → ((x ≡ y) × (bytes_eq x y ≡ true)) ⊎ ((x ≢ y) × (bytes_eq x y ≡ false))
+name_cases x y = ⊎_elim (λ t. inl ((bytes_eq-Decides x y).0 t, t)) (λ f. inr (not_from_Decides (bytes_eq x y) (bytes_eq-Decides x y) f, f)) (cases_Bool (bytes_eq x y))
+
+same_name : (x : List ℕ) → bytes_eq x x ≡ true
+same_name x = elim (name_cases x x) [
+  | inl is ↦ is.1
+  | inr not ↦ absurd (not.0 refl)
+]
+
+or_false : (a b : Bool) → (a || b) ≡ false → (a ≡ false) × (b ≡ false)
+or_false true b is = absurd (true≢false is)
+or_false false b is = (refl, is)
+
+-- a file that the record doesn't name stays as it is
+pub TakesTo-other : (entries : List Entry) (name text to : List ℕ) → is_named name entries ≡ false → TakesTo entries name text to → text ≡ to
+TakesTo-other [] name text to none takes = takes
+TakesTo-other (entry ∷ entries) name text to none takes =
+    let parts = or_false (bytes_eq entry.name name) (is_named name entries) none in
+    TakesTo-other entries name text to parts.1 (MatchBool-at_false (LayTo (pairs entry.patches) entry.length text to) (TakesTo entries name text to) parts.0 takes)
+
+pub other-TakesTo : (entries : List Entry) (name text to : List ℕ) → is_named name entries ≡ false → text ≡ to → TakesTo entries name text to
+other-TakesTo [] name text to none same = same
+other-TakesTo (entry ∷ entries) name text to none same =
+    let parts = or_false (bytes_eq entry.name name) (is_named name entries) none in
+    let e = parts.0 in rw e (other-TakesTo entries name text to parts.1 same)
+
+-- a name that no entry has isn't this entry's
+pub named_apart : (entries : List Entry) (i : ℕ) (entry : Entry) (name : List ℕ) → is_named name entries ≡ false → slice_get entries i ≡ Some entry → name ≢ entry.name
+named_apart [] i entry name none is same = absurd (cc)
+named_apart (first ∷ entries) zero entry name none is same =
+    let one : first ≡ entry = cc in
+    let parts = or_false (bytes_eq first.name name) (is_named name entries) none in
+    let here : bytes_eq first.name name ≡ true = ap (λ (n : List ℕ). bytes_eq first.name n) (same ∙ ap (λ (e : Entry). e.name) (sym one)) ∙ same_name first.name in
+    true≢false (sym here ∙ parts.0)
+named_apart (first ∷ entries) (suc i) entry name none is same =
+    named_apart entries i entry name (or_false (bytes_eq first.name name) (is_named name entries) none).1 is same
+
+-- an entry behind the first has another name
+later_name : (first : Entry) (entries : List Entry) (i : ℕ) (entry : Entry) → names_differ (first ∷ entries) ≡ true → slice_get entries i ≡ Some entry → bytes_eq first.name entry.name ≡ false
+later_name first entries i entry differ is =
+    let parts = and_parts (not (is_named first.name entries)) (names_differ entries) differ in
+    let apart : first.name ≢ entry.name = named_apart entries i entry first.name (not-true (is_named first.name entries) parts.0) is in
+    elim (name_cases first.name entry.name) [
+      | inl same ↦ absurd (apart same.0)
+      | inr other ↦ other.1
+    ]
+
+-- of the file that an entry names, the record makes what the entry makes
+pub TakesTo-entry : (entries : List Entry) (i : ℕ) (entry : Entry) (text to : List ℕ) → names_differ entries ≡ true → slice_get entries i ≡ Some entry
+    → TakesTo entries entry.name text to → LayTo (pairs entry.patches) entry.length text to
+TakesTo-entry [] i entry text to differ is takes = absurd (cc)
+TakesTo-entry (first ∷ entries) zero entry text to differ is takes =
+    let one : first ≡ entry = cc in
+    let here : bytes_eq first.name entry.name ≡ true = ap (λ (e : Entry). bytes_eq first.name e.name) (sym one) ∙ same_name first.name in
+    subst (λ (e : Entry). LayTo (pairs e.patches) e.length text to) one
+    (MatchBool-at_true (LayTo (pairs first.patches) first.length text to) (TakesTo entries entry.name text to) here takes)
+TakesTo-entry (first ∷ entries) (suc i) entry text to differ is takes =
+    let other = later_name first entries i entry differ is in
+    TakesTo-entry entries i entry text to (and_parts (not (is_named first.name entries)) (names_differ entries) differ).1 is
+    (MatchBool-at_false (LayTo (pairs first.patches) first.length text to) (TakesTo entries entry.name text to) other takes)
+
+pub entry-TakesTo : (entries : List Entry) (i : ℕ) (entry : Entry) (text to : List ℕ) → names_differ entries ≡ true → slice_get entries i ≡ Some entry
+    → LayTo (pairs entry.patches) entry.length text to → TakesTo entries entry.name text to
+entry-TakesTo [] i entry text to differ is lays = absurd (cc)
+entry-TakesTo (first ∷ entries) zero entry text to differ is lays =
+    let one : first ≡ entry = cc in
+    let here : bytes_eq first.name entry.name ≡ true = ap (λ (e : Entry). bytes_eq first.name e.name) (sym one) ∙ same_name first.name in
+    rw here (subst (λ (e : Entry). LayTo (pairs e.patches) e.length text to) (sym one) lays)
+entry-TakesTo (first ∷ entries) (suc i) entry text to differ is lays =
+    let other = later_name first entries i entry differ is in
+    rw other (entry-TakesTo entries i entry text to (and_parts (not (is_named first.name entries)) (names_differ entries) differ).1 is lays)
+
+-- no entry names the journal
+pub journal_unnamed : (entries : List Entry) → AllByRecursion IsLayable entries → is_named journal_name entries ≡ false
+journal_unnamed [] each = refl
+journal_unnamed (entry ∷ entries) each = elim (name_cases entry.name journal_name) [
+  | inl same ↦
+      let never : is_file_name entry.name ≡ false = ap (λ (n : List ℕ). is_file_name n) same.0 in
+      absurd (false≢true (sym never ∙ each.0.name))
+  | inr other ↦ let e = other.1 in rw e (journal_unnamed entries each.1)
+]
+
+pub layable_at : (entries : List Entry) (i : ℕ) (entry : Entry) → AllByRecursion IsLayable entries → slice_get entries i ≡ Some entry → IsLayable entry
+layable_at [] i entry each is = absurd (cc)
+layable_at (first ∷ entries) zero entry each is = let one : first ≡ entry = cc in subst IsLayable one each.0
+layable_at (first ∷ entries) (suc i) entry each is = layable_at entries i entry each.1 is

@@ -1,0 +1,102 @@
+use Rattle.std.proofs.Common.{length, refl, sym, ◌∙◌, ap, subst, arith}
+use Rattle.std.proofs.lemmas.Option.{slice_get_read}
+use Rattle.org_disk.specs.Disk.{FileState}
+use Rattle.org_splice.specs.Patches.{Fit, lay}
+use Rattle.org_journal.specs.Record.{pairs}
+use Rattle.org_journal.specs.Standing.{contents, replayed}
+use Rattle.org_fileset.proofs.Takes.{layable_at, named_apart}
+use Rattle.org_fileset.proofs.Stands.{replayed-entry, replayed-other}
+use Rattle.org_fileset.proofs.Replaying.{entry_takes, replays_none, replays_entry, texts_more, untouched_more, all_texts}
+use Rattle.org_fileset.proofs.lay.lay_all.Goals as goal
+
+pub loop-entry-init : goal.loop-entry-init
+loop-entry-init g c = record {
+  honest = (λ h. h, λ h. h);
+  failures = omega arith;
+  replays = λ honest stable texts takes. replays_none (g.D.Disk.moment c.args.disk.now) (g.D.Disk.left_since c.args.disk.now) (g.D.Disk.files c.args.disk.now) takes;
+  have = λ honest j entry none is. absurd (omega arith);
+  untouched = λ honest j entry le is. refl;
+  others = λ honest name none. refl;
+}
+
+pub lay_entry-requires-clause-formed : goal.lay_entry-requires-clause-formed
+lay_entry-requires-clause-formed g c h =
+    let honest = c.loop-entry.invariant.honest.0 h in
+    let i = c.loop-entry.entry-index in
+    let entry = c.entry-item.result in
+    let is = slice_get_read c.args.entries.now (length c.args.entries.now) i entry refl c.loop-entry-test.true c.entry-item.is in
+    (layable_at c.args.entries.now i entry (c.requires.layable honest).each is).patches
+
+pub lay_entry-requires-clause-small : goal.lay_entry-requires-clause-small
+lay_entry-requires-clause-small g c h =
+    let honest = c.loop-entry.invariant.honest.0 h in
+    let i = c.loop-entry.entry-index in
+    let entry = c.entry-item.result in
+    let is = slice_get_read c.args.entries.now (length c.args.entries.now) i entry refl c.loop-entry-test.true c.entry-item.is in
+    let small = (layable_at c.args.entries.now i entry (c.requires.layable honest).each is).small in
+    omega (arith, small)
+
+pub lay_entry-requires-clause-fits : goal.lay_entry-requires-clause-fits
+lay_entry-requires-clause-fits g c h =
+    let sofar = c.loop-entry.invariant in
+    let honest = sofar.honest.0 h in
+    let i = c.loop-entry.entry-index in
+    let entry = c.entry-item.result in
+    let is = slice_get_read c.args.entries.now (length c.args.entries.now) i entry refl c.loop-entry-test.true c.entry-item.is in
+    let old = g.D.Disk.files c.args.disk.now in
+    let lays = replayed-entry c.args.entries.now (contents old) i entry (c.requires.layable honest) (c.requires.fits honest) is in
+    subst (λ (f : FileState). Fit (pairs entry.patches) entry.length (length f.content)) (sym (sofar.untouched honest i entry (omega arith) is)) lays.fit
+
+pub returns-in_err-lay_entry-clause-replays : goal.returns-in_err-lay_entry-clause-replays
+returns-in_err-lay_entry-clause-replays g c honest stable texts takes =
+    let sofar = c.loop-entry.invariant in
+    let h = sofar.honest.1 honest in
+    let i = c.loop-entry.entry-index in
+    let entry = c.entry-item.result in
+    let is = slice_get_read c.args.entries.now (length c.args.entries.now) i entry refl c.loop-entry-test.true c.entry-item.is in
+    let now = sofar.replays honest stable texts takes in
+    replays_entry i entry (c.requires.layable honest) is stable now
+    (c.lay_entry.ensures.lays h (texts entry.name) (entry_takes c.args.entries.now texts (g.D.Disk.files c.loop-entry.disk) i entry (c.requires.layable honest) is now.takes))
+
+pub returns-in_err-lay_entry-clause-others : goal.returns-in_err-lay_entry-clause-others
+returns-in_err-lay_entry-clause-others g c honest name none =
+    let sofar = c.loop-entry.invariant in
+    let i = c.loop-entry.entry-index in
+    let entry = c.entry-item.result in
+    let is = slice_get_read c.args.entries.now (length c.args.entries.now) i entry refl c.loop-entry-test.true c.entry-item.is in
+    c.lay_entry.ensures.others (sofar.honest.1 honest) name (named_apart c.args.entries.now i entry name none is) ∙ sofar.others honest name none
+
+pub loop-entry-preserved : goal.loop-entry-preserved
+loop-entry-preserved g c =
+    let sofar = c.loop-entry.invariant in
+    let i = c.loop-entry.entry-index in
+    let entry = c.entry-item.result in
+    let is = slice_get_read c.args.entries.now (length c.args.entries.now) i entry refl c.loop-entry-test.true c.entry-item.is in
+    let old = g.D.Disk.files c.args.disk.now in
+    let mid = g.D.Disk.files c.loop-entry.disk in
+    record {
+      honest = (λ h. sofar.honest.0 (c.lay_entry.ensures.honest.0 h), λ h. c.lay_entry.ensures.honest.1 (sofar.honest.1 h));
+      failures = omega (arith, sofar.failures, c.lay_entry.ensures.failures);
+      replays = λ honest stable texts takes.
+          let h = sofar.honest.1 honest in
+          let now = sofar.replays honest stable texts takes in
+          replays_entry i entry (c.requires.layable honest) is stable now
+          (c.lay_entry.ensures.lays h (texts entry.name) (entry_takes c.args.entries.now texts mid i entry (c.requires.layable honest) is now.takes));
+      have = λ honest.
+          let h = sofar.honest.1 honest in
+          let lays = replayed-entry c.args.entries.now (contents old) i entry (c.requires.layable honest) (c.requires.fits honest) is in
+          texts_more c.args.entries.now (replayed c.args.entries.now (contents old)) i entry mid (g.D.Disk.files c.lay_entry.new.disk) is
+          (c.in_ok-lay_entry.ensures.content h ∙ ap (λ (f : FileState). lay (pairs entry.patches) entry.length f.content) (sofar.untouched honest i entry (omega arith) is) ∙ lays.makes)
+          (c.lay_entry.ensures.others h) (sofar.have honest);
+      untouched = λ honest.
+          untouched_more c.args.entries.now i entry old mid (g.D.Disk.files c.lay_entry.new.disk) (c.requires.layable honest) is (c.lay_entry.ensures.others (sofar.honest.1 honest)) (sofar.untouched honest);
+      others = λ honest name none.
+          c.lay_entry.ensures.others (sofar.honest.1 honest) name (named_apart c.args.entries.now i entry name none is) ∙ sofar.others honest name none;
+    }
+
+pub returns-clause-contents : goal.returns-clause-contents
+returns-clause-contents g c honest name =
+    let sofar = c.loop-entry.invariant in
+    let old = g.D.Disk.files c.args.disk.now in
+    all_texts c.args.entries.now (replayed c.args.entries.now (contents old)) c.loop-entry.entry-index old (g.D.Disk.files c.loop-entry.disk) name c.loop-entry-test.false (sofar.have honest)
+    (sofar.others honest) (λ none. replayed-other c.args.entries.now (contents old) name (c.requires.fits honest) none)

@@ -1,0 +1,165 @@
+use Rattle.std.proofs.Common.{◌≤◌, ◌+◌, ℕ, List, length, refl, sym, ◌∙◌, ap, subst, arith}
+use Rattle.org_disk.specs.Disk.{FileState, write, cut}
+use Rattle.org_journal.specs.Record.{pairs}
+use Rattle.org_fileset.proofs.Laying.{lays_none, lays_call, lays_read, takes_write, takes_cut}
+use Rattle.org_fileset.proofs.Steps.{pair_at, lay_each-more, next_within, next_small, long_enough}
+use Rattle.org_fileset.proofs.lay.lay_entry.Goals as goal
+
+pub loop-patch-init : goal.loop-patch-init
+loop-patch-init g c = record {
+  honest = (λ h. h, λ h. h);
+  failures = omega arith;
+  content = λ honest. refl;
+  others = λ honest other apart. refl;
+  lays = λ honest to takes. lays_none (g.D.Disk.moment c.args.disk.now) (g.D.Disk.left_since c.args.disk.now) (g.D.Disk.files c.args.disk.now) takes;
+}
+
+pub write_at-requires-clause-within : goal.write_at-requires-clause-within
+write_at-requires-clause-within g c h =
+    let sofar = c.loop-patch.invariant in
+    let honest = sofar.honest.0 h in
+    let patches = pairs c.args.entry.now.patches in
+    let is = pair_at c.as_slice-patch-items.result.now c.args.entry.now.patches c.loop-patch.patch-index c.patch-item.result c.as_slice.result.now
+    c.as_slice-patch-items.ensures c.loop-patch-test.true c.patch-item.is c.as_slice.ensures in
+    next_within patches c.args.entry.now.length c.loop-patch.patch-index c.patch-item.result.from c.as_slice.result.now (g.D.Disk.files c.args.disk.now c.args.entry.now.name).content
+    (g.D.Disk.files c.loop-patch.disk c.args.entry.now.name).content (c.requires.formed honest) (c.requires.fits honest) is (sofar.content honest)
+
+pub write_at-requires-clause-fits : goal.write_at-requires-clause-fits
+write_at-requires-clause-fits g c h =
+    let sofar = c.loop-patch.invariant in
+    let honest = sofar.honest.0 h in
+    let patches = pairs c.args.entry.now.patches in
+    let is = pair_at c.as_slice-patch-items.result.now c.args.entry.now.patches c.loop-patch.patch-index c.patch-item.result c.as_slice.result.now
+    c.as_slice-patch-items.ensures c.loop-patch-test.true c.patch-item.is c.as_slice.ensures in
+    let small : c.patch-item.result.from + length c.as_slice.result.now ≤ c.args.entry.now.length =
+    next_small patches c.args.entry.now.length c.loop-patch.patch-index c.patch-item.result.from c.as_slice.result.now (g.D.Disk.files c.args.disk.now c.args.entry.now.name).content
+    (c.requires.formed honest) (c.requires.fits honest) is in
+    omega (arith, small, c.requires.small honest)
+
+pub returns-in_err-write_at-clause-lays : goal.returns-in_err-write_at-clause-lays
+returns-in_err-write_at-clause-lays g c honest to takes =
+    let sofar = c.loop-patch.invariant in
+    let h = sofar.honest.1 honest in
+    let patches = pairs c.args.entry.now.patches in
+    let name = c.args.entry.now.name in
+    let mid = g.D.Disk.files c.loop-patch.disk in
+    let from = c.patch-item.result.from in
+    let bytes = c.as_slice.result.now in
+    let is = pair_at c.as_slice-patch-items.result.now c.args.entry.now.patches c.loop-patch.patch-index c.patch-item.result bytes
+    c.as_slice-patch-items.ensures c.loop-patch-test.true c.patch-item.is c.as_slice.ensures in
+    let le = next_within patches c.args.entry.now.length c.loop-patch.patch-index from bytes (g.D.Disk.files c.args.disk.now name).content
+    (mid name).content (c.requires.formed honest) (c.requires.fits honest) is (sofar.content honest) in
+    let now = sofar.lays honest to takes in
+    lays_call (write from bytes) c.write_at.result now
+    (takes_write (mid name) c.loop-patch.patch-index from bytes (c.requires.formed honest) is le (g.met.D.Disk.content_is_image c.loop-patch.disk name h) now.takes)
+    (c.write_at.ensures.effect h) (c.write_at.ensures.time h)
+
+pub loop-patch-preserved : goal.loop-patch-preserved
+loop-patch-preserved g c =
+    let sofar = c.loop-patch.invariant in
+    let patches = pairs c.args.entry.now.patches in
+    let name = c.args.entry.now.name in
+    let mid = g.D.Disk.files c.loop-patch.disk in
+    let from = c.patch-item.result.from in
+    let bytes = c.as_slice.result.now in
+    let is = pair_at c.as_slice-patch-items.result.now c.args.entry.now.patches c.loop-patch.patch-index c.patch-item.result bytes
+    c.as_slice-patch-items.ensures c.loop-patch-test.true c.patch-item.is c.as_slice.ensures in
+    record {
+      honest = (λ h. sofar.honest.0 (c.write_at.ensures.honest.0 h), λ h. c.write_at.ensures.honest.1 (sofar.honest.1 h));
+      failures = omega (arith, sofar.failures, c.in_ok-write_at.ensures.count_ok);
+      content = λ honest.
+          let done = (c.in_ok-write_at.ensures.effect (sofar.honest.1 honest)).ok in
+          ap (λ (f : FileState). f.content) done
+          ∙ ap (λ (t : List ℕ). (write from bytes (record (mid name) { content = t })).content) (sofar.content honest)
+          ∙ sym (lay_each-more patches c.loop-patch.patch-index from bytes (g.D.Disk.files c.args.disk.now name).content is);
+      others = λ honest other apart. (c.write_at.ensures.effect (sofar.honest.1 honest)).others other apart ∙ sofar.others honest other apart;
+      lays = λ honest to takes.
+          let h = sofar.honest.1 honest in
+          let le = next_within patches c.args.entry.now.length c.loop-patch.patch-index from bytes (g.D.Disk.files c.args.disk.now name).content
+          (mid name).content (c.requires.formed honest) (c.requires.fits honest) is (sofar.content honest) in
+          let now = sofar.lays honest to takes in
+          lays_call (write from bytes) c.write_at.result now
+          (takes_write (mid name) c.loop-patch.patch-index from bytes (c.requires.formed honest) is le (g.met.D.Disk.content_is_image c.loop-patch.disk name h) now.takes)
+          (c.write_at.ensures.effect h) (c.write_at.ensures.time h);
+    }
+
+pub returns-in_err-length-clause-lays : goal.returns-in_err-length-clause-lays
+returns-in_err-length-clause-lays g c honest to takes =
+    let sofar = c.loop-patch.invariant in
+    let h = sofar.honest.1 honest in
+    lays_read (sofar.lays honest to takes) (c.length.ensures.same h) (c.length.ensures.time h)
+
+pub returns-in_err-cut-clause-lays : goal.returns-in_err-cut-clause-lays
+returns-in_err-cut-clause-lays g c honest to takes =
+    let sofar = c.loop-patch.invariant in
+    let h = sofar.honest.1 honest in
+    let h1 = c.length.ensures.honest.1 h in
+    let name = c.args.entry.now.name in
+    let final = c.args.entry.now.length in
+    let read = lays_read (sofar.lays honest to takes) (c.length.ensures.same h) (c.length.ensures.time h) in
+    let mid = g.D.Disk.files c.length.new.self in
+    let enough : final ≤ length (mid name).content =
+    let long : final ≤ length (g.D.Disk.files c.loop-patch.disk name).content =
+    long_enough c.as_slice-patch-items.result.now c.args.entry.now.patches c.loop-patch.patch-index final (g.D.Disk.files c.args.disk.now name).content
+    (g.D.Disk.files c.loop-patch.disk name).content (c.requires.formed honest) (c.requires.fits honest) c.as_slice-patch-items.ensures c.loop-patch-test.false (sofar.content honest) in
+    subst (λ (f : List ℕ → FileState). final ≤ length (f name).content) (sym (c.length.ensures.same h)) long in
+    lays_call (cut final) c.cut.result read
+    (takes_cut (mid name) (c.requires.formed honest) enough (g.met.D.Disk.content_is_image c.length.new.self name h1) read.takes)
+    (c.cut.ensures.effect h1) (c.cut.ensures.time h1)
+
+pub returns-in_ok-cut-clause-lays : goal.returns-in_ok-cut-clause-lays
+returns-in_ok-cut-clause-lays g c honest to takes =
+    let sofar = c.loop-patch.invariant in
+    let h = sofar.honest.1 honest in
+    let h1 = c.length.ensures.honest.1 h in
+    let name = c.args.entry.now.name in
+    let final = c.args.entry.now.length in
+    let read = lays_read (sofar.lays honest to takes) (c.length.ensures.same h) (c.length.ensures.time h) in
+    let mid = g.D.Disk.files c.length.new.self in
+    let enough : final ≤ length (mid name).content =
+    let long : final ≤ length (g.D.Disk.files c.loop-patch.disk name).content =
+    long_enough c.as_slice-patch-items.result.now c.args.entry.now.patches c.loop-patch.patch-index final (g.D.Disk.files c.args.disk.now name).content
+    (g.D.Disk.files c.loop-patch.disk name).content (c.requires.formed honest) (c.requires.fits honest) c.as_slice-patch-items.ensures c.loop-patch-test.false (sofar.content honest) in
+    subst (λ (f : List ℕ → FileState). final ≤ length (f name).content) (sym (c.length.ensures.same h)) long in
+    lays_call (cut final) c.cut.result read
+    (takes_cut (mid name) (c.requires.formed honest) enough (g.met.D.Disk.content_is_image c.length.new.self name h1) read.takes)
+    (c.cut.ensures.effect h1) (c.cut.ensures.time h1)
+
+pub returns-else-length-entry-clause-lays : goal.returns-else-length-entry-clause-lays
+returns-else-length-entry-clause-lays g c honest to takes =
+    let sofar = c.loop-patch.invariant in
+    let h = sofar.honest.1 honest in
+    lays_read (sofar.lays honest to takes) (c.length.ensures.same h) (c.length.ensures.time h)
+
+pub returns-in_err-write_at-clause-others : goal.returns-in_err-write_at-clause-others
+returns-in_err-write_at-clause-others g c honest other apart =
+    let sofar = c.loop-patch.invariant in
+    (c.write_at.ensures.effect (sofar.honest.1 honest)).others other apart ∙ sofar.others honest other apart
+
+pub returns-in_err-length-clause-others : goal.returns-in_err-length-clause-others
+returns-in_err-length-clause-others g c honest other apart =
+    let sofar = c.loop-patch.invariant in
+    let h = sofar.honest.1 honest in
+    let same = ap (λ (f : List ℕ → FileState). f other) (c.length.ensures.same h) ∙ sofar.others honest other apart in
+    same
+
+pub returns-in_err-cut-clause-others : goal.returns-in_err-cut-clause-others
+returns-in_err-cut-clause-others g c honest other apart =
+    let sofar = c.loop-patch.invariant in
+    let h = sofar.honest.1 honest in
+    let same = ap (λ (f : List ℕ → FileState). f other) (c.length.ensures.same h) ∙ sofar.others honest other apart in
+    (c.cut.ensures.effect (c.length.ensures.honest.1 h)).others other apart ∙ same
+
+pub returns-in_ok-cut-clause-others : goal.returns-in_ok-cut-clause-others
+returns-in_ok-cut-clause-others g c honest other apart =
+    let sofar = c.loop-patch.invariant in
+    let h = sofar.honest.1 honest in
+    let same = ap (λ (f : List ℕ → FileState). f other) (c.length.ensures.same h) ∙ sofar.others honest other apart in
+    (c.cut.ensures.effect (c.length.ensures.honest.1 h)).others other apart ∙ same
+
+pub returns-else-length-entry-clause-others : goal.returns-else-length-entry-clause-others
+returns-else-length-entry-clause-others g c honest other apart =
+    let sofar = c.loop-patch.invariant in
+    let h = sofar.honest.1 honest in
+    let same = ap (λ (f : List ℕ → FileState). f other) (c.length.ensures.same h) ∙ sofar.others honest other apart in
+    same

@@ -1,0 +1,6 @@
+pub mod Replay
+pub mod Entries
+pub mod Set
+pub mod Recovery
+pub mod Names
+pub mod Opening

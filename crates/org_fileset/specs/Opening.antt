@@ -1,0 +1,64 @@
+-- What opening a set of files answers.
+use Rattle.std.specs.Prelude.{◌≡◌, ◌≢◌, ◌≤◌, ℕ, List, length, Some, None, Result, Ok, Err, Vec}
+use Rattle.std.specs.Global.{Global}
+use Rattle.std.specs.List.{AllByRecursion}
+use Rattle.org_disk.specs.Names.{journal_name}
+use Rattle.org_disk.specs.declared.name.FileName.{FileName}
+use Rattle.org_journal.specs.Standing.{Image, stands}
+use Rattle.org_journal.specs.declared.fault.FindFault.{FindFault}
+use Rattle.org_journal.specs.declared.fault.FindFault.TheVariants as find
+use Rattle.org_fileset.specs.declared.open.OpenFault.{OpenFault}
+use Rattle.org_fileset.specs.declared.open.OpenFault.TheVariants.{TooManyFiles, BadJournal, TooLarge, Device, OutOfMemory}
+use Rattle.org_fileset.specs.declared.open.OpenRefused.{OpenRefused}
+use Rattle.org_fileset.specs.Names.{with_archives, AreSorted, AreFew, AreTooMany, first_large}
+use Rattle.org_fileset.specs.Set.{Opened}
+
+-- the disk that is in the set, or handed back
+abbrev pub disk_in : {D : Type 0} → Result (Opened D) (OpenRefused D) → D
+disk_in (Ok set) = set.disk
+disk_in (Err refused) = refused.disk
+
+-- the same fault, as an opening tells it
+abbrev pub fault_of : FindFault → OpenFault
+fault_of find.BadJournal = BadJournal
+fault_of find.Device = Device
+fault_of find.OutOfMemory = OutOfMemory
+
+-- none of the names is the journal's, and they are no more than a record can have
+pub record AreSetNames (names : List (List ℕ)) : Type 0 where
+  pub each : AllByRecursion (λ name. name ≢ journal_name) names
+  pub few : length names ≤ 512
+
+-- These names of a set are all that the given ones ask for; or there is this fault with them.
+abbrev pub AreAllNames : List (List ℕ) → Result (Vec FileName Global) OpenFault → Type 0
+AreAllNames given (Ok names) = AreFew given × AreSorted (with_archives given) names.items × AreSetNames names.items
+AreAllNames given (Err TooManyFiles) = AreTooMany given
+AreAllNames given (Err OutOfMemory) = Unit {0}
+AreAllNames given (Err fault) = ⊥
+
+-- No file of these names is past the limit; or there is this fault.
+abbrev pub HaveSizes : Image → List (List ℕ) → Result (Unit {0}) OpenFault → Type 0
+HaveSizes files names (Ok _) = first_large files names ≡ None
+HaveSizes files names (Err (TooLarge name)) = first_large files names ≡ Some name
+HaveSizes files names (Err Device) = Unit {0}
+HaveSizes files names (Err OutOfMemory) = Unit {0}
+HaveSizes files names (Err fault) = ⊥
+
+-- No file of these names is past the limit after a record was brought to its end; or there is this fault.
+abbrev pub IsAnswer : Image → Image → List (List ℕ) → Result (Unit {0}) OpenFault → Type 0
+IsAnswer before now names (Err BadJournal) = stands before ≡ None
+IsAnswer before now names (Ok done) = HaveSizes now names (Ok done)
+IsAnswer before now names (Err (TooLarge name)) = HaveSizes now names (Err (TooLarge name))
+IsAnswer before now names (Err TooManyFiles) = ⊥
+IsAnswer before now names (Err Device) = Unit {0}
+IsAnswer before now names (Err OutOfMemory) = Unit {0}
+
+-- A set over files of the given names isn't opened for this reason. What lies in the files of a disk counts where the
+-- disk is honest: what lay in them when the call began, and what lies in them as it ends.
+abbrev pub IsReason : List (List ℕ) → Type 0 → Image → Image → OpenFault → Type 0
+IsReason given honest before now TooManyFiles = AreTooMany given
+IsReason given honest before now BadJournal = AreFew given × (honest → stands before ≡ None)
+IsReason given honest before now (TooLarge name) = AreFew given
+    × (honest → (names : List (List ℕ)) × AreSorted (with_archives given) names × (first_large now names ≡ Some name))
+IsReason given honest before now Device = AreFew given
+IsReason given honest before now OutOfMemory = Unit {0}

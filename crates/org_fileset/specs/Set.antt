@@ -1,0 +1,27 @@
+-- What contracts see of a set of files.
+use Rattle.std.specs.Prelude.{◌≡◌, ◌≢◌, ◌⊎◌, ℕ, ◌≤◌, Bool, false, List, length}
+use Rattle.std.specs.List.{AllByRecursion}
+use Rattle.org_disk.specs.Disk.{FileState}
+use Rattle.org_disk.specs.Names.{journal_name}
+use Rattle.org_splice.specs.Texts.{EditedText}
+use Rattle.org_journal.specs.Standing.{Image, StandsFor}
+use Rattle.org_fileset.specs.Entries.{changed}
+use Rattle.org_journal.specs.Gate.{HasClosedGate}
+
+-- A set of files: its disk, the names of its files, and whether a call of the disk failed.
+pub record Opened (D : Type 0) : Type 0 where
+  pub disk : D
+  pub names : List (List ℕ)
+  pub broken : Bool
+
+-- What always holds of one: no name is the journal's, they are no more than a record can have, and unless a call failed
+-- the journal's gate is closed on the disk.
+pub record IsSound (journal : List ℕ) (names : List (List ℕ)) (broken : Bool) (honest : Type 0) (files : List ℕ → FileState) : Type 0 where
+  pub journal_is : journal ≡ journal_name
+  pub each : AllByRecursion (λ name. name ≢ journal_name) names
+  pub few : length names ≤ 512
+  pub gate : broken ≡ false → honest → HasClosedGate (files journal_name)
+
+-- An image stands for the files as they are, or as the changes make them.
+abbrev pub IsWithOrWithout : List (List ℕ × EditedText) → Image → Image → Type 0
+IsWithOrWithout changes files image = StandsFor files image ⊎ StandsFor (changed changes files) image

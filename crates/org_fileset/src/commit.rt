@@ -1,0 +1,63 @@
+//! A record made to count: written to the journal, laid over its files, and done with.
+ghost use Rattle.std.specs.Prelude.{◌≡◌, ◌≢◌, ◌≤◌, ◌↔◌, ◌++◌, List, ℕ, Some, length, IsTrue, OnOk, OnErr};
+ghost use Rattle.org_disk.specs.Disk.{HasRisen, Passes, LeavesOnly};
+ghost use Rattle.org_disk.specs.Names.{journal_name};
+ghost use Rattle.org_journal.specs.Gate.{HasClosedGate};
+ghost use Rattle.org_journal.specs.Reading.{journal_at};
+ghost use Rattle.org_journal.specs.Standing.{SameFiles, StandsFor, IsFit, all_fit, replayed, contents};
+ghost use Rattle.org_fileset.specs.Replay.{AreLayable, IsOpenOver, IsReplayable, IsAtRest, IsBeforeOrAfter};
+
+use crate::lay::{lay_all, sync_all};
+use org_disk::{Disk, DiskFault, FileName};
+use org_journal::{Entry, arm, close_gate, open_gate};
+
+/// Does what an open journal's record says: lays it over its files, syncs them, and closes the gate. Where the record
+/// makes the same texts of whatever a stop leaves at the start, every image stands for them at every moment since.
+pub fn replay<D: Disk>(disk: &mut D, journal: &FileName, entries: &[Entry]) -> Result<(), DiskFault>
+    requires journal { journal.now ≡ journal_name }
+    requires layable { D.honest disk.old → AreLayable entries.now }
+    requires opened { D.honest disk.old → IsOpenOver entries.now (D.files disk.old) }
+    requires fits { D.honest disk.old → IsTrue (all_fit entries.now (contents (D.files disk.old))) }
+    ensures any_moment { D.honest disk.old → (can : IsReplayable entries.now (D.files disk.old)) →
+        Passes (D.moment disk.old) (D.moment disk.new) (D.left_since disk.old) (D.left_since disk.new) (StandsFor can.texts) }
+    ensures gate { OnOk result (D.honest disk.old → HasClosedGate (D.files disk.new journal_name)) }
+    ensures contents { OnOk result (D.honest disk.old → SameFiles (contents (D.files disk.new)) (replayed entries.now (contents (D.files disk.old)))) }
+    ensures rest { OnOk result (D.honest disk.old → IsReplayable entries.now (D.files disk.old) → IsAtRest (D.files disk.new)) }
+    ensures fit { OnErr result (D.honest disk.old → IsReplayable entries.now (D.files disk.old) → IsFit (D.files disk.new)) }
+    ensures failed { OnErr result (HasRisen (D.failures disk.old) (D.failures disk.new)) }
+    ensures failures { D.failures disk.old ≤ D.failures disk.new }
+    ensures honest { D.honest disk.new ↔ D.honest disk.old }
+{
+    lay_all(disk, entries)?;
+    sync_all(disk, entries)?;
+    close_gate(disk, journal)
+}
+
+/// Commits entries that fit their files. The body is their record, from the journal's second byte on. Where all files
+/// are on the disk at the start, every image at every moment since stands for all files before, or for all files after.
+pub fn commit_entries<D: Disk>(
+    disk: &mut D,
+    journal: &FileName,
+    entries: &[Entry],
+    body: &[u8],
+) -> Result<(), DiskFault>
+    requires journal { journal.now ≡ journal_name }
+    requires layable { D.honest disk.old → AreLayable entries.now }
+    requires body { (more : List ℕ) → journal_at (body.now ++ more) ≡ Some entries.now }
+    requires long { 15 ≤ length body.now }
+    requires gate { D.honest disk.old → HasClosedGate (D.files disk.old journal_name) }
+    requires fits { D.honest disk.old → IsTrue (all_fit entries.now (contents (D.files disk.old))) }
+    ensures any_moment { D.honest disk.old → IsAtRest (D.files disk.old) → LeavesOnly (D.moment disk.old) (D.moment disk.new) (D.left_since disk.old) (D.left_since disk.new)
+        (IsBeforeOrAfter entries.now (contents (D.files disk.old))) }
+    ensures gate { OnOk result (D.honest disk.old → HasClosedGate (D.files disk.new journal_name)) }
+    ensures contents { OnOk result (D.honest disk.old → SameFiles (contents (D.files disk.new)) (replayed entries.now (contents (D.files disk.old)))) }
+    ensures rest { OnOk result (D.honest disk.old → IsAtRest (D.files disk.old) → IsAtRest (D.files disk.new)) }
+    ensures fit { OnErr result (D.honest disk.old → IsAtRest (D.files disk.old) → IsFit (D.files disk.new)) }
+    ensures failed { OnErr result (HasRisen (D.failures disk.old) (D.failures disk.new)) }
+    ensures failures { D.failures disk.old ≤ D.failures disk.new }
+    ensures honest { D.honest disk.new ↔ D.honest disk.old }
+{
+    arm(disk, journal, body)?;
+    open_gate(disk, journal)?;
+    replay(disk, journal, entries)
+}

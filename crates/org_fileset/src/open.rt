@@ -1,0 +1,144 @@
+//! What is asked of files before a set is opened over them.
+ghost use Rattle.std.specs.Prelude.{◌≡◌, ◌≤◌, ◌↔◌, List, Err, IsSomeAnd, IfOk, IfErr, OnOk, IsErrOf};
+ghost use Rattle.std.specs.List.{All};
+ghost use Rattle.org_disk.specs.Disk.{HasRisen, Passes, LeavesOnly, AreImages};
+ghost use Rattle.org_disk.specs.Names.{journal_name};
+ghost use Rattle.org_journal.specs.Gate.{HasClosedGate};
+ghost use Rattle.org_journal.specs.Standing.{SameFiles, IsFit, stands, contents};
+ghost use Rattle.org_fileset.specs.Names.{with_archives, AreSorted, AreFew, IsGiven};
+ghost use Rattle.org_fileset.specs.Opening.{AreAllNames, AreSetNames, HaveSizes, IsAnswer, fault_of};
+ghost use Rattle.org_fileset.specs.Recovery.{EachStands, StandsAsBefore};
+ghost use Rattle.org_fileset.specs.Replay.{IsAtRest};
+ghost use Rattle.org_fileset.specs.declared.open.OpenFault.TheVariants.{OutOfMemory, Device};
+
+use crate::names::{in_order, with_archives};
+use crate::recover::recover;
+use crate::set::LIMIT;
+use org_disk::{Disk, DiskFault, FileName};
+use org_journal::FindFault;
+use std::alloc::{AllocError, Global};
+
+/// How many different names may be given; those of their archive files come on top.
+const MOST_NAMES: usize = 256;
+
+/// Why a set of files wasn't opened.
+#[derive(Debug, Drop)]
+pub enum OpenFault {
+    /// More than 256 different names were given. The disk wasn't called.
+    TooManyFiles,
+    /// The journal's gate is open, and what stands behind it is no record, or one that doesn't fit its files. No
+    /// content was changed.
+    BadJournal,
+    /// The file of this name has more than 67,108,864 bytes: the first such file, in byte order of the names. What a
+    /// stop had cut short was brought to an end.
+    TooLarge(FileName),
+    /// A call of the disk failed.
+    Device,
+    /// Memory ran out.
+    OutOfMemory,
+}
+
+/// A set of files that wasn't opened: its disk, and why.
+#[derive(Drop)]
+pub struct OpenRefused<D> {
+    pub disk: D,
+    pub fault: OpenFault,
+}
+
+impl From<AllocError> for OpenFault {
+    ghost from_gives = { λ _ e. e ≡ OutOfMemory };
+
+    fn from(_: AllocError) -> OpenFault {
+        OpenFault::OutOfMemory
+    }
+}
+
+impl From<DiskFault> for OpenFault {
+    ghost from_gives = { λ _ e. e ≡ Device };
+
+    fn from(_: DiskFault) -> OpenFault {
+        OpenFault::Device
+    }
+}
+
+impl From<FindFault> for OpenFault {
+    ghost from_gives = { λ found e. e ≡ fault_of found };
+
+    fn from(found: FindFault) -> OpenFault {
+        match found {
+            FindFault::BadJournal => OpenFault::BadJournal,
+            FindFault::Device => OpenFault::Device,
+            FindFault::OutOfMemory => OpenFault::OutOfMemory,
+        }
+    }
+}
+
+/// The names of a set's files in byte order: the given ones and those of their archive files.
+pub fn all_names(alloc: Global, given: Vec<FileName>) -> Result<Vec<FileName>, OpenFault>
+    requires { All IsGiven given.items }
+    ensures { AreAllNames given.items result }
+{
+    let given = in_order(given);
+    if given.len() > MOST_NAMES {
+        return Err(OpenFault::TooManyFiles);
+    }
+    let names = with_archives(alloc, &given)?;
+    Ok(in_order(names))
+}
+
+/// The journal's name, and the names of a set's files.
+pub fn journal_and_names(
+    alloc: Global,
+    given: Vec<FileName>,
+) -> Result<(FileName, Vec<FileName>), OpenFault>
+    requires { All IsGiven given.items }
+    ensures journal { IfOk result (λ made. made.0 ≡ journal_name) }
+    ensures names { IfOk result (λ made. AreFew given.items × AreSorted (with_archives given.items) made.1.items × AreSetNames made.1.items) }
+    ensures refused { IfErr result (λ fault. AreAllNames given.items (Err fault)) }
+{
+    let names = all_names(alloc, given)?;
+    Ok((FileName::journal_name(alloc)?, names))
+}
+
+/// Asks for the length of each of these files.
+pub fn check_sizes<D: Disk>(disk: &mut D, names: &[FileName]) -> Result<(), OpenFault>
+    ensures sizes { D.honest disk.old → HaveSizes (contents (D.files disk.old)) names.now result }
+    ensures only { IsErrOf result OpenFault.TooManyFiles → ⊥ }
+    ensures found { IsErrOf result OpenFault.BadJournal → ⊥ }
+    ensures same { D.honest disk.old → D.files disk.new ≡ D.files disk.old }
+    ensures any_moment { D.honest disk.old → Passes (D.moment disk.old) (D.moment disk.new) (D.left_since disk.old) (D.left_since disk.new) (AreImages (D.files disk.old)) }
+    ensures failed { IsErrOf result OpenFault.Device → HasRisen (D.failures disk.old) (D.failures disk.new) }
+    ensures failures { D.failures disk.old ≤ D.failures disk.new }
+    ensures honest { D.honest disk.new ↔ D.honest disk.old }
+{
+    for name in names {
+        if disk.length(name)? > LIMIT as u64 {
+            return Err(OpenFault::TooLarge(name.clone()?));
+        }
+    }
+    Ok(())
+}
+
+/// Brings to an end what a stop cut short, and then asks for the length of each of these files.
+pub fn make_ready<D: Disk>(
+    alloc: Global,
+    disk: &mut D,
+    journal: &FileName,
+    names: &[FileName],
+) -> Result<(), OpenFault>
+    requires { journal.now ≡ journal_name }
+    ensures gate { OnOk result (D.honest disk.old → HasClosedGate (D.files disk.new journal_name)) }
+    ensures contents { OnOk result (D.honest disk.old → IsSomeAnd (stands (contents (D.files disk.old))) (SameFiles (contents (D.files disk.new)))) }
+    ensures answer { D.honest disk.old → IsAnswer (contents (D.files disk.old)) (contents (D.files disk.new)) names.now result }
+    ensures only { IsErrOf result OpenFault.TooManyFiles → ⊥ }
+    ensures any_moment { D.honest disk.old → IsFit (D.files disk.old) → EachStands (D.files disk.old) →
+        LeavesOnly (D.moment disk.old) (D.moment disk.new) (D.left_since disk.old) (D.left_since disk.new) (StandsAsBefore (D.files disk.old)) }
+    ensures fit { D.honest disk.old → IsFit (D.files disk.old) → EachStands (D.files disk.old) → IsFit (D.files disk.new) }
+    ensures rest { OnOk result (D.honest disk.old → IsFit (D.files disk.old) → EachStands (D.files disk.old) → IsAtRest (D.files disk.new)) }
+    ensures failed { IsErrOf result OpenFault.Device → HasRisen (D.failures disk.old) (D.failures disk.new) }
+    ensures failures { D.failures disk.old ≤ D.failures disk.new }
+    ensures honest { D.honest disk.new ↔ D.honest disk.old }
+{
+    recover(alloc, disk, journal)?;
+    check_sizes(disk, names)
+}

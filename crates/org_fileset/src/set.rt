@@ -1,0 +1,198 @@
+//! The files of a store as one.
+ghost use Rattle.std.specs.Prelude.{◌≡◌, ◌≢◌, ◌≤◌, ◌⊎◌, ◌↔◌, List, ℕ, None, true, false, length, IsTrue, IsFalse, IsSomeAnd, IfOk, IfErr, OnOk, OnErr, IsErrOf};
+ghost use Rattle.std.specs.List.{All, Contains};
+ghost use Rattle.org_disk.specs.Disk.{HasRisen, Passes, LeavesOnly, AreImages};
+ghost use Rattle.org_splice.specs.Texts.{IsEditOf};
+ghost use Rattle.org_journal.specs.Standing.{IsFit, SameFiles, stands, contents};
+ghost use Rattle.org_fileset.specs.Entries.{changed};
+ghost use Rattle.org_fileset.specs.Names.{with_archives, AreSorted, AreFew, IsGiven, first_large};
+ghost use Rattle.org_fileset.specs.Opening.{IsReason, disk_in};
+ghost use Rattle.org_fileset.specs.Recovery.{EachStands, StandsAsBefore};
+ghost use Rattle.org_fileset.specs.Replay.{IsAtRest};
+ghost use Rattle.org_fileset.specs.Set.{IsWithOrWithout};
+
+use crate::commit::commit_entries;
+use crate::entries::entries_of;
+use crate::fault::SetFault;
+use crate::open::{OpenFault, OpenRefused, journal_and_names, make_ready};
+use org_disk::{Disk, FileName};
+use org_journal::Record;
+use org_splice::ChangeSet;
+use std::alloc::Global;
+use std::marker::Model;
+
+/// The most bytes of a file.
+pub const LIMIT: usize = 67_108_864;
+
+/// Files of a disk that are read one by one, and changed as one.
+#[derive(Drop)]
+pub struct FileSet<D: Disk> {
+    disk: D,
+    journal: FileName,
+    names: Vec<FileName>,
+    broken: bool,
+}
+
+impl<D: Disk> Model for FileSet<D> {
+    ghost use Rattle.org_fileset.specs.Set.{Opened, IsSound};
+
+    ghost Value = { Opened D };
+
+    ghost view = { λ s. record { disk = s.disk; names = s.names.items; broken = s.broken } };
+
+    ghost invariant = { λ s. IsSound s.journal s.names.items s.broken (D.honest s.disk) (D.files s.disk) };
+}
+
+impl<D: Disk> FileSet<D> {
+    /// A set of the files of the given names and of their archive files. No name is an archive file's or the journal's; a
+    /// repeated one counts once. What a stop cut short is brought to an end first.
+    ///
+    /// On a disk that is fit, of which each image stands for files, every image at every moment since the call began
+    /// stands for what an image at the start stood for, whatever is answered; so it may be stopped, and called again.
+    ///
+    /// The faults come in the order of `OpenFault`; `Device` and `OutOfMemory` as they are met. A refused call hands the
+    /// disk back.
+    pub fn open(alloc: Global, disk: D, names: Vec<FileName>) -> Result<FileSet<D>, OpenRefused<D>>
+        requires { All IsGiven names.items }
+        ensures names { IfOk result (λ set. AreFew names.items × AreSorted (with_archives names.items) set.names) }
+        ensures working { IfOk result (λ set. set.broken ≡ false) }
+        ensures contents { IfOk result (λ set. D.honest disk → IsSomeAnd (stands (contents (D.files disk))) (SameFiles (contents (D.files set.disk)))) }
+        ensures sizes { IfOk result (λ set. D.honest disk → first_large (contents (D.files set.disk)) set.names ≡ None) }
+        ensures refused { IfErr result (λ refused. IsReason names.items (D.honest disk) (contents (D.files disk)) (contents (D.files refused.disk)) refused.fault) }
+        ensures unused { IfErr result (λ refused. refused.fault ≡ OpenFault.TooManyFiles → refused.disk ≡ disk) }
+        ensures any_moment { D.honest disk → IsFit (D.files disk) → EachStands (D.files disk) →
+            LeavesOnly (D.moment disk) (D.moment (disk_in result)) (D.left_since disk) (D.left_since (disk_in result)) (StandsAsBefore (D.files disk)) }
+        ensures fit { D.honest disk → IsFit (D.files disk) → EachStands (D.files disk) → IsFit (D.files (disk_in result)) }
+        ensures rest { IfOk result (λ set. D.honest disk → IsFit (D.files disk) → EachStands (D.files disk) → IsAtRest (D.files set.disk)) }
+        ensures failed { IfErr result (λ refused. refused.fault ≡ OpenFault.Device → HasRisen (D.failures disk) (D.failures refused.disk)) }
+        ensures failures { D.failures disk ≤ D.failures (disk_in result) }
+        ensures honest { D.honest (disk_in result) ↔ D.honest disk }
+    {
+        let mut disk = disk;
+        let (journal, names) = match journal_and_names(alloc, names) {
+            Ok(made) => made,
+            Err(fault) => return Err(OpenRefused { disk, fault }),
+        };
+        match make_ready(alloc, &mut disk, &journal, &names) {
+            Ok(()) => Ok(FileSet {
+                disk,
+                journal,
+                names,
+                broken: false,
+            }),
+            Err(fault) => Err(OpenRefused { disk, fault }),
+        }
+    }
+
+    /// The names of its files, in byte order: those that it was opened with and those of their archive files.
+    pub fn names(&self) -> &[FileName]
+        ensures { result.now ≡ self.now.names }
+    {
+        &self.names
+    }
+
+    /// Whether a call of the disk has failed.
+    pub fn is_broken(&self) -> bool
+        ensures { result ≡ self.now.broken }
+    {
+        self.broken
+    }
+
+    /// Gives the disk back as it is.
+    pub fn close(self) -> D
+        ensures { result ≡ self.disk }
+    {
+        let FileSet {
+            disk,
+            journal: _,
+            names: _,
+            broken: _,
+        } = self;
+        disk
+    }
+
+    /// The bytes of a file.
+    pub fn read(&mut self, name: &FileName) -> Result<Vec<u8>, SetFault>
+        ensures text { IfOk result (λ bytes. D.honest self.old.disk → bytes.items ≡ contents (D.files self.old.disk) name.now) }
+        ensures same { D.honest self.old.disk → D.files self.new.disk ≡ D.files self.old.disk }
+        ensures any_moment { D.honest self.old.disk → Passes (D.moment self.old.disk) (D.moment self.new.disk) (D.left_since self.old.disk) (D.left_since self.new.disk)
+            (AreImages (D.files self.old.disk)) }
+        ensures names { self.new.names ≡ self.old.names }
+        ensures broken { IsErrOf result SetFault.Broken ↔ IsTrue self.old.broken }
+        ensures breaks { IsTrue self.new.broken ↔ (IsTrue self.old.broken ⊎ IsErrOf result SetFault.Device) }
+        ensures failed { IsErrOf result SetFault.Device → HasRisen (D.failures self.old.disk) (D.failures self.new.disk) }
+        ensures failures { D.failures self.old.disk ≤ D.failures self.new.disk }
+        ensures honest { D.honest self.new.disk ↔ D.honest self.old.disk }
+    {
+        if self.broken {
+            return Err(SetFault::Broken);
+        }
+        let alloc = *self.names.allocator();
+        match read_file(alloc, &mut self.disk, name) {
+            Ok(bytes) => Ok(bytes),
+            Err(SetFault::OutOfMemory) => Err(SetFault::OutOfMemory),
+            Err(_) => {
+                self.broken = true;
+                Err(SetFault::Device)
+            }
+        }
+    }
+
+    /// Gives all of the changed files their texts at once. The texts are edits of what the files hold, and within
+    /// `LIMIT`; the names are the set's.
+    ///
+    /// Where all is on the disk when the call begins, then at every moment since what a stop leaves stands for all files
+    /// as they were, or for all files with the changed texts; after Ok all is on the disk again, and after `Device` it
+    /// can be opened anew. All memory is taken before the first call of the disk that writes.
+    pub fn commit(&mut self, changes: &ChangeSet<FileName>) -> Result<(), SetFault>
+        requires named { All (λ change. Contains self.old.names change.0) changes.now }
+        requires small { All (λ change. length change.1.bytes ≤ LIMIT) changes.now }
+        requires edits { IsFalse self.old.broken → D.honest self.old.disk → All (λ change. IsEditOf (contents (D.files self.old.disk) change.0) change.1) changes.now }
+        ensures any_moment { D.honest self.old.disk → IsAtRest (D.files self.old.disk) → LeavesOnly (D.moment self.old.disk) (D.moment self.new.disk)
+            (D.left_since self.old.disk) (D.left_since self.new.disk) (IsWithOrWithout changes.now (contents (D.files self.old.disk))) }
+        ensures contents { OnOk result (D.honest self.old.disk → SameFiles (contents (D.files self.new.disk)) (changed changes.now (contents (D.files self.old.disk)))) }
+        ensures rest { OnOk result (D.honest self.old.disk → IsAtRest (D.files self.old.disk) → IsAtRest (D.files self.new.disk)) }
+        ensures memory { IsErrOf result SetFault.OutOfMemory → self.new ≡ self.old }
+        ensures fit { IsErrOf result SetFault.Device → D.honest self.old.disk → IsAtRest (D.files self.old.disk) → IsFit (D.files self.new.disk) }
+        ensures names { self.new.names ≡ self.old.names }
+        ensures broken { IsErrOf result SetFault.Broken ↔ IsTrue self.old.broken }
+        ensures same { IsTrue self.old.broken → self.new ≡ self.old }
+        ensures breaks { IsTrue self.new.broken ↔ (IsTrue self.old.broken ⊎ IsErrOf result SetFault.Device) }
+        ensures failed { IsErrOf result SetFault.Device → HasRisen (D.failures self.old.disk) (D.failures self.new.disk) }
+        ensures failures { D.failures self.old.disk ≤ D.failures self.new.disk }
+        ensures honest { D.honest self.new.disk ↔ D.honest self.old.disk }
+    {
+        if self.broken {
+            return Err(SetFault::Broken);
+        }
+        if changes.is_empty() {
+            return Ok(());
+        }
+        let alloc = *self.names.allocator();
+        let record = Record::new(entries_of(alloc, changes)?);
+        let body = record.encode(alloc)?;
+        match commit_entries(&mut self.disk, &self.journal, record.entries(), &body) {
+            Ok(()) => Ok(()),
+            Err(_) => {
+                self.broken = true;
+                Err(SetFault::Device)
+            }
+        }
+    }
+}
+
+// The bytes of a file of a disk.
+fn read_file<D: Disk>(alloc: Global, disk: &mut D, name: &FileName) -> Result<Vec<u8>, SetFault>
+    ensures text { IfOk result (λ bytes. D.honest disk.old → bytes.items ≡ contents (D.files disk.old) name.now) }
+    ensures same { D.honest disk.old → D.files disk.new ≡ D.files disk.old }
+    ensures any_moment { D.honest disk.old → Passes (D.moment disk.old) (D.moment disk.new) (D.left_since disk.old) (D.left_since disk.new) (AreImages (D.files disk.old)) }
+    ensures not_broken { IsErrOf result SetFault.Broken → ⊥ }
+    ensures failed { IsErrOf result SetFault.Device → HasRisen (D.failures disk.old) (D.failures disk.new) }
+    ensures failures { D.failures disk.old ≤ D.failures disk.new }
+    ensures honest { D.honest disk.new ↔ D.honest disk.old }
+{
+    let length = disk.length(name)?;
+    let mut bytes = vec![in alloc; 0u8; length as usize]?;
+    disk.read_at(name, 0, &mut bytes)?;
+    Ok(bytes)
+}
