@@ -1,0 +1,107 @@
+-- Texts that are one heading with what lies below it.
+use Rattle.std.proofs.Common.{◌↔◌, IsTrue, Bool, true, false, ◌≡◌, ℕ, ◌+◌, ◌<◌, ◌≤◌, List, [], ◌∷◌, ◌++◌, length, take, drop, slice_index_or, Option, Some, None, Ok, Err, refl, sym, ◌∙◌, ap, arith, length-append}
+use Rattle.std.proofs.lemmas.Bool.{false≢true}
+use Rattle.std.proofs.lemmas.List.{append-nil}
+use Rattle.std.proofs.Math.Seq.{take-append_seam, drop-append_seam}
+use Rattle.org_splice.specs.Lines.{closed, print_lines}
+use Rattle.org_outline.specs.Tree.{Forest, Empty, Tree, Node, Document, tree, print, print_node, nodes_from, node_at, no_node, lines}
+use Rattle.org_outline.specs.Text.{heading_line}
+use Rattle.org_outline.specs.declared.moves.Place.{Place}
+use Rattle.org_outline.specs.Moves.{IsPrinted, Inserts, InsertsAt, insert, shift_node}
+use Rattle.org_outline.proofs.Nodes.{print_lines-append}
+use Rattle.org_outline.proofs.Trees.{tree-is}
+use Rattle.org_store.specs.declared.command.Refusal.TheVariants.{BadTemplate, BadEntry}
+use Rattle.org_store.specs.declared.command.Target.{Target}
+use Rattle.org_store.specs.declared.command.Target.TheVariants.{Top}
+use Rattle.org_store.specs.Capture.{has_percent, only_root, entry_in, entry_of, captured}
+use Rattle.org_store.proofs.Closed.{tree-closed}
+
+length-print : (xs ys : List (List ℕ)) → length (print_lines (xs ++ ys)) ≡ length (print_lines xs) + length (print_lines ys)
+length-print xs ys = ap length (print_lines-append xs ys) ∙ length-append (print_lines xs) (print_lines ys)
+
+-- a line has a byte at least
+some_line : (l : List ℕ) (ls : List (List ℕ)) → 0 < length (print_lines (l ∷ ls))
+some_line l ls = omega (arith, length-append l (10 ∷ print_lines ls))
+
+-- a document whose print is that of its first node has no other root, and no line before it
+printed_root : (pre : List (List ℕ)) (f : Forest) (k : ℕ) → 0 < length (nodes_from k f) → print_node (slice_index_or (nodes_from k f) 0 no_node).node ≡ print_lines (pre ++ lines f)
+    → entry_in (only_root pre f) ≡ Ok (slice_index_or (nodes_from k f) 0 no_node).node
+printed_root pre Empty k some is = absurd (omega arith)
+printed_root [] (Tree n r s kids Empty) k some is = refl
+printed_root [] (Tree n r s kids (Tree m q u more later)) k some is =
+    let own = heading_line n r ∷ s in
+    let rest = lines (Tree m q u more later) in
+    let size = ap length is in
+    let short = length-print own (lines kids) in
+    let long = length-print own (lines kids ++ rest) in
+    let both = length-print (lines kids) rest in
+    let more_than = some_line (heading_line m q) (u ++ (lines more ++ lines later)) in
+    absurd (omega (arith, size, short, long, both, more_than))
+printed_root (l ∷ ls) (Tree n r s kids later) k some is =
+    let own = heading_line n r ∷ s in
+    let size = ap length is in
+    let short = length-print own (lines kids) in
+    let all = length-print (l ∷ ls) (lines (Tree n r s kids later)) in
+    let long = length-print own (lines kids ++ lines later) in
+    let both = length-print (lines kids) (lines later) in
+    let before = some_line l ls in
+    absurd (omega (arith, size, short, all, long, both, before))
+
+root_prints : (pre : List (List ℕ)) (f : Forest) (k : ℕ) (node : Node) → only_root pre f ≡ Some node
+    → (0 < length (nodes_from k f)) × (print_node (slice_index_or (nodes_from k f) 0 no_node).node ≡ print_lines (pre ++ lines f))
+root_prints [] Empty k node is = absurd (cc)
+root_prints [] (Tree n r s kids Empty) k node is = (omega arith, ap (λ ls. print_lines (heading_line n r ∷ s ++ ls)) (sym (append-nil (lines kids))))
+root_prints [] (Tree n r s kids (Tree m q u more later)) k node is = absurd (cc)
+root_prints (l ∷ ls) f k node is = absurd (cc)
+
+no_entry : (o : Option Node) → ((node : Node) → o ≡ Some node → ⊥) → entry_in o ≡ Err BadEntry
+no_entry None none = refl
+no_entry (Some node) none = absurd (none node refl)
+
+pub printed_entry : (t : List ℕ) → closed t ≡ t → IsPrinted t → entry_in (only_root (tree t).preamble (tree t).forest) ≡ Ok (node_at t 0).node
+printed_entry t ends printed =
+    printed_root (tree t).preamble (tree t).forest (length (print_lines (tree t).preamble)) printed.0 (printed.1 ∙ sym ((tree-is t).prints ∙ ends))
+
+pub other_entry : (t : List ℕ) → closed t ≡ t → (IsPrinted t → ⊥) → entry_in (only_root (tree t).preamble (tree t).forest) ≡ Err BadEntry
+other_entry t ends unprinted = no_entry (only_root (tree t).preamble (tree t).forest) (λ node is.
+    let prints = root_prints (tree t).preamble (tree t).forest (length (print_lines (tree t).preamble)) node is in
+    unprinted (prints.0, prints.1 ∙ ((tree-is t).prints ∙ ends)))
+
+-- text with bytes put in
+pub inserted : (old new : List ℕ) (k : ℕ) (added : List ℕ) → Inserts old new k added → take k old ++ (added ++ drop k old) ≡ new
+inserted old new k added at =
+    ap (λ n. take n old ++ (added ++ drop n old)) (sym at.at)
+    ∙ ap (λ t. take (length at.front) t ++ (added ++ drop (length at.front) t)) at.was
+    ∙ ap (λ t. t ++ (added ++ drop (length at.front) (at.front ++ at.back))) (take-append_seam at.front at.back)
+    ∙ ap (λ t. at.front ++ (added ++ t)) (drop-append_seam at.front at.back)
+    ∙ sym at.is
+
+pub within : (old new : List ℕ) (k : ℕ) (added : List ℕ) → Inserts old new k added → k ≤ length old
+within old new k added at = omega (arith, at.at, ap length at.was, length-append at.front at.back)
+
+-- the entry of a template, by the closed text of it
+
+entry_shut : (template text : List ℕ) → has_percent template ≡ false → text ≡ closed template → entry_of template ≡ entry_in (only_root (tree text).preamble (tree text).forest)
+entry_shut template text plain is = rw plain (ap (λ (d : Document). entry_in (only_root d.preamble d.forest)) (sym (ap tree is ∙ tree-closed template)))
+
+pub entry_is : (template text : List ℕ) → has_percent template ≡ false → text ≡ closed template → closed text ≡ text → IsPrinted text → entry_of template ≡ Ok (node_at text 0).node
+entry_is template text plain is ends printed = entry_shut template text plain is ∙ printed_entry text ends printed
+
+pub entry_bad : (template text : List ℕ) → has_percent template ≡ false → text ≡ closed template → closed text ≡ text → (test : Bool) → (IsTrue test ↔ IsPrinted text) → test ≡ false
+    → entry_of template ≡ Err BadEntry
+entry_bad template text plain is ends test tells isnt = entry_shut template text plain is ∙ other_entry text ends (λ printed. false≢true (sym isnt ∙ tells.1 printed))
+
+pub no_expansion : (template : List ℕ) → has_percent template ≡ true → entry_of template ≡ Err BadTemplate
+no_expansion template percent = rw percent refl
+
+-- an entry put in a text where the outline of the closed text has its place
+pub captured_is : (target : Target) (old text : List ℕ) (place : Place) (k : ℕ) (added : List ℕ) → text ≡ closed old → ((node : Node) → InsertsAt text (insert None place node (tree text)) k (shift_node 1 node))
+    → (new : List ℕ) → new ≡ take k text ++ (added ++ drop k text) → (node : Node) → added ≡ print_node (shift_node 1 node) → new ≡ captured target place node old
+captured_is Top old text place k added is at new put node entry =
+    put
+    ∙ ap (λ a. take k text ++ (a ++ drop k text)) entry
+    ∙ inserted text (print (insert None place node (tree text))) k (print_node (shift_node 1 node)) (at node)
+    ∙ ap (λ d. print (insert None place node d)) (ap tree is ∙ tree-closed old)
+
+pub place_within : (text : List ℕ) (place : Place) (k : ℕ) → ((node : Node) → InsertsAt text (insert None place node (tree text)) k (shift_node 1 node)) → k ≤ length text
+place_within text place k at = within text (print (insert None place no_node.node (tree text))) k (print_node (shift_node 1 no_node.node)) (at no_node.node)

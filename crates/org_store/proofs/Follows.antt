@@ -1,0 +1,103 @@
+-- What follows from the relation between a store before and after a call.
+use Rattle.std.proofs.Common.{◌≡◌, ◌⊎◌, inl, inr, ⊎_elim, ℕ, ◌+◌, ◌<◌, Bool, true, false, List, [], ◌∷◌, ◌++◌, Result, Ok, Err, refl, sym, ◌∙◌, ap, subst, if◌then◌else◌, arith}
+use Rattle.org_store.specs.declared.command.Command.{Command}
+use Rattle.org_store.specs.declared.command.Reply.{Reply}
+use Rattle.org_store.specs.declared.command.Reply.TheVariants.{Done, Safe, Text}
+use Rattle.org_store.specs.declared.command.RunFault.{RunFault}
+use Rattle.org_store.specs.declared.command.RunFault.TheVariants.{Refused, OutOfMemory, Device, Broken}
+use Rattle.org_store.specs.Session.{Session}
+use Rattle.org_store.specs.Outcome.{Outcome, Accepts, Shows, Refuses, outcome}
+use Rattle.org_store.specs.Step.{fills, done, Does, Step, Run, IsReply}
+
+same_done : (old new other : Session) (files more : List (List ℕ)) → Accepts files ≡ Accepts more → new ≡ done old files → other ≡ done old more → new ≡ other
+same_done old new other files more is first second =
+    let same : files ≡ more = cc in
+    first ∙ ap (done old) same ∙ sym second
+
+does_one : (old new other : Session) (outcome : Outcome) (answer second : Result Reply RunFault) → IsReply answer → IsReply second → Does old outcome answer new → Does old outcome second other
+    → (answer ≡ second) × (new ≡ other)
+does_one old new other outcome (Ok (Done n)) (Ok (Done m)) a b x y =
+    (ap (λ (k : ℕ). Ok (Done k)) (x.1.2 ∙ sym y.1.2), same_done old new other x.1.0 y.1.0 (sym x.1.1 ∙ y.1.1) x.1.3 y.1.3)
+does_one old new other outcome (Ok (Text s)) (Ok (Text t)) a b x y =
+    let shown : Shows s ≡ Shows t = sym x.1 ∙ y.1 in
+    let same : s ≡ t = cc in
+    (ap (λ (k : List ℕ). Ok (Text k)) same, x.2 ∙ sym y.2)
+does_one old new other outcome (Err (Refused why)) (Err (Refused how)) a b x y =
+    let refused : Refuses why ≡ Refuses how = sym x.1 ∙ y.1 in
+    let same : why ≡ how = cc in
+    (ap (λ k. Err (Refused k)) same, x.2 ∙ sym y.2)
+does_one old new other outcome (Ok (Done n)) (Ok (Text t)) a b x y = let apart : Accepts x.1.0 ≡ Shows t = sym x.1.1 ∙ y.1 in absurd (cc)
+does_one old new other outcome (Ok (Done n)) (Err (Refused how)) a b x y = let apart : Accepts x.1.0 ≡ Refuses how = sym x.1.1 ∙ y.1 in absurd (cc)
+does_one old new other outcome (Ok (Text s)) (Ok (Done m)) a b x y = let apart : Shows s ≡ Accepts y.1.0 = sym x.1 ∙ y.1.1 in absurd (cc)
+does_one old new other outcome (Ok (Text s)) (Err (Refused how)) a b x y = let apart : Shows s ≡ Refuses how = sym x.1 ∙ y.1 in absurd (cc)
+does_one old new other outcome (Err (Refused why)) (Ok (Done m)) a b x y = let apart : Refuses why ≡ Accepts y.1.0 = sym x.1 ∙ y.1.1 in absurd (cc)
+does_one old new other outcome (Err (Refused why)) (Ok (Text t)) a b x y = let apart : Refuses why ≡ Shows t = sym x.1 ∙ y.1 in absurd (cc)
+does_one old new other outcome (Ok (Safe n)) second a b x y = absurd x
+does_one old new other outcome (Ok (Done n)) (Ok (Safe m)) a b x y = absurd y
+does_one old new other outcome (Ok (Text s)) (Ok (Safe m)) a b x y = absurd y
+does_one old new other outcome (Err (Refused why)) (Ok (Safe m)) a b x y = absurd y
+does_one old new other outcome (Err OutOfMemory) second a b x y = absurd a
+does_one old new other outcome (Err Device) second a b x y = absurd a
+does_one old new other outcome (Err Broken) second a b x y = absurd a
+does_one old new other outcome (Ok (Done n)) (Err OutOfMemory) a b x y = absurd b
+does_one old new other outcome (Ok (Done n)) (Err Device) a b x y = absurd b
+does_one old new other outcome (Ok (Done n)) (Err Broken) a b x y = absurd b
+does_one old new other outcome (Ok (Text s)) (Err OutOfMemory) a b x y = absurd b
+does_one old new other outcome (Ok (Text s)) (Err Device) a b x y = absurd b
+does_one old new other outcome (Ok (Text s)) (Err Broken) a b x y = absurd b
+does_one old new other outcome (Err (Refused why)) (Err OutOfMemory) a b x y = absurd b
+does_one old new other outcome (Err (Refused why)) (Err Device) a b x y = absurd b
+does_one old new other outcome (Err (Refused why)) (Err Broken) a b x y = absurd b
+
+pub step_one : (old new other : Session) (command : Command) (answer second : Result Reply RunFault) → IsReply answer → IsReply second → Step old command answer new → Step old command second other
+    → (answer ≡ second) × (new ≡ other)
+step_one old new other command answer second a b x y = does_one old new other (outcome old command) answer second a b x y
+
+-- what an accepted command makes of the counts
+done_few : (s : Session) (files : List (List ℕ)) → 0 < s.group → (done s files).accepted < (done s files).acknowledged + (done s files).group
+done_few s files some = ⊎_elim full part (bool_cases (fills s))
+  where
+    bool_cases : (b : Bool) → (b ≡ true) ⊎ (b ≡ false)
+    bool_cases true = inl refl
+    bool_cases false = inr refl
+
+    full : fills s ≡ true → (done s files).accepted < (done s files).acknowledged + (done s files).group
+    full is = rw is (omega (arith, some))
+
+    part : fills s ≡ false → (done s files).accepted < (done s files).acknowledged + (done s files).group
+    part is = let short : s.accepted + 1 < s.acknowledged + s.group = grind (arith, is) in rw is short
+
+pub step_few : (old new : Session) (command : Command) (n : ℕ) → 0 < old.group → Step old command (Ok (Done n)) new → new.accepted < new.acknowledged + new.group
+step_few old new command n some step =
+    subst (λ (s : Session). s.accepted < s.acknowledged + s.group) (sym step.1.3) (done_few old step.1.0 some)
+
+-- the parts that no command changes
+abbrev SameSetting : Session → Session → Type 0
+SameSetting old new = (new.states ≡ old.states) × (new.names ≡ old.names) × (new.group ≡ old.group)
+
+same_setting : (old new like : Session) → new ≡ like → SameSetting old like → SameSetting old new
+same_setting old new like is same = subst (λ s. SameSetting old s) (sym is) same
+
+done_setting : (s : Session) (files : List (List ℕ)) → SameSetting s (done s files)
+done_setting s files =
+    elim (fills s) as (λ b. SameSetting s (if b then record s { files = files; settled = files; accepted = s.accepted + 1; acknowledged = s.accepted + 1 } else record s { files = files; accepted = s.accepted + 1 }))
+    [ true ↦ (refl, refl, refl) | false ↦ (refl, refl, refl) ]
+
+pub step_setting : (old new : Session) (command : Command) (answer : Result Reply RunFault) → Step old command answer new → SameSetting old new
+step_setting old new command (Ok (Done n)) step = same_setting old new (done old step.1.0) step.1.3 (done_setting old step.1.0)
+step_setting old new command (Ok (Text bytes)) step = same_setting old new old step.2 (refl, refl, refl)
+step_setting old new command (Ok (Safe n)) step = absurd step
+step_setting old new command (Err (Refused why)) step = same_setting old new old step.2 (refl, refl, refl)
+step_setting old new command (Err OutOfMemory) step = same_setting old new old step.1 (refl, refl, refl)
+step_setting old new command (Err Broken) step = same_setting old new old step.1 (refl, refl, refl)
+step_setting old new command (Err Device) step = elim step.1 [
+  | inl in_read ↦ subst (λ s. SameSetting old s) (sym in_read) (refl, refl, refl)
+  | inr fell ↦ subst (λ s. SameSetting old s) (sym fell.5) (refl, refl, refl)
+]
+
+pub run_join : (old mid new : Session) (commands later : List Command) (answers more : List (Result Reply RunFault)) → Run old commands answers mid → Run mid later more new
+    → Run old (commands ++ later) (answers ++ more) new
+run_join old mid new [] later [] more run rest = subst (λ s. Run s later more new) run rest
+run_join old mid new [] later (a ∷ answers) more run rest = absurd run
+run_join old mid new (c ∷ commands) later [] more run rest = absurd run
+run_join old mid new (c ∷ commands) later (a ∷ answers) more run rest = (run.0, run.1, run_join run.0 mid new commands later answers more run.2 rest)

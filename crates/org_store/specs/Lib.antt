@@ -1,0 +1,10 @@
+pub mod Refusals
+pub mod Session
+pub mod Capture
+pub mod Entry
+pub mod Outcome
+pub mod Names
+pub mod Step
+pub mod Keeping
+pub mod Opening
+pub mod Counts

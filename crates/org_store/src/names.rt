@@ -1,0 +1,30 @@
+// The names of a store's files.
+ghost use Rattle.std.specs.Prelude.{◌≡◌, IfOk};
+ghost use Rattle.std.specs.List.{All};
+ghost use Rattle.org_store.specs.Names.{with_archives, AreSorted, IsGiven};
+
+use org_disk::FileName;
+use std::alloc::{AllocError, Global};
+
+/// The names in byte order, each once. Takes no memory.
+pub fn in_order(names: Vec<FileName>) -> Vec<FileName>
+    ensures { AreSorted names.items result.items }
+{
+    let mut names = names;
+    names.sort_unstable();
+    names.dedup();
+    names
+}
+
+/// These names, none of which is an archive file's or the journal's, and those of their archive files.
+pub fn with_archives(alloc: Global, given: &[FileName]) -> Result<Vec<FileName>, AllocError>
+    requires { All IsGiven given.now }
+    ensures { IfOk result (λ names. names.items ≡ with_archives given.now) }
+{
+    let mut names = Vec::new(alloc);
+    for name in given {
+        names.push(name.clone()?)?;
+        names.push(name.archive()?)?;
+    }
+    Ok(names)
+}
