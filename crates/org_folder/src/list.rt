@@ -1,0 +1,85 @@
+ghost use Rattle.std.specs.Prelude.{◌≡◌, ◌↔◌, IsTrue, IsFalse, IfOk, IsErrOf, All};
+ghost use Rattle.org_folder.specs.OrgFiles.{is_org_file, IsOpenable};
+
+use org_disk::{FileName, NameFault};
+use std::alloc::{AllocFailed, Global};
+use std::fs::{self, DirEntry, Files};
+use std::io::{self, ErrorKind};
+use thiserror::Error;
+
+/// Why a folder's files can't be told.
+#[derive(Clone, Copy, Debug, PartialEq, Eq, Error)]
+pub enum ListFault {
+    /// The folder can't be listed, or the name of one of its entries isn't UTF-8.
+    #[error("the folder can't be listed")]
+    Device,
+    /// There was no memory for its names.
+    #[error("out of memory")]
+    OutOfMemory,
+}
+
+impl From<io::Error> for ListFault {
+    fn from(error: io::Error) -> ListFault {
+        match error.kind() {
+            ErrorKind::OutOfMemory => ListFault::OutOfMemory,
+            _ => ListFault::Device,
+        }
+    }
+}
+
+impl<T: Drop> From<AllocFailed<T>> for ListFault {
+    fn from(_: AllocFailed<T>) -> ListFault {
+        ListFault::OutOfMemory
+    }
+}
+
+/// The name of an Org file that this text is. `BadName` comes exactly where it is none, or an archive file's.
+#[tactic(auto, using(crate::proofs::Names::openable))]
+pub fn org_file(alloc: Global, text: &str) -> Result<FileName, NameFault>
+    ensures name { IfOk result (λ name. (name ≡ text.now) × IsTrue (is_org_file text.now)) }
+    ensures openable { IfOk result IsOpenable }
+    ensures bad { IsErrOf result NameFault.BadName ↔ IsFalse (is_org_file text.now) }
+{
+    if !is_org_file(text) {
+        return Err(NameFault::BadName);
+    }
+    FileName::new(alloc, text)
+}
+
+fn is_org_file(text: &str) -> bool
+    ensures { result ≡ is_org_file text.now }
+{
+    FileName::accepts(text) && !text.as_bytes().ends_with(b"_archive")
+}
+
+/// The names of the Org files of a folder, in the order in which the system tells them. Entries with other names are
+/// left out, and folders too, those that a link leads to as well; a link that leads nowhere is a file that is absent.
+pub fn org_files<R: Files + AllocGlobal + Clone + Drop>(
+    rt: &R,
+    path: &str,
+) -> Result<Vec<FileName>, ListFault>
+    ensures { IfOk result (λ names. All IsOpenable names.items) }
+{
+    let mut names = Vec::new(rt.alloc());
+    for entry in fs::read_dir(rt, path)? {
+        let entry = entry?;
+        match org_file(rt.alloc(), entry.file_name()) {
+            Ok(name) => {
+                if !is_folder(rt, &entry) {
+                    names.push(name)?;
+                }
+            }
+            Err(NameFault::BadName) => {}
+            Err(NameFault::OutOfMemory) => return Err(ListFault::OutOfMemory),
+        }
+    }
+    Ok(names)
+}
+
+// Links are followed. What can't be looked at is a file: its first use then fails.
+fn is_folder<R: Files>(rt: &R, entry: &DirEntry<R>) -> bool {
+    match fs::metadata(rt, entry.path()) {
+        Ok(metadata) => metadata.is_dir(),
+        Err(_) => false,
+    }
+}

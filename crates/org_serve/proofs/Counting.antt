@@ -1,0 +1,33 @@
+-- How counts rise.
+use Rattle.std.proofs.Common.{◌≡◌, ℕ, ◌+◌, ◌^◌, ◌≤◌, ◌⊎◌, inl, inr, arith, IsTrue}
+use Rattle.org_disk.specs.Disk.{IsCounted, HasRisen}
+use Rattle.org_store.specs.Session.{Session}
+use Rattle.org_serve.specs.Counts.{HasRisenBy}
+use Rattle.org_serve.specs.Serving.{BreaksByFailure}
+
+pub HasRisenBy-counted : (n old mid new : ℕ) → HasRisenBy n old mid → IsCounted mid new → HasRisenBy (n + 1) old new
+HasRisenBy-counted n old mid new rose counted =
+    elim counted [
+      | inl one ↦ (elim rose [ inl r ↦ inl (omega arith) | inr r ↦ inr (omega arith) ])
+      | inr full ↦ inr (omega (arith, full.0, full.1))
+    ]
+
+-- what rose later has risen since earlier
+pub HasRisen-later : (old mid new : ℕ) → old ≤ mid → HasRisen mid new → HasRisen old new
+HasRisen-later old mid new le rose = elim rose [ inl r ↦ inl (omega arith) | inr r ↦ inr r ]
+
+-- what rose earlier has risen since
+pub HasRisen-before : (old mid new : ℕ) → mid ≤ new → HasRisen old mid → HasRisen old new
+HasRisen-before old mid new le rose = elim rose [ inl r ↦ inl (omega arith) | inr r ↦ inr (omega arith) ]
+
+pub Breaks-never : (s : Session) (n : ℕ) → BreaksByFailure s s n n
+Breaks-never s n = record { rises = omega arith; breaks = λ b. inl b }
+
+pub Breaks-then : {a b c : Session} {x y z : ℕ} → BreaksByFailure a b x y → BreaksByFailure b c y z → BreaksByFailure a c x z
+Breaks-then {x = x} {y = y} {z = z} p q = record {
+  rises = omega (arith, p.rises, q.rises);
+  breaks = λ broken. elim (q.breaks broken) [
+    | inl before ↦ (elim (p.breaks before) [ inl earlier ↦ inl earlier | inr rose ↦ inr (HasRisen-before x y z q.rises rose) ])
+    | inr rose ↦ inr (HasRisen-later x y z p.rises rose)
+  ];
+}

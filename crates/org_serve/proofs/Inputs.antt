@@ -1,0 +1,109 @@
+-- How the pieces of an input are served, one by one.
+use Rattle.std.proofs.Common.{ℕ, List, [], ◌++◌, Option, refl, sym, ap, ◌∙◌, subst, append_assoc, append-nil}
+use Rattle.std.specs.Io.KnownBytes.{Consumes, Appends, IsAtEnd}
+use Rattle.org_serve.specs.declared.pending.Pending.{Pending}
+use Rattle.org_serve.specs.declared.end.ServeEnd.{ServeEnd}
+use Rattle.org_serve.specs.Lines.{Cut, cut}
+use Rattle.org_serve.specs.Pending.{Stands}
+use Rattle.org_serve.specs.Transcript.{Answers, ServesAll, ServesLines, RunsSome, RunsAllAndSettles}
+use Rattle.org_serve.specs.Feeding.{FeedOk, FeedErr, EndsWith}
+use Rattle.org_serve.proofs.Cuts.{cut-append}
+use Rattle.org_serve.proofs.Joins.{Answers-append, Appends-append, Appends-none, Consumes-append, Consumes-none}
+
+-- The input so far was read, its lines are answered, and what stands behind its last newline is kept.
+pub record Served {S : Type 0} (AnswersLine : S → List ℕ → List ℕ → S → Type 0) (old new : S) (left left' written written' : Option (List ℕ)) (pending : Pending) : Type 0 where
+  pub input : List ℕ
+  pub out : List ℕ
+  pub read : Consumes left left' input
+  pub answered : Answers AnswersLine old (cut input).lines out new
+  pub wrote : Appends written written' out
+  pub stands : Stands pending (cut input).rest
+
+pub Served-start : {S : Type 0} (AnswersLine : S → List ℕ → List ℕ → S → Type 0) (old : S) (left written : Option (List ℕ)) (pending : Pending)
+    → Stands pending [] → Served AnswersLine old old left left written written pending
+Served-start AnswersLine old left written pending stands = record {
+  input = [];
+  out = [];
+  read = Consumes-none left;
+  answered = (refl, refl);
+  wrote = Appends-none written;
+  stands = stands;
+}
+
+pub Served-more : {S : Type 0} {AnswersLine : S → List ℕ → List ℕ → S → Type 0} {old mid : S} {left between written among : Option (List ℕ)} {pending : Pending}
+    → (s : Served AnswersLine old mid left between written among pending) (piece : List ℕ) (new : S) (left' written' : Option (List ℕ)) (pending' : Pending)
+    → Consumes between left' piece → FeedOk AnswersLine mid ((cut s.input).rest ++ piece) new among written' pending'
+    → Served AnswersLine old new left left' written written' pending'
+Served-more {AnswersLine = AnswersLine} {old = old} {mid = mid} {left = left} {between = between} {written = written} {among = among} s piece new left' written' pending' read fed =
+    let whole = cut-append s.input piece in
+    let L : List (List ℕ) → Type 0 = λ ls. Answers AnswersLine old ls (s.out ++ fed.0) new in
+    let R : List ℕ → Type 0 = λ r. Stands pending' r in
+    record {
+      input = s.input ++ piece;
+      out = s.out ++ fed.0;
+      read = Consumes-append left between left' s.input piece s.read read;
+      answered = subst L (sym (ap (λ (c : Cut). c.lines) whole))
+          (Answers-append AnswersLine old mid new (cut s.input).lines (cut ((cut s.input).rest ++ piece)).lines s.out fed.0 s.answered fed.1);
+      wrote = Appends-append written among written' s.out fed.0 s.wrote fed.2;
+      stands = subst R (sym (ap (λ (c : Cut). c.rest) whole)) fed.3;
+    }
+
+-- a write fails within a piece
+pub Served-some : {S : Type 0} {AnswersLine : S → List ℕ → List ℕ → S → Type 0} {old mid : S} {left between written among : Option (List ℕ)} {pending : Pending}
+    → (s : Served AnswersLine old mid left between written among pending) (piece : List ℕ) (new : S) (left' : Option (List ℕ))
+    → Consumes between left' piece → FeedErr AnswersLine mid ((cut s.input).rest ++ piece) new → RunsSome AnswersLine old new left left'
+Served-some {AnswersLine = AnswersLine} {old = old} {mid = mid} {left = left} {between = between} s piece new left' read fed = (
+  s.input ++ piece,
+  (cut s.input).lines ++ fed.0,
+  fed.1,
+  s.out ++ fed.2,
+  Consumes-append left between left' s.input piece s.read read,
+  ap (λ (c : Cut). c.lines) (cut-append s.input piece) ∙ ap (λ (ls : List (List ℕ)). (cut s.input).lines ++ ls) fed.3
+      ∙ sym (append_assoc (cut s.input).lines fed.0 fed.1),
+  Answers-append AnswersLine old mid new (cut s.input).lines fed.0 s.out fed.2 s.answered fed.4,
+)
+
+-- a write of the last reply fails: all lines were run
+pub Served-all_ran : {S : Type 0} {AnswersLine : S → List ℕ → List ℕ → S → Type 0} {old new : S} {left between written among : Option (List ℕ)} {pending : Pending}
+    → (s : Served AnswersLine old new left between written among pending) (left' : Option (List ℕ))
+    → Consumes between left' [] → RunsSome AnswersLine old new left left'
+Served-all_ran {left = left} {between = between} s left' read = (
+  s.input ++ [],
+  (cut (s.input ++ [])).lines,
+  [],
+  s.out,
+  Consumes-append left between left' s.input [] s.read read,
+  sym (append-nil (cut (s.input ++ [])).lines),
+  rw append-nil s.answered,
+)
+
+pub Served-lines : {S : Type 0} {AnswersLine : S → List ℕ → List ℕ → S → Type 0} {old new : S} {left between written written' : Option (List ℕ)} {pending : Pending}
+    → (s : Served AnswersLine old new left between written written' pending) (left' : Option (List ℕ)) → Consumes between left' []
+    → ServesLines AnswersLine old new left left' written written'
+Served-lines {left = left} {between = between} s left' read = (
+  s.input ++ [],
+  s.out,
+  Consumes-append left between left' s.input [] s.read read,
+  rw append-nil s.answered,
+  s.wrote,
+)
+
+pub Served-end : {S : Type 0} (Finishes : S → ServeEnd → List ℕ → S → Type 0) {AnswersLine : S → List ℕ → List ℕ → S → Type 0} {old mid : S} {left between written among : Option (List ℕ)} {pending : Pending}
+    → (s : Served AnswersLine old mid left between written among pending) (end : ServeEnd) (new : S) (left' written' : Option (List ℕ)) → Consumes between left' [] → IsAtEnd left'
+    → EndsWith Finishes (cut s.input).rest mid end new among written' → ServesAll AnswersLine Finishes old end new left left' written written'
+Served-end Finishes {mid = mid} {left = left} {between = between} {written = written} {among = among} s end new left' written' read at_end ends =
+    let tail = ends.0 ++ ends.1 in (
+      s.input ++ [],
+      s.out ++ tail,
+      Consumes-append left between left' s.input [] s.read read,
+      at_end,
+      rw append-nil (mid, s.out, ends.0, ends.1, s.answered, ends.2, ends.3, refl),
+      Appends-append written among written' s.out tail s.wrote ends.4,
+    )
+
+-- a write fails after the settling
+pub Served-settled : {S : Type 0} (Settles : S → S → Type 0) {AnswersLine : S → List ℕ → List ℕ → S → Type 0} {old mid : S} {left between written among : Option (List ℕ)} {pending : Pending}
+    → (s : Served AnswersLine old mid left between written among pending) (new : S) (left' : Option (List ℕ)) → Consumes between left' [] → IsAtEnd left'
+    → Settles mid new → RunsAllAndSettles AnswersLine Settles old new left left'
+Served-settled Settles {mid = mid} {left = left} {between = between} s new left' read at_end settles =
+    (s.input ++ [], mid, s.out, Consumes-append left between left' s.input [] s.read read, at_end, rw append-nil s.answered, settles)

@@ -1,0 +1,33 @@
+-- Runs, reads and writes, one after another.
+use Rattle.std.proofs.Common.{ℕ, List, [], ◌∷◌, ◌++◌, Option, None, Some, refl, sym, ap, ◌∙◌, append_assoc, append-nil, subst}
+use Rattle.std.specs.Io.KnownBytes.{Consumes, Appends}
+use Rattle.org_serve.specs.Transcript.{Answers}
+
+pub Answers-append : {S : Type 0} (AnswersLine : S → List ℕ → List ℕ → S → Type 0) (old mid new : S) (ls ms : List (List ℕ)) (out more : List ℕ)
+    → Answers AnswersLine old ls out mid → Answers AnswersLine mid ms more new → Answers AnswersLine old (ls ++ ms) (out ++ more) new
+Answers-append {S} AnswersLine old mid new [] ms out more a b =
+    let P : S → Type 0 = λ s. Answers AnswersLine s ms ([] ++ more) new in
+    let Q : List ℕ → Type 0 = λ o. Answers AnswersLine old ms (o ++ more) new in
+    subst Q (sym a.0) (subst P a.1 b)
+Answers-append {S} AnswersLine old mid new (line ∷ ls) ms out more a b =
+    (a.0, a.1, a.2 ++ more, a.3, ap (λ o. o ++ more) a.4 ∙ append_assoc a.1 a.2 more, Answers-append AnswersLine a.0 mid new ls ms a.2 more a.5 b)
+
+pub Consumes-append : (x y z : Option (List ℕ)) (a b : List ℕ) → Consumes x y a → Consumes y z b → Consumes x z (a ++ b)
+Consumes-append None y z a b p q = tt
+Consumes-append (Some xs) None z a b p q = absurd p
+Consumes-append (Some xs) (Some ys) None a b p q = absurd q
+Consumes-append (Some xs) (Some ys) (Some zs) a b p q = p ∙ ap (λ t. a ++ t) q ∙ sym (append_assoc a b zs)
+
+pub Appends-append : (x y z : Option (List ℕ)) (a b : List ℕ) → Appends x y a → Appends y z b → Appends x z (a ++ b)
+Appends-append None y z a b p q = tt
+Appends-append (Some xs) None z a b p q = absurd p
+Appends-append (Some xs) (Some ys) None a b p q = absurd q
+Appends-append (Some xs) (Some ys) (Some zs) a b p q = q ∙ ap (λ t. t ++ b) p ∙ append_assoc xs a b
+
+pub Appends-none : (x : Option (List ℕ)) → Appends x x []
+Appends-none None = tt
+Appends-none (Some xs) = sym (append-nil xs)
+
+pub Consumes-none : (x : Option (List ℕ)) → Consumes x x []
+Consumes-none None = tt
+Consumes-none (Some xs) = refl

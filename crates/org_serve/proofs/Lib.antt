@@ -1,0 +1,9 @@
+pub mod Cuts
+pub mod Joins
+mod Rows
+pub mod Feeding
+mod Fields
+pub mod Inputs
+pub mod Utf8
+pub mod Counting
+pub mod Escapes

@@ -1,0 +1,19 @@
+use Rattle.std.proofs.Common.{◌≡◌, ◌++◌, ◌↔◌, List, ℕ, [], length}
+use Rattle.org_serve.specs.Lines.{cut}
+use Rattle.org_serve.specs.Pending.{Stands}
+use Rattle.org_serve.specs.Serving.{AnswersLine, BreaksByFailure}
+use Rattle.org_serve.proofs.Feeding.{Fed}
+use Rattle.org_serve.proofs.serving.feed.Given as goal
+
+-- the lines so far are answered, and no write has failed
+abbrev pub invariant-loop-line : goal.invariant-loop-line
+invariant-loop-line g l =
+    (g.D.Disk.honest l.initial.store.disk → (part : List ℕ) → (cut part).lines ≡ [] → Stands l.initial.pending part
+    → Fed AnswersLine l.initial.store.session (part ++ l.piece) l.rest l.store.session
+    (g.W.Sink.written l.initial.writer) (g.W.Sink.written l.writer) l.pending)
+    × BreaksByFailure l.initial.store.session l.store.session (g.D.Disk.failures l.initial.store.disk) (g.D.Disk.failures l.store.disk)
+    × (g.D.Disk.honest l.store.disk ↔ g.D.Disk.honest l.initial.store.disk)
+    × (g.W.Sink.failures l.writer ≡ g.W.Sink.failures l.initial.writer)
+
+abbrev pub decreases-loop-line : goal.decreases-loop-line
+decreases-loop-line g l = length l.rest

@@ -1,0 +1,110 @@
+-- Which command a line is. Its fields are separated by tabs; its first field is the command's word.
+use Rattle.std.specs.Prelude.{ℕ, ◌+◌, ◌-◌, ◌*◌, pos, Bool, true, false, ◌==◌, ◌&&◌, nat_lt, nat_le, List, [], ◌∷◌, take, drop, Option, None, Some, codes, if◌then◌else◌}
+use Rattle.std.specs.List.{slice_split}
+use Rattle.std.specs.Option.{option_map, option_and_then}
+use Rattle.std.specs.Str.{bytes_eq, is_utf8}
+use Rattle.jiff_core.specs.Calendar.{days_in_month}
+use Rattle.org_disk.specs.Names.{is_file_name}
+use Rattle.org_outline.specs.declared.moves.Place.{Place}
+use Rattle.org_outline.specs.declared.moves.Place.TheVariants.{Last}
+use Rattle.org_stamp.specs.Calendar.{CivilMinute, at_minute, civil_day}
+use Rattle.org_store.specs.declared.command.Command.{Command}
+use Rattle.org_store.specs.declared.command.Command.TheVariants.{Capture, Show}
+use Rattle.org_store.specs.declared.command.Target.{Target}
+use Rattle.org_store.specs.declared.command.Target.TheVariants.{Top}
+
+-- what a letter behind a backslash stands for: `\n` a newline, `\t` a tab, `\\` a backslash, `\s` a slash
+abbrev pub escape : ℕ → Option ℕ
+escape b =
+    if b == 110 then Some 10 else (if b == 116 then Some 9 else (if b == 92 then Some 92 else (if b == 115 then Some 47 else None)))
+
+-- the bytes that the rest of a field stands for; true behind a backslash
+abbrev pub unescaped_from : Bool → List ℕ → Option (List ℕ)
+unescaped_from false [] = Some []
+unescaped_from true [] = None
+unescaped_from false (b ∷ bytes) =
+    if b == 92 then unescaped_from true bytes else option_map (λ text. b ∷ text) (unescaped_from false bytes)
+unescaped_from true (b ∷ bytes) = option_and_then (λ c. option_map (λ text. c ∷ text) (unescaped_from false bytes)) (escape b)
+
+-- the bytes that a field stands for
+abbrev pub unescaped : List ℕ → Option (List ℕ)
+unescaped field = unescaped_from false field
+
+-- a field that stands for these bytes: newlines, tabs, backslashes and slashes are escaped
+abbrev pub escaped : List ℕ → List ℕ
+escaped [] = []
+escaped (b ∷ bytes) =
+    let later = escaped bytes in
+    if b == 10 then 92 ∷ 110 ∷ later else (if b == 9 then 92 ∷ 116 ∷ later else (if b == 92 then 92 ∷ 92 ∷ later else (if b == 47 then 92 ∷ 115 ∷ later else b ∷ later)))
+
+-- FILE
+unfoldable pub file_of : List ℕ → Option (List ℕ)
+file_of field = option_and_then (λ name. if is_utf8 name && is_file_name name then Some name else None) (unescaped field)
+
+-- TARGET
+unfoldable pub target_of : List ℕ → Option Target
+target_of field = if bytes_eq field (codes "top") then Some Top else None
+
+-- PLACE
+unfoldable pub place_of : List ℕ → Option Place
+place_of field = if bytes_eq field (codes "last") then Some Last else None
+
+abbrev pub digit_of : ℕ → Option ℕ
+digit_of b = if nat_le 48 b && nat_le b 57 then Some (b - 48) else None
+
+-- two digits
+abbrev pub pair_of : ℕ → ℕ → Option ℕ
+pair_of a b = option_and_then (λ x. option_map (λ y. 10 * x + y) (digit_of b)) (digit_of a)
+
+-- four digits
+abbrev pub year_of : ℕ → ℕ → ℕ → ℕ → Option ℕ
+year_of a b c d = option_and_then (λ x. option_map (λ y. 100 * x + y) (pair_of c d)) (pair_of a b)
+
+-- `YYYY-MM-DD`: the year, the month and the day
+abbrev pub date_of : List ℕ → Option (ℕ × ℕ × ℕ)
+date_of (a ∷ b ∷ c ∷ d ∷ e ∷ f ∷ g ∷ h ∷ i ∷ j ∷ []) =
+    if e == 45 && h == 45
+    then option_and_then (λ y. option_and_then (λ m. option_map (λ n. (y, m, n)) (pair_of i j)) (pair_of f g)) (year_of a b c d)
+    else None
+date_of _ = None
+
+-- a space and `HH:MM`: the hour and the minute
+abbrev pub time_of : List ℕ → Option (ℕ × ℕ)
+time_of (a ∷ b ∷ c ∷ d ∷ e ∷ f ∷ []) =
+    if a == 32 && d == 58 then option_and_then (λ h. option_map (λ n. (h, n)) (pair_of e f)) (pair_of b c) else None
+time_of _ = None
+
+-- the calendar has the date, in a year from 0001 to 9999
+abbrev pub is_day : ℕ → ℕ → ℕ → Bool
+is_day y m d = nat_le 1 y && nat_le y 9999 && nat_le 1 m && nat_le m 12 && nat_le 1 d && nat_le d (days_in_month (pos y) m)
+
+-- a moment, where there is such a one
+abbrev pub moment_at : ℕ × ℕ × ℕ → ℕ × ℕ → Option CivilMinute
+moment_at (y, m, d) (h, n) =
+    if is_day y m d && nat_lt h 24 && nat_lt n 60 then Some (at_minute (civil_day y m d) (h * 60 + n)) else None
+
+-- MOMENT: `YYYY-MM-DD HH:MM`
+unfoldable pub moment_of : List ℕ → Option CivilMinute
+moment_of field = option_and_then (λ date. option_and_then (λ time. moment_at date time) (time_of (drop 10 field))) (date_of (take 10 field))
+
+-- `show` FILE
+unfoldable pub show_of : List ℕ → Option Command
+show_of file = option_map Show (file_of file)
+
+-- `capture` FILE TARGET PLACE MOMENT TEMPLATE INITIAL
+unfoldable pub capture_of : List ℕ → List ℕ → List ℕ → List ℕ → List ℕ → List ℕ → Option Command
+capture_of file target place moment template initial =
+    option_and_then (λ f. option_and_then (λ t. option_and_then (λ p. option_and_then (λ m. option_and_then (λ e. option_map (λ i.
+    Capture f t p m e i)
+    (unescaped initial)) (unescaped template)) (moment_of moment)) (place_of place)) (target_of target)) (file_of file)
+
+-- a line of these fields; any other word or number of fields is no command
+abbrev pub command_of_fields : List (List ℕ) → Option Command
+command_of_fields (word ∷ file ∷ []) = if bytes_eq word (codes "show") then show_of file else None
+command_of_fields (word ∷ file ∷ target ∷ place ∷ moment ∷ template ∷ initial ∷ []) =
+    if bytes_eq word (codes "capture") then capture_of file target place moment template initial else None
+command_of_fields _ = None
+
+-- the command that a line is, without its newline
+abbrev pub command_of : List ℕ → Option Command
+command_of line = command_of_fields (slice_split (λ b. b == 9) line)

@@ -1,0 +1,10 @@
+pub mod Counts
+pub mod Faults
+pub mod Gives
+pub mod Grammar
+pub mod Lines
+pub mod Pending
+pub mod Transcript
+pub mod Feeding
+pub mod Replies
+pub mod Serving

@@ -1,0 +1,34 @@
+-- The bytes of replies.
+use Rattle.std.specs.Prelude.{ℕ, List, [], ◌++◌, nat_lt, if◌then◌else◌, length, codes, decimal, Result, Ok, Err}
+use Rattle.org_store.specs.declared.command.Reply.{Reply}
+use Rattle.org_store.specs.declared.command.Reply.TheVariants.{Done, Safe, Text}
+use Rattle.org_store.specs.declared.command.RunFault.{RunFault}
+use Rattle.org_store.specs.declared.command.RunFault.TheVariants.{Refused, OutOfMemory, Device, Broken}
+use Rattle.org_store.specs.Refusals.{code_of, name_of}
+use Rattle.org_serve.specs.Faults.{no_memory}
+
+abbrev pub safe_line : ℕ → List ℕ
+safe_line n = codes "safe " ++ decimal n ++ codes "\n"
+
+-- how many commands are on the disk, where these became more
+abbrev pub safe_if_risen : ℕ → ℕ → List ℕ
+safe_if_risen old new = if nat_lt old new then safe_line new else []
+
+-- the reply of a call that didn't do what was asked
+abbrev pub fault_line : RunFault → List ℕ
+fault_line (Refused why) = codes "refused " ++ decimal (code_of why) ++ codes " " ++ name_of why ++ codes "\n"
+fault_line OutOfMemory = no_memory
+fault_line Device = codes "fault Device\n"
+fault_line Broken = codes "fault Broken\n"
+
+-- all that is written for a command, which so many accepted commands on the disk came before, and so many are there now
+abbrev pub answer_text : Result Reply RunFault → ℕ → ℕ → List ℕ
+answer_text (Ok (Done n)) old new = codes "ok " ++ decimal n ++ codes "\n" ++ safe_if_risen old new
+answer_text (Ok (Safe n)) old new = safe_line n
+answer_text (Ok (Text bytes)) old new = codes "text " ++ decimal (length bytes) ++ codes "\n" ++ bytes ++ codes "\n"
+answer_text (Err fault) old new = fault_line fault
+
+-- what is written for the settling at the end of the input
+abbrev pub settled_text : Result (Unit {0}) RunFault → ℕ → List ℕ
+settled_text (Ok done) safe = safe_line safe
+settled_text (Err fault) safe = fault_line fault

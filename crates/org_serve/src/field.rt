@@ -1,0 +1,127 @@
+// The fields of a command line.
+ghost use Rattle.std.specs.Prelude.{◌≡◌, ◌==◌, nat_lt, true, false, IfOk, MatchOption, map};
+ghost use Rattle.std.specs.List.{slice_split, count_by};
+ghost use Rattle.std.specs.Str.{bytes_eq, is_utf8};
+ghost use Rattle.org_serve.specs.Grammar.{escape, unescaped, file_of, target_of, place_of};
+ghost use Rattle.org_serve.specs.Gives.{Gives, GivesBy};
+
+use crate::fault::LineFault;
+use org_disk::{FileName, NameFault};
+use org_outline::Place;
+use org_splice::Bytes;
+use org_store::Target;
+use std::alloc::{AllocError, Global};
+
+/// Whether a line has no more fields than a command may have, which are 7.
+pub fn has_few_fields(line: &[u8]) -> bool
+    ensures { result ≡ nat_lt (count_by (λ b. b == 9) line.now) 7 }
+{
+    line.iter().filter(|b| **b == b'\t').count() < 7
+}
+
+/// The fields of a line.
+pub fn fields(alloc: Global, line: &[u8]) -> Result<Vec<&[u8]>, AllocError>
+    ensures { IfOk result (λ v. map (λ s. s.now) v.items ≡ slice_split (λ b. b == 9) line.now) }
+{
+    line.split(|b| *b == b'\t').collect(alloc)
+}
+
+/// Whether a field is this word.
+pub fn is(field: &[u8], word: &str) -> bool
+    ensures { result ≡ bytes_eq field.now word.now }
+{
+    field == word.as_bytes()
+}
+
+fn escape(b: u8) -> Option<u8>
+    ensures { result ≡ escape b }
+{
+    match b {
+        b'n' => Some(b'\n'),
+        b't' => Some(b'\t'),
+        b'\\' => Some(b'\\'),
+        b's' => Some(b'/'),
+        _ => None,
+    }
+}
+
+fn unescape(alloc: Global, field: &[u8]) -> Result<Vec<u8>, LineFault>
+    ensures { GivesBy (λ v. v.items) result (unescaped field.now) }
+{
+    let mut text = Vec::new(alloc);
+    let mut is_escaped = false;
+    for b in field {
+        if is_escaped {
+            let Some(c) = escape(*b) else {
+                return Err(LineFault::BadLine);
+            };
+            text.push(c)?;
+            is_escaped = false;
+        } else if *b == b'\\' {
+            is_escaped = true;
+        } else {
+            text.push(*b)?;
+        }
+    }
+    if is_escaped {
+        return Err(LineFault::BadLine);
+    }
+    Ok(text)
+}
+
+/// TEMPLATE and INITIAL.
+pub fn text(alloc: Global, field: &[u8]) -> Result<Bytes, LineFault>
+    ensures { Gives result (unescaped field.now) }
+{
+    Ok(Bytes::new(unescape(alloc, field)?))
+}
+
+#[tactic(auto, using(crate::proofs::Utf8::is_no_utf8, crate::proofs::Utf8::is_some_utf8))]
+fn utf8(bytes: &[u8]) -> Option<&str>
+    ensures { MatchOption result (is_utf8 bytes.now ≡ false) (λ text. (is_utf8 bytes.now ≡ true) × (text.now ≡ bytes.now)) }
+{
+    match str::from_utf8(bytes) {
+        Ok(text) => Some(text),
+        Err(_) => None,
+    }
+}
+
+/// FILE.
+#[tactic(auto, unfolding(crate::specs::Grammar::file_of))]
+pub fn file(alloc: Global, field: &[u8]) -> Result<FileName, LineFault>
+    ensures { Gives result (file_of field.now) }
+{
+    let name = unescape(alloc, field)?;
+    let Some(name) = utf8(&name) else {
+        return Err(LineFault::BadLine);
+    };
+    match FileName::new(alloc, name) {
+        Ok(name) => Ok(name),
+        Err(NameFault::BadName) => Err(LineFault::BadLine),
+        Err(NameFault::OutOfMemory) => Err(LineFault::OutOfMemory),
+    }
+}
+
+/// TARGET.
+#[tactic(auto, unfolding(crate::specs::Grammar::target_of))]
+pub fn target(field: &[u8]) -> Option<Target>
+    ensures { result ≡ target_of field.now }
+{
+    if is(field, "top") {
+        Some(Target::Top)
+    } else {
+        None
+    }
+}
+
+/// PLACE.
+#[tactic(auto, unfolding(crate::specs::Grammar::place_of))]
+pub fn place(field: &[u8]) -> Option<Place>
+    ensures { result ≡ place_of field.now }
+{
+    if is(field, "last") {
+        Some(Place::Last)
+    } else {
+        None
+    }
+}

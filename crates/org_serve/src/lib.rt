@@ -1,0 +1,26 @@
+//! Command lines in, replies out: how input is cut into lines, whatever pieces it comes in, and what is written for
+//! each line.
+#![tactic(auto)]
+
+mod counted;
+mod end;
+mod fault;
+mod field;
+pub mod laws;
+mod lines;
+mod moment;
+mod pending;
+mod pipes;
+mod reading;
+mod replies;
+mod serving;
+
+pub use counted::Counted;
+pub use end::ServeEnd;
+pub use fault::LineFault;
+pub use pipes::{PipeFault, Sink, Source};
+pub use reading::read_command;
+pub use serving::serve;
+
+#[cfg(test)]
+mod tests;

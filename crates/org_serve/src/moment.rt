@@ -1,0 +1,56 @@
+// MOMENT: a civil minute as `YYYY-MM-DD HH:MM`.
+ghost use Rattle.std.specs.Prelude.{◌≡◌};
+ghost use Rattle.org_serve.specs.Grammar.{digit_of, pair_of, year_of, date_of, time_of, moment_of};
+
+use org_stamp::Moment;
+
+fn digit(b: u8) -> Option<u8>
+    ensures { result ≡ digit_of b }
+{
+    if b'0' <= b && b <= b'9' {
+        Some(b - b'0')
+    } else {
+        None
+    }
+}
+
+fn pair(a: u8, b: u8) -> Option<u8>
+    ensures { result ≡ pair_of a b }
+{
+    Some(10 * digit(a)? + digit(b)?)
+}
+
+fn year(a: u8, b: u8, c: u8, d: u8) -> Option<u16>
+    ensures { result ≡ year_of a b c d }
+{
+    Some(100 * u16::from(pair(a, b)?) + u16::from(pair(c, d)?))
+}
+
+fn date(field: &[u8]) -> Option<(u16, u8, u8)>
+    ensures { result ≡ date_of field.now }
+{
+    match *field {
+        [a, b, c, d, b'-', e, f, b'-', g, h] => Some((year(a, b, c, d)?, pair(e, f)?, pair(g, h)?)),
+        _ => None,
+    }
+}
+
+fn time(field: &[u8]) -> Option<(u8, u8)>
+    ensures { result ≡ time_of field.now }
+{
+    match *field {
+        [b' ', a, b, b':', c, d] => Some((pair(a, b)?, pair(c, d)?)),
+        _ => None,
+    }
+}
+
+/// The moment that a field is.
+#[tactic(auto, unfolding(crate::specs::Grammar::moment_of))]
+pub fn moment(field: &[u8]) -> Option<Moment>
+    ensures { result ≡ moment_of field.now }
+{
+    let (front, back) = field.split_at_checked(10)?;
+    let (year, month, day) = date(front)?;
+    let (hour, minute) = time(back)?;
+    Moment::new(year, month, day, hour, minute)
+}

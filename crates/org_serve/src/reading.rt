@@ -1,0 +1,80 @@
+// Command lines.
+ghost use Rattle.std.specs.Prelude.{map, ◌≡◌};
+ghost use Rattle.org_serve.specs.Grammar.{show_of, capture_of, command_of, command_of_fields};
+ghost use Rattle.org_serve.specs.Gives.{Gives};
+
+use crate::fault::LineFault;
+use crate::field::{fields, file, has_few_fields, is, place, target, text};
+use crate::moment::moment;
+use org_store::Command;
+use std::alloc::Global;
+
+/// The command that a line is, given without its newline. `BadLine` comes exactly where it is none.
+#[tactic(auto, using(crate::proofs::Fields::too_many))]
+pub fn read_command(alloc: Global, line: &[u8]) -> Result<Command, LineFault>
+    ensures { Gives result (command_of line.now) }
+{
+    if !has_few_fields(line) {
+        return Err(LineFault::BadLine);
+    }
+    let fields = fields(alloc, line)?;
+    command(alloc, fields.as_slice())
+}
+
+fn command(alloc: Global, fields: &[&[u8]]) -> Result<Command, LineFault>
+    ensures { Gives result (command_of_fields (map (λ s. s.now) fields.now)) }
+{
+    match *fields {
+        [word, name] => {
+            if is(word, "show") {
+                show(alloc, name)
+            } else {
+                Err(LineFault::BadLine)
+            }
+        }
+        [word, name, to, at, when, template, initial] => {
+            if is(word, "capture") {
+                capture(alloc, name, to, at, when, template, initial)
+            } else {
+                Err(LineFault::BadLine)
+            }
+        }
+        _ => Err(LineFault::BadLine),
+    }
+}
+
+#[tactic(auto, unfolding(crate::specs::Grammar::show_of))]
+fn show(alloc: Global, name: &[u8]) -> Result<Command, LineFault>
+    ensures { Gives result (show_of name.now) }
+{
+    let file = file(alloc, name)?;
+    Ok(Command::Show { file })
+}
+
+#[tactic(auto, unfolding(crate::specs::Grammar::capture_of))]
+fn capture(
+    alloc: Global,
+    name: &[u8],
+    to: &[u8],
+    at: &[u8],
+    when: &[u8],
+    template: &[u8],
+    initial: &[u8],
+) -> Result<Command, LineFault>
+    ensures { Gives result (capture_of name.now to.now at.now when.now template.now initial.now) }
+{
+    let file = file(alloc, name)?;
+    let target = target(to).ok_or(LineFault::BadLine)?;
+    let place = place(at).ok_or(LineFault::BadLine)?;
+    let moment = moment(when).ok_or(LineFault::BadLine)?;
+    let template = text(alloc, template)?;
+    let initial = text(alloc, initial)?;
+    Ok(Command::Capture {
+        file,
+        target,
+        place,
+        moment,
+        template,
+        initial,
+    })
+}

@@ -1,0 +1,125 @@
+// Replies, written line by line.
+ghost use Rattle.std.specs.Prelude.{◌≡◌, ◌++◌, length, OnOk, OnErr, codes, decimal};
+ghost use Rattle.std.specs.Io.KnownBytes.{Appends};
+ghost use Rattle.org_store.specs.declared.command.RunFault.TheVariants.{Refused};
+ghost use Rattle.org_disk.specs.Disk.{HasRisen};
+ghost use Rattle.org_serve.specs.Faults.{fault_text};
+ghost use Rattle.org_serve.specs.Replies.{safe_line, safe_if_risen, fault_line, answer_text, settled_text};
+
+use crate::fault::LineFault;
+use crate::pipes::{PipeFault, Sink};
+use itoa::Buffer;
+use org_store::{Refusal, Reply, RunFault};
+
+/// Writes the answer to a command, and flushes. Before the command, `before` commands were on the disk; now `safe` are.
+pub fn write_answer<W: Sink>(
+    writer: &mut W,
+    answer: &Result<Reply, RunFault>,
+    before: u64,
+    safe: u64,
+) -> Result<(), PipeFault>
+    ensures ok { OnOk result (Appends (W.written writer.old) (W.written writer.new) (answer_text answer.now before safe)) }
+    ensures same { OnOk result (W.failures writer.new ≡ W.failures writer.old) }
+    ensures err { OnErr result (HasRisen (W.failures writer.old) (W.failures writer.new)) }
+{
+    match answer {
+        Ok(Reply::Done(n)) => write_done(writer, *n, before, safe)?,
+        Ok(Reply::Safe(n)) => write_safe(writer, *n)?,
+        Ok(Reply::Text(bytes)) => write_text(writer, bytes.as_slice())?,
+        Err(fault) => write_fault(writer, *fault)?,
+    }
+    writer.flush()
+}
+
+/// Writes why a line wasn't run, and flushes.
+pub fn write_unread<W: Sink>(writer: &mut W, fault: LineFault) -> Result<(), PipeFault>
+    ensures ok { OnOk result (Appends (W.written writer.old) (W.written writer.new) (fault_text fault)) }
+    ensures same { OnOk result (W.failures writer.new ≡ W.failures writer.old) }
+    ensures err { OnErr result (HasRisen (W.failures writer.old) (W.failures writer.new)) }
+{
+    match fault {
+        LineFault::BadLine => writer.write(b"refused 20 BadLine\n")?,
+        LineFault::OutOfMemory => writer.write(b"fault OutOfMemory\n")?,
+    }
+    writer.flush()
+}
+
+/// Writes what settling answered, and flushes. Now `safe` commands are on the disk.
+pub fn write_settled<W: Sink>(
+    writer: &mut W,
+    answer: Result<(), RunFault>,
+    safe: u64,
+) -> Result<(), PipeFault>
+    ensures ok { OnOk result (Appends (W.written writer.old) (W.written writer.new) (settled_text answer safe)) }
+    ensures same { OnOk result (W.failures writer.new ≡ W.failures writer.old) }
+    ensures err { OnErr result (HasRisen (W.failures writer.old) (W.failures writer.new)) }
+{
+    match answer {
+        Ok(()) => write_safe(writer, safe)?,
+        Err(fault) => write_fault(writer, fault)?,
+    }
+    writer.flush()
+}
+
+fn write_done<W: Sink>(writer: &mut W, n: u64, before: u64, safe: u64) -> Result<(), PipeFault>
+    ensures ok { OnOk result (Appends (W.written writer.old) (W.written writer.new)
+        (codes "ok " ++ decimal n ++ codes "\n" ++ safe_if_risen before safe)) }
+    ensures same { OnOk result (W.failures writer.new ≡ W.failures writer.old) }
+    ensures err { OnErr result (HasRisen (W.failures writer.old) (W.failures writer.new)) }
+{
+    writer.write(b"ok ")?;
+    writer.write(Buffer::new().format(n).as_bytes())?;
+    writer.write(b"\n")?;
+    if before < safe {
+        write_safe(writer, safe)?;
+    }
+    Ok(())
+}
+
+fn write_safe<W: Sink>(writer: &mut W, safe: u64) -> Result<(), PipeFault>
+    ensures ok { OnOk result (Appends (W.written writer.old) (W.written writer.new) (safe_line safe)) }
+    ensures same { OnOk result (W.failures writer.new ≡ W.failures writer.old) }
+    ensures err { OnErr result (HasRisen (W.failures writer.old) (W.failures writer.new)) }
+{
+    writer.write(b"safe ")?;
+    writer.write(Buffer::new().format(safe).as_bytes())?;
+    writer.write(b"\n")
+}
+
+fn write_text<W: Sink>(writer: &mut W, bytes: &[u8]) -> Result<(), PipeFault>
+    ensures ok { OnOk result (Appends (W.written writer.old) (W.written writer.new)
+        (codes "text " ++ decimal (length bytes.now) ++ codes "\n" ++ bytes.now ++ codes "\n")) }
+    ensures same { OnOk result (W.failures writer.new ≡ W.failures writer.old) }
+    ensures err { OnErr result (HasRisen (W.failures writer.old) (W.failures writer.new)) }
+{
+    writer.write(b"text ")?;
+    writer.write(Buffer::new().format(bytes.len()).as_bytes())?;
+    writer.write(b"\n")?;
+    writer.write(bytes)?;
+    writer.write(b"\n")
+}
+
+fn write_fault<W: Sink>(writer: &mut W, fault: RunFault) -> Result<(), PipeFault>
+    ensures ok { OnOk result (Appends (W.written writer.old) (W.written writer.new) (fault_line fault)) }
+    ensures same { OnOk result (W.failures writer.new ≡ W.failures writer.old) }
+    ensures err { OnErr result (HasRisen (W.failures writer.old) (W.failures writer.new)) }
+{
+    match fault {
+        RunFault::Refused(why) => write_refusal(writer, why),
+        RunFault::OutOfMemory => writer.write(b"fault OutOfMemory\n"),
+        RunFault::Device => writer.write(b"fault Device\n"),
+        RunFault::Broken => writer.write(b"fault Broken\n"),
+    }
+}
+
+fn write_refusal<W: Sink>(writer: &mut W, why: Refusal) -> Result<(), PipeFault>
+    ensures ok { OnOk result (Appends (W.written writer.old) (W.written writer.new) (fault_line (Refused why))) }
+    ensures same { OnOk result (W.failures writer.new ≡ W.failures writer.old) }
+    ensures err { OnErr result (HasRisen (W.failures writer.old) (W.failures writer.new)) }
+{
+    writer.write(b"refused ")?;
+    writer.write(Buffer::new().format(why.code()).as_bytes())?;
+    writer.write(b" ")?;
+    writer.write(why.name().as_bytes())?;
+    writer.write(b"\n")
+}

@@ -1,0 +1,219 @@
+// Lines answered one by one, to the end of the input.
+ghost use Rattle.std.specs.Prelude.{◌≡◌, ◌≢◌, ◌⊎◌, ◌↔◌, ◌++◌, List, ℕ, [], OnOk, OnErr, MatchResult};
+ghost use Rattle.std.specs.Io.KnownBytes.{Appends};
+ghost use Rattle.org_disk.specs.Disk.{HasRisen};
+ghost use Rattle.org_serve.specs.Counts.{HasRisenBy};
+ghost use Rattle.org_serve.specs.Feeding.{FeedOk, FeedErr, EndsWith};
+ghost use Rattle.org_serve.specs.Lines.{cut};
+ghost use Rattle.org_serve.specs.Pending.{Stands};
+ghost use Rattle.org_serve.specs.Serving.{IsReadAs, AnswersRead, AnswersLine, Finishes, HasSettled, BreaksByFailure, end_of};
+ghost use Rattle.org_serve.specs.Transcript.{AnswersRest, ServesAll, ServesLines, RunsSome, RunsAllAndSettles};
+
+use crate::end::ServeEnd;
+use crate::fault::LineFault;
+use crate::lines::first_line;
+use crate::pending::Pending;
+use crate::pipes::{PipeFault, Sink, Source};
+use crate::reading::read_command;
+use crate::replies::{write_answer, write_settled, write_unread};
+use org_disk::Disk;
+use org_store::{Command, RunFault, Store};
+use std::alloc::Global;
+
+// The most bytes of one read.
+const PIECE: usize = 4096;
+
+/// Answers the lines of a reader by a store, in at most this many reads; at the end of the input it settles what isn't
+/// settled yet. A line is answered as soon as its newline was read, whatever pieces the bytes come in.
+///
+/// Where it ends with `End`, `Unsettled` or `Device`, the input was read to its end, and what was written is its
+/// transcript. It ends with `Read` only where a read failed or the turns are used up: the lines that were read whole
+/// are answered then. It ends with `Write` only where a write or a flush failed: of the lines some, from the first on,
+/// were run then.
+pub fn serve<D: Disk, R: Source, W: Sink>(
+    alloc: Global,
+    store: &mut Store<D>,
+    reader: &mut R,
+    writer: &mut W,
+    turns: u64,
+) -> ServeEnd
+    ensures end { D.honest store.old.disk → result ≢ ServeEnd.Read → result ≢ ServeEnd.Write
+        → ServesAll AnswersLine Finishes store.old.session result store.new.session
+        (R.left reader.old) (R.left reader.new) (W.written writer.old) (W.written writer.new) }
+
+    ensures read { D.honest store.old.disk → result ≡ ServeEnd.Read
+        → ServesLines AnswersLine store.old.session store.new.session
+        (R.left reader.old) (R.left reader.new) (W.written writer.old) (W.written writer.new) }
+    ensures read_cause { result ≡ ServeEnd.Read → HasRisen (R.failures reader.old) (R.failures reader.new)
+        ⊎ HasRisenBy turns (R.reads reader.old) (R.reads reader.new) }
+
+    ensures write { D.honest store.old.disk → result ≡ ServeEnd.Write
+        → RunsSome AnswersLine store.old.session store.new.session (R.left reader.old) (R.left reader.new)
+        ⊎ RunsAllAndSettles AnswersLine HasSettled store.old.session store.new.session (R.left reader.old) (R.left reader.new) }
+    ensures write_cause { result ≡ ServeEnd.Write → HasRisen (W.failures writer.old) (W.failures writer.new) }
+
+    ensures device { BreaksByFailure store.old.session store.new.session (D.failures store.old.disk) (D.failures store.new.disk) }
+    ensures honest { D.honest store.new.disk ↔ D.honest store.old.disk }
+{
+    let mut buffer = [0u8; PIECE];
+    let mut pending = Pending::new(alloc);
+    for _ in 0..turns {
+        match reader.read(&mut buffer) {
+            Err(PipeFault) => return ServeEnd::Read,
+            Ok(0) => return finish(store, &pending, writer),
+            Ok(n) => match feed(alloc, store, &mut pending, &buffer[..n], writer) {
+                Err(PipeFault) => return ServeEnd::Write,
+                Ok(()) => {}
+            },
+        }
+    }
+    ServeEnd::Read
+}
+
+// Answers each line that a piece completes, and keeps the rest of it.
+fn feed<D: Disk, W: Sink>(
+    alloc: Global,
+    store: &mut Store<D>,
+    pending: &mut Pending,
+    piece: &[u8],
+    writer: &mut W,
+) -> Result<(), PipeFault>
+    ensures fed { D.honest store.old.disk → (part : List ℕ) → (cut part).lines ≡ [] → Stands pending.old part
+        → MatchResult result
+        (λ _. FeedOk AnswersLine store.old.session (part ++ piece.now) store.new.session (W.written writer.old) (W.written writer.new) pending.new)
+        (λ _. FeedErr AnswersLine store.old.session (part ++ piece.now) store.new.session) }
+    ensures same { OnOk result (W.failures writer.new ≡ W.failures writer.old) }
+    ensures err { OnErr result (HasRisen (W.failures writer.old) (W.failures writer.new)) }
+    ensures device { BreaksByFailure store.old.session store.new.session (D.failures store.old.disk) (D.failures store.new.disk) }
+    ensures honest { D.honest store.new.disk ↔ D.honest store.old.disk }
+{
+    let mut rest = piece;
+    while let Some((line, more)) = first_line(rest) {
+        answer(alloc, store, pending, line, writer)?;
+        rest = more;
+    }
+    pending.add(rest);
+    Ok(())
+}
+
+// Answers the line that ends with these bytes, and keeps nothing of it.
+fn answer<D: Disk, W: Sink>(
+    alloc: Global,
+    store: &mut Store<D>,
+    pending: &mut Pending,
+    last: &[u8],
+    writer: &mut W,
+) -> Result<(), PipeFault>
+    ensures step { D.honest store.old.disk → (part : List ℕ) → Stands pending.old part
+        → (out : List ℕ) × AnswersLine store.old.session (part ++ last.now) out store.new.session
+        × OnOk result (Appends (W.written writer.old) (W.written writer.new) out) }
+    ensures cleared { Stands pending.new [] }
+    ensures same { OnOk result (W.failures writer.new ≡ W.failures writer.old) }
+    ensures err { OnErr result (HasRisen (W.failures writer.old) (W.failures writer.new)) }
+    ensures device { BreaksByFailure store.old.session store.new.session (D.failures store.old.disk) (D.failures store.new.disk) }
+    ensures honest { D.honest store.new.disk ↔ D.honest store.old.disk }
+{
+    pending.add(last);
+    let read = read_line(alloc, pending);
+    pending.clear();
+    answer_read(alloc, store, &read, writer)
+}
+
+// What a line that was kept is read as.
+fn read_line(alloc: Global, pending: &Pending) -> Result<Command, LineFault>
+    ensures { (line : List ℕ) → Stands pending.now line → IsReadAs line result }
+{
+    match pending.line() {
+        Ok(line) => read_command(alloc, line),
+        Err(fault) => Err(fault),
+    }
+}
+
+// Runs what a line was read as, and writes the answer.
+fn answer_read<D: Disk, W: Sink>(
+    alloc: Global,
+    store: &mut Store<D>,
+    read: &Result<Command, LineFault>,
+    writer: &mut W,
+) -> Result<(), PipeFault>
+    ensures step { D.honest store.old.disk → (out : List ℕ) × AnswersRead store.old.session read.now out store.new.session
+        × OnOk result (Appends (W.written writer.old) (W.written writer.new) out) }
+    ensures same { OnOk result (W.failures writer.new ≡ W.failures writer.old) }
+    ensures err { OnErr result (HasRisen (W.failures writer.old) (W.failures writer.new)) }
+    ensures device { BreaksByFailure store.old.session store.new.session (D.failures store.old.disk) (D.failures store.new.disk) }
+    ensures honest { D.honest store.new.disk ↔ D.honest store.old.disk }
+{
+    match read {
+        Ok(command) => {
+            let before = store.acknowledged();
+            let answer = store.run(alloc, command);
+            write_answer(writer, &answer, before, store.acknowledged())
+        }
+        Err(fault) => write_unread(writer, *fault),
+    }
+}
+
+// Ends serving at the end of the input.
+fn finish<D: Disk, W: Sink>(store: &mut Store<D>, pending: &Pending, writer: &mut W) -> ServeEnd
+    ensures told { D.honest store.old.disk → result ≢ ServeEnd.Write → (part : List ℕ) → Stands pending.now part
+        → EndsWith Finishes part store.old.session result store.new.session (W.written writer.old) (W.written writer.new) }
+    ensures never { result ≢ ServeEnd.Read }
+    ensures write { D.honest store.old.disk → result ≡ ServeEnd.Write
+        → (store.new.session ≡ store.old.session) ⊎ HasSettled store.old.session store.new.session }
+    ensures write_cause { result ≡ ServeEnd.Write → HasRisen (W.failures writer.old) (W.failures writer.new) }
+    ensures device { BreaksByFailure store.old.session store.new.session (D.failures store.old.disk) (D.failures store.new.disk) }
+    ensures honest { D.honest store.new.disk ↔ D.honest store.old.disk }
+{
+    match answer_rest(pending, writer) {
+        Err(PipeFault) => ServeEnd::Write,
+        Ok(()) => settle(store, writer),
+    }
+}
+
+// Answers what stands behind the last newline.
+fn answer_rest<W: Sink>(pending: &Pending, writer: &mut W) -> Result<(), PipeFault>
+    ensures rest { (part : List ℕ) → Stands pending.now part
+        → (last : List ℕ) × AnswersRest part last × OnOk result (Appends (W.written writer.old) (W.written writer.new) last) }
+    ensures same { OnOk result (W.failures writer.new ≡ W.failures writer.old) }
+    ensures err { OnErr result (HasRisen (W.failures writer.old) (W.failures writer.new)) }
+{
+    match pending.unended() {
+        None => Ok(()),
+        Some(fault) => write_unread(writer, fault),
+    }
+}
+
+// Settles where accepted commands aren't settled yet.
+fn settle<D: Disk, W: Sink>(store: &mut Store<D>, writer: &mut W) -> ServeEnd
+    ensures told { D.honest store.old.disk → result ≢ ServeEnd.Write → (tail : List ℕ)
+        × Finishes store.old.session result tail store.new.session
+        × Appends (W.written writer.old) (W.written writer.new) tail }
+    ensures never { result ≢ ServeEnd.Read }
+    ensures write { D.honest store.old.disk → result ≡ ServeEnd.Write → HasSettled store.old.session store.new.session }
+    ensures write_cause { result ≡ ServeEnd.Write → HasRisen (W.failures writer.old) (W.failures writer.new) }
+    ensures device { BreaksByFailure store.old.session store.new.session (D.failures store.old.disk) (D.failures store.new.disk) }
+    ensures honest { D.honest store.new.disk ↔ D.honest store.old.disk }
+{
+    if store.is_broken() {
+        return ServeEnd::Device;
+    }
+    if store.acknowledged() >= store.accepted() {
+        return ServeEnd::End;
+    }
+    let answer = store.settle();
+    match write_settled(writer, answer, store.acknowledged()) {
+        Err(PipeFault) => ServeEnd::Write,
+        Ok(()) => end_of(answer),
+    }
+}
+
+fn end_of(answer: Result<(), RunFault>) -> ServeEnd
+    ensures value { result ≡ end_of answer }
+    ensures never { (result ≢ ServeEnd.Read) × (result ≢ ServeEnd.Write) }
+{
+    match answer {
+        Ok(()) => ServeEnd::End,
+        Err(RunFault::OutOfMemory) => ServeEnd::Unsettled,
+        Err(_) => ServeEnd::Device,
+    }
+}

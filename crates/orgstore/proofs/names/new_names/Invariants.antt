@@ -1,0 +1,6 @@
+use Rattle.std.specs.List.{All}
+use Rattle.org_folder.specs.OrgFiles.{IsOpenable}
+use Rattle.orgstore.proofs.names.new_names.Given as goal
+
+abbrev pub invariant-loop-name : goal.invariant-loop-name
+invariant-loop-name l = All IsOpenable l.names.items

@@ -1,0 +1,75 @@
+// The command line. Nothing else of the program knows how its words are read.
+use crate::fault::Fault;
+use clap::error::ErrorKind;
+use clap::{Arg, ArgAction, Command, Error};
+use org_store::OpenFault;
+use std::alloc::Global;
+use std::{env, io};
+
+/// What the program is told to do.
+#[derive(Debug, Drop)]
+pub struct Arguments {
+    /// The folder of the store's files.
+    pub folder: String,
+    /// Names of files that the folder may lack.
+    pub new: Vec<String>,
+}
+
+/// The arguments of this run. Help is a fault too: standard output holds replies alone.
+pub fn read(rt: &HostRuntime) -> Result<Arguments, Fault> {
+    let words: Vec<String> = match env::args(rt) {
+        Ok(words) => words.collect(rt.alloc())?,
+        Err(error) => return Err(unreadable(rt.alloc(), &error)),
+    };
+    read_words(rt.alloc(), words.as_slice())
+}
+
+/// The arguments that these words are, the first being the program's name.
+pub fn read_words(alloc: Global, words: &[String]) -> Result<Arguments, Fault> {
+    match parse(alloc, words) {
+        Ok(arguments) => Ok(arguments),
+        Err(error) => Err(usage(alloc, &error)),
+    }
+}
+
+fn parse(alloc: Global, words: &[String]) -> Result<Arguments, Error> {
+    let folder = Arg::new(alloc, "DIR")
+        .required(true)
+        .help("The folder of Org files");
+    let new = Arg::new(alloc, "new")
+        .long("new")
+        .value_name("NAME")
+        .help("An Org file that the folder may lack")
+        .action(ArgAction::Append);
+    let command = Command::new(alloc, "orgstore").arg(folder)?.arg(new)?;
+    let matches = command.try_get_matches_from(words)?;
+    let mut names = Vec::new(alloc);
+    for name in matches.get_strs("new").unwrap_or(&[]) {
+        names.push(String::from_str(alloc, name)?)?;
+    }
+    Ok(Arguments {
+        folder: String::from_str(alloc, matches.get_str("DIR").unwrap_or(""))?,
+        new: names,
+    })
+}
+
+fn usage(alloc: Global, error: &Error) -> Fault {
+    if error.kind() == ErrorKind::OutOfMemory {
+        return Fault::Open(OpenFault::OutOfMemory);
+    }
+    match format!(in alloc; "{error}") {
+        Ok(text) => Fault::Usage(text),
+        Err(_) => Fault::Open(OpenFault::OutOfMemory),
+    }
+}
+
+// The words can't be read at all: one of them isn't UTF-8.
+fn unreadable(alloc: Global, error: &io::Error) -> Fault {
+    if error.kind() == io::ErrorKind::OutOfMemory {
+        return Fault::Open(OpenFault::OutOfMemory);
+    }
+    match String::from_str(alloc, "error: an argument isn't UTF-8\n") {
+        Ok(text) => Fault::Usage(text),
+        Err(_) => Fault::Open(OpenFault::OutOfMemory),
+    }
+}

@@ -1,0 +1,75 @@
+// Why the program doesn't run to the end of its input: what it says on standard error, and its exit status.
+use org_folder::ListFault;
+use org_outline::StatesFault;
+use org_serve::ServeEnd;
+use org_store::OpenFault;
+use std::alloc::{AllocError, AllocFailed};
+use std::fmt;
+use std::fmt::{Display, Formatter};
+
+#[derive(Debug, Drop)]
+pub enum Fault {
+    /// The words of the command line aren't what the program takes, or ask for help: the text that says so.
+    Usage(String),
+    /// A name given by `--new` is no file name in `.org`.
+    BadName(String),
+    /// The states aren't ones that a store can have.
+    BadStates,
+    /// The store wasn't opened.
+    Open(OpenFault),
+    /// Serving didn't end well.
+    Ended(ServeEnd),
+}
+
+mod status;
+
+impl Display for Fault {
+    fn fmt<W: fmt::Write>(&self, f: &mut Formatter<W>) -> fmt::Result {
+        match self {
+            Fault::Usage(text) => f.write_str(text.as_str()),
+            Fault::BadName(name) => writeln!(f, "orgstore: bad name {name}"),
+            Fault::BadStates => f.write_str("orgstore: bad states\n"),
+            Fault::Open(fault) => write_open(f, fault),
+            Fault::Ended(end) => writeln!(f, "orgstore: {end:?}"),
+        }
+    }
+}
+
+fn write_open<W: fmt::Write>(f: &mut Formatter<W>, fault: &OpenFault) -> fmt::Result {
+    match fault {
+        OpenFault::TooManyFiles => f.write_str("orgstore: open: TooManyFiles\n"),
+        OpenFault::TooLarge(name) => writeln!(f, "orgstore: open: TooLarge {name}"),
+        OpenFault::Device => f.write_str("orgstore: open: Device\n"),
+        OpenFault::OutOfMemory => f.write_str("orgstore: open: OutOfMemory\n"),
+    }
+}
+
+impl From<AllocError> for Fault {
+    fn from(_: AllocError) -> Fault {
+        Fault::Open(OpenFault::OutOfMemory)
+    }
+}
+
+impl<T: Drop> From<AllocFailed<T>> for Fault {
+    fn from(_: AllocFailed<T>) -> Fault {
+        Fault::Open(OpenFault::OutOfMemory)
+    }
+}
+
+impl From<ListFault> for Fault {
+    fn from(fault: ListFault) -> Fault {
+        match fault {
+            ListFault::Device => Fault::Open(OpenFault::Device),
+            ListFault::OutOfMemory => Fault::Open(OpenFault::OutOfMemory),
+        }
+    }
+}
+
+impl From<StatesFault> for Fault {
+    fn from(fault: StatesFault) -> Fault {
+        match fault {
+            StatesFault::BadStates => Fault::BadStates,
+            StatesFault::OutOfMemory => Fault::Open(OpenFault::OutOfMemory),
+        }
+    }
+}

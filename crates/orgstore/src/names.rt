@@ -1,0 +1,37 @@
+// The names that the store is opened with.
+ghost use Rattle.std.specs.Prelude.{IfOk, All};
+ghost use Rattle.org_folder.specs.OrgFiles.{IsOpenable};
+
+use crate::fault::Fault;
+use org_disk::{FileName, NameFault};
+use org_folder::{org_file, org_files};
+use org_store::OpenFault;
+
+/// The names given as new ones, each a file name in `.org`, and those of the folder's Org files.
+pub fn names(rt: &HostRuntime, folder: &str, new: &[String]) -> Result<Vec<FileName>, Fault>
+    ensures { IfOk result (λ names. All IsOpenable names.items) }
+{
+    let mut names = new_names(rt, new)?;
+    names.append(&mut org_files(rt, folder)?)?;
+    Ok(names)
+}
+
+fn new_names(rt: &HostRuntime, new: &[String]) -> Result<Vec<FileName>, Fault>
+    ensures { IfOk result (λ names. All IsOpenable names.items) }
+{
+    let mut names = Vec::new(rt.alloc());
+    for name in new {
+        names.push(new_name(rt, name)?)?;
+    }
+    Ok(names)
+}
+
+fn new_name(rt: &HostRuntime, name: &str) -> Result<FileName, Fault>
+    ensures { IfOk result IsOpenable }
+{
+    match org_file(rt.alloc(), name) {
+        Ok(name) => Ok(name),
+        Err(NameFault::BadName) => Err(Fault::BadName(String::from_str(rt.alloc(), name)?)),
+        Err(NameFault::OutOfMemory) => Err(Fault::Open(OpenFault::OutOfMemory)),
+    }
+}
