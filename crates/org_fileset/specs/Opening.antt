@@ -1,10 +1,10 @@
 -- What opening a set of files answers.
-use Rattle.std.specs.Prelude.{◌≡◌, ◌≢◌, ◌≤◌, ℕ, List, length, Some, None, Result, Ok, Err, Vec}
+use Rattle.std.specs.Prelude.{◌≡◌, ◌≢◌, ◌≤◌, ℕ, List, length, Some, None, IsSomeAnd, Result, Ok, Err, Vec}
 use Rattle.std.specs.Global.{Global}
 use Rattle.std.specs.List.{AllByRecursion}
 use Rattle.org_disk.specs.Names.{journal_name}
 use Rattle.org_disk.specs.declared.name.FileName.{FileName}
-use Rattle.org_journal.specs.Standing.{Image, stands}
+use Rattle.org_journal.specs.Standing.{Image, SameFiles, stands}
 use Rattle.org_journal.specs.declared.fault.FindFault.{FindFault}
 use Rattle.org_journal.specs.declared.fault.FindFault.TheVariants as find
 use Rattle.org_fileset.specs.declared.open.OpenFault.{OpenFault}
@@ -44,11 +44,12 @@ HaveSizes files names (Err Device) = Unit {0}
 HaveSizes files names (Err OutOfMemory) = Unit {0}
 HaveSizes files names (Err fault) = ⊥
 
--- No file of these names is past the limit after a record was brought to its end; or there is this fault.
+-- No file of these names is past the limit after a record was brought to its end; or there is this fault. The sizes are
+-- asked for once the files are what the disk stood for.
 abbrev pub IsAnswer : Image → Image → List (List ℕ) → Result (Unit {0}) OpenFault → Type 0
 IsAnswer before now names (Err BadJournal) = stands before ≡ None
 IsAnswer before now names (Ok done) = HaveSizes now names (Ok done)
-IsAnswer before now names (Err (TooLarge name)) = HaveSizes now names (Err (TooLarge name))
+IsAnswer before now names (Err (TooLarge name)) = HaveSizes now names (Err (TooLarge name)) × IsSomeAnd (stands before) (SameFiles now)
 IsAnswer before now names (Err TooManyFiles) = ⊥
 IsAnswer before now names (Err Device) = Unit {0}
 IsAnswer before now names (Err OutOfMemory) = Unit {0}
@@ -59,6 +60,6 @@ abbrev pub IsReason : List (List ℕ) → Type 0 → Image → Image → OpenFau
 IsReason given honest before now TooManyFiles = AreTooMany given
 IsReason given honest before now BadJournal = AreFew given × (honest → stands before ≡ None)
 IsReason given honest before now (TooLarge name) = AreFew given
-    × (honest → (names : List (List ℕ)) × AreSorted (with_archives given) names × (first_large now names ≡ Some name))
+    × (honest → (names : List (List ℕ)) × AreSorted (with_archives given) names × (first_large now names ≡ Some name) × IsSomeAnd (stands before) (SameFiles now))
 IsReason given honest before now Device = AreFew given
 IsReason given honest before now OutOfMemory = Unit {0}
