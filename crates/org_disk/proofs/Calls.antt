@@ -15,6 +15,8 @@ use Rattle.org_disk.specs.declared.memory.Effect.TheVariants.{Set, Nothing}
 use Rattle.org_disk.specs.declared.memory.Call.{Call}
 use Rattle.org_disk.specs.Record.{effect_of, step, state_after, files_after, LeftSince, IsTried, call_of, Contents, content_in, items_or, Keeps}
 use Rattle.org_disk.specs.RecordLaws.{bool_cases, own_image}
+use Rattle.org_disk.specs.Memory.{HasNoEffect}
+use Rattle.org_disk.specs.declared.memory.MemoryDisk.{MemoryDisk}
 use Rattle.org_disk.proofs.Moments.{Image, passes_none}
 
 abbrev pub done : Result (Unit {0}) DiskFault
@@ -174,6 +176,11 @@ module _ (name : List ℕ) (calls later : List Call) where
       → Passes (length calls) (length later) (LeftSince calls) (LeftSince later) (AreImages (files_after calls))
   passes_read (Ok tt) made tried = passes_still calls later name false made (AreImages (files_after calls)) (λ image now. now)
   passes_read (Err fault) made tried = reads_tried tried
+
+-- A call that failed without effect.
+pub no_effect : (name : List ℕ) (old new : MemoryDisk) (r : Result (Unit {0}) DiskFault) → OnErr r (IsTried name Nothing old.calls.items new.calls.items) → OnErr r (HasNoEffect old new)
+no_effect name old new (Ok tt) tried = tt
+no_effect name old new (Err fault) tried = record { files = files_tried name old.calls.items new.calls.items tried; images = reads_tried name old.calls.items new.calls.items tried }
 
 -- The contents that are kept, after a call that was recorded.
 pub nothing_kept : (o : Option (Vec ℕ Global)) → IsNone o → option_map_or (λ content. content.items) o [] ≡ []

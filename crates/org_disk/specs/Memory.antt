@@ -1,7 +1,7 @@
 -- A disk in memory, as callers see it.
-use Rattle.std.specs.Prelude.{◌≡◌, ℕ, ◌-◌, ◌==◌, List, Bool, true, false, ◌||◌, if◌then◌else◌, IsTrue}
-use Rattle.org_disk.specs.Disk.{FileState, IsImage}
-use Rattle.org_disk.specs.Record.{files_after}
+use Rattle.std.specs.Prelude.{◌≡◌, ℕ, ◌-◌, ◌==◌, List, length, Bool, true, false, ◌||◌, if◌then◌else◌, IsTrue}
+use Rattle.org_disk.specs.Disk.{FileState, IsImage, AreImages, Passes}
+use Rattle.org_disk.specs.Record.{files_after, LeftSince}
 use Rattle.org_disk.specs.declared.memory.MemoryDisk.{MemoryDisk}
 use Rattle.org_disk.specs.declared.memory.Outcome.{Outcome}
 use Rattle.org_disk.specs.declared.memory.Outcome.TheVariants.{All}
@@ -35,6 +35,17 @@ stops_now (Came outcome) = true
 
 abbrev pub is_due : MemoryDisk → Bool
 is_due disk = disk.fail_in == 1 || stops_now disk.stop
+
+-- the disk stops within the next call
+abbrev pub stops_within : Stop → Bool
+stops_within Never = false
+stops_within (In k outcome) = k == 1
+stops_within (Came outcome) = false
+
+-- a call without effect: each file is as it was, and a stop within the call leaves an image from before it
+pub record HasNoEffect (old new : MemoryDisk) : Type 0 where
+  pub files : memory_files new ≡ memory_files old
+  pub images : Passes (length old.calls.items) (length new.calls.items) (LeftSince old.calls.items) (LeftSince new.calls.items) (AreImages (memory_files old))
 
 abbrev pub stop_after_call : Stop → Stop
 stop_after_call Never = Never

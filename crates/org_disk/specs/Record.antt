@@ -1,5 +1,5 @@
 -- The record of a disk in memory: what its calls did, and the files that they stand for.
-use Rattle.std.specs.Prelude.{◌≡◌, ◌≢◌, ◌⊎◌, ℕ, Bool, true, false, IsNone, ◌≤◌, List, [], ◌∷◌, ◌++◌, length, take, if◌then◌else◌, Vec, Option, Some, None}
+use Rattle.std.specs.Prelude.{◌≡◌, ◌≢◌, ◌⊎◌, ℕ, Bool, true, false, IsNone, ◌≤◌, List, [], ◌∷◌, ◌++◌, length, take, if◌then◌else◌, Vec, Option}
 use Rattle.std.specs.Option.{option_map_or}
 use Rattle.std.specs.Str.{bytes_eq}
 use Rattle.std.specs.declared.alloc.Global.{Global}

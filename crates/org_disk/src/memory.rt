@@ -180,10 +180,10 @@ fn is_call(call: &Call) -> bool
 }
 
 impl MemoryDisk {
-    ghost use Rattle.std.specs.Prelude.{◌≡◌, ◌≢◌, [], ◌∷◌, ◌++◌, false, length, IsTrue, IsErr, IfOk, OnOk, OnErr};
+    ghost use Rattle.std.specs.Prelude.{◌≡◌, ◌≢◌, [], ◌∷◌, ◌++◌, false, length, IsTrue, IsFalse, IsErr, IfOk, OnOk, OnErr};
     ghost use Rattle.org_disk.specs.Disk.{AreImages, IsCounted, IsImage, Passes};
     ghost use Rattle.org_disk.specs.Record.{IsTried, LeftSince};
-    ghost use Rattle.org_disk.specs.Memory.{is_due, leaves_all, memory_files, CountsDown, KeepsPlan};
+    ghost use Rattle.org_disk.specs.Memory.{is_due, leaves_all, memory_files, stops_within, CountsDown, KeepsPlan};
 
     // What a file holds.
     fn content(&self, name: &FileName) -> &[u8]
@@ -221,6 +221,7 @@ impl MemoryDisk {
         ensures calls { self.new.calls.items ≡ self.old.calls.items }
         ensures failures { self.new.failures ≡ self.old.failures }
         ensures due { IsTrue (is_due self.old) → result ≢ Turn.Made }
+        ensures stopped { result ≡ Turn.Stopped → IsTrue (stops_within self.old.stop) }
         ensures counts { CountsDown self.old self.new }
     {
         let is_due = self.fail_in == 1;
@@ -244,6 +245,10 @@ impl MemoryDisk {
         ensures ok { OnOk result (self.new.calls.items ≡ self.old.calls.items ++
             (record { name = name.now; effect = effect; stopped = false }) ∷ []) }
         ensures err { OnErr result (IsTried name.now effect self.old.calls.items self.new.calls.items) }
+        ensures no_effect { IsFalse (stops_within self.old.stop) →
+            OnErr result (IsTried name.now Effect.Nothing self.old.calls.items self.new.calls.items) }
+        ensures sync { effect ≡ Effect.Sync →
+            OnErr result (IsTried name.now Effect.Nothing self.old.calls.items self.new.calls.items) }
         ensures count_ok { OnOk result (self.new.failures ≡ self.old.failures) }
         ensures count_err { OnErr result (IsCounted self.old.failures self.new.failures) }
         ensures due { IsTrue (is_due self.old) → IsErr result }
@@ -302,9 +307,9 @@ impl MemoryDisk {
 }
 
 impl Disk for MemoryDisk {
-    ghost use Rattle.std.specs.Prelude.{◌≡◌, ◌+◌, ◌^◌, ◌<◌, ◌≤◌, length, take, drop, IfOk, IsTrue, IsErr, OnOk, OnErr};
+    ghost use Rattle.std.specs.Prelude.{◌≡◌, ◌+◌, ◌^◌, ◌<◌, ◌≤◌, length, take, drop, IfOk, IsTrue, IsFalse, IsErr, OnOk, OnErr};
     ghost use Rattle.org_disk.specs.Disk.{AreImages, AreLeftBy, Changes, IsCounted, Passes, cut, sync, write};
-    ghost use Rattle.org_disk.specs.Memory.{is_due, memory_files, CountsDown};
+    ghost use Rattle.org_disk.specs.Memory.{is_due, memory_files, stops_within, CountsDown, HasNoEffect};
     ghost use Rattle.org_disk.specs.Record.{LeftSince};
     ghost use Rattle.org_disk.specs.RecordLaws.{own_image, now_counts, now_alone};
 
@@ -368,6 +373,8 @@ impl Disk for MemoryDisk {
             (AreLeftBy (write from bytes.now) name.now (memory_files self.old)) }
         ensures count_ok { OnOk result (self.new.failures ≡ self.old.failures) }
         ensures count_err { OnErr result (IsCounted self.old.failures self.new.failures) }
+        ensures no_effect { IsFalse (stops_within self.old.stop) →
+            OnErr result (HasNoEffect self.old self.new) }
         ensures due { IsTrue (is_due self.old) → IsErr result }
         ensures counts { CountsDown self.old self.new }
     {
@@ -389,6 +396,8 @@ impl Disk for MemoryDisk {
             (AreLeftBy (cut to) name.now (memory_files self.old)) }
         ensures count_ok { OnOk result (self.new.failures ≡ self.old.failures) }
         ensures count_err { OnErr result (IsCounted self.old.failures self.new.failures) }
+        ensures no_effect { IsFalse (stops_within self.old.stop) →
+            OnErr result (HasNoEffect self.old self.new) }
         ensures due { IsTrue (is_due self.old) → IsErr result }
         ensures counts { CountsDown self.old self.new }
     {
@@ -402,6 +411,7 @@ impl Disk for MemoryDisk {
             (AreLeftBy sync name.now (memory_files self.old)) }
         ensures count_ok { OnOk result (self.new.failures ≡ self.old.failures) }
         ensures count_err { OnErr result (IsCounted self.old.failures self.new.failures) }
+        ensures no_effect { OnErr result (HasNoEffect self.old self.new) }
         ensures due { IsTrue (is_due self.old) → IsErr result }
         ensures counts { CountsDown self.old self.new }
     {
@@ -410,14 +420,16 @@ impl Disk for MemoryDisk {
 }
 
 fn fate(is_due: bool) -> Turn
-    ensures { IsTrue is_due → result ≢ Turn.Made }
+    ensures due { IsTrue is_due → result ≢ Turn.Made }
+    ensures stopped { result ≢ Turn.Stopped }
 {
     if is_due { Turn::Failed } else { Turn::Made }
 }
 
 // The effect of a call within which the disk stops: a sync has none.
 fn without_sync(effect: Effect) -> Effect
-    ensures { (result ≡ effect) ⊎ (result ≡ Effect.Nothing) }
+    ensures effect { (result ≡ effect) ⊎ (result ≡ Effect.Nothing) }
+    ensures sync { effect ≡ Effect.Sync → result ≡ Effect.Nothing }
 {
     match effect {
         Effect::Sync => Effect::Nothing,

@@ -9,4 +9,4 @@ returns-in-Stopped-clause-err c =
     let made = c.record-recorded-in-Stopped in
     subst (λ (later : List Call). IsTried c.args.name.now c.args.effect c.args.self.now.calls.items later) (sym c.fault-in-Stopped.ensures.calls)
     (subst (λ (calls : List Call). IsTried c.args.name.now c.args.effect calls made.new.self.calls.items) c.turn.ensures.calls
-    (tried_stopped c.args.name.now c.args.effect c.without_sync.result c.turn.new.self.calls.items made.new.self.calls.items c.without_sync.ensures made.result made.ensures.ok made.ensures.err))
+    (tried_stopped c.args.name.now c.args.effect c.without_sync.result c.turn.new.self.calls.items made.new.self.calls.items c.without_sync.ensures.effect made.result made.ensures.ok made.ensures.err))

@@ -1,8 +1,8 @@
-use Rattle.std.proofs.Common.{◌≡◌, List, ℕ, length, subst, ◌∙◌, rules}
+use Rattle.std.proofs.Common.{◌≡◌, List, ℕ, length, subst, inl, ◌∙◌, rules}
 use Rattle.org_disk.specs.Disk.{write, Changes, Passes, AreLeftBy}
 use Rattle.org_disk.specs.Record.{files_after, LeftSince}
 use Rattle.org_disk.specs.declared.memory.Effect.TheVariants.{Write}
-use Rattle.org_disk.proofs.Calls.{changes_call, passes_call, changes_out, passes_out}
+use Rattle.org_disk.proofs.Calls.{changes_call, passes_call, changes_out, passes_out, no_effect, failed}
 use Rattle.org_disk.proofs.memory.MemoryDiskDisk.write_at.Goals as goal
 
 pub returns-in-Ok-clause-effect : goal.returns-in-Ok-clause-effect
@@ -26,3 +26,10 @@ pub returns-in-Err-clause-time : goal.returns-in-Err-clause-time
 returns-in-Err-clause-time c =
     passes_out c.args.self.now.calls.items c.fault.new.self.calls.items (c.fault.ensures.calls ∙ c.turn-turn.ensures.calls)
     (AreLeftBy (write c.args.from c.args.bytes.now) c.args.name.now (files_after c.args.self.now.calls.items))
+
+pub returns-in-Ok-clause-no_effect : goal.returns-in-Ok-clause-no_effect
+returns-in-Ok-clause-no_effect c apart = no_effect c.args.name.now c.args.self.now c.call.new.self c.call.result (c.call.ensures.no_effect apart)
+
+pub returns-in-Err-clause-no_effect : goal.returns-in-Err-clause-no_effect
+returns-in-Err-clause-no_effect c apart =
+    no_effect c.args.name.now c.args.self.now c.fault.new.self (failed c.fault.result) (inl (c.fault.ensures.calls ∙ c.turn-turn.ensures.calls))
