@@ -29,6 +29,14 @@ fn push_stars(out: &mut Vec<u8>, count: usize) -> Result<(), AllocError>
     Ok(())
 }
 
+/// The level of a heading in a subtree whose root goes from one level to another.
+fn moved_level(own: usize, root: usize, level: usize) -> usize
+    requires { own - root + level < 2 ^ 64 }
+    ensures { result ≡ own - root + level }
+{
+    own.saturating_sub(root) + level
+}
+
 /// The print of a node with its root at another level, from 1 to 2^63 - 1, and its descendants moved
 /// by the same amount.
 pub fn shift(alloc: Global, bytes: &[u8], level: usize) -> Result<Vec<u8>, AllocError>
@@ -44,7 +52,7 @@ pub fn shift(alloc: Global, bytes: &[u8], level: usize) -> Result<Vec<u8>, Alloc
         let end = start + length;
         let line = &bytes[start..end];
         if let Some(own) = level_of(line) {
-            push_stars(&mut shifted, own.saturating_sub(root) + level)?;
+            push_stars(&mut shifted, moved_level(own, root, level))?;
             shifted.extend_from_slice(&line[own..])?;
         } else {
             shifted.extend_from_slice(line)?;

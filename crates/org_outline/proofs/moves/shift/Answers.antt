@@ -12,7 +12,7 @@ loop-length-preserved c =
     elim c.match-level_of.branch [
       | in-Some-level_of+in_ok-push_stars+in_ok-extend_from_slice w ↦
           shifting_heading _ _ _ _ _ _ _ _ _ _ _ _ c.loop-length.invariant (record { first = c.memchr.ensures }) c.in-Some.is c.level_of.ensures w.in-Some-level_of.is
-          (w.in_ok-push_stars.ensures ∙ ap (λ k. c.loop-length.shifted.items ++ replicate (k + c.args.level) 42) w.saturating_sub.ensures)
+          (w.in_ok-push_stars.ensures ∙ ap (λ k. c.loop-length.shifted.items ++ replicate k 42) w.moved_level.ensures)
           (ap (λ (v : Vec ℕ Global). v.items) w.shifted-is ∙ w.in_ok-extend_from_slice.ensures.items)
           c.in_ok-push.ensures.items
       | in_default-level_of+in_ok-extend_from_slice-2 w ↦
