@@ -47,7 +47,7 @@ HaveSizes files names (Err fault) = ⊥
 -- No file of these names is past the limit after a record was brought to its end; or there is this fault. The sizes are
 -- asked for once the files are what the disk stood for.
 abbrev pub IsAnswer : Image → Image → List (List ℕ) → Result (Unit {0}) OpenFault → Type 0
-IsAnswer before now names (Err BadJournal) = stands before ≡ None
+IsAnswer before now names (Err BadJournal) = (stands before ≡ None) × (now ≡ before)
 IsAnswer before now names (Ok done) = HaveSizes now names (Ok done)
 IsAnswer before now names (Err (TooLarge name)) = HaveSizes now names (Err (TooLarge name)) × IsSomeAnd (stands before) (SameFiles now)
 IsAnswer before now names (Err TooManyFiles) = ⊥
@@ -58,7 +58,7 @@ IsAnswer before now names (Err OutOfMemory) = Unit {0}
 -- disk is honest: what lay in them when the call began, and what lies in them as it ends.
 abbrev pub IsReason : List (List ℕ) → Type 0 → Image → Image → OpenFault → Type 0
 IsReason given honest before now TooManyFiles = AreTooMany given
-IsReason given honest before now BadJournal = AreFew given × (honest → stands before ≡ None)
+IsReason given honest before now BadJournal = AreFew given × (honest → (stands before ≡ None) × (now ≡ before))
 IsReason given honest before now (TooLarge name) = AreFew given
     × (honest → (names : List (List ℕ)) × AreSorted (with_archives given) names × (first_large now names ≡ Some name) × IsSomeAnd (stands before) (SameFiles now))
 IsReason given honest before now Device = AreFew given

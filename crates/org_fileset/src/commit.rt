@@ -1,5 +1,5 @@
 //! A record made to count: written to the journal, laid over its files, and done with.
-ghost use Rattle.std.specs.Prelude.{◌≡◌, ◌≢◌, ◌≤◌, ◌↔◌, ◌++◌, List, ℕ, Some, length, IsTrue, OnOk, OnErr};
+ghost use Rattle.std.specs.Prelude.{◌≡◌, ◌≢◌, ◌≤◌, ◌↔◌, ◌∷◌, ◌++◌, List, ℕ, Some, length, drop, IsTrue, OnOk, OnErr};
 ghost use Rattle.org_disk.specs.Disk.{HasRisen, Passes, LeavesOnly};
 ghost use Rattle.org_disk.specs.Names.{journal_name};
 ghost use Rattle.org_journal.specs.Gate.{HasClosedGate};
@@ -21,6 +21,7 @@ pub fn replay<D: Disk>(disk: &mut D, journal: &FileName, entries: &[Entry]) -> R
     ensures any_moment { D.honest disk.old → (can : IsReplayable entries.now (D.files disk.old)) →
         Passes (D.moment disk.old) (D.moment disk.new) (D.left_since disk.old) (D.left_since disk.new) (StandsFor can.texts) }
     ensures gate { OnOk result (D.honest disk.old → HasClosedGate (D.files disk.new journal_name)) }
+    ensures journal { OnOk result (D.honest disk.old → contents (D.files disk.new) journal_name ≡ 0 ∷ drop 1 (contents (D.files disk.old) journal_name)) }
     ensures contents { OnOk result (D.honest disk.old → SameFiles (contents (D.files disk.new)) (replayed entries.now (contents (D.files disk.old)))) }
     ensures rest { OnOk result (D.honest disk.old → IsReplayable entries.now (D.files disk.old) → IsAtRest (D.files disk.new)) }
     ensures fit { OnErr result (D.honest disk.old → IsReplayable entries.now (D.files disk.old) → IsFit (D.files disk.new)) }

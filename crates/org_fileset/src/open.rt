@@ -7,7 +7,7 @@ ghost use Rattle.org_journal.specs.Gate.{HasClosedGate};
 ghost use Rattle.org_journal.specs.Standing.{SameFiles, IsFit, stands, contents};
 ghost use Rattle.org_fileset.specs.Names.{with_archives, AreSorted, AreFew, IsGiven};
 ghost use Rattle.org_fileset.specs.Opening.{AreAllNames, AreSetNames, HaveSizes, IsAnswer, fault_of};
-ghost use Rattle.org_fileset.specs.Recovery.{EachStands, StandsAsBefore};
+ghost use Rattle.org_fileset.specs.Recovery.{EachStands, StandsAsBefore, closed_journal};
 ghost use Rattle.org_fileset.specs.Replay.{IsAtRest};
 ghost use Rattle.org_fileset.specs.declared.open.OpenFault.TheVariants.{OutOfMemory, Device};
 
@@ -129,6 +129,7 @@ pub fn make_ready<D: Disk>(
     requires { journal.now ≡ journal_name }
     ensures gate { OnOk result (D.honest disk.old → HasClosedGate (D.files disk.new journal_name)) }
     ensures contents { OnOk result (D.honest disk.old → IsSomeAnd (stands (contents (D.files disk.old))) (SameFiles (contents (D.files disk.new)))) }
+    ensures journal { OnOk result (D.honest disk.old → contents (D.files disk.new) journal_name ≡ closed_journal (contents (D.files disk.old) journal_name)) }
     ensures answer { D.honest disk.old → IsAnswer (contents (D.files disk.old)) (contents (D.files disk.new)) names.now result }
     ensures only { IsErrOf result OpenFault.TooManyFiles → ⊥ }
     ensures any_moment { D.honest disk.old → IsFit (D.files disk.old) → EachStands (D.files disk.old) →

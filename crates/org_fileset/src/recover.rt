@@ -5,7 +5,7 @@ ghost use Rattle.org_disk.specs.Names.{journal_name};
 ghost use Rattle.org_journal.specs.Gate.{HasClosedGate};
 ghost use Rattle.org_journal.specs.Standing.{SameFiles, IsFit, stands, contents};
 ghost use Rattle.org_fileset.specs.Replay.{IsAtRest};
-ghost use Rattle.org_fileset.specs.Recovery.{EachStands, StandsAsBefore};
+ghost use Rattle.org_fileset.specs.Recovery.{EachStands, StandsAsBefore, closed_journal};
 
 use crate::commit::replay;
 use org_disk::{Disk, FileName};
@@ -24,7 +24,9 @@ pub fn recover<D: Disk>(alloc: Global, disk: &mut D, journal: &FileName) -> Resu
     requires { journal.now ≡ journal_name }
     ensures gate { OnOk result (D.honest disk.old → HasClosedGate (D.files disk.new journal_name)) }
     ensures contents { OnOk result (D.honest disk.old → IsSomeAnd (stands (contents (D.files disk.old))) (SameFiles (contents (D.files disk.new)))) }
+    ensures journal { OnOk result (D.honest disk.old → contents (D.files disk.new) journal_name ≡ closed_journal (contents (D.files disk.old) journal_name)) }
     ensures bad { IsErrOf result FindFault.BadJournal → D.honest disk.old → (stands (contents (D.files disk.old)) ≡ None) }
+    ensures unchanged { IsErrOf result FindFault.BadJournal → D.honest disk.old → contents (D.files disk.new) ≡ contents (D.files disk.old) }
     ensures any_moment { D.honest disk.old → IsFit (D.files disk.old) → EachStands (D.files disk.old) →
         LeavesOnly (D.moment disk.old) (D.moment disk.new) (D.left_since disk.old) (D.left_since disk.new) (StandsAsBefore (D.files disk.old)) }
     ensures fit { D.honest disk.old → IsFit (D.files disk.old) → EachStands (D.files disk.old) → IsFit (D.files disk.new) }

@@ -2,12 +2,13 @@
 ghost use Rattle.std.specs.Prelude.{◌≡◌, ◌≢◌, ◌≤◌, ◌⊎◌, ◌↔◌, List, ℕ, None, true, false, length, IsTrue, IsFalse, IsSomeAnd, IfOk, IfErr, OnOk, OnErr, IsErrOf};
 ghost use Rattle.std.specs.List.{All, Contains};
 ghost use Rattle.org_disk.specs.Disk.{HasRisen, Passes, LeavesOnly, AreImages};
+ghost use Rattle.org_disk.specs.Names.{journal_name};
 ghost use Rattle.org_splice.specs.Texts.{IsEditOf};
 ghost use Rattle.org_journal.specs.Standing.{IsFit, SameFiles, stands, contents};
 ghost use Rattle.org_fileset.specs.Entries.{changed};
 ghost use Rattle.org_fileset.specs.Names.{with_archives, AreSorted, AreFew, IsGiven, first_large};
 ghost use Rattle.org_fileset.specs.Opening.{IsReason, disk_in};
-ghost use Rattle.org_fileset.specs.Recovery.{EachStands, StandsAsBefore};
+ghost use Rattle.org_fileset.specs.Recovery.{EachStands, StandsAsBefore, closed_journal};
 ghost use Rattle.org_fileset.specs.Replay.{IsAtRest};
 ghost use Rattle.org_fileset.specs.Set.{IsWithOrWithout};
 
@@ -57,6 +58,7 @@ impl<D: Disk> FileSet<D> {
         ensures names { IfOk result (λ set. AreFew names.items × AreSorted (with_archives names.items) set.names) }
         ensures working { IfOk result (λ set. set.broken ≡ false) }
         ensures contents { IfOk result (λ set. D.honest disk → IsSomeAnd (stands (contents (D.files disk))) (SameFiles (contents (D.files set.disk)))) }
+        ensures journal { IfOk result (λ set. D.honest disk → contents (D.files set.disk) journal_name ≡ closed_journal (contents (D.files disk) journal_name)) }
         ensures sizes { IfOk result (λ set. D.honest disk → first_large (contents (D.files set.disk)) set.names ≡ None) }
         ensures refused { IfErr result (λ refused. IsReason names.items (D.honest disk) (contents (D.files disk)) (contents (D.files refused.disk)) refused.fault) }
         ensures unused { IfErr result (λ refused. refused.fault ≡ OpenFault.TooManyFiles → refused.disk ≡ disk) }

@@ -1,11 +1,11 @@
-use Rattle.std.proofs.Common.{◌≡◌, ◌≢◌, inl, inr, ◌≤◌, ◌∷◌, ℕ, List, length, drop, sym, ◌∙◌, subst, arith}
-use Rattle.org_disk.specs.Disk.{IsStable}
+use Rattle.std.proofs.Common.{◌≡◌, ◌≢◌, inl, inr, ◌≤◌, ◌∷◌, ℕ, List, length, drop, sym, ◌∙◌, ap, subst, arith}
+use Rattle.org_disk.specs.Disk.{FileState, IsStable}
 use Rattle.org_disk.specs.Names.{journal_name}
 use Rattle.org_disk.proofs.Moments.{passes_as, passes_then}
 use Rattle.org_journal.specs.Standing.{contents}
-use Rattle.org_fileset.proofs.Takes.{name_cases}
+use Rattle.org_fileset.proofs.Takes.{name_cases, journal_unnamed}
 use Rattle.org_fileset.proofs.Stands.{replayed-takes}
-use Rattle.org_fileset.proofs.Armed.{replays_then, taking_stands, replayable_armed, still_open, still_replayable, IsDone, closing_stands, rest_after, open_long, on_err_always, on_ok_both}
+use Rattle.org_fileset.proofs.Armed.{replays_then, taking_stands, replayable_armed, still_open, still_replayable, IsDone, closing_stands, rest_after, open_long, on_err_always, on_ok_one, on_ok_both}
 use Rattle.org_fileset.proofs.commit.replay.Goals as goal
 
 pub returns-in_err-lay_all-clause-any_moment : goal.returns-in_err-lay_all-clause-any_moment
@@ -118,3 +118,15 @@ returns-clause-rest g c = on_ok_both c.close_gate.result c.close_gate.ensures.st
     let R : List ℕ → Type 0 = λ n. (other : List ℕ) → other ≢ n → after other ≡ last other in
     rest_after last after (drop 1 (last journal_name).content) (subst P name_is (only h2)) (subst Q name_is (zero h2))
     (subst R name_is (c.close_gate.ensures.others h2)) (λ name apart. stable name))
+
+pub returns-clause-journal : goal.returns-clause-journal
+returns-clause-journal g c = on_ok_one c.close_gate.result c.close_gate.ensures.content (λ zero honest.
+    let h1 = c.lay_all.ensures.honest.1 honest in
+    let h2 = c.sync_all.ensures.honest.1 h1 in
+    let last = g.D.Disk.files c.sync_all.new.disk in
+    let after = g.D.Disk.files c.close_gate.new.disk in
+    let none = journal_unnamed c.args.entries.now (c.requires.layable honest).each in
+    let same : last journal_name ≡ g.D.Disk.files c.args.disk.now journal_name =
+    c.sync_all.ensures.others h1 journal_name none ∙ c.lay_all.ensures.others honest journal_name none in
+    let Q : List ℕ → Type 0 = λ n. (after n).content ≡ 0 ∷ drop 1 (last n).content in
+    subst Q c.requires.journal (zero h2) ∙ ap (λ (f : FileState). 0 ∷ drop 1 f.content) same)

@@ -54,6 +54,16 @@ returns-in_err-record-clause-bad g c bad honest =
     let found = subst (λ (e : FindFault). Finds (contents mid) (Err e)) fault (c.in_err-record.ensures.found h1) in
     ap stands (sym is.same ∙ ap (λ (f : List ℕ → FileState). contents f) (c.find.ensures.same h1)) ∙ found.1
 
+pub returns-in_err-record-clause-unchanged : goal.returns-in_err-record-clause-unchanged
+returns-in_err-record-clause-unchanged g c bad honest =
+    let old = g.D.Disk.files c.args.disk.now in
+    let mid = g.D.Disk.files c.sync.new.self in
+    let own = g.met.D.Disk.content_is_image c.args.disk.now journal_name honest in
+    let h1 = c.sync.ensures.honest.1 honest in
+    let is : IsSynced old (g.D.Disk.files c.find.new.disk) = synced old mid (g.D.Disk.files c.find.new.disk) own (λ name. g.met.D.Disk.content_is_image c.sync.new.self name h1)
+    (subst (λ (n : List ℕ). Changes sync n old mid (Ok tt)) c.requires (c.in_ok-sync.ensures.effect honest)) (c.find.ensures.same h1) in
+    is.same
+
 pub returns-in_err-record-clause-any_moment : goal.returns-in_err-record-clause-any_moment
 returns-in_err-record-clause-any_moment g c honest fit each =
     let old = g.D.Disk.files c.args.disk.now in
