@@ -11,7 +11,7 @@ use Rattle.org_fileset.specs.Replay.{EachLaysTo, LeavesLaid, Lays}
 
 module _ {patches : List (ℕ × List ℕ)} {final : ℕ} {to : List ℕ} where
   -- what a call may leave of the file, where its effect keeps that it takes the patches
-  may_leave : (effect : FileState → FileState) (file : FileState) → EachLaysTo patches final to file → EachLaysTo patches final to (effect file)
+  pub may_leave : (effect : FileState → FileState) (file : FileState) → EachLaysTo patches final to file → EachLaysTo patches final to (effect file)
       → (text : List ℕ) → MayLeave effect file text → LayTo patches final text to
   may_leave effect file before after text left = ⊎_elim (before text) (after text) left
 

@@ -10,3 +10,4 @@ mod Changes
 mod Recorded
 pub mod Recovering
 mod Committing
+mod Kept

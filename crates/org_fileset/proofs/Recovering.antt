@@ -16,7 +16,7 @@ use Rattle.org_journal.specs.declared.record.Version.TheVariants.{Two}
 use Rattle.org_journal.specs.Record.{is_named, IsEntry, IsWellFormed}
 use Rattle.org_journal.specs.Standing.{Image, SameFiles, StandsFor, IsArmed, IsFit, OthersStable, stands, all_fit, replayed, contents}
 use Rattle.org_fileset.specs.Recovery.{EachStands, StandsAsBefore}
-use Rattle.org_fileset.specs.Replay.{TakesTo, IsLayable, AreLayable, IsOpenOver, IsReplayable, IsAtRest}
+use Rattle.org_fileset.specs.Replay.{TakesTo, IsLayable, AreLayable, EachTakes, IsOpenOver, IsReplayable, IsAtRest}
 use Rattle.org_fileset.proofs.Takes.{name_cases}
 use Rattle.org_fileset.proofs.Stands.{stands_open, stands_closed, open_stands, takes-replayed}
 
@@ -169,6 +169,15 @@ module _ (files : List ℕ → FileState) (own : (name : List ℕ) → IsImage (
   }
 
   -- and the other
+  pub armed_takes : (armed : IsArmed files) → EachTakes entries armed.texts files
+  armed_takes armed = record {
+    each = λ name not text image.
+        let whole = with_bytes files name text in
+        subst (λ (t : List ℕ). TakesTo entries name t (armed.texts name)) (here_is name text)
+        (open_stands entries armed.texts whole (ap is_open (journal_is name text not) ∙ over.opened)
+        (ap (λ (l : List ℕ). journal_at (drop 1 l)) (journal_is name text not) ∙ over.found) (armed.same whole (one_image name text image)) name not);
+  }
+
   pub armed_replayable : IsArmed files → IsReplayable entries files
   armed_replayable armed =
       let one : Some armed.entries ≡ Some entries = sym armed.found ∙ over.found in
@@ -176,13 +185,7 @@ module _ (files : List ℕ → FileState) (own : (name : List ℕ) → IsImage (
       record {
         others = λ name not none. armed.others name not (ap (λ (l : List Entry). is_named name l) same ∙ none);
         texts = armed.texts;
-        takes = record {
-          each = λ name not text image.
-              let whole = with_bytes files name text in
-              subst (λ (t : List ℕ). TakesTo entries name t (armed.texts name)) (here_is name text)
-              (open_stands entries armed.texts whole (ap is_open (journal_is name text not) ∙ over.opened)
-              (ap (λ (l : List ℕ). journal_at (drop 1 l)) (journal_is name text not) ∙ over.found) (armed.same whole (one_image name text image)) name not);
-        };
+        takes = armed_takes armed;
       }
 
   pub fit_replayable : IsFit files → IsReplayable entries files

@@ -4,3 +4,4 @@ pub mod Set
 pub mod Recovery
 pub mod Names
 pub mod Opening
+pub mod Laws

@@ -4,6 +4,7 @@
 mod commit;
 mod entries;
 mod fault;
+pub mod laws;
 mod lay;
 mod names;
 mod open;

@@ -1,0 +1,145 @@
+-- One call on a file of a record, while the journal stands open with it.
+use Rattle.std.proofs.Common.{◌≡◌, ◌≢◌, inl, inr, ℕ, ◌≤◌, List, length, drop, true, Option, Some, None, Result, refl, sym, ◌∙◌, ap, subst}
+use Rattle.std.specs.Prelude.{slice_get, IsSomeAnd}
+use Rattle.std.specs.List.{Contains}
+use Rattle.std.specs.Option.{option_map}
+use Rattle.std.proofs.lemmas.Option.{slice_get_read, slice_get-map}
+use Rattle.org_disk.specs.Disk.{FileState, IsStable, AreImages, AreLeftBy, Changes, write, cut, sync}
+use Rattle.org_disk.specs.Names.{journal_name}
+use Rattle.org_disk.specs.declared.disk.DiskFault.{DiskFault}
+use Rattle.org_disk.proofs.Images.{only_image, stable_is, left_after}
+use Rattle.org_splice.specs.Patches.{AreWellFormed, Fit, LayTo, IsPartlyLaid, lay}
+use Rattle.org_splice.specs.Texts.{EditedText}
+use Rattle.org_splice.proofs.Again.{LayTo-twice, LayTo-partly}
+use Rattle.org_journal.specs.declared.record.Entry.{Entry}
+use Rattle.org_journal.specs.declared.record.Patch.{Patch}
+use Rattle.org_journal.specs.Gate.{is_open}
+use Rattle.org_journal.specs.Reading.{journal_at}
+use Rattle.org_journal.specs.Record.{pairs, is_named}
+use Rattle.org_journal.specs.Standing.{Image, SameFiles, StandsFor, all_fit, stands, contents}
+use Rattle.org_fileset.specs.Entries.{changed}
+use Rattle.org_fileset.specs.Replay.{EachLaysTo, TakesTo, AreLayable, EachTakes, IsOpenOver}
+use Rattle.org_fileset.specs.Set.{IsWithOrWithout}
+use Rattle.org_fileset.specs.Laws.{IsArmedFor, KeepsTexts, IsEachOldOrNew}
+use Rattle.org_fileset.proofs.Laying.{may_leave, takes_write, takes_cut}
+use Rattle.org_fileset.proofs.Takes.{name_cases, entry-TakesTo, named_apart, layable_at}
+use Rattle.org_fileset.proofs.Replaying.{not_journal, entry_takes}
+use Rattle.org_fileset.proofs.Stands.{stands_open, open_stands, all_fit-takes}
+use Rattle.org_fileset.proofs.Recovering.{armed_takes, formed_layable}
+
+-- Laying again
+
+pub lay_twice : (patches : List (ℕ × List ℕ)) (final : ℕ) (text : List ℕ) → AreWellFormed patches final → Fit patches final (length text)
+    → LayTo patches final (lay patches final text) (lay patches final text)
+lay_twice patches final text formed fit = LayTo-twice patches final text (lay patches final text) formed (record { fit = fit; makes = refl })
+
+pub lay_partly : (patches : List (ℕ × List ℕ)) (final : ℕ) (text part : List ℕ) → AreWellFormed patches final → Fit patches final (length text)
+    → IsPartlyLaid patches final text part → LayTo patches final part (lay patches final text)
+lay_partly patches final text part formed fit partly = LayTo-partly patches final text part (lay patches final text) formed partly (record { fit = fit; makes = refl })
+
+-- One call
+
+module _ (entries : List Entry) (texts : Image) (files : List ℕ → FileState) (is : IsArmedFor entries texts files) (own : AreImages files (contents files))
+    (entry : Entry) (member : Contains entries entry) where
+  at : slice_get entries member.0 ≡ Some entry
+  at = slice_get_read entries (length entries) member.0 entry refl member.1 (sym member.2)
+
+  layable : AreLayable entries
+  layable = formed_layable entries is.formed
+
+  over : IsOpenOver entries files
+  over = record {
+    stable = is.armed.stable;
+    opened = is.armed.opened;
+    found = is.armed.found ∙ ap (λ (l : List Entry). let o : Option (List Entry) = Some l in o) is.same_entries;
+  }
+
+  stand : (image : Image) → AreImages files image → StandsFor texts image
+  stand image left = subst (λ (t : Image). StandsFor t image) is.same_texts (is.armed.same image left)
+
+  fit : all_fit entries (contents files) ≡ true
+  fit = all_fit-takes entries (contents files) texts layable (open_stands entries texts (contents files) over.opened over.found (stand (contents files) own))
+
+  takes : EachTakes entries texts files
+  takes = subst (λ (t : Image). EachTakes entries t files) is.same_texts (armed_takes files own entries layable over fit is.armed)
+
+  -- of its file the entry makes one text, whatever a stop leaves of it
+  pub here : EachLaysTo (pairs entry.patches) entry.length (texts entry.name) (files entry.name)
+  here = entry_takes entries texts files member.0 entry layable at takes
+
+  pub formed_here : AreWellFormed (pairs entry.patches) entry.length
+  formed_here = (layable_at entries member.0 entry layable.each at).patches
+
+  -- a call that keeps it so
+  module _ (effect : FileState → FileState) (after : EachLaysTo (pairs entry.patches) entry.length (texts entry.name) (effect (files entry.name))) where
+    apart : entry.name ≢ journal_name
+    apart = not_journal entries member.0 entry layable at
+
+    left_stands : (image : Image) → AreLeftBy effect entry.name files image → StandsFor texts image
+    left_stands image left =
+        let journal : image journal_name ≡ (files journal_name).content = only_image over.stable (image journal_name) (left.others journal_name (λ same. apart (sym same))) in
+        stands_open entries texts image layable (ap is_open journal ∙ over.opened) (ap (λ (l : List ℕ). journal_at (drop 1 l)) journal ∙ over.found)
+        (λ name not. elim (name_cases name entry.name) [
+          | inl same ↦ subst (λ (n : List ℕ). TakesTo entries n (image n) (texts n)) (sym same.0)
+              (entry-TakesTo entries member.0 entry (image entry.name) (texts entry.name) layable.apart at (may_leave effect (files entry.name) here after (image entry.name) left.here))
+          | inr other ↦ takes.each name not (image name) (left.others name other.0)
+        ])
+
+    armed_after : (new : List ℕ → FileState) (result : Result (Unit {0}) DiskFault) → Changes effect entry.name files new result → IsArmedFor entries texts new
+    armed_after new result changes =
+        let same : new journal_name ≡ files journal_name = changes.others journal_name (λ name. apart (sym name)) in
+        record {
+          armed = record {
+            stable = subst IsStable (sym same) over.stable;
+            opened = ap (λ (f : FileState). is_open f.content) same ∙ over.opened;
+            entries = entries;
+            found = ap (λ (f : FileState). journal_at (drop 1 f.content)) same ∙ over.found;
+            others = λ name not none. subst IsStable (sym (changes.others name (named_apart entries member.0 entry name none at)))
+                (is.armed.others name not (ap (λ (l : List Entry). is_named name l) is.same_entries ∙ none));
+            texts = texts;
+            same = λ image left. left_stands image (left_after changes image left);
+          };
+          same_entries = refl;
+          same_texts = refl;
+          formed = is.formed;
+        }
+
+    pub keeps : KeepsTexts effect entry.name entries texts files
+    keeps = record { any_moment = left_stands; after = armed_after }
+
+pub keeps_write : (entries : List Entry) (texts : Image) (files : List ℕ → FileState) (entry : Entry) (patch : Patch) → IsArmedFor entries texts files → AreImages files (contents files)
+    → Contains entries entry → Contains entry.patches patch → patch.from ≤ length (contents files entry.name) → KeepsTexts (write patch.from patch.bytes) entry.name entries texts files
+keeps_write entries texts files entry patch is own member among within =
+    let pair : Patch → ℕ × List ℕ = λ p. (p.from, p.bytes) in
+    let found : slice_get (pairs entry.patches) among.0 ≡ Some (patch.from, patch.bytes) =
+    slice_get-map pair entry.patches among.0 ∙ ap (λ (o : Option Patch). option_map pair o) (slice_get_read entry.patches (length entry.patches) among.0 patch refl among.1 (sym among.2)) in
+    keeps entries texts files is own entry member (write patch.from patch.bytes)
+    (takes_write (files entry.name) among.0 patch.from patch.bytes (formed_here entries texts files is own entry member) found within (own entry.name) (here entries texts files is own entry member))
+
+pub keeps_cut : (entries : List Entry) (texts : Image) (files : List ℕ → FileState) (entry : Entry) → IsArmedFor entries texts files → AreImages files (contents files)
+    → Contains entries entry → entry.length ≤ length (contents files entry.name) → KeepsTexts (cut entry.length) entry.name entries texts files
+keeps_cut entries texts files entry is own member within =
+    keeps entries texts files is own entry member (cut entry.length)
+    (takes_cut (files entry.name) (formed_here entries texts files is own entry member) within (own entry.name) (here entries texts files is own entry member))
+
+pub keeps_sync : (entries : List Entry) (texts : Image) (files : List ℕ → FileState) (entry : Entry) → IsArmedFor entries texts files → AreImages files (contents files)
+    → Contains entries entry → KeepsTexts sync entry.name entries texts files
+keeps_sync entries texts files entry is own member =
+    let now = here entries texts files is own entry member in
+    keeps entries texts files is own entry member sync
+    (λ text image. subst (λ (t : List ℕ). LayTo (pairs entry.patches) entry.length t (texts entry.name)) (sym (only_image (stable_is (files entry.name).content) text image))
+    (now (files entry.name).content (own entry.name)))
+
+-- Each file by itself
+
+old_or_new : (changes : List (List ℕ × EditedText)) (files : Image) (o : Option Image) → IsSomeAnd o (λ found. SameFiles found files) → IsSomeAnd o (IsEachOldOrNew changes files)
+old_or_new changes files None same = same
+old_or_new changes files (Some found) same = λ name not. inl (same name not)
+
+new_or_old : (changes : List (List ℕ × EditedText)) (files : Image) (o : Option Image) → IsSomeAnd o (λ found. SameFiles found (changed changes files)) → IsSomeAnd o (IsEachOldOrNew changes files)
+new_or_old changes files None same = same
+new_or_old changes files (Some found) same = λ name not. inr (same name not)
+
+pub each_old_or_new : (changes : List (List ℕ × EditedText)) (files image : Image) → IsWithOrWithout changes files image → IsSomeAnd (stands image) (IsEachOldOrNew changes files)
+each_old_or_new changes files image (inl before) = old_or_new changes files (stands image) before
+each_old_or_new changes files image (inr after) = new_or_old changes files (stands image) after

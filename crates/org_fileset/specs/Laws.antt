@@ -1,0 +1,28 @@
+-- The words of the laws.
+use Rattle.std.specs.Prelude.{◌≡◌, ◌≢◌, ◌⊎◌, ℕ, List, Result}
+use Rattle.org_disk.specs.Disk.{FileState, AreLeftBy, Changes}
+use Rattle.org_disk.specs.Names.{journal_name}
+use Rattle.org_disk.specs.declared.disk.DiskFault.{DiskFault}
+use Rattle.org_splice.specs.Texts.{EditedText}
+use Rattle.org_journal.specs.declared.record.Entry.{Entry}
+use Rattle.org_journal.specs.declared.record.Version.TheVariants.{Two}
+use Rattle.org_journal.specs.Record.{IsWellFormed}
+use Rattle.org_journal.specs.Standing.{Image, StandsFor, IsArmed}
+use Rattle.org_fileset.specs.Entries.{changed}
+
+-- The journal stands open on the disk with this record, and whatever a stop leaves stands for these texts.
+pub record IsArmedFor (entries : List Entry) (texts : Image) (files : List ℕ → FileState) : Type 0 where
+  pub armed : IsArmed files
+  pub same_entries : armed.entries ≡ entries
+  pub same_texts : armed.texts ≡ texts
+  pub formed : IsWellFormed Two entries
+
+-- A call of this effect on the file of one name keeps that: whatever a stop leaves within the call stands for the texts,
+-- and after the call, also where it failed, the journal stands open as before, and what a stop leaves stands for them.
+pub record KeepsTexts (effect : FileState → FileState) (name : List ℕ) (entries : List Entry) (texts : Image) (files : List ℕ → FileState) : Type 0 where
+  pub any_moment : (image : Image) → AreLeftBy effect name files image → StandsFor texts image
+  pub after : (new : List ℕ → FileState) (result : Result (Unit {0}) DiskFault) → Changes effect name files new result → IsArmedFor entries texts new
+
+-- each of the files by itself is as it was, or as the changes make it
+abbrev pub IsEachOldOrNew : List (List ℕ × EditedText) → Image → Image → Type 0
+IsEachOldOrNew changes files texts = (name : List ℕ) → name ≢ journal_name → (texts name ≡ files name) ⊎ (texts name ≡ changed changes files name)
