@@ -1,4 +1,4 @@
-use Rattle.std.proofs.Common.{ℕ, ◌+◌, ◌++◌, Vec, Global, ap, ◌∙◌}
+use Rattle.std.proofs.Common.{ℕ, ◌++◌, Vec, Global, ap, ◌∙◌}
 use Rattle.std.specs.Prelude.{replicate}
 use Rattle.org_outline.proofs.Shifting.{shifting_none, shifting_plain, shifting_heading, shifting_all}
 use Rattle.org_outline.proofs.moves.shift.Goals as goal
