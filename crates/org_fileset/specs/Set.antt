@@ -1,11 +1,12 @@
 -- What contracts see of a set of files.
 use Rattle.std.specs.Prelude.{◌≡◌, ◌≢◌, ◌⊎◌, ℕ, ◌≤◌, Bool, false, List, length}
-use Rattle.std.specs.List.{AllByRecursion}
+use Rattle.std.specs.List.{All, AllByRecursion, Contains}
 use Rattle.org_disk.specs.Disk.{FileState}
 use Rattle.org_disk.specs.Names.{journal_name}
-use Rattle.org_splice.specs.Texts.{EditedText}
+use Rattle.org_splice.specs.Texts.{EditedText, IsEditOf}
 use Rattle.org_journal.specs.Standing.{Image, StandsFor}
 use Rattle.org_fileset.specs.Entries.{changed}
+use Rattle.org_fileset.specs.Names.{limit}
 use Rattle.org_journal.specs.Gate.{HasClosedGate}
 
 -- A set of files: its disk, the names of its files, and whether a call of the disk failed.
@@ -25,3 +26,10 @@ pub record IsSound (journal : List ℕ) (names : List (List ℕ)) (broken : Bool
 -- An image stands for the files as they are, or as the changes make them.
 abbrev pub IsWithOrWithout : List (List ℕ × EditedText) → Image → Image → Type 0
 IsWithOrWithout changes files image = StandsFor files image ⊎ StandsFor (changed changes files) image
+
+-- Changes that may be committed to a set of these names over these files: the names are the set's, and the texts are
+-- edits of what the files hold, and within the limit.
+pub record AreCommittable (names : List (List ℕ)) (files : Image) (changes : List (List ℕ × EditedText)) : Type 0 where
+  pub named : All (λ change. Contains names change.0) changes
+  pub small : All (λ change. length change.1.bytes ≤ limit) changes
+  pub edits : All (λ change. IsEditOf (files change.0) change.1) changes

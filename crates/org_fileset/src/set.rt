@@ -184,7 +184,11 @@ impl<D: Disk> FileSet<D> {
 }
 
 // The bytes of a file of a disk.
-fn read_file<D: Disk>(alloc: Global, disk: &mut D, name: &FileName) -> Result<Vec<u8>, SetFault>
+pub(crate) fn read_file<D: Disk>(
+    alloc: Global,
+    disk: &mut D,
+    name: &FileName,
+) -> Result<Vec<u8>, SetFault>
     ensures text { IfOk result (λ bytes. D.honest disk.old → bytes.items ≡ contents (D.files disk.old) name.now) }
     ensures same { D.honest disk.old → D.files disk.new ≡ D.files disk.old }
     ensures any_moment { D.honest disk.old → Passes (D.moment disk.old) (D.moment disk.new) (D.left_since disk.old) (D.left_since disk.new) (AreImages (D.files disk.old)) }

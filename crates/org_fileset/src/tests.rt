@@ -1,11 +1,17 @@
 //! Sets of files over a disk in memory.
-ghost use Rattle.std.specs.Prelude.{IfOk};
+ghost use Rattle.std.specs.Prelude.{IfOk, OnOk};
 ghost use Rattle.std.specs.List.{All};
+ghost use Rattle.org_disk.specs.Memory.{memory_files};
+ghost use Rattle.org_journal.specs.Standing.{contents};
 ghost use Rattle.org_fileset.specs.Names.{IsGiven};
+ghost use Rattle.org_fileset.specs.Set.{AreCommittable};
 
+use crate::set::{LIMIT, read_file};
 use crate::{FileSet, OpenFault, OpenRefused, SetFault};
 use org_disk::{Disk, FileName, MemoryDisk, Outcome};
+use org_splice::{ChangeSet, Text};
 use std::alloc::Global;
+use std::process::Abort;
 use std::test::Fail;
 
 const TEXT: [u8; 16] = *b"* TODO Call Ann\n";
@@ -19,14 +25,70 @@ const ARMED: [u8; 75] = [
     0x2a, 0x20, 0x54, 0x4f, 0x44, 0x4f, 0x20, 0x43, 0x61, 0x6c, 0x6c, 0x20, 0x41, 0x6e, 0x6e, 0x0a,
 ];
 
+// The same in version 1.
+const OLD: [u8; 71] = [
+    0x01, 0x4f, 0x52, 0x47, 0x4a, 0x01, 0, 0, 0, 0, 0, 0, 0, 0, 0, 0x37, // header
+    0, 0, 0, 1, 0, 9, 0x69, 0x6e, 0x62, 0x6f, 0x78, 0x2e, 0x6f, 0x72, 0x67, // inbox.org
+    0, 0, 0, 0, 0, 0, 0, 0, 0, 0, 0, 0, 0, 0, 0, 0x10, 0, 0, 0, 0, 0, 0, 0, 0x10, // patch
+    0x2a, 0x20, 0x54, 0x4f, 0x44, 0x4f, 0x20, 0x43, 0x61, 0x6c, 0x6c, 0x20, 0x41, 0x6e, 0x6e, 0x0a,
+];
+
+const OUTCOMES: [Outcome; 7] = [
+    Outcome::All,
+    Outcome::None,
+    Outcome::Front(0),
+    Outcome::Front(1),
+    Outcome::Fill(0),
+    Outcome::Fill(1),
+    Outcome::Fill(0x55),
+];
+
+// Bytes in the place of others: of which file of the set, where, and how many give way.
+#[derive(Clone, Copy)]
+struct Edit {
+    file: usize,
+    at: usize,
+    removed: usize,
+    bytes: &'static [u8],
+}
+
+// A heading of a.org gets another title.
+const RENAME: Edit = Edit {
+    file: 0,
+    at: 2,
+    removed: 1,
+    bytes: b"Better",
+};
+
+// The first heading of inbox.org.
+const CAPTURE: Edit = Edit {
+    file: 2,
+    at: 0,
+    removed: 0,
+    bytes: b"* TODO Call Ann\n",
+};
+
+// A disk with a.org, and a journal of these bytes.
+fn with_journal(alloc: Global, journal: &[u8]) -> Result<MemoryDisk, Fail> {
+    let mut disk = MemoryDisk::new(alloc);
+    disk.set(&FileName::journal_name(alloc)?, journal)?;
+    disk.set(&FileName::new(alloc, "a.org")?, b"* A\n")?;
+    Ok(disk)
+}
+
+// The bytes with another one at this place.
+fn with_byte(alloc: Global, bytes: &[u8], at: usize, byte: u8) -> Result<Vec<u8>, Fail> {
+    let mut changed = bytes.to_vec(alloc)?;
+    if at < changed.len() {
+        changed[at] = byte;
+    }
+    Ok(changed)
+}
+
 // A disk that was stopped while the record was laid: some of the text is there.
 fn stopped(alloc: Global, gate: u8) -> Result<MemoryDisk, Fail> {
-    let mut disk = MemoryDisk::new(alloc);
-    let mut journal = ARMED.to_vec(alloc)?;
-    journal[0] = gate;
-    disk.set(&FileName::journal_name(alloc)?, &journal)?;
+    let mut disk = with_journal(alloc, &with_byte(alloc, &ARMED, 0, gate)?)?;
     disk.set(&FileName::new(alloc, "inbox.org")?, b"* TO")?;
-    disk.set(&FileName::new(alloc, "a.org")?, b"* A\n")?;
     Ok(disk)
 }
 
@@ -61,6 +123,88 @@ fn text_of(alloc: Global, set: &mut FileSet<MemoryDisk>, name: &str) -> Result<V
     Ok(set.read(&FileName::new(alloc, name)?)?)
 }
 
+fn journal_of(alloc: Global, set: &mut FileSet<MemoryDisk>) -> Result<Vec<u8>, Fail> {
+    Ok(set.read(&FileName::journal_name(alloc)?)?)
+}
+
+// Adds an edit of what a file holds to the changes.
+fn put_edit(
+    alloc: Global,
+    set: &mut FileSet<MemoryDisk>,
+    changes: &mut ChangeSet<FileName>,
+    edit: &Edit,
+) -> Result<Result<(), SetFault>, Fail>
+    requires { AreCommittable set.old.names (contents (memory_files set.old.disk)) changes.old }
+    ensures { IfOk result (λ done. OnOk done (AreCommittable set.new.names (contents (memory_files set.new.disk)) changes.new)) }
+{
+    if edit.file >= set.names().len() {
+        return Err(Fail::from("no such file"));
+    }
+    let name = set.names()[edit.file].clone()?;
+    let bytes = match set.read(&name) {
+        Ok(bytes) => bytes,
+        Err(fault) => return Ok(Err(fault)),
+    };
+    let at = edit.at.min(bytes.len());
+    let removed = edit.removed.min(bytes.len() - at);
+    let mut text = Text::new(bytes);
+    text.splice(at, removed, edit.bytes)?;
+    if text.bytes().len() > LIMIT {
+        return Err(Fail::from("too long"));
+    }
+    changes.put(name, text)?;
+    Ok(Ok(()))
+}
+
+// Commits edits of what the files hold.
+fn commit(
+    alloc: Global,
+    set: &mut FileSet<MemoryDisk>,
+    edits: &[Edit],
+) -> Result<Result<(), SetFault>, Fail> {
+    let mut changes = ChangeSet::new(alloc);
+    for edit in edits {
+        if let Err(fault) = put_edit(alloc, set, &mut changes, edit)? {
+            return Ok(Err(fault));
+        }
+    }
+    Ok(set.commit(&changes))
+}
+
+// Opens a set and commits the two edits; the disk, and whether all of it was done.
+fn change_both(alloc: Global, disk: MemoryDisk) -> Result<(MemoryDisk, bool), Fail> {
+    match opened(alloc, disk)? {
+        Ok(set) => {
+            let mut set = set;
+            let done = commit(alloc, &mut set, &[RENAME, CAPTURE])?.is_ok();
+            Ok((set.close(), done))
+        }
+        Err(refused) => Ok((refused.disk, false)),
+    }
+}
+
+// How many calls an opening and the reading of the two files make.
+fn calls_before_commit(alloc: Global, disk: MemoryDisk) -> Result<u64, Fail> {
+    let mut set = open(alloc, disk)?;
+    let _ = text_of(alloc, &mut set, "a.org")?;
+    let _ = text_of(alloc, &mut set, "inbox.org")?;
+    Ok(set.close().calls())
+}
+
+// Whether the set has both of the new texts; that it has one of them is a failure.
+fn are_changed(alloc: Global, set: &mut FileSet<MemoryDisk>) -> Result<bool, Fail> {
+    let a = text_of(alloc, set, "a.org")?;
+    let inbox = text_of(alloc, set, "inbox.org")?;
+    let texts = (a.as_slice(), inbox.as_slice());
+    if texts == (b"* Better\n".as_slice(), TEXT.as_slice()) {
+        Ok(true)
+    } else if texts == (b"* A\n".as_slice(), b"".as_slice()) {
+        Ok(false)
+    } else {
+        Err(Fail::from("one file is old and one is new"))
+    }
+}
+
 #[test]
 fn opening_ends_a_record(rt: HostRuntime) -> Result<(), Fail> {
     let alloc = rt.alloc();
@@ -85,19 +229,40 @@ fn opening_ends_a_record(rt: HostRuntime) -> Result<(), Fail> {
 }
 
 #[test]
+fn a_record_counts_for_other_files_too(rt: HostRuntime) -> Result<(), Fail> {
+    let alloc = rt.alloc();
+    let names = vec![in alloc; org_name(alloc, "a.org")?]?;
+    match FileSet::open(alloc, stopped(alloc, 1)?, names) {
+        Ok(set) => {
+            let mut set = set;
+            assert_eq!(rt;
+                text_of(alloc, &mut set, "inbox.org")?.as_slice(),
+                TEXT.as_slice()
+            );
+            Ok(())
+        }
+        Err(_) => Err(Fail::from("not opened")),
+    }
+}
+
+#[test]
 fn a_closed_record_is_left(rt: HostRuntime) -> Result<(), Fail> {
     let alloc = rt.alloc();
-    let mut set = open(alloc, stopped(alloc, 0)?)?;
-    assert_eq!(rt;
-        text_of(alloc, &mut set, "inbox.org")?.as_slice(),
-        b"* TO".as_slice()
-    );
+    for gate in [0, 2, 0x55, 0xff] {
+        let mut set = open(alloc, stopped(alloc, gate)?)?;
+        assert_eq!(rt;
+            text_of(alloc, &mut set, "inbox.org")?.as_slice(),
+            b"* TO".as_slice()
+        );
+        let journal = with_byte(alloc, &ARMED, 0, gate)?;
+        assert_eq!(rt; journal_of(alloc, &mut set)?, journal);
+    }
     Ok(())
 }
 
 // Opens with a stop at the k-th call, and opens what is left.
-fn opened_twice(alloc: Global, k: u64, outcome: Outcome) -> Result<Vec<u8>, Fail> {
-    let mut disk = stopped(alloc, 1)?;
+fn opened_twice(alloc: Global, gate: u8, k: u64, outcome: Outcome) -> Result<Vec<u8>, Fail> {
+    let mut disk = stopped(alloc, gate)?;
     disk.stop_at(k, outcome);
     let disk = match opened(alloc, disk)? {
         Ok(set) => set.close(),
@@ -110,39 +275,104 @@ fn opened_twice(alloc: Global, k: u64, outcome: Outcome) -> Result<Vec<u8>, Fail
 #[test]
 fn a_stopped_opening_goes_on(rt: HostRuntime) -> Result<(), Fail> {
     let alloc = rt.alloc();
-    for k in 1..24u64 {
-        for outcome in [
-            Outcome::All,
-            Outcome::None,
-            Outcome::Front(3),
-            Outcome::Fill(42),
-        ] {
-            let text = opened_twice(alloc, k, outcome)?;
-            assert_eq!(rt; text.as_slice(), TEXT.as_slice(), "stopped at call {k}");
+    for (gate, text) in [(1, TEXT.as_slice()), (0x55, b"* TO".as_slice())] {
+        for k in 1..24u64 {
+            for outcome in OUTCOMES {
+                let left = opened_twice(alloc, gate, k, outcome)?;
+                assert_eq!(rt; left.as_slice(), text, "stopped at call {k}");
+            }
         }
     }
     Ok(())
 }
 
+// A journal of these bytes over a.org and an absent inbox.org is bad, and the disk is handed back as it was.
+fn refuse(rt: &impl Abort, alloc: Global, journal: &[u8]) -> Result<(), Fail> {
+    match opened(alloc, with_journal(alloc, journal)?)? {
+        Ok(_) => Err(Fail::from("opened")),
+        Err(refused) => {
+            assert!(rt; matches!(refused.fault, OpenFault::BadJournal));
+            let mut disk = refused.disk;
+            let left = read_file(alloc, &mut disk, &FileName::journal_name(alloc)?)?;
+            assert_eq!(rt; left.as_slice(), journal);
+            assert_eq!(rt; disk.length(&FileName::new(alloc, "a.org")?)?, 4);
+            assert_eq!(rt; disk.length(&FileName::new(alloc, "inbox.org")?)?, 0);
+            Ok(())
+        }
+    }
+}
+
 #[test]
 fn a_bad_journal_is_refused(rt: HostRuntime) -> Result<(), Fail> {
     let alloc = rt.alloc();
-    let mut disk = stopped(alloc, 1)?;
-    let mut journal = ARMED.to_vec(alloc)?;
-    journal[1] = 0x4b;
-    disk.set(&FileName::journal_name(alloc)?, &journal)?;
-    match opened(alloc, disk)? {
-        Ok(_) => Err(Fail::from("opened")),
-        Err(refused) => match refused.fault {
-            OpenFault::BadJournal => {
-                let mut disk = refused.disk;
-                let length = disk.length(&FileName::new(alloc, "inbox.org")?)?;
-                assert_eq!(rt; length, 4);
-                Ok(())
-            }
-            _ => Err(Fail::from("another fault")),
-        },
+    // the last byte missing
+    refuse(&rt, alloc, &OLD[..70])?;
+    // a patch from the second byte on, past the end of an absent file
+    let late = with_byte(alloc, &with_byte(alloc, &OLD, 38, 1)?, 46, 17)?;
+    refuse(&rt, alloc, &late)?;
+    // a header whose record isn't there
+    refuse(&rt, alloc, &with_byte(alloc, &OLD[..16], 15, 0xff)?)?;
+    // another magic
+    refuse(&rt, alloc, &with_byte(alloc, &ARMED, 1, 0x4b)?)
+}
+
+// So many different names.
+fn numbered(alloc: Global, count: u32) -> Result<Vec<FileName>, Fail>
+    ensures { IfOk result (λ names. All IsGiven names.items) }
+{
+    let mut names = Vec::new(alloc);
+    for i in 0..count {
+        let text = format!(in alloc; "{i}.org")?;
+        names.push(org_name(alloc, text.as_str())?)?;
     }
+    Ok(names)
+}
+
+#[test]
+fn too_many_names_are_refused(rt: HostRuntime) -> Result<(), Fail> {
+    let alloc = rt.alloc();
+    for count in [256, 257] {
+        match FileSet::open(alloc, MemoryDisk::new(alloc), numbered(alloc, count)?) {
+            Ok(set) => assert_eq!(rt; (count, set.names().len()), (256, 512)),
+            Err(refused) => {
+                assert!(rt; matches!(refused.fault, OpenFault::TooManyFiles));
+                assert_eq!(rt; (count, refused.disk.calls()), (257, 0));
+            }
+        }
+    }
+    Ok(())
+}
+
+// Opens over an a.org of this length and what a stop left; whether a.org was too large.
+fn is_too_large(alloc: Global, length: usize) -> Result<bool, Fail> {
+    let mut disk = stopped(alloc, 1)?;
+    let text = vec![in alloc; b'*'; length]?;
+    disk.set(&FileName::new(alloc, "a.org")?, &text)?;
+    let (disk, is_large) = match opened(alloc, disk)? {
+        Ok(set) => (set.close(), false),
+        Err(refused) => {
+            let OpenRefused { disk, fault } = refused;
+            match fault {
+                OpenFault::TooLarge(name) => (disk, name.as_str() == "a.org"),
+                _ => return Err(Fail::from("another fault")),
+            }
+        }
+    };
+    // what the stop had cut short was brought to an end
+    let mut disk = disk;
+    if disk.length(&FileName::new(alloc, "inbox.org")?)? == 16 {
+        Ok(is_large)
+    } else {
+        Err(Fail::from("the record wasn't laid"))
+    }
+}
+
+#[test]
+fn files_up_to_the_limit_are_taken(rt: HostRuntime) -> Result<(), Fail> {
+    let alloc = rt.alloc();
+    assert!(rt; !is_too_large(alloc, LIMIT)?);
+    assert!(rt; is_too_large(alloc, LIMIT + 1)?);
+    Ok(())
 }
 
 #[test]
@@ -161,5 +391,122 @@ fn a_failed_read_breaks_the_set(rt: HostRuntime) -> Result<(), Fail> {
     assert!(rt; failed);
     assert!(rt; set.is_broken());
     assert_eq!(rt; set.read(&name), Err(SetFault::Broken));
+    Ok(())
+}
+
+#[test]
+fn a_commit_leaves_its_record(rt: HostRuntime) -> Result<(), Fail> {
+    let alloc = rt.alloc();
+    let mut set = open(alloc, with_journal(alloc, b"")?)?;
+    assert_eq!(rt; commit(alloc, &mut set, &[CAPTURE])?, Ok(()));
+    assert_eq!(rt;
+        text_of(alloc, &mut set, "inbox.org")?.as_slice(),
+        TEXT.as_slice()
+    );
+    let journal = with_byte(alloc, &ARMED, 0, 0)?;
+    assert_eq!(rt; journal_of(alloc, &mut set)?, journal);
+    // with no changed file no call is made
+    let calls = set.close().calls();
+    let mut set = open(alloc, with_journal(alloc, b"")?)?;
+    assert_eq!(rt; commit(alloc, &mut set, &[CAPTURE])?, Ok(()));
+    assert_eq!(rt; commit(alloc, &mut set, &[])?, Ok(()));
+    // the journal and inbox.org were read before
+    assert_eq!(rt; set.close().calls() + 4, calls);
+    Ok(())
+}
+
+#[test]
+fn an_old_record_is_ended_and_a_new_one_follows(rt: HostRuntime) -> Result<(), Fail> {
+    let alloc = rt.alloc();
+    let mut set = open(alloc, with_journal(alloc, &OLD)?)?;
+    assert_eq!(rt;
+        text_of(alloc, &mut set, "inbox.org")?.as_slice(),
+        TEXT.as_slice()
+    );
+    let closed = with_byte(alloc, &OLD, 0, 0)?;
+    assert_eq!(rt; journal_of(alloc, &mut set)?, closed);
+    // opened once more, no file changes
+    let mut set = open(alloc, set.close())?;
+    assert_eq!(rt; journal_of(alloc, &mut set)?, closed);
+    assert_eq!(rt;
+        text_of(alloc, &mut set, "inbox.org")?.as_slice(),
+        TEXT.as_slice()
+    );
+    assert_eq!(rt; commit(alloc, &mut set, &[RENAME])?, Ok(()));
+    let journal = journal_of(alloc, &mut set)?;
+    assert_eq!(rt; (journal.get(0), journal.get(5)), (Some(&0), Some(&2)));
+    Ok(())
+}
+
+// Whether the gate was opened for what the stop leaves, at the write of the gate and at the sync after it.
+fn is_gate_open(is_write: bool, outcome: Outcome) -> bool {
+    match outcome {
+        Outcome::All | Outcome::Fill(1) => true,
+        Outcome::Front(n) => !is_write || n > 0,
+        Outcome::None | Outcome::Fill(_) => false,
+    }
+}
+
+#[test]
+fn a_stopped_commit_changes_both_files_or_none(rt: HostRuntime) -> Result<(), Fail> {
+    let alloc = rt.alloc();
+    let before = calls_before_commit(alloc, with_journal(alloc, b"")?)?;
+    let (disk, done) = change_both(alloc, with_journal(alloc, b"")?)?;
+    assert!(rt; done);
+    for k in 1..=disk.calls() {
+        for outcome in OUTCOMES {
+            let mut disk = with_journal(alloc, b"")?;
+            disk.stop_at(k, outcome);
+            let (disk, done) = change_both(alloc, disk)?;
+            assert!(rt; !done);
+            let mut set = open(alloc, disk.image(alloc)?)?;
+            // the body is written and synced, and then the gate
+            let expected = match k.saturating_sub(before) {
+                0..=2 => false,
+                3 => is_gate_open(true, outcome),
+                4 => is_gate_open(false, outcome),
+                _ => true,
+            };
+            assert_eq!(rt;
+                are_changed(alloc, &mut set)?,
+                expected,
+                "stopped at call {k}"
+            );
+        }
+    }
+    Ok(())
+}
+
+#[test]
+fn a_body_behind_a_short_journal_opens_nothing(rt: HostRuntime) -> Result<(), Fail> {
+    let alloc = rt.alloc();
+    let before = calls_before_commit(alloc, with_journal(alloc, &[1])?)?;
+    for outcome in OUTCOMES {
+        let mut disk = with_journal(alloc, &[1])?;
+        disk.stop_at(before.saturating_add(1), outcome);
+        let (disk, done) = change_both(alloc, disk)?;
+        assert!(rt; !done);
+        let mut set = open(alloc, disk.image(alloc)?)?;
+        assert!(rt; !are_changed(alloc, &mut set)?);
+    }
+    Ok(())
+}
+
+#[test]
+fn a_failed_sync_of_the_gate_breaks_the_set(rt: HostRuntime) -> Result<(), Fail> {
+    let alloc = rt.alloc();
+    let before = calls_before_commit(alloc, with_journal(alloc, b"")?)?;
+    let mut disk = with_journal(alloc, b"")?;
+    disk.fail_at(before.saturating_add(4));
+    let mut set = open(alloc, disk)?;
+    let failed = commit(alloc, &mut set, &[RENAME, CAPTURE])?;
+    assert_eq!(rt; failed, Err(SetFault::Device));
+    assert!(rt; set.is_broken());
+    assert_eq!(rt; commit(alloc, &mut set, &[])?, Err(SetFault::Broken));
+    let disk = set.close();
+    let mut image = open(alloc, disk.image(alloc)?)?;
+    assert!(rt; are_changed(alloc, &mut image)?);
+    let mut again = open(alloc, disk)?;
+    assert!(rt; are_changed(alloc, &mut again)?);
     Ok(())
 }
