@@ -1,6 +1,6 @@
 -- Names that a store can be opened with.
 use Rattle.std.proofs.Common.{◌≡◌, ℕ, List, Bool, true, false, not, ◌&&◌, refl, subst, IsTrue, IsFalse}
-use Rattle.org_disk.specs.Names.{is_file_name, is_archive_name, journal_name}
+use Rattle.org_disk.specs.Names.{is_file_name, is_archive_name}
 use Rattle.org_folder.specs.OrgFiles.{is_org_file, IsOpenable}
 
 both : (a b : Bool) → IsTrue (a && not b) → IsTrue a × IsFalse b

@@ -1,1 +1,3 @@
+pub mod Calls
+pub mod CallsLaws
 pub mod OrgFiles

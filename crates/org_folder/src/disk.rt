@@ -1,73 +1,97 @@
-ghost use Rattle.std.specs.Prelude.{◌≡◌, [], OnOk, OnErr};
-ghost use Rattle.org_disk.specs.Disk.{stable, IsCounted};
+ghost use Rattle.std.specs.Prelude.{◌≡◌, OnOk, OnErr, length};
+ghost use Rattle.org_disk.specs.Disk.{IsCounted};
+ghost use Rattle.org_folder.specs.Calls.{files, LeftSince};
 
+use crate::calls::Calls;
 use crate::folder::Folder;
+use crate::system::SystemCalls;
 use org_disk::{Disk, DiskFault, FileName};
 use std::alloc::{AllocError, Global};
 use std::fs::Files;
-use std::io;
 use std::os::unix::fs::FileExt;
 
-/// The files of a folder, as a disk. An absent file and an empty one are the same: a file is made by its first write
-/// of at least one byte, and none is ever removed or renamed. Links are followed, and permissions stay as they are.
-/// Each call makes one system call where the system allows it, on a file that stays open from its first use on; the
-/// first sync of a file also syncs the folder that holds it. A call that a signal interrupted is made again. Any
-/// other error, and want of memory, is a counted failure.
+/// The files of a folder, as a disk over the calls of a system. An absent file and an empty one are the same: a file
+/// is made by its first write of at least one byte, and none is ever removed or renamed. A file stays open from its
+/// first use on; the first sync of a file also syncs the folder that holds it. A call of the system that fails, and
+/// want of memory, is a counted failure.
 ///
-/// Nothing is proved of what the files hold: this disk isn't called honest, so what `Disk` says of an honest one is
-/// not said of it.
+/// It is an honest disk where the calls are honest.
 #[derive(Drop)]
-pub struct FolderDisk<R: Files> {
-    folder: Folder<R>,
+pub struct CallsDisk<C: Calls> {
+    folder: Folder<C>,
     failures: u64,
 }
 
-impl<R: Files + AllocGlobal + Drop> FolderDisk<R>
+/// The files of a folder of the operating system, as a disk. Links are followed, and permissions stay as they are. A
+/// call that a signal interrupted is made again.
+pub type FolderDisk<R> = CallsDisk<SystemCalls<R>>;
+
+impl<C: Calls + Drop> CallsDisk<C>
+where
+    C::File: Drop,
+{
+    /// The disk over these calls. It makes none.
+    pub fn over(alloc: Global, calls: C) -> CallsDisk<C> {
+        CallsDisk {
+            folder: Folder::new(alloc, calls),
+            failures: 0,
+        }
+    }
+
+    /// How many calls have failed, at most 2^64 - 1.
+    pub fn failures(&self) -> u64
+        ensures { result ≡ self.now.failures }
+    {
+        self.failures
+    }
+}
+
+impl<R: Files + AllocGlobal + Drop> CallsDisk<SystemCalls<R>>
 where
     R::File: FileExt,
 {
     /// The disk of the folder at this path. It makes no call of the system.
     pub fn new(rt: R, alloc: Global, path: &str) -> Result<FolderDisk<R>, AllocError> {
-        Ok(FolderDisk {
-            folder: Folder::new(rt, alloc, path)?,
-            failures: 0,
-        })
+        Ok(CallsDisk::over(alloc, SystemCalls::new(rt, alloc, path)?))
     }
 }
 
 // Counts a failure.
-fn counted<T: Drop>(answer: io::Result<T>, failures: &mut u64) -> Result<T, DiskFault>
+fn counted<T: Drop>(answer: Result<T, DiskFault>, failures: &mut u64) -> Result<T, DiskFault>
+    ensures same { result ≡ answer }
     ensures ok { OnOk result (failures.new ≡ failures.old) }
     ensures err { OnErr result (IsCounted failures.old failures.new) }
 {
-    match answer {
-        Ok(value) => Ok(value),
-        Err(_) => {
-            *failures = failures.saturating_add(1);
-            Err(DiskFault)
-        }
+    if answer.is_err() {
+        *failures = failures.saturating_add(1);
     }
+    answer
 }
 
-impl<R: Files + AllocGlobal + Drop> Disk for FolderDisk<R>
+impl<C: Calls + Drop> Disk for CallsDisk<C>
 where
-    R::File: FileExt,
+    C::File: Drop,
 {
-    ghost honest = { λ _. ⊥ };
+    ghost use Rattle.org_folder.specs.CallsLaws.{own_image, counts_now, only_now};
 
-    ghost files = { λ _ _. stable [] };
+    ghost honest = { λ _. C.honest };
 
-    ghost moment = { λ _. 0 };
+    ghost files = { λ disk. files C.world (C.history disk.folder.calls) };
 
-    ghost left_since = { λ _ _ _. ⊥ };
+    ghost moment = { λ disk. length (C.history disk.folder.calls) };
+
+    ghost left_since = { λ disk. LeftSince C.world (C.history disk.folder.calls) };
 
     ghost failures = { λ disk. disk.failures };
 
-    ghost content_is_image = { λ _ _ honest. absurd honest };
+    ghost content_is_image = { λ disk name honest.
+        own_image C.world (C.history disk.folder.calls) (C.right disk.folder.calls honest) name };
 
-    ghost counts_now = { λ _ _ _ honest _ _. absurd honest };
+    ghost counts_now = { λ disk t image _ le now.
+        counts_now C.world (C.history disk.folder.calls) t image le now };
 
-    ghost only_now = { λ _ _ honest _. absurd honest };
+    ghost only_now = { λ disk image _ left.
+        only_now C.world (C.history disk.folder.calls) image left };
 
     fn length(&mut self, name: &FileName) -> Result<u64, DiskFault> {
         counted(self.folder.length(name), &mut self.failures)

@@ -1,163 +1,149 @@
 // The files of a folder, each opened once and kept open. No fault is counted here.
-use org_disk::FileName;
-use std::alloc::{AllocError, Global};
-use std::fs::{File, Files, OpenFile, OpenOptions};
-use std::io::{Error, ErrorKind};
-use std::os::unix::fs::FileExt;
-use std::path::{Path, PathBuf};
-use std::{fs, io};
+ghost use Rattle.std.specs.Prelude.{◌≡◌, ◌<◌, ◌≤◌, [], length, take, drop, IfOk, IfSome, IfNone, OnOk};
+ghost use Rattle.std.specs.List.{HoldsAt};
+ghost use Rattle.org_disk.specs.Disk.{cut, stable, sync, write};
+ghost use Rattle.org_folder.specs.Calls.{files, Does, Looks};
 
-// A file that was opened, and whether its entry in the folder is known to be on the device.
-#[derive(Drop)]
-struct Opened<F> {
-    name: String,
-    file: F,
-    is_entry_synced: bool,
-}
+use crate::calls::{Calls, Opened};
+use org_disk::{DiskFault, FileName};
+use std::alloc::Global;
 
 #[derive(Drop)]
-pub struct Folder<R: Files> {
-    rt: R,
-    path: String,
-    files: Vec<Opened<R::File>>,
+pub struct Folder<C: Calls> {
+    calls: C,
+    files: Vec<Opened<C::File>>,
 }
 
-impl<R: Files + AllocGlobal + Drop> Folder<R>
+impl<C: Calls + Drop> Folder<C>
 where
-    R::File: FileExt,
+    C::File: Drop,
 {
-    pub fn new(rt: R, alloc: Global, path: &str) -> Result<Folder<R>, AllocError> {
-        Ok(Folder {
-            rt,
-            path: String::from_str(alloc, path)?,
+    pub fn new(alloc: Global, calls: C) -> Folder<C> {
+        Folder {
+            calls,
             files: Vec::new(alloc),
-        })
+        }
     }
 
-    pub fn length(&mut self, name: &FileName) -> io::Result<u64> {
-        match self.opened(name)? {
-            Some(opened) => Ok(opened.file.metadata()?.len()),
+    pub fn length(&mut self, name: &FileName) -> Result<u64, DiskFault>
+        ensures value { C.honest → IfOk result (λ n.
+            n ≡ length (files C.world (C.history self.old.calls) name.now).content) }
+        ensures looks { C.honest → Looks C.world (C.history self.old.calls) (C.history self.new.calls) }
+    {
+        match self.find(name)? {
+            Some(at) => self.calls.length(&self.files[at]),
             None => Ok(0),
         }
     }
 
-    pub fn read(&mut self, name: &FileName, from: u64, into: &mut [u8]) -> io::Result<()> {
-        match self.opened(name)? {
-            Some(opened) => opened.file.read_exact_at(into, from),
+    pub fn read(&mut self, name: &FileName, from: u64, into: &mut [u8]) -> Result<(), DiskFault>
+        ensures bytes { C.honest → OnOk result (into.new ≡
+            take (length into.old) (drop from (files C.world (C.history self.old.calls) name.now).content)) }
+        ensures looks { C.honest → Looks C.world (C.history self.old.calls) (C.history self.new.calls) }
+    {
+        match self.find(name)? {
+            Some(at) => self.calls.read_at(&self.files[at], from, into),
             None if into.is_empty() => Ok(()),
-            None => Err(Error::from(ErrorKind::UnexpectedEof)),
+            None => Err(DiskFault),
         }
     }
 
     // A write of no bytes makes no file.
-    pub fn write(&mut self, name: &FileName, from: u64, bytes: &[u8]) -> io::Result<()> {
+    pub fn write(&mut self, name: &FileName, from: u64, bytes: &[u8]) -> Result<(), DiskFault>
+        requires { C.honest → from ≤ length (files C.world (C.history self.old.calls) name.now).content }
+        ensures { C.honest → Does C.world (write from bytes.now) name.now
+            (C.history self.old.calls) (C.history self.new.calls) result }
+    {
         if bytes.is_empty() {
+            self.calls.write_nothing(name, from);
             return Ok(());
         }
-        if self.opened(name)?.is_none() {
-            self.make(name)?;
-        }
-        match self.opened(name)? {
-            Some(opened) => opened.file.write_all_at(bytes, from),
-            None => Err(Error::from(ErrorKind::NotFound)),
-        }
+        let at = self.find_or_make(name)?;
+        self.calls.write_at(&self.files[at], from, bytes)
     }
 
-    pub fn cut(&mut self, name: &FileName, to: u64) -> io::Result<()> {
-        match self.opened(name)? {
-            Some(opened) => opened.file.set_len(to),
+    pub fn cut(&mut self, name: &FileName, to: u64) -> Result<(), DiskFault>
+        requires { C.honest → to ≤ length (files C.world (C.history self.old.calls) name.now).content }
+        ensures { C.honest → Does C.world (cut to) name.now
+            (C.history self.old.calls) (C.history self.new.calls) result }
+    {
+        match self.find(name)? {
+            Some(at) => self.calls.cut(&self.files[at], to),
             None if to == 0 => Ok(()),
-            None => Err(Error::from(ErrorKind::InvalidInput)),
+            None => Err(DiskFault),
         }
     }
 
     // The first sync of a file takes its entry in the folder along.
-    pub fn sync(&mut self, name: &FileName) -> io::Result<()> {
-        let Some(opened) = self.opened(name)? else {
+    pub fn sync(&mut self, name: &FileName) -> Result<(), DiskFault>
+        ensures { C.honest → Does C.world sync name.now
+            (C.history self.old.calls) (C.history self.new.calls) result }
+    {
+        let Some(at) = self.find(name)? else {
             return Ok(());
         };
-        opened.file.sync_data()?;
-        if !opened.is_entry_synced {
-            self.sync_entry(name)?;
+        let opened = &mut self.files[at];
+        if !opened.is_entered {
+            self.calls.sync_entry(opened)?;
         }
-        Ok(())
+        self.calls.sync(opened)
     }
 
-    fn sync_entry(&mut self, name: &FileName) -> io::Result<()> {
-        let path = fs::canonicalize(&self.rt, self.path_of(name)?)?;
-        let Some(folder) = path.parent() else {
-            return Err(Error::from(ErrorKind::NotFound));
-        };
-        File::open(&self.rt, folder)?.sync_all()?;
-        for opened in self.files.iter_mut() {
-            if opened.name.as_str() == name.as_str() {
-                opened.is_entry_synced = true;
+    // Where the file of a name stands among those that are open, if there is one.
+    fn find(&mut self, name: &FileName) -> Result<Option<usize>, DiskFault>
+        ensures name { IfOk result (λ found. IfSome found (λ at.
+            HoldsAt (λ opened. opened.name ≡ name.now) self.new.files.items at)) }
+        ensures index { IfOk result (λ found. IfSome found (λ at. at < length self.new.files.items)) }
+        ensures absent { C.honest → IfOk result (λ found. IfNone found
+            (files C.world (C.history self.old.calls) name.now ≡ stable [])) }
+        ensures found { C.honest → IfOk result (λ found. IfSome found (λ _.
+            C.history self.new.calls ≡ C.history self.old.calls)) }
+        ensures looks { C.honest → Looks C.world (C.history self.old.calls) (C.history self.new.calls) }
+    {
+        if let Some(at) = self.position(name) {
+            return Ok(Some(at));
+        }
+        match self.calls.open(name)? {
+            Some(opened) => Ok(Some(self.keep(opened)?)),
+            None => Ok(None),
+        }
+    }
+
+    fn find_or_make(&mut self, name: &FileName) -> Result<usize, DiskFault>
+        ensures name { IfOk result (λ at.
+            HoldsAt (λ opened. opened.name ≡ name.now) self.new.files.items at) }
+        ensures index { IfOk result (λ at. at < length self.new.files.items) }
+        ensures same { C.honest → C.history self.new.calls ≡ C.history self.old.calls }
+    {
+        match self.position(name) {
+            Some(at) => Ok(at),
+            None => {
+                let opened = self.calls.make(name)?;
+                self.keep(opened)
             }
         }
-        Ok(())
     }
 
-    // The file of a name, where there is one.
-    fn opened(&mut self, name: &FileName) -> io::Result<Option<&Opened<R::File>>> {
-        if !self.is_open(name) {
-            match self.open(name) {
-                Ok(file) => self.keep(name, file)?,
-                Err(error) if error.kind() == ErrorKind::NotFound => {}
-                Err(error) => return Err(error),
-            }
-        }
-        Ok(
-            self.files
-                .iter()
-                .find(|opened| opened.name.as_str() == name.as_str()),
-        )
-    }
-
-    fn is_open(&self, name: &FileName) -> bool {
+    fn position(&self, name: &FileName) -> Option<usize>
+        ensures name { IfSome result (λ at.
+            HoldsAt (λ opened. opened.name ≡ name.now) self.now.files.items at) }
+        ensures index { IfSome result (λ at. at < length self.now.files.items) }
+    {
         self.files
             .iter()
-            .any(|opened| opened.name.as_str() == name.as_str())
+            .position(|opened| opened.name.as_str() == name.as_str())
     }
 
-    // A file that may not be written is opened for reading alone: writes to it fail then.
-    fn open(&self, name: &FileName) -> io::Result<R::File> {
-        let path = self.path_of(name)?;
-        match File::options()
-            .read(true)
-            .write(true)
-            .open(&self.rt, path.as_path())
-        {
-            Err(error) if is_refused(error.kind()) => File::open(&self.rt, path.as_path()),
-            opened => opened,
+    fn keep(&mut self, opened: Opened<C::File>) -> Result<usize, DiskFault>
+        ensures kept { IfOk result (λ at.
+            HoldsAt (λ kept. kept.name ≡ opened.name) self.new.files.items at) }
+        ensures index { IfOk result (λ at. at < length self.new.files.items) }
+        ensures calls { self.new.calls ≡ self.old.calls }
+    {
+        let at = self.files.len();
+        match self.files.push(opened) {
+            Ok(()) => Ok(at),
+            Err(_) => Err(DiskFault),
         }
     }
-
-    // A link that leads nowhere is followed: the file is made where it leads.
-    fn make(&mut self, name: &FileName) -> io::Result<()> {
-        let path = self.path_of(name)?;
-        let file = File::options()
-            .read(true)
-            .write(true)
-            .create(true)
-            .open(&self.rt, path.as_path())?;
-        self.keep(name, file)
-    }
-
-    fn keep(&mut self, name: &FileName, file: R::File) -> io::Result<()> {
-        let name = String::from_str(self.rt.alloc(), name.as_str())?;
-        self.files.push(Opened {
-            name,
-            file,
-            is_entry_synced: false,
-        })?;
-        Ok(())
-    }
-
-    fn path_of(&self, name: &FileName) -> Result<PathBuf, AllocError> {
-        Path::new(self.path.as_str()).join(self.rt.alloc(), name.as_str())
-    }
-}
-
-fn is_refused(kind: ErrorKind) -> bool {
-    kind == ErrorKind::PermissionDenied || kind == ErrorKind::ReadOnlyFilesystem
 }

@@ -1,6 +1,6 @@
 // Real folders, each made for its test where the test runs.
-use crate::{FolderDisk, org_file, org_files};
-use org_disk::{Disk, FileName, NameFault};
+use crate::{Calls, CallsDisk, FolderDisk, Opened, SystemCalls, org_file, org_files};
+use org_disk::{Disk, DiskFault, FileName, NameFault};
 use std::fs;
 use std::fs::{File, Permissions};
 use std::os::unix::fs::{PermissionsExt, symlink};
@@ -108,6 +108,73 @@ fn links_and_folders(rt: HostRuntime) -> Result<(), Fail> {
     Ok(fs::remove_dir_all(&rt, "linked")?)
 }
 
+// The first sync of a file looks for its folder, which it syncs, and a later one doesn't.
+#[test]
+fn first_sync_takes_the_folder(rt: HostRuntime) -> Result<(), Fail> {
+    empty(&rt, "entered")?;
+    let mut disk = disk(&rt, "entered")?;
+    let a = name(&rt, "a.org")?;
+    let b = name(&rt, "b.org")?;
+    disk.write_at(&a, 0, b"* A\n")?;
+    disk.write_at(&b, 0, b"* B\n")?;
+    disk.sync(&b)?;
+    fs::remove_file(&rt, "entered/a.org")?;
+    fs::remove_file(&rt, "entered/b.org")?;
+    disk.write_at(&b, 4, b"* C\n")?;
+    disk.sync(&b)?;
+    assert_eq!(rt; disk.failures(), 0);
+    assert!(rt; disk.sync(&a).is_err());
+    assert_eq!(rt; disk.failures(), 1);
+    Ok(fs::remove_dir_all(&rt, "entered")?)
+}
+
+// Failures that whoever may do all meets too: a name that became a folder's, a link into a folder that isn't there,
+// and a device that is full. Each is counted, and later calls go on.
+#[test]
+fn failures_are_counted(rt: HostRuntime) -> Result<(), Fail> {
+    empty(&rt, "failing")?;
+    fs::write(&rt, "failing/a.org", b"* A\n")?;
+    fs::write(&rt, "failing/was_file.org", b"")?;
+    symlink(&rt, "nowhere/target", "failing/link.org")?;
+    let mut disk = disk(&rt, "failing")?;
+    fs::remove_file(&rt, "failing/was_file.org")?;
+    fs::create_dir(&rt, "failing/was_file.org")?;
+    let folder = name(&rt, "was_file.org")?;
+    assert!(rt; disk.length(&folder).is_err());
+    assert_eq!(rt; disk.failures(), 1);
+    assert!(rt; disk.write_at(&folder, 0, b"* B\n").is_err());
+    assert_eq!(rt; disk.failures(), 2);
+    let link = name(&rt, "link.org")?;
+    assert_eq!(rt; disk.length(&link)?, 0);
+    assert!(rt; disk.write_at(&link, 0, b"* B\n").is_err());
+    assert_eq!(rt; disk.failures(), 3);
+    let a = name(&rt, "a.org")?;
+    disk.write_at(&a, 4, b"* B\n")?;
+    disk.sync(&a)?;
+    assert_eq!(rt; disk.length(&a)?, 8);
+    assert_eq!(rt; disk.failures(), 3);
+    Ok(fs::remove_dir_all(&rt, "failing")?)
+}
+
+#[test]
+fn full_device(rt: HostRuntime) -> Result<(), Fail> {
+    empty(&rt, "full")?;
+    let mut disk = disk(&rt, "full")?;
+    let full = name(&rt, "full.org")?;
+    let a = name(&rt, "a.org")?;
+    let has_device = fs::metadata(&rt, "/dev/full").is_ok();
+    if has_device {
+        symlink(&rt, "/dev/full", "full/full.org")?;
+    }
+    assert_eq!(rt; disk.write_at(&full, 0, b"* A\n").is_err(), has_device);
+    assert_eq!(rt; disk.failures(), u64::from(has_device));
+    disk.write_at(&a, 0, b"* A\n")?;
+    disk.sync(&a)?;
+    assert_eq!(rt; disk.length(&a)?, 4);
+    assert_eq!(rt; disk.failures(), u64::from(has_device));
+    Ok(fs::remove_dir_all(&rt, "full")?)
+}
+
 // Whoever may do all may open each file; then these are none that can't be read or written.
 #[test]
 fn files_without_permission(rt: HostRuntime) -> Result<(), Fail> {
@@ -124,7 +191,136 @@ fn files_without_permission(rt: HostRuntime) -> Result<(), Fail> {
     let mut disk = disk(&rt, "closed")?;
     let b = name(&rt, "b.org")?;
     assert_eq!(rt; disk.length(&name(&rt, "a.org")?).is_ok(), may_read);
+    assert_eq!(rt; disk.failures(), u64::from(!may_read));
     assert_eq!(rt; disk.length(&b)?, 4);
     assert_eq!(rt; disk.write_at(&b, 4, b"* C\n").is_ok(), may_write);
+    assert_eq!(rt;
+        disk.failures(),
+        u64::from(!may_read) + u64::from(!may_write)
+    );
     Ok(fs::remove_dir_all(&rt, "closed")?)
+}
+
+// The calls of the system, of which one fails without effect.
+#[derive(Drop)]
+struct FailingCalls {
+    calls: SystemCalls<HostRuntime>,
+    // the call that fails, counted from 1; 0 for none
+    fail_in: u64,
+}
+
+impl FailingCalls {
+    // Counts a call, which may be the one that fails.
+    fn begin(&mut self) -> Result<(), DiskFault> {
+        let fails = self.fail_in == 1;
+        self.fail_in = self.fail_in.saturating_sub(1);
+        if fails { Err(DiskFault) } else { Ok(()) }
+    }
+}
+
+type SystemFile = <SystemCalls<HostRuntime> as Calls>::File;
+
+impl Calls for FailingCalls {
+    ghost use Rattle.std.specs.Prelude.{[]};
+    ghost use Rattle.org_disk.specs.Disk.{stable};
+
+    type File = SystemFile;
+
+    ghost honest = { ⊥ };
+
+    ghost world = { record { start = λ _. stable []; left = λ _. [] } };
+
+    ghost history = { λ _. [] };
+
+    ghost right = { λ _ honest. absurd honest };
+
+    fn open(&mut self, name: &FileName) -> Result<Option<Opened<SystemFile>>, DiskFault> {
+        self.begin()?;
+        self.calls.open(name)
+    }
+
+    fn make(&mut self, name: &FileName) -> Result<Opened<SystemFile>, DiskFault> {
+        self.begin()?;
+        self.calls.make(name)
+    }
+
+    fn length(&mut self, opened: &Opened<SystemFile>) -> Result<u64, DiskFault> {
+        self.begin()?;
+        self.calls.length(opened)
+    }
+
+    fn read_at(
+        &mut self,
+        opened: &Opened<SystemFile>,
+        from: u64,
+        into: &mut [u8],
+    ) -> Result<(), DiskFault> {
+        self.begin()?;
+        self.calls.read_at(opened, from, into)
+    }
+
+    fn write_at(
+        &mut self,
+        opened: &Opened<SystemFile>,
+        from: u64,
+        bytes: &[u8],
+    ) -> Result<(), DiskFault> {
+        self.begin()?;
+        self.calls.write_at(opened, from, bytes)
+    }
+
+    fn write_nothing(&mut self, name: &FileName, from: u64) {
+        self.calls.write_nothing(name, from);
+    }
+
+    fn cut(&mut self, opened: &Opened<SystemFile>, to: u64) -> Result<(), DiskFault> {
+        self.begin()?;
+        self.calls.cut(opened, to)
+    }
+
+    fn sync(&mut self, opened: &Opened<SystemFile>) -> Result<(), DiskFault> {
+        self.begin()?;
+        self.calls.sync(opened)
+    }
+
+    fn sync_entry(&mut self, opened: &mut Opened<SystemFile>) -> Result<(), DiskFault> {
+        self.begin()?;
+        self.calls.sync_entry(opened)
+    }
+}
+
+// A file as the calls below leave it. Each is made twice: where one of the system's calls fails, the second goes on
+// from there.
+fn work<D: Disk>(disk: &mut D, name: &FileName) -> Result<(), DiskFault> {
+    disk.write_at(name, 0, b"* A\n* B\n")?;
+    disk.sync(name)?;
+    disk.cut(name, 6)?;
+    disk.write_at(name, 6, b"C\n")?;
+    disk.sync(name)?;
+    let mut bytes = [0; 8];
+    disk.read_at(name, 0, &mut bytes)?;
+    disk.length(name)?;
+    Ok(())
+}
+
+// 9 calls of the system: the file is made, written, its entry and it are synced; it is cut, written, synced, read and
+// measured.
+#[test]
+fn each_call_of_the_system_fails_once(rt: HostRuntime) -> Result<(), Fail> {
+    let a = name(&rt, "a.org")?;
+    for fail_in in 1..11u64 {
+        empty(&rt, "one_fails")?;
+        let calls = FailingCalls {
+            calls: SystemCalls::new(rt.clone()?, rt.alloc(), "one_fails")?,
+            fail_in,
+        };
+        let mut disk = CallsDisk::over(rt.alloc(), calls);
+        assert_eq!(rt; work(&mut disk, &a).is_err(), fail_in < 10);
+        assert_eq!(rt; disk.failures(), u64::from(fail_in < 10));
+        work(&mut disk, &a)?;
+        assert_eq!(rt; disk.failures(), u64::from(fail_in < 10));
+        let text = fs::read(&rt, "one_fails/a.org")?;
+        assert_eq!(rt; text.as_slice(), b"* A\n* C\n".as_slice());
+    }
+    Ok(fs::remove_dir_all(&rt, "one_fails")?)
 }

@@ -1,5 +1,4 @@
-use Rattle.std.proofs.Common.{◌≡◌, ◌++◌, ◌∷◌, [], List, ℕ}
-use Rattle.std.specs.List.{All}
+use Rattle.std.proofs.Common.{[], List, ℕ}
 use Rattle.std.proofs.lemmas.List.Elements.{All-append, All-cons, All-nil}
 use Rattle.org_folder.specs.OrgFiles.{IsOpenable}
 use Rattle.org_folder.proofs.list.org_files.Goals as goal

@@ -1,4 +1,3 @@
-use Rattle.std.proofs.Common.{◌≡◌}
 use Rattle.std.specs.List.{All}
 use Rattle.org_folder.specs.OrgFiles.{IsOpenable}
 use Rattle.org_folder.proofs.list.org_files.Given as goal

@@ -1,0 +1,184 @@
+-- What a call that the record tells of did to the files and to their past.
+use Rattle.std.proofs.Common.{◌≡◌, ◌≢◌, ℕ, ◌≤◌, List, [], ◌∷◌, length, take, drop, true, false, is_ok, IsErr, IfSome, MatchOption, Option, None, Some, ◌<◌, Result, Ok, Err, refl, sym, ◌∙◌, ap, subst, inl, inr, ⊎_elim, arith}
+use Rattle.org_disk.specs.Disk.{FileState, IsImage, AreImages, AreLeftBy, IsLeftBy, Passes, stable, write, cut, sync}
+use Rattle.org_disk.specs.declared.disk.DiskFault.{DiskFault}
+use Rattle.org_disk.proofs.Moments.{Image, passes_none, passes_as}
+use Rattle.org_folder.specs.Calls.{Event, World, files, changed, reading, AreRight, LeftSince, Looks, Does}
+use Rattle.org_folder.specs.Calls.Event.{Absent, Length, Read, Write, Cut, Sync}
+use Rattle.std.specs.List.{AllWithin, HoldsAt}
+use Rattle.org_folder.specs.CallsLaws.{changed_here, changed_other, own_image}
+
+abbrev Answer : Type 0
+Answer = Result (Unit {0}) DiskFault
+
+passes_told : (world : World) (event : Event) (old : List Event) (P : Image → Type 0) → ((image : Image) → AreImages (files world (event ∷ old)) image → P image)
+    → Passes (length old) (length (event ∷ old)) (LeftSince world old) (LeftSince world (event ∷ old)) P
+passes_told world event old P now = record {
+  later = omega arith;
+  nothing_else = λ t image le left. ⊎_elim (λ here. inr (now image here.1)) (λ past. inl past) left;
+  keeps = λ t image le left. inr left;
+}
+
+-- Calls that look
+
+pub looks_same : (world : World) (old new : List Event) → new ≡ old → Looks world old new
+looks_same world old new is =
+    subst (λ calls. Looks world old calls) (sym is) (record { same = refl; time = passes_none (length old) (LeftSince world old) (AreImages (files world old)) })
+
+looks_told : (world : World) (event : Event) (old new : List Event) → new ≡ event ∷ old → files world (event ∷ old) ≡ files world old → Looks world old new
+looks_told world event old new is same = subst (λ calls. Looks world old calls) (sym is) (record {
+  same = same;
+  time = passes_told world event old (AreImages (files world old)) (λ image now. subst (λ (fs : List ℕ → FileState). AreImages fs image) same now);
+})
+
+pub looks_absent : (world : World) (name : List ℕ) (old new : List Event) → new ≡ Absent name ∷ old → Looks world old new
+looks_absent world name old new is = looks_told world (Absent name) old new is refl
+
+pub looks_length : (world : World) (name : List ℕ) (n : ℕ) (old new : List Event) → new ≡ Length name n ∷ old → Looks world old new
+looks_length world name n old new is = looks_told world (Length name n) old new is refl
+
+pub looks_read : (world : World) (name : List ℕ) (from : ℕ) (bytes : List ℕ) (old new : List Event) → new ≡ Read name from bytes ∷ old → Looks world old new
+looks_read world name from bytes old new is = looks_told world (Read name from bytes) old new is refl
+
+-- What looks answer, of a file that was opened under the name
+
+pub absent_is : (world : World) (name : List ℕ) (old new : List Event) → AreRight world new → new ≡ Absent name ∷ old → files world old name ≡ stable []
+absent_is world name old new right is = (subst (AreRight world) is right).0
+
+pub length_is : (world : World) (called name : List ℕ) (n : ℕ) (old new : List Event) → AreRight world new → called ≡ name → new ≡ Length called n ∷ old
+    → n ≡ length (files world old name).content
+length_is world called name n old new right same is = subst (λ c. n ≡ length (files world old c).content) same (subst (AreRight world) is right).0
+
+pub read_is : (world : World) (called name : List ℕ) (from : ℕ) (bytes : List ℕ) (old new : List Event) → AreRight world new → called ≡ name
+    → new ≡ Read called from bytes ∷ old → bytes ≡ take (length bytes) (drop from (files world old name).content)
+read_is world called name from bytes old new right same is =
+    subst (λ c. bytes ≡ take (length bytes) (drop from (files world old c).content)) same (subst (AreRight world) is right).0
+
+-- Calls that change a file
+
+module _ (world : World) (event : Event) (applied : FileState → FileState) (name : List ℕ) (old : List Event) (is : files world (event ∷ old) ≡ changed name applied (files world old)) where
+  here : files world (event ∷ old) name ≡ applied (files world old name)
+  here = ap (λ (fs : List ℕ → FileState). fs name) is ∙ changed_here name applied (files world old)
+
+  elsewhere : (other : List ℕ) → other ≢ name → files world (event ∷ old) other ≡ files world old other
+  elsewhere other apart = ap (λ (fs : List ℕ → FileState). fs other) is ∙ changed_other name applied (files world old) other apart
+
+  still : (image : Image) → AreImages (files world (event ∷ old)) image → (other : List ℕ) → other ≢ name → IsImage (files world old other) (image other)
+  still image now other apart = subst (λ f. IsImage f (image other)) (elsewhere other apart) (now other)
+
+  does_ok : (done : Unit {0}) → Does world applied name old (event ∷ old) (Ok done)
+  does_ok done = record {
+    changes = record { ok = here; err = tt; others = elsewhere };
+    time = passes_told world event old (AreLeftBy applied name (files world old))
+        (λ image now. record { here = inr (subst (λ f. IsImage f (image name)) here (now name)); others = still image now });
+  }
+
+  does_failed : (effect : FileState → FileState) (fault : DiskFault) → IsLeftBy effect (files world old name) (applied (files world old name))
+      → Does world effect name old (event ∷ old) (Err fault)
+  does_failed effect fault left = record {
+    changes = record { ok = tt; err = subst (λ f. IsLeftBy effect (files world old name) f) (sym here) left; others = elsewhere };
+    time = passes_told world event old (AreLeftBy effect name (files world old))
+        (λ image now. record { here = left.images (image name) (subst (λ f. IsImage f (image name)) here (now name)); others = still image now });
+  }
+
+-- a file that reads as one of its images has the same images
+same_images : (content : List ℕ) (file : FileState) → IsImage file content → (bytes : List ℕ) → IsImage (reading content file) bytes → IsImage file bytes
+same_images content file image bytes left = record { no_shorter = left.no_shorter; no_longer = left.no_longer; fixed = λ i fixed. left.fixed i fixed ∙ image.fixed i fixed }
+
+left_partly : (effect : FileState → FileState) (content : List ℕ) (file : FileState) → IsImage (effect file) content → IsLeftBy effect file (reading content (effect file))
+left_partly effect content file image = record { content = inr image; images = λ bytes left. inr (same_images content (effect file) image bytes left) }
+
+left_before : (effect : FileState → FileState) (content : List ℕ) (file : FileState) → IsImage file content → IsLeftBy effect file (reading content file)
+left_before effect content file image = record { content = inl image; images = λ bytes left. inl (same_images content file image bytes left) }
+
+write_told : (world : World) (name : List ℕ) (from : ℕ) (bytes : List ℕ) (old : List Event) (result : Answer) → AreRight world (Write name from bytes (is_ok result) ∷ old)
+    → Does world (write from bytes) name old (Write name from bytes (is_ok result) ∷ old) result
+write_told world name from bytes old (Ok done) right = does_ok world (Write name from bytes true) (write from bytes) name old refl done
+write_told world name from bytes old (Err fault) right =
+    let left = world.left (Write name from bytes false ∷ old) in
+    does_failed world (Write name from bytes false) (λ file. reading left (write from bytes file)) name old refl (write from bytes) fault
+    (left_partly (write from bytes) left (files world old name) right.0)
+
+cut_told : (world : World) (name : List ℕ) (to : ℕ) (old : List Event) (result : Answer) → AreRight world (Cut name to (is_ok result) ∷ old)
+    → Does world (cut to) name old (Cut name to (is_ok result) ∷ old) result
+cut_told world name to old (Ok done) right = does_ok world (Cut name to true) (cut to) name old refl done
+cut_told world name to old (Err fault) right =
+    let left = world.left (Cut name to false ∷ old) in
+    does_failed world (Cut name to false) (λ file. reading left (cut to file)) name old refl (cut to) fault (left_partly (cut to) left (files world old name) right.0)
+
+sync_told : (world : World) (name : List ℕ) (old : List Event) (result : Answer) → AreRight world (Sync name (is_ok result) ∷ old)
+    → Does world sync name old (Sync name (is_ok result) ∷ old) result
+sync_told world name old (Ok done) right = does_ok world (Sync name true) sync name old refl done
+sync_told world name old (Err fault) right =
+    let left = world.left (Sync name false ∷ old) in
+    does_failed world (Sync name false) (reading left) name old refl sync fault (left_before sync left (files world old name) right.0)
+
+-- The same, of a file that was opened under the name, where the record before is known by an equation.
+
+pub does_write : (world : World) (called name : List ℕ) (from : ℕ) (bytes : List ℕ) (old mid new : List Event) (result : Answer) → AreRight world new → called ≡ name → mid ≡ old
+    → new ≡ Write called from bytes (is_ok result) ∷ mid → Does world (write from bytes) name old new result
+does_write world called name from bytes old mid new result right same before is =
+    subst (λ n. Does world (write from bytes) n old new result) same (subst (λ calls. Does world (write from bytes) called calls new result) before
+    (subst (λ calls. Does world (write from bytes) called mid calls result) (sym is) (write_told world called from bytes mid result (subst (AreRight world) is right))))
+
+-- a write of no bytes
+pub does_write_nothing : (world : World) (name : List ℕ) (from : ℕ) (bytes : List ℕ) (old new : List Event) (done : Unit {0}) → length bytes ≡ 0 → AreRight world new
+    → new ≡ Write name from [] true ∷ old → Does world (write from bytes) name old new (Ok done)
+does_write_nothing world name from [] old new done empty right is = does_write world name name from [] old old new (Ok done) right refl refl is
+does_write_nothing world name from (byte ∷ bytes) old new done empty right is = absurd (omega (arith, empty))
+
+pub does_cut : (world : World) (called name : List ℕ) (to : ℕ) (old mid new : List Event) (result : Answer) → AreRight world new → called ≡ name → mid ≡ old
+    → new ≡ Cut called to (is_ok result) ∷ mid → Does world (cut to) name old new result
+does_cut world called name to old mid new result right same before is =
+    subst (λ n. Does world (cut to) n old new result) same (subst (λ calls. Does world (cut to) called calls new result) before
+    (subst (λ calls. Does world (cut to) called mid calls result) (sym is) (cut_told world called to mid result (subst (AreRight world) is right))))
+
+pub does_sync : (world : World) (called name : List ℕ) (old mid new : List Event) (result : Answer) → AreRight world new → called ≡ name → mid ≡ old
+    → new ≡ Sync called (is_ok result) ∷ mid → Does world sync name old new result
+does_sync world called name old mid new result right same before is =
+    subst (λ n. Does world sync n old new result) same (subst (λ calls. Does world sync called calls new result) before
+    (subst (λ calls. Does world sync called mid calls result) (sym is) (sync_told world called mid result (subst (AreRight world) is right))))
+
+-- Calls that didn't come to it
+
+looks_left : (world : World) (effect : FileState → FileState) (name : List ℕ) (old new : List Event) → Looks world old new
+    → Passes (length old) (length new) (LeftSince world old) (LeftSince world new) (AreLeftBy effect name (files world old))
+looks_left world effect name old new looks = passes_as looks.time (λ image now. record { here = inl (now name); others = λ other apart. now other })
+
+-- a fault before the call
+pub does_nothing : (world : World) (effect : FileState → FileState) (name : List ℕ) (old new : List Event) (result : Answer) → IsErr result → AreRight world old
+    → Looks world old new → Does world effect name old new result
+does_nothing world effect name old new (Ok done) failed right looks = let bad : false ≡ true = failed in cc
+does_nothing world effect name old new (Err fault) failed right looks = record {
+  changes = record {
+    ok = tt;
+    err = subst (λ f. IsLeftBy effect (files world old name) f) (sym (ap (λ (fs : List ℕ → FileState). fs name) looks.same))
+        (record { content = inl (own_image world old right name); images = λ bytes left. inl left });
+    others = λ other apart. ap (λ (fs : List ℕ → FileState). fs other) looks.same;
+  };
+  time = looks_left world effect name old new looks;
+}
+
+-- a call that a name without a file has no need of
+pub does_idle : (world : World) (effect : FileState → FileState) (name : List ℕ) (old new : List Event) (done : Unit {0}) → files world old name ≡ stable []
+    → effect (stable []) ≡ stable [] → Looks world old new → Does world effect name old new (Ok done)
+does_idle world effect name old new done absent idle looks = record {
+  changes = record {
+    ok = ap (λ (fs : List ℕ → FileState). fs name) looks.same ∙ absent ∙ sym idle ∙ sym (ap effect absent);
+    err = tt;
+    others = λ other apart. ap (λ (fs : List ℕ → FileState). fs other) looks.same;
+  };
+  time = looks_left world effect name old new looks;
+}
+
+-- a place within a file that was opened under the name
+pub within_called : (world : World) (called name : List ℕ) (n : ℕ) (old mid : List Event) → called ≡ name → mid ≡ old → n ≤ length (files world old name).content
+    → n ≤ length (files world mid called).content
+within_called world called name n old mid same before le =
+    subst (λ c. n ≤ length (files world mid c).content) (sym same) (subst (λ calls. n ≤ length (files world calls name).content) (sym before) le)
+
+-- where a search ends
+pub at_first : {X : Type 0} (Yes No : X → Type 0) (xs : List X) (found : Option ℕ)
+    → MatchOption found (AllWithin No xs 0 (length xs)) (λ i. (i < length xs) × HoldsAt Yes xs i × AllWithin No xs 0 i) → IfSome found (λ i. HoldsAt Yes xs i)
+at_first Yes No xs None first = tt
+at_first Yes No xs (Some i) first = first.1
