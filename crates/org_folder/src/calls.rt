@@ -28,11 +28,14 @@ impl<F: Drop> Opened<F> {
     }
 }
 
-/// The calls of a system on the files of one folder, as a disk needs them.
+/// The calls of a system on the files of one folder, as a disk needs them. A call that fails may have gone any part of
+/// its way.
 ///
-/// The contracts say what a system answers on which a folder is a disk: honest calls tell, in a record that is kept
-/// in proofs alone, what they were asked and answered, and each answer in it is right. Of calls that aren't called
-/// honest nothing is said. A call that fails may have gone any part of its way.
+/// Their contracts are the premise under which a `CallsDisk` is an honest disk. Honest calls tell what they were asked
+/// and answered, in a record that stands in proofs alone, and each answer in it is right (`IsRight`): a length and a
+/// read give what the calls before made of the file, a name without a file stands for the empty file, after a stop
+/// too, and a call that failed left what a stop within it may leave. Of calls that aren't called honest nothing is
+/// said.
 pub trait Calls {
     /// A file of the system, open for reading and, where that is permitted, for writing.
     type File;

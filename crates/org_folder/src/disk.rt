@@ -15,7 +15,7 @@ use std::os::unix::fs::FileExt;
 /// first use on; the first sync of a file also syncs the folder that holds it. A call of the system that fails, and
 /// want of memory, is a counted failure.
 ///
-/// It is an honest disk where the calls are honest.
+/// It is an honest disk where the calls are honest; its files are those that their record stands for.
 #[derive(Drop)]
 pub struct CallsDisk<C: Calls> {
     folder: Folder<C>,
@@ -24,6 +24,8 @@ pub struct CallsDisk<C: Calls> {
 
 /// The files of a folder of the operating system, as a disk. Links are followed, and permissions stay as they are. A
 /// call that a signal interrupted is made again.
+///
+/// What is proved of it is proved of a disk over any honest calls; that the system's are honest is a premise.
 pub type FolderDisk<R> = CallsDisk<SystemCalls<R>>;
 
 impl<C: Calls + Drop> CallsDisk<C>

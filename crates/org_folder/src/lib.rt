@@ -1,4 +1,7 @@
-//! A folder of real files as a disk.
+//! A folder of files as a disk, over the calls of a system.
+//!
+//! `CallsDisk` meets org_disk's `Disk` over any `Calls`, and is honest where they are. `FolderDisk` is the one over the
+//! operating system's.
 #![tactic(auto)]
 
 mod calls;

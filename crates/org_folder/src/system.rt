@@ -1,4 +1,5 @@
-// The calls of the operating system. Each method makes one call, repeated where a signal interrupts it.
+// The calls of the operating system. Each method makes the call that the trait names, again where a signal interrupts it,
+// and what it takes to reach the file.
 ghost use Rattle.std.specs.Prelude.{[]};
 ghost use Rattle.org_disk.specs.Disk.{stable};
 
@@ -11,8 +12,8 @@ use std::os::unix::fs::FileExt;
 use std::path::{Path, PathBuf};
 use std::{fs, io};
 
-/// The files of a folder of the operating system. Nothing is proved of what they hold, so its calls aren't called
-/// honest.
+/// The files of a folder of the operating system. No contract says what a real file gives, so these calls aren't called
+/// honest: that they answer as `Calls` says of honest ones can only be supposed.
 #[derive(Drop)]
 pub struct SystemCalls<R: Files> {
     rt: R,
