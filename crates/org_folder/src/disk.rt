@@ -1,4 +1,4 @@
-ghost use Rattle.std.specs.Prelude.{◌≡◌, OnOk, OnErr, length};
+ghost use Rattle.std.specs.Prelude.{◌≡◌, IfOk, OnOk, OnErr, length};
 ghost use Rattle.org_disk.specs.Disk.{IsCounted};
 ghost use Rattle.org_folder.specs.Calls.{files, LeftSince};
 
@@ -33,7 +33,10 @@ where
     C::File: Drop,
 {
     /// The disk over these calls. It makes none.
-    pub fn over(alloc: Global, calls: C) -> CallsDisk<C> {
+    pub fn over(alloc: Global, calls: C) -> CallsDisk<C>
+        ensures calls { result.folder.calls ≡ calls }
+        ensures failures { result.failures ≡ 0 }
+    {
         CallsDisk {
             folder: Folder::new(alloc, calls),
             failures: 0,
@@ -53,7 +56,9 @@ where
     R::File: FileExt,
 {
     /// The disk of the folder at this path. It makes no call of the system.
-    pub fn new(rt: R, alloc: Global, path: &str) -> Result<FolderDisk<R>, AllocError> {
+    pub fn new(rt: R, alloc: Global, path: &str) -> Result<FolderDisk<R>, AllocError>
+        ensures { IfOk result (λ disk. disk.failures ≡ 0) }
+    {
         Ok(CallsDisk::over(alloc, SystemCalls::new(rt, alloc, path)?))
     }
 }

@@ -18,7 +18,9 @@ impl<C: Calls + Drop> Folder<C>
 where
     C::File: Drop,
 {
-    pub fn new(alloc: Global, calls: C) -> Folder<C> {
+    pub fn new(alloc: Global, calls: C) -> Folder<C>
+        ensures { result.calls ≡ calls }
+    {
         Folder {
             calls,
             files: Vec::new(alloc),
