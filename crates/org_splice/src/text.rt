@@ -46,6 +46,14 @@ impl Text {
         self.bytes.as_slice()
     }
 
+    /// The bytes of the text, given away. Takes no memory.
+    pub fn into_bytes(self) -> Vec<u8>
+        ensures { result.items ≡ self.bytes }
+    {
+        let Text { bytes, changed: _ } = self;
+        bytes
+    }
+
     /// Puts bytes in the place of `removed` bytes from the byte position `at` on. The text is changed in place: what
     /// stands behind the removed bytes moves once. Where there is no memory the text stays as it is.
     pub fn splice(&mut self, at: usize, removed: usize, bytes: &[u8]) -> Result<(), AllocError>
