@@ -1,0 +1,6 @@
+mod Names
+mod Closed
+mod Results
+mod Lists
+mod Holding
+mod ChangeSets

@@ -1,0 +1,16 @@
+//! Texts of files, held in memory: what a store has of its files between commands, and what a command works on.
+//!
+//! A text that is held stands for its file, over what the disk has: of one name the first text counts. A `Held` is such
+//! a text, a `Draft` one that a command changes, and `changes` makes of them what a commit is given.
+#![tactic(auto)]
+
+mod draft;
+mod held;
+mod pending;
+#[cfg(test)]
+mod tests;
+pub mod texts;
+
+pub use draft::{Draft, Drafts};
+pub use held::Held;
+pub use pending::{add_drafts, changes};

@@ -1,0 +1,161 @@
+//! Drafts, and lists of held texts.
+ghost use Rattle.std.specs.Prelude.{◌≡◌, IfOk, OnOk};
+ghost use Rattle.org_splice.specs.Lines.{closed};
+ghost use Rattle.org_outline.specs.Outline.{headings_of};
+ghost use Rattle.org_held.specs.Held.{AreHeadsOf, Each, IsKept};
+
+use crate::texts::{find, keep_all, put};
+use crate::{Draft, Drafts, Held, add_drafts, changes};
+use org_disk::FileName;
+use org_outline::{Outline, States, is_closed};
+use org_splice::{ChangeSet, Span};
+use std::alloc::{AllocError, Global};
+use std::process::Abort;
+use std::test::Fail;
+
+// The text of a file, as the disk has it.
+fn on_disk(alloc: Global, name: &str, text: &[u8]) -> Result<Held, Fail>
+    ensures { IfOk result IsKept }
+{
+    let name = FileName::new(alloc, name)?;
+    Ok(Held::new(alloc, name, Vec::from_slice(alloc, text)?)?)
+}
+
+// A draft of such a text.
+fn draft_of(alloc: Global, name: &str, text: &[u8]) -> Result<Draft, Fail>
+    ensures shut { IfOk result (λ draft. closed draft.text.bytes ≡ draft.text.bytes) }
+    ensures heads { IfOk result (λ draft. draft.heads ≡ headings_of draft.text.bytes) }
+{
+    Ok(Draft::new(alloc, on_disk(alloc, name, text)?)?)
+}
+
+// Splices a draft, where its text stays closed.
+fn splice(draft: &mut Draft, at: usize, removed: usize, bytes: &[u8]) -> Result<(), Fail>
+    requires shut { closed draft.old.text.bytes ≡ draft.old.text.bytes }
+    requires heads { draft.old.heads ≡ headings_of draft.old.text.bytes }
+    ensures shut { OnOk result (closed draft.new.text.bytes ≡ draft.new.text.bytes) }
+    ensures heads { OnOk result (draft.new.heads ≡ headings_of draft.new.text.bytes) }
+{
+    let size = draft.text.bytes().len();
+    if removed > size || at > size - removed {
+        return Err(Fail::from("behind the text"));
+    }
+    let mut after = draft.text.copy()?;
+    after.splice(at, removed, bytes)?;
+    if !is_closed(after.bytes()) {
+        return Err(Fail::from("not closed"));
+    }
+    draft.splice(at, removed, bytes)?;
+    Ok(())
+}
+
+// Two texts, one behind the other.
+fn two(alloc: Global, first: Held, second: Held) -> Result<Vec<Held>, AllocError>
+    requires first { AreHeadsOf first.text.bytes first.heads }
+    requires second { AreHeadsOf second.text.bytes second.heads }
+    ensures { IfOk result (λ texts. Each (λ held. AreHeadsOf held.text.bytes held.heads) texts.items) }
+{
+    let mut texts = Vec::new(alloc);
+    put(&mut texts, first)?;
+    put(&mut texts, second)?;
+    Ok(texts)
+}
+
+// Asserts that these are the texts, in this order.
+fn assert_texts(rt: &impl Abort, texts: &[Held], expected: &[(&str, &[u8])]) {
+    assert_eq!(rt; texts.len(), expected.len());
+    for (held, (name, text)) in texts.iter().zip(expected) {
+        assert_eq!(rt; held.name.as_str(), *name);
+        assert_eq!(rt; held.text.bytes(), *text);
+    }
+}
+
+// Asserts that these are the changed files, in this order.
+fn assert_changes(rt: &impl Abort, changes: &ChangeSet<FileName>, expected: &[(&str, &[u8])]) {
+    assert_eq!(rt; changes.len(), expected.len());
+    for (i, (name, text)) in expected.iter().enumerate() {
+        let (changed, now) = changes.pair(i);
+        assert_eq!(rt; changed.as_str(), *name);
+        assert_eq!(rt; now.bytes(), *text);
+    }
+}
+
+#[test]
+fn a_draft_is_closed_and_its_headings_follow(rt: HostRuntime) -> Result<(), Fail> {
+    let alloc = rt.alloc();
+    let states = States::new(alloc, &["TODO"], &["DONE"])?;
+    let mut draft = draft_of(alloc, "a.org", b"* A\ntext\n** B")?;
+    assert_eq!(rt; draft.text.bytes(), b"* A\ntext\n** B\n".as_slice());
+    splice(&mut draft, 4, 5, b"* C\n")?;
+    let text = draft.text.bytes();
+    assert_eq!(rt; text, b"* A\n* C\n** B\n".as_slice());
+    let outline = Outline::over(text, &draft.heads, &states);
+    assert_eq!(rt; outline.count(), 3);
+    assert_eq!(rt;
+        outline.subtree(outline.node(1)),
+        Span { start: 4, end: 13 }
+    );
+    Ok(())
+}
+
+#[test]
+fn a_text_takes_the_place_of_its_name(rt: HostRuntime) -> Result<(), Fail> {
+    let alloc = rt.alloc();
+    let mut texts = Vec::new(alloc);
+    put(&mut texts, on_disk(alloc, "a.org", b"* A\n")?)?;
+    put(&mut texts, on_disk(alloc, "b.org", b"* B\n")?)?;
+    put(&mut texts, on_disk(alloc, "a.org", b"* C\n")?)?;
+    assert_texts(&rt, &texts, &[("a.org", b"* C\n"), ("b.org", b"* B\n")]);
+    let name = FileName::new(alloc, "b.org")?;
+    match find(&texts, &name) {
+        Some(held) => assert_eq!(rt; held.text.bytes(), b"* B\n".as_slice()),
+        None => return Err(Fail::from("not found")),
+    }
+    assert!(rt; find(&texts, &FileName::new(alloc, "c.org")?).is_none());
+    Ok(())
+}
+
+#[test]
+fn changes_are_the_first_texts_and_the_drafts(rt: HostRuntime) -> Result<(), Fail> {
+    let alloc = rt.alloc();
+    let mut pending = Vec::new(alloc);
+    pending.push(on_disk(alloc, "b.org", b"* B\n")?)?;
+    pending.push(on_disk(alloc, "a.org", b"* A\n")?)?;
+    pending.push(on_disk(alloc, "b.org", b"* Old\n")?)?;
+    let mut changes = changes(alloc, &pending)?;
+    assert_changes(&rt, &changes, &[("b.org", b"* B\n"), ("a.org", b"* A\n")]);
+    let drafts = Drafts {
+        first: draft_of(alloc, "c.org", b"* C\n")?,
+        second: Some(draft_of(alloc, "b.org", b"* D")?),
+    };
+    add_drafts(&mut changes, &drafts)?;
+    assert_changes(
+        &rt,
+        &changes,
+        &[
+            ("b.org", b"* D\n"),
+            ("a.org", b"* A\n"),
+            ("c.org", b"* C\n"),
+        ],
+    );
+    Ok(())
+}
+
+#[test]
+fn pending_texts_are_kept_and_settled(rt: HostRuntime) -> Result<(), Fail> {
+    let alloc = rt.alloc();
+    let mut kept = Vec::new(alloc);
+    put(&mut kept, on_disk(alloc, "a.org", b"* A\n")?)?;
+    let mut draft = draft_of(alloc, "a.org", b"* A\n")?;
+    splice(&mut draft, 4, 0, b"* B\n")?;
+    let mut pending = two(alloc, Held::from(draft), on_disk(alloc, "c.org", b"* C")?)?;
+    keep_all(&mut kept, &mut pending);
+    assert!(rt; pending.is_empty());
+    assert_texts(&rt, &kept, &[("a.org", b"* A\n* B\n"), ("c.org", b"* C")]);
+    for held in &kept {
+        let patches = held.text.patches()?;
+        assert_eq!(rt; patches.len(), 1);
+        assert!(rt; patches[0].bytes.as_slice().is_empty());
+    }
+    Ok(())
+}
