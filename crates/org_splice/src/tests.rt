@@ -250,3 +250,13 @@ fn patches_of_long_texts(rt: HostRuntime) -> Result<(), AllocError> {
     }
     Ok(())
 }
+
+#[test]
+fn bytes_given_away(rt: HostRuntime) -> Result<(), AllocError> {
+    let mut text = Text::new(Vec::from_slice(rt.alloc(), b"* A")?);
+    text.splice(2, 0, b"B")?;
+    text.close_line()?;
+    let bytes = text.into_bytes();
+    assert_eq!(rt; bytes.as_slice(), b"* BA\n".as_slice());
+    Ok(())
+}
