@@ -12,8 +12,8 @@ use org_disk::FileName;
 use org_splice::ChangeSet;
 use std::alloc::{AllocError, Global};
 
-/// What is to be committed of pending texts: the first text of each name, in their order. `AllocError` comes where
-/// there is no memory for it.
+/// What is to be committed of pending texts: the first text of each name. `AllocError` comes where there is no memory
+/// for it.
 pub fn changes(alloc: Global, pending: &[Held]) -> Result<ChangeSet<FileName>, AllocError>
     ensures over { IfOk result (λ changes. (files : Image) (name : List ℕ) → changed changes files name ≡ held_over pending.now files name) }
     ensures each { IfOk result (λ changes. Each (Contains (map change_of pending.now)) changes) }
@@ -27,8 +27,8 @@ pub fn changes(alloc: Global, pending: &[Held]) -> Result<ChangeSet<FileName>, A
     Ok(changes)
 }
 
-/// Adds the texts of drafts: each in the place of the one of its name, or behind all others. `AllocError` comes where
-/// there is no memory; the set may then have the first draft's text and not the second's.
+/// Adds the texts of drafts, each in place of a text of its name. `AllocError` comes where there is no memory; the set
+/// may then have the first draft's text and not the second's.
 pub fn add_drafts(changes: &mut ChangeSet<FileName>, drafts: &Drafts) -> Result<(), AllocError>
     ensures over { OnOk result ((files : Image) (name : List ℕ) → changed changes.new files name ≡ with_drafts (list_of drafts.now) (changed changes.old files) name) }
     ensures each { OnOk result ((change : List ℕ × EditedText) → Contains changes.new change → Contains (map change_of_draft (list_of drafts.now)) change ⊎ Contains changes.old change) }
