@@ -14,20 +14,21 @@ ghost use Rattle.org_fileset.specs.Laws.{IsArmedFor, KeepsTexts, IsEachOldOrNew}
 pub fn laid_twice_as_once()
     ensures twice { (patches : List (ℕ × List ℕ)) (final : ℕ) (text : List ℕ) → AreWellFormed patches final → Fit patches final (length text)
         → LayTo patches final (lay patches final text) (lay patches final text) }
-    // So it is with each text on which a part of the work may have been done.
+    // So do they over each text on which a part of the work may have been done.
     ensures partly { (patches : List (ℕ × List ℕ)) (final : ℕ) (text part : List ℕ) → AreWellFormed patches final → Fit patches final (length text)
         → IsPartlyLaid patches final text part → LayTo patches final part (lay patches final text) }
 {}
 
-/// Each of the calls that lay an entry over its file, while the journal stands open with the entry's record, keeps what
-/// every image stands for, at every moment and also where the call fails.
+/// Each of the calls that lay an entry over its file, made while the journal stands open with the entry's record, keeps
+/// what every image stands for, at every moment and also where the call fails.
 pub fn calls_keep_texts()
-    // of one of its patches
+    // a write of one of the entry's patches
     ensures write { (entries : List Entry) (texts : Image) (files : List ℕ → FileState) (entry : Entry) (patch : Patch) → IsArmedFor entries texts files → AreImages files (contents files)
         → Contains entries entry → Contains entry.patches patch → patch.from ≤ length (contents files entry.name) → KeepsTexts (write patch.from patch.bytes) entry.name entries texts files }
-    // to its length
+    // a cut of the entry's file to the entry's length
     ensures cut { (entries : List Entry) (texts : Image) (files : List ℕ → FileState) (entry : Entry) → IsArmedFor entries texts files → AreImages files (contents files)
         → Contains entries entry → entry.length ≤ length (contents files entry.name) → KeepsTexts (cut entry.length) entry.name entries texts files }
+    // a sync of the entry's file
     ensures sync { (entries : List Entry) (texts : Image) (files : List ℕ → FileState) (entry : Entry) → IsArmedFor entries texts files → AreImages files (contents files)
         → Contains entries entry → KeepsTexts sync entry.name entries texts files }
 {}
