@@ -1,11 +1,11 @@
 mod Laying
-mod Sorted
+pub mod Sorted
 mod Steps
 mod Takes
 mod Replaying
-mod Stands
+pub mod Stands
 mod Armed
-mod Commits
+pub mod Commits
 mod Changes
 mod Recorded
 pub mod Recovering

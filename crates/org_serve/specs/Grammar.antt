@@ -9,7 +9,7 @@ use Rattle.org_outline.specs.declared.moves.Place.{Place}
 use Rattle.org_outline.specs.declared.moves.Place.TheVariants.{Last}
 use Rattle.org_stamp.specs.Calendar.{CivilMinute, at_minute, civil_day}
 use Rattle.org_store.specs.declared.command.Command.{Command}
-use Rattle.org_store.specs.declared.command.Command.TheVariants.{Capture, Show}
+use Rattle.org_store.specs.declared.command.Command.TheVariants.{Capture, Show, Settle}
 use Rattle.org_store.specs.declared.command.Target.{Target}
 use Rattle.org_store.specs.declared.command.Target.TheVariants.{Top}
 
@@ -100,6 +100,7 @@ capture_of file target place moment template initial =
 
 -- a line of these fields; any other word or number of fields is no command
 abbrev pub command_of_fields : List (List ℕ) → Option Command
+command_of_fields (word ∷ []) = if bytes_eq word (codes "settle") then Some Settle else None
 command_of_fields (word ∷ file ∷ []) = if bytes_eq word (codes "show") then show_of file else None
 command_of_fields (word ∷ file ∷ target ∷ place ∷ moment ∷ template ∷ initial ∷ []) =
     if bytes_eq word (codes "capture") then capture_of file target place moment template initial else None

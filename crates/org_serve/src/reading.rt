@@ -25,6 +25,13 @@ fn command(alloc: Global, fields: &[&[u8]]) -> Result<Command, LineFault>
     ensures { Gives result (command_of_fields (map (λ s. s.now) fields.now)) }
 {
     match *fields {
+        [word] => {
+            if is(word, "settle") {
+                Ok(Command::Settle)
+            } else {
+                Err(LineFault::BadLine)
+            }
+        }
         [word, name] => {
             if is(word, "show") {
                 show(alloc, name)

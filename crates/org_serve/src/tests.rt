@@ -250,8 +250,8 @@ fn answers_at(rt: &(impl Abort + AllocGlobal), length: usize, wanted: &str) -> R
 
 #[test]
 fn the_limit_of_a_file(rt: HostRuntime) -> Result<(), Fail> {
-    answers_at(&rt, 16_777_211, "ok 1\nsafe 1\n")?;
-    answers_at(&rt, 16_777_212, "refused 14 TooLarge\n")
+    answers_at(&rt, 67_108_859, "ok 1\nsafe 1\n")?;
+    answers_at(&rt, 67_108_860, "refused 14 TooLarge\n")
 }
 
 // Many lines, longer than one piece, and the start of one more.

@@ -6,8 +6,8 @@ use Rattle.org_store.specs.declared.command.Reply.TheVariants.{Done, Safe, Text}
 use Rattle.org_store.specs.declared.command.RunFault.{RunFault}
 use Rattle.org_store.specs.declared.command.RunFault.TheVariants.{Refused, OutOfMemory, Device, Broken}
 use Rattle.org_store.specs.Session.{Session}
-use Rattle.org_store.specs.Outcome.{Outcome, Accepts, Shows, Refuses, outcome}
-use Rattle.org_store.specs.Step.{fills, done, Does, Step, Run, IsReply}
+use Rattle.org_store.specs.Outcome.{Outcome, Accepts, Shows, Settles as Asks, Refuses, outcome}
+use Rattle.org_store.specs.Step.{fills, done, settled, Does, Step, Run, IsReply}
 
 same_done : (old new other : Session) (files more : List (List ℕ)) → Accepts files ≡ Accepts more → new ≡ done old files → other ≡ done old more → new ≡ other
 same_done old new other files more is first second =
@@ -32,10 +32,16 @@ does_one old new other outcome (Ok (Text s)) (Ok (Done m)) a b x y = let apart :
 does_one old new other outcome (Ok (Text s)) (Err (Refused how)) a b x y = let apart : Shows s ≡ Refuses how = sym x.1 ∙ y.1 in absurd (cc)
 does_one old new other outcome (Err (Refused why)) (Ok (Done m)) a b x y = let apart : Refuses why ≡ Accepts y.1.0 = sym x.1 ∙ y.1.1 in absurd (cc)
 does_one old new other outcome (Err (Refused why)) (Ok (Text t)) a b x y = let apart : Refuses why ≡ Shows t = sym x.1 ∙ y.1 in absurd (cc)
-does_one old new other outcome (Ok (Safe n)) second a b x y = absurd x
-does_one old new other outcome (Ok (Done n)) (Ok (Safe m)) a b x y = absurd y
-does_one old new other outcome (Ok (Text s)) (Ok (Safe m)) a b x y = absurd y
-does_one old new other outcome (Err (Refused why)) (Ok (Safe m)) a b x y = absurd y
+does_one old new other outcome (Ok (Safe n)) (Ok (Safe m)) a b x y = (ap (λ (k : ℕ). Ok (Safe k)) (x.2 ∙ sym y.2), x.3 ∙ sym y.3)
+does_one old new other outcome (Ok (Safe n)) (Ok (Done m)) a b x y = let apart : Asks ≡ Accepts y.1.0 = sym x.1 ∙ y.1.1 in absurd (cc)
+does_one old new other outcome (Ok (Safe n)) (Ok (Text t)) a b x y = let apart : Asks ≡ Shows t = sym x.1 ∙ y.1 in absurd (cc)
+does_one old new other outcome (Ok (Safe n)) (Err (Refused how)) a b x y = let apart : Asks ≡ Refuses how = sym x.1 ∙ y.1 in absurd (cc)
+does_one old new other outcome (Ok (Safe n)) (Err OutOfMemory) a b x y = absurd b
+does_one old new other outcome (Ok (Safe n)) (Err Device) a b x y = absurd b
+does_one old new other outcome (Ok (Safe n)) (Err Broken) a b x y = absurd b
+does_one old new other outcome (Ok (Done n)) (Ok (Safe m)) a b x y = let apart : Accepts x.1.0 ≡ Asks = sym x.1.1 ∙ y.1 in absurd (cc)
+does_one old new other outcome (Ok (Text s)) (Ok (Safe m)) a b x y = let apart : Shows s ≡ Asks = sym x.1 ∙ y.1 in absurd (cc)
+does_one old new other outcome (Err (Refused why)) (Ok (Safe m)) a b x y = let apart : Refuses why ≡ Asks = sym x.1 ∙ y.1 in absurd (cc)
 does_one old new other outcome (Err OutOfMemory) second a b x y = absurd a
 does_one old new other outcome (Err Device) second a b x y = absurd a
 does_one old new other outcome (Err Broken) second a b x y = absurd a
@@ -86,13 +92,16 @@ done_setting s files =
 pub step_setting : (old new : Session) (command : Command) (answer : Result Reply RunFault) → Step old command answer new → SameSetting old new
 step_setting old new command (Ok (Done n)) step = same_setting old new (done old step.1.0) step.1.3 (done_setting old step.1.0)
 step_setting old new command (Ok (Text bytes)) step = same_setting old new old step.2 (refl, refl, refl)
-step_setting old new command (Ok (Safe n)) step = absurd step
+step_setting old new command (Ok (Safe n)) step = same_setting old new (settled old) step.3 (refl, refl, refl)
 step_setting old new command (Err (Refused why)) step = same_setting old new old step.2 (refl, refl, refl)
 step_setting old new command (Err OutOfMemory) step = same_setting old new old step.1 (refl, refl, refl)
 step_setting old new command (Err Broken) step = same_setting old new old step.1 (refl, refl, refl)
 step_setting old new command (Err Device) step = elim step.1 [
   | inl in_read ↦ subst (λ s. SameSetting old s) (sym in_read) (refl, refl, refl)
-  | inr fell ↦ subst (λ s. SameSetting old s) (sym fell.5) (refl, refl, refl)
+  | inr torn ↦ elim torn [
+    | inl fell ↦ subst (λ s. SameSetting old s) (sym fell.5) (refl, refl, refl)
+    | inr between ↦ subst (λ s. SameSetting old s) (sym between.3) (refl, refl, refl)
+  ]
 ]
 
 pub run_join : (old mid new : Session) (commands later : List Command) (answers more : List (Result Reply RunFault)) → Run old commands answers mid → Run mid later more new

@@ -1,8 +1,9 @@
 mod Rows
 pub mod Closed
 pub mod Entries
-pub mod Archives
 pub mod Texts
+pub mod Reading
+pub mod Keeping
 pub mod Steps
 pub mod Follows
 pub mod Sortings

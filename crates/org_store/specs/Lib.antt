@@ -3,8 +3,8 @@ pub mod Session
 pub mod Capture
 pub mod Entry
 pub mod Outcome
-pub mod Names
 pub mod Step
+pub mod Left
+pub mod Counts
 pub mod Keeping
 pub mod Opening
-pub mod Counts

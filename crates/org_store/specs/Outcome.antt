@@ -4,21 +4,20 @@ use Rattle.org_outline.specs.declared.moves.Place.{Place}
 use Rattle.org_outline.specs.Tree.{Node}
 use Rattle.org_store.specs.declared.command.Target.{Target}
 use Rattle.org_store.specs.declared.command.Command.{Command}
-use Rattle.org_store.specs.declared.command.Command.TheVariants.{Capture, Show}
+use Rattle.org_store.specs.declared.command.Command.TheVariants.{Capture, Show, Settle}
 use Rattle.org_store.specs.declared.command.Refusal.{Refusal}
 use Rattle.org_store.specs.declared.command.Refusal.TheVariants.{NoSuchFile, TooLarge}
+use Rattle.org_fileset.specs.Names.{limit}
 use Rattle.org_store.specs.Session.{Session, text_at, with_text}
 use Rattle.org_store.specs.Capture.{entry_of, captured}
-
--- how many bytes a file may have
-abbrev pub limit : ℕ
-limit = 16777216
 
 pub data Outcome : Type 0 where
   -- nothing, for this reason
   Refuses : Refusal → Outcome
   -- to answer this text
   Shows : List ℕ → Outcome
+  -- to settle what was accepted
+  Settles : Outcome
   -- to be accepted, with these texts of all files after it
   Accepts : List (List ℕ) → Outcome
 
@@ -45,3 +44,4 @@ show (Some text) = Shows text
 abbrev pub outcome : Session → Command → Outcome
 outcome s (Capture file target place moment template initial) = capture s file target place template (text_at s.names s.files file)
 outcome s (Show file) = show (text_at s.names s.files file)
+outcome s Settle = Settles

@@ -6,7 +6,7 @@ use Rattle.org_store.specs.declared.command.Reply.TheVariants.{Done, Safe, Text}
 use Rattle.org_store.specs.declared.command.RunFault.{RunFault}
 use Rattle.org_store.specs.declared.command.RunFault.TheVariants.{Refused, OutOfMemory, Device, Broken}
 use Rattle.org_store.specs.Session.{Session}
-use Rattle.org_store.specs.Outcome.{Outcome, Accepts, Shows, Refuses, outcome}
+use Rattle.org_store.specs.Outcome.{Outcome, Accepts, Shows, Settles as Asks, Refuses, outcome}
 
 -- with one more accepted command, the group is full
 abbrev pub fills : Session → Bool
@@ -35,6 +35,10 @@ torn s left now = record s { files = left; settled = now; broken = true }
 abbrev pub torn_in : Session → List (List ℕ) → List (List ℕ) → Session
 torn_in s left now = record s { files = left; settled = now; accepted = s.accepted + 1; broken = true }
 
+-- the disk failed as the store was asked to settle
+abbrev pub IsTornBetween : Session → Outcome → Session → Type 0
+IsTornBetween old outcome new = (left : List (List ℕ)) × (now : List (List ℕ)) × (outcome ≡ Asks) × (new ≡ torn old left now)
+
 -- the disk failed as a command was settled that would be accepted and fills the group
 abbrev pub IsTorn : Session → Outcome → Session → Type 0
 IsTorn old outcome new = (files : List (List ℕ)) × (left : List (List ℕ)) × (now : List (List ℕ))
@@ -45,11 +49,10 @@ abbrev pub Does : Session → Outcome → Result Reply RunFault → Session → 
 Does old outcome (Ok (Done n)) new =
     (old.broken ≡ false) × ((files : List (List ℕ)) × (outcome ≡ Accepts files) × (n ≡ old.accepted + 1) × (new ≡ done old files))
 Does old outcome (Ok (Text bytes)) new = (old.broken ≡ false) × (outcome ≡ Shows bytes) × (new ≡ old)
--- no command is answered so yet
-Does old outcome (Ok (Safe n)) new = ⊥
+Does old outcome (Ok (Safe n)) new = (old.broken ≡ false) × (outcome ≡ Asks) × (n ≡ old.accepted) × (new ≡ settled old)
 Does old outcome (Err (Refused why)) new = (old.broken ≡ false) × (outcome ≡ Refuses why) × (new ≡ old)
 Does old outcome (Err OutOfMemory) new = (old.broken ≡ false) × (new ≡ old)
-Does old outcome (Err Device) new = (old.broken ≡ false) × ((new ≡ stopped old) ⊎ IsTorn old outcome new)
+Does old outcome (Err Device) new = (old.broken ≡ false) × ((new ≡ stopped old) ⊎ IsTorn old outcome new ⊎ IsTornBetween old outcome new)
 Does old outcome (Err Broken) new = (old.broken ≡ true) × (new ≡ old)
 
 -- The store was `old`, a command gets this answer, and the store is `new`.

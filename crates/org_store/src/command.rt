@@ -1,11 +1,11 @@
 // Commands, and what is answered to them.
 ghost use Rattle.std.specs.Prelude.{◌≡◌, codes};
 ghost use Rattle.org_store.specs.Refusals.{code_of, name_of};
-ghost use Rattle.org_store.specs.declared.command.RunFault.TheVariants.{Refused, OutOfMemory, Device};
+ghost use Rattle.org_store.specs.declared.command.RunFault.TheVariants.{OutOfMemory};
 
 use crate::capture::EntryFault;
-use crate::whole::ReadFault;
-use org_disk::{DiskFault, FileName};
+use org_disk::FileName;
+use org_fileset::SetFault;
 use org_outline::Place;
 use org_splice::Bytes;
 use org_stamp::Moment;
@@ -38,6 +38,8 @@ pub enum Command {
     Show {
         file: FileName,
     },
+    /// Puts all accepted commands on the disk.
+    Settle,
 }
 
 /// What a command that did what it says is answered.
@@ -111,14 +113,6 @@ impl From<AllocError> for RunFault {
     }
 }
 
-impl From<DiskFault> for RunFault {
-    ghost from_gives = { λ _ e. e ≡ Device };
-
-    fn from(_: DiskFault) -> Self {
-        RunFault::Device
-    }
-}
-
 impl From<EntryFault> for RunFault {
     ghost use Rattle.org_store.specs.Entry.{fault_of_entry};
 
@@ -132,15 +126,16 @@ impl From<EntryFault> for RunFault {
     }
 }
 
-impl From<ReadFault> for RunFault {
-    ghost use Rattle.org_store.specs.Keeping.{fault_of_read};
+impl From<SetFault> for RunFault {
+    ghost use Rattle.org_store.specs.Keeping.{fault_of_set};
 
-    ghost from_gives = { λ fault e. e ≡ fault_of_read fault };
+    ghost from_gives = { λ fault e. e ≡ fault_of_set fault };
 
-    fn from(fault: ReadFault) -> Self {
+    fn from(fault: SetFault) -> Self {
         match fault {
-            ReadFault::OutOfMemory => RunFault::OutOfMemory,
-            ReadFault::Device => RunFault::Device,
+            SetFault::OutOfMemory => RunFault::OutOfMemory,
+            SetFault::Device => RunFault::Device,
+            SetFault::Broken => RunFault::Broken,
         }
     }
 }

@@ -4,7 +4,7 @@ ghost use Rattle.org_store.specs.declared.command.Command.{Command};
 ghost use Rattle.org_store.specs.declared.command.Reply.{Reply};
 ghost use Rattle.org_store.specs.declared.command.Reply.TheVariants.{Done};
 ghost use Rattle.org_store.specs.declared.command.RunFault.{RunFault};
-ghost use Rattle.org_store.specs.Names.{AreSorted};
+ghost use Rattle.org_fileset.specs.Names.{AreSorted};
 ghost use Rattle.org_store.specs.Session.{Session};
 ghost use Rattle.org_store.specs.Step.{Step, Run, IsReply};
 

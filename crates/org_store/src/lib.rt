@@ -8,13 +8,10 @@
 mod capture;
 mod command;
 pub mod laws;
-mod names;
-mod open;
 mod store;
 #[cfg(test)]
 mod tests;
-mod whole;
 
 pub use command::{Command, Refusal, Reply, RunFault, Target};
-pub use open::{OpenFault, OpenRefused};
+pub use org_fileset::{OpenFault, OpenRefused};
 pub use store::Store;

@@ -1,10 +1,10 @@
 // A store over a disk in memory.
 ghost use Rattle.std.specs.Prelude.{IfOk};
 ghost use Rattle.std.specs.List.{All};
-ghost use Rattle.org_store.specs.Names.{IsGiven};
+ghost use Rattle.org_fileset.specs.Names.{IsGiven};
 
 use crate::{Command, OpenFault, Refusal, Reply, RunFault, Store, Target};
-use org_disk::{FileName, MemoryDisk};
+use org_disk::{FileName, MemoryDisk, Outcome};
 use org_outline::{Place, States};
 use org_splice::Bytes;
 use org_stamp::Moment;
@@ -125,22 +125,109 @@ fn refuses(rt: HostRuntime) -> Result<(), Fail> {
     Ok(())
 }
 
-// A capture reads a length and a text, writes, and syncs; opening asks for four lengths.
+// How many calls of the disk an opening makes.
+fn calls_of_opening(alloc: Global) -> Result<u64, Fail> {
+    let store = open(alloc, two_files(alloc, b"* A\n", b"")?)?;
+    Ok(store.close().calls())
+}
+
+// A capture reads a length and a text; then it writes the record, opens the gate, writes the file, asks for its length,
+// and closes the gate, with a sync behind each of the four writes.
 #[test]
 fn a_failing_device(rt: HostRuntime) -> Result<(), Fail> {
     let alloc = rt.alloc();
-    for (call, accepted) in [(1, 0), (2, 0), (3, 1), (4, 1)] {
+    let opening = calls_of_opening(alloc)?;
+    for call in 1..12u64 {
         let mut disk = two_files(alloc, b"* A\n", b"")?;
-        disk.fail_at(4 + call);
+        disk.fail_at(opening.wrapping_add(call));
         let mut store = open(alloc, disk)?;
         let answer = store.run(alloc, &capture(alloc, "a.org", b"* B")?);
         assert!(rt; matches!(answer, Err(RunFault::Device)));
         assert!(rt; store.is_broken());
+        let accepted = if call > 2 { 1 } else { 0 };
         assert_eq!(rt; (store.accepted(), store.acknowledged()), (accepted, 0));
         let later = store.run(alloc, &show(alloc, "b.org")?);
         assert!(rt; matches!(later, Err(RunFault::Broken)));
         assert!(rt; matches!(store.settle(), Err(RunFault::Broken)));
+        let mut again = open(alloc, store.close())?;
+        let text = shown(alloc, &mut again, "a.org")?;
+        let done = text.as_slice() == b"* A\n* B\n".as_slice();
+        assert!(rt; done || text.as_slice() == b"* A\n".as_slice());
     }
+    let mut disk = two_files(alloc, b"* A\n", b"")?;
+    disk.fail_at(opening.wrapping_add(12));
+    let mut store = open(alloc, disk)?;
+    let answer = store.run(alloc, &capture(alloc, "a.org", b"* B")?);
+    assert!(rt; matches!(answer, Ok(Reply::Done(1))));
+    Ok(())
+}
+
+// Runs a capture into each of two files over a disk that stops on the way, and tells how many were acknowledged and how
+// many accepted, and what the stop left.
+fn stopped(alloc: Global, call: u64, outcome: Outcome) -> Result<(u64, u64, MemoryDisk), Fail> {
+    let mut disk = two_files(alloc, b"* A\n", b"* Z")?;
+    disk.stop_at(call, outcome);
+    let names = vec![in alloc; org_name(alloc, "a.org")?, org_name(alloc, "b.org")?]?;
+    let states = States::new(alloc, &["TODO"], &["DONE"])?;
+    match Store::open(alloc, disk, names, states) {
+        Err(refused) => Ok((0, 0, refused.disk.image(alloc)?)),
+        Ok(mut store) => {
+            let _ = store.run(alloc, &capture(alloc, "a.org", b"* B")?);
+            let _ = store.run(alloc, &capture(alloc, "b.org", b"* C")?);
+            let counts = (store.acknowledged(), store.accepted());
+            Ok((counts.0, counts.1, store.close().image(alloc)?))
+        }
+    }
+}
+
+// How many of the two captures are in the files.
+fn prefix_in(alloc: Global, disk: MemoryDisk) -> Result<u64, Fail> {
+    let mut store = open(alloc, disk)?;
+    let a = shown(alloc, &mut store, "a.org")?;
+    let b = shown(alloc, &mut store, "b.org")?;
+    match (a.as_slice(), b.as_slice()) {
+        (b"* A\n", b"* Z") => Ok(0),
+        (b"* A\n* B\n", b"* Z") => Ok(1),
+        (b"* A\n* B\n", b"* Z\n* C\n") => Ok(2),
+        _ => Err("no prefix")?,
+    }
+}
+
+#[test]
+fn stopped_at_every_call(rt: HostRuntime) -> Result<(), Fail> {
+    let alloc = rt.alloc();
+    let end = calls_of_opening(alloc)?.wrapping_add(23);
+    for call in 1..end {
+        for outcome in [
+            Outcome::All,
+            Outcome::None,
+            Outcome::Front(0),
+            Outcome::Front(1),
+            Outcome::Fill(0),
+            Outcome::Fill(1),
+            Outcome::Fill(0x55),
+        ] {
+            let (acknowledged, accepted, disk) = stopped(alloc, call, outcome)?;
+            let prefix = prefix_in(alloc, disk)?;
+            assert!(rt; acknowledged <= prefix && prefix <= accepted);
+        }
+    }
+    let (acknowledged, accepted, disk) = stopped(alloc, end, Outcome::None)?;
+    assert_eq!(rt;
+        (acknowledged, accepted, prefix_in(alloc, disk)?),
+        (2, 2, 2)
+    );
+    Ok(())
+}
+
+#[test]
+fn settles_by_command(rt: HostRuntime) -> Result<(), Fail> {
+    let alloc = rt.alloc();
+    let mut store = open(alloc, two_files(alloc, b"", b"")?)?;
+    assert!(rt; matches!(store.run(alloc, &Command::Settle), Ok(Reply::Safe(0))));
+    let done = store.run(alloc, &capture(alloc, "a.org", b"* B")?);
+    assert!(rt; matches!(done, Ok(Reply::Done(1))));
+    assert!(rt; matches!(store.run(alloc, &Command::Settle), Ok(Reply::Safe(1))));
     Ok(())
 }
 
@@ -157,8 +244,8 @@ fn captured_at(alloc: Global, size: usize) -> Result<Result<Reply, RunFault>, Fa
 #[test]
 fn the_limit_of_a_file(rt: HostRuntime) -> Result<(), Fail> {
     let alloc = rt.alloc();
-    assert!(rt; matches!(captured_at(alloc, 16_777_212)?, Ok(Reply::Done(1))));
-    let refused = match captured_at(alloc, 16_777_213)? {
+    assert!(rt; matches!(captured_at(alloc, 67_108_860)?, Ok(Reply::Done(1))));
+    let refused = match captured_at(alloc, 67_108_861)? {
         Err(RunFault::Refused(why)) => why == Refusal::TooLarge,
         _ => false,
     };
@@ -169,7 +256,7 @@ fn the_limit_of_a_file(rt: HostRuntime) -> Result<(), Fail> {
 #[test]
 fn opening_past_the_limit(rt: HostRuntime) -> Result<(), Fail> {
     let alloc = rt.alloc();
-    let large = vec![in alloc; b'x'; 16_777_217]?;
+    let large = vec![in alloc; b'x'; 67_108_865]?;
     let mut disk = two_files(alloc, b"", &large)?;
     disk.set(&FileName::new(alloc, "a.org_archive")?, &large)?;
     let first = match opened_two(alloc, disk)? {

@@ -1,5 +1,5 @@
 use Rattle.std.proofs.lemmas.List.Elements.{All-push}
-use Rattle.org_store.specs.Names.{IsGiven}
+use Rattle.org_fileset.specs.Names.{IsGiven}
 use Rattle.org_store.proofs.tests.opened_two.Goals as goal
 
 pub loop-text-preserved : goal.loop-text-preserved

@@ -1,6 +1,6 @@
 use Rattle.std.proofs.Common.{IsTrue, subst, sym, ◌∙◌}
 use Rattle.org_disk.specs.Names.{is_file_name}
-use Rattle.org_store.proofs.Archives.{given_name}
+use Rattle.org_fileset.proofs.Sorted.{given_name}
 use Rattle.org_store.proofs.tests.org_name.Goals as goal
 
 pub returns : goal.returns

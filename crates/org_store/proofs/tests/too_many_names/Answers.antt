@@ -1,5 +1,5 @@
 use Rattle.std.proofs.lemmas.List.Elements.{All-push}
-use Rattle.org_store.specs.Names.{IsGiven}
+use Rattle.org_fileset.specs.Names.{IsGiven}
 use Rattle.org_store.proofs.tests.too_many_names.Goals as goal
 
 pub loop-i-preserved : goal.loop-i-preserved

@@ -1,5 +1,5 @@
 use Rattle.std.specs.List.{All}
-use Rattle.org_store.specs.Names.{IsGiven}
+use Rattle.org_fileset.specs.Names.{IsGiven}
 use Rattle.org_store.proofs.tests.too_many_names.Given as goal
 
 abbrev pub invariant-loop-i : goal.invariant-loop-i

@@ -1,0 +1,53 @@
+-- What a stop may leave while a call of a store runs: the files after the commands that were acknowledged when it
+-- began, or the files after those that are accepted when it ends.
+use Rattle.std.specs.Prelude.{◌⊎◌, ℕ, List, [], ◌∷◌, Option, Some, None, Result, Ok, Err, IsSomeAnd, if◌then◌else◌}
+use Rattle.org_journal.specs.Standing.{Image}
+use Rattle.org_store.specs.declared.command.Command.{Command}
+use Rattle.org_store.specs.declared.command.Reply.{Reply}
+use Rattle.org_store.specs.declared.command.Reply.TheVariants.{Done, Safe, Text}
+use Rattle.org_store.specs.declared.command.RunFault.{RunFault}
+use Rattle.org_store.specs.declared.command.RunFault.TheVariants.{Refused, OutOfMemory, Device, Broken}
+use Rattle.org_store.specs.Session.{Session, Holds}
+use Rattle.org_store.specs.Outcome.{Outcome, Accepts, Shows, Settles, Refuses, outcome}
+use Rattle.org_store.specs.Step.{Step, fills}
+
+-- the texts that are put on the disk where the outcome asks for a settling or fills the group
+abbrev pub to_settle : Session → Outcome → Option (List (List ℕ))
+to_settle s (Accepts files) = if fills s then Some files else None
+to_settle s Settles = Some s.files
+to_settle s (Shows text) = None
+to_settle s (Refuses why) = None
+
+-- what was settled before, or what the outcome settles
+abbrev pub IsEither : Session → Image → Outcome → Image → Type 0
+IsEither old others outcome image = Holds old others old.settled image ⊎ IsSomeAnd (to_settle old outcome) (λ texts. Holds old others texts image)
+
+-- what a stop leaves while a command runs that is to do this and gets this answer; `others` are the files that aren't
+-- the store's
+abbrev pub IsLeftBy : Session → Image → Outcome → Result Reply RunFault → Image → Type 0
+IsLeftBy old others outcome (Ok (Done n)) image = IsEither old others outcome image
+IsLeftBy old others outcome (Ok (Safe n)) image = IsEither old others outcome image
+IsLeftBy old others outcome (Err Device) image = IsEither old others outcome image
+IsLeftBy old others outcome (Ok (Text text)) image = Holds old others old.settled image
+IsLeftBy old others outcome (Err (Refused why)) image = Holds old others old.settled image
+IsLeftBy old others outcome (Err OutOfMemory) image = Holds old others old.settled image
+IsLeftBy old others outcome (Err Broken) image = Holds old others old.settled image
+
+abbrev pub IsLeft : Session → Image → Command → Result Reply RunFault → Image → Type 0
+IsLeft old others command answer image = IsLeftBy old others (outcome old command) answer image
+
+-- the same while the store is settled
+abbrev pub IsLeftSettling : Session → Image → Result (Unit {0}) RunFault → Image → Type 0
+IsLeftSettling old others (Ok _) image = IsEither old others Settles image
+IsLeftSettling old others (Err Device) image = IsEither old others Settles image
+IsLeftSettling old others (Err (Refused why)) image = Holds old others old.settled image
+IsLeftSettling old others (Err OutOfMemory) image = Holds old others old.settled image
+IsLeftSettling old others (Err Broken) image = Holds old others old.settled image
+
+-- the same while commands run, one after another, that get these answers
+abbrev pub IsWithin : Session → Image → List Command → List (Result Reply RunFault) → Image → Type 0
+IsWithin old others [] [] image = Holds old others old.settled image
+IsWithin old others (command ∷ commands) (answer ∷ answers) image =
+    IsLeft old others command answer image ⊎ ((mid : Session) × Step old command answer mid × IsWithin mid others commands answers image)
+IsWithin old others [] (answer ∷ answers) image = ⊥
+IsWithin old others (command ∷ commands) [] image = ⊥
