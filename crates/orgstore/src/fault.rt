@@ -38,6 +38,7 @@ impl Display for Fault {
 fn write_open<W: fmt::Write>(f: &mut Formatter<W>, fault: &OpenFault) -> fmt::Result {
     match fault {
         OpenFault::TooManyFiles => f.write_str("orgstore: open: TooManyFiles\n"),
+        OpenFault::BadJournal => f.write_str("orgstore: open: BadJournal\n"),
         OpenFault::TooLarge(name) => writeln!(f, "orgstore: open: TooLarge {name}"),
         OpenFault::Device => f.write_str("orgstore: open: Device\n"),
         OpenFault::OutOfMemory => f.write_str("orgstore: open: OutOfMemory\n"),
