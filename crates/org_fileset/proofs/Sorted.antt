@@ -59,7 +59,7 @@ archives_hold (x ∷ names) name there = ⊎_elim
     (past name both.0, past (archive_name name) both.1))
     (cons_cases x names name there)
 
-archives_grow : (names more : List (List ℕ)) → ((name : List ℕ) → Contains names name → Contains more name) → (name : List ℕ) → Contains (with_archives names) name → Contains (with_archives more) name
+pub archives_grow : (names more : List (List ℕ)) → ((name : List ℕ) → Contains names name → Contains more name) → (name : List ℕ) → Contains (with_archives names) name → Contains (with_archives more) name
 archives_grow names more grows = archives_have (Contains (with_archives more)) names (λ name there. archives_hold more name (grows name there))
 
 -- names sorted before and after those of the archive files were added

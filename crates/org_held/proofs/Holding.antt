@@ -126,7 +126,7 @@ pub put_behind : (texts : List Held) (held : Held) → position (at_name held.na
 put_behind texts held none = none_push texts held (none_at texts held.name none)
 
 -- of a name there is a text, whatever the files are, or there is none
-held_either : (texts : List Held) (first second : Image) (name : List ℕ) → (held_over texts first name ≡ held_over texts second name) ⊎ ((files : Image) → held_over texts files name ≡ files name)
+pub held_either : (texts : List Held) (first second : Image) (name : List ℕ) → (held_over texts first name ≡ held_over texts second name) ⊎ ((files : Image) → held_over texts files name ≡ files name)
 held_either [] first second name = inr (λ files. refl)
 held_either (one ∷ texts) first second name = elim (name_cases one.name name) [
   | inl is ↦ let t = is.1 in inl (rw t refl)
@@ -134,13 +134,13 @@ held_either (one ∷ texts) first second name = elim (name_cases one.name name) 
 ]
 
 -- the last of the pending texts is held as the disk has it
-pub kept_step : (rest kept new : List Held) (held : Held) (files : Image) → IsHeldWith held kept new → ((name : List ℕ) → held_over (rest ++ held ∷ []) (held_over kept files) name ≡ files name)
-    → (name : List ℕ) → held_over rest (held_over new files) name ≡ files name
-kept_step rest kept new held files (inl with) all name =
-    held_same rest (held_over new files) (with_held held (held_over kept files)) name (with files name) ∙ sym (held_behind rest held (held_over kept files) name) ∙ all name
-kept_step rest kept new held files (inr without) all name =
+pub kept_step : (rest kept new : List Held) (held : Held) (files : Image) (name : List ℕ) → IsHeldWith held kept new → held_over (rest ++ held ∷ []) (held_over kept files) name ≡ files name
+    → held_over rest (held_over new files) name ≡ files name
+kept_step rest kept new held files name (inl with) all =
+    held_same rest (held_over new files) (with_held held (held_over kept files)) name (with files name) ∙ sym (held_behind rest held (held_over kept files) name) ∙ all
+kept_step rest kept new held files name (inr without) all =
     let before = held_over kept files in
-    let have : held_over rest (with_held held before) name ≡ files name = sym (held_behind rest held before name) ∙ all name in
+    let have : held_over rest (with_held held before) name ≡ files name = sym (held_behind rest held before name) ∙ all in
     let want : held_over rest before name ≡ files name = elim (name_cases name held.name) [
       | inl is ↦
           let own : before name ≡ files name = ap before is.0 ∙ without.1 files ∙ ap files (sym is.0) in

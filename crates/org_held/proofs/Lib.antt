@@ -1,6 +1,9 @@
-mod Names
+pub mod Names
 mod Closed
-mod Results
+pub mod Results
 mod Lists
 mod Holding
 mod ChangeSets
+pub mod InOrder
+pub mod Committing
+mod Sound

@@ -40,3 +40,11 @@ second_in f drafts second is =
 pub some_of : {X : Type 0} (o : Option X) → (o ≡ None → ⊥) → (x : X) × (o ≡ Some x)
 some_of None there = absurd (there refl)
 some_of (Some x) there = (x, refl)
+
+-- an element of a list that was made from another
+pub unmapped : {X Y : Type 0} (f : X → Y) (xs : List X) (y : Y) → Contains (map f xs) y → (x : X) × Contains xs x × (y ≡ f x)
+unmapped f [] y there = absurd (no_element y there)
+unmapped f (x ∷ xs) y there = ⊎_elim
+    (λ is. (x, cons_here x xs, sym is))
+    (λ later. let at = unmapped f xs y later in (at.0, cons_later x xs at.0 at.1, at.2))
+    (cons_cases (f x) (map f xs) y there)

@@ -7,6 +7,7 @@
 mod draft;
 mod held;
 mod pending;
+mod set;
 #[cfg(test)]
 mod tests;
 pub mod texts;
@@ -14,3 +15,4 @@ pub mod texts;
 pub use draft::{Draft, Drafts};
 pub use held::Held;
 pub use pending::{add_drafts, changes};
+pub use set::HeldSet;

@@ -1,5 +1,5 @@
 //! What a commit is given: the change set of held texts and of drafts.
-ghost use Rattle.std.specs.Prelude.{◌≡◌, ◌⊎◌, List, ℕ, map, IfOk, OnOk};
+ghost use Rattle.std.specs.Prelude.{◌≡◌, ◌⊎◌, ◌+◌, ◌≤◌, List, ℕ, map, vec_len, vec_capacity, IfOk, OnOk};
 ghost use Rattle.std.specs.List.{Contains};
 ghost use Rattle.org_splice.specs.Texts.{EditedText};
 ghost use Rattle.org_journal.specs.Standing.{Image};
@@ -24,6 +24,24 @@ pub fn changes(alloc: Global, pending: &[Held]) -> Result<ChangeSet<FileName>, A
             changes.put(held.name.clone()?, held.text.copy()?)?;
         }
     }
+    Ok(changes)
+}
+
+/// What is to be committed of pending texts with drafts put in their place, and room for the drafts among them.
+/// `AllocError` comes where there is no memory for it.
+pub(crate) fn changes_with(
+    pending: &mut Vec<Held>,
+    drafts: &Drafts,
+) -> Result<ChangeSet<FileName>, AllocError>
+    ensures same { pending.new.items ≡ pending.old.items }
+    ensures room { OnOk result (vec_len pending.new + 2 ≤ vec_capacity pending.new) }
+    ensures over { IfOk result (λ changes. (files : Image) (name : List ℕ) → changed changes files name ≡ with_drafts (list_of drafts.now) (held_over pending.old.items files) name) }
+    ensures each { IfOk result (λ changes. (change : List ℕ × EditedText) → Contains changes change
+        → Contains (map change_of_draft (list_of drafts.now)) change ⊎ Contains (map change_of pending.old.items) change) }
+{
+    pending.reserve(2)?;
+    let mut changes = changes(*pending.allocator(), pending)?;
+    add_drafts(&mut changes, drafts)?;
     Ok(changes)
 }
 

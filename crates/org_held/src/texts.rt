@@ -68,8 +68,8 @@ pub fn keep(kept: &mut Vec<Held>, held: Held)
 /// disk has, where the disk has each pending text, and the file as it was held where none is pending.
 pub fn keep_all(kept: &mut Vec<Held>, pending: &mut Vec<Held>)
     requires { Each (λ held. AreHeadsOf held.text.bytes held.heads) pending.old.items }
-    ensures over { (files : Image) → ((name : List ℕ) → held_over pending.old.items (held_over kept.old.items files) name ≡ files name)
-        → (name : List ℕ) → held_over kept.new.items files name ≡ files name }
+    ensures over { (files : Image) (name : List ℕ) → held_over pending.old.items (held_over kept.old.items files) name ≡ files name
+        → held_over kept.new.items files name ≡ files name }
     ensures each { Each IsKept kept.old.items → Each IsKept kept.new.items }
     ensures none { pending.new.items ≡ [] }
 {

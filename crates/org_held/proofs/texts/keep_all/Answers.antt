@@ -18,13 +18,13 @@ loop-held-preserved c =
     let last : c.loop-held.pending.items ≡ rest ++ held ∷ [] = c.in-Some.ensures.items in
     let so_far = c.loop-held.invariant in
     record {
-      over = λ files all name. kept_step rest c.loop-held.kept.items c.keep.new.kept.items held files c.keep.ensures.over
-          (λ other. ap (λ (l : List Held). held_over l (held_over c.loop-held.kept.items files) other) (sym last) ∙ so_far.over files all other) name;
+      over = λ files name all. kept_step rest c.loop-held.kept.items c.keep.new.kept.items held files name c.keep.ensures.over
+          (ap (λ (l : List Held). held_over l (held_over c.loop-held.kept.items files) name) (sym last) ∙ so_far.over files name all);
       heads = λ one there. so_far.heads one (subst (λ (l : List Held). Contains l one) (sym last) (Contains-append_left rest (held ∷ []) one there));
       each = λ kept. c.keep.ensures.each (so_far.each kept);
     }
 
 pub returns-clause-over : goal.returns-clause-over
-returns-clause-over c files all name =
+returns-clause-over c files name all =
     let none : c.loop-held.pending.items ≡ [] = search rules in
-    ap (λ (l : List Held). held_over l (held_over c.loop-held.kept.items files) name) (sym none) ∙ c.loop-held.invariant.over files all name
+    ap (λ (l : List Held). held_over l (held_over c.loop-held.kept.items files) name) (sym none) ∙ c.loop-held.invariant.over files name all

@@ -1,0 +1,278 @@
+//! Files of a disk with what is held of their texts.
+ghost use Rattle.std.specs.Prelude.{◌≡◌, ◌≢◌, ◌≤◌, ◌⊎◌, ◌↔◌, List, ℕ, Some, None, true, false, length, IsTrue, IsFalse, IsSomeAnd, is_some, IfOk, IfErr, OnOk, OnErr, IsErrOf};
+ghost use Rattle.std.specs.List.{All, AllByRecursion, Contains};
+ghost use Rattle.org_disk.specs.Disk.{HasRisen, Passes, LeavesOnly, AreImages};
+ghost use Rattle.org_disk.specs.Names.{journal_name};
+ghost use Rattle.org_splice.specs.Texts.{IsEditOf};
+ghost use Rattle.org_journal.specs.Standing.{IsFit, SameFiles, stands, contents};
+ghost use Rattle.org_fileset.specs.Entries.{changed};
+ghost use Rattle.org_fileset.specs.Names.{with_archives, AreSorted, AreFew, IsGiven, first_large, limit};
+ghost use Rattle.org_fileset.specs.Opening.{IsReason};
+ghost use Rattle.org_fileset.specs.Recovery.{EachStands, StandsAsBefore};
+ghost use Rattle.org_fileset.specs.Replay.{IsAtRest};
+ghost use Rattle.org_fileset.specs.declared.open.OpenFault.{OpenFault};
+ghost use Rattle.org_held.specs.Held.{AreHeadsOf, Each, IsKept, held_over, list_of};
+ghost use Rattle.org_held.specs.Opening.{disk_in};
+ghost use Rattle.org_held.specs.Set.{IsCommittable, IsDraft};
+ghost use Rattle.org_held.specs.InOrder.{HoldsEither, is_name, text_at, texts_of, with_all, with_texts};
+
+use crate::draft::Drafts;
+use crate::held::Held;
+use crate::pending::{changes, changes_with};
+use crate::texts::{find, keep, keep_all, put_drafts};
+use org_disk::{Disk, FileName};
+use org_fileset::{FileSet, OpenRefused, SetFault};
+use org_splice::ChangeSet;
+use std::alloc::{AllocError, Global};
+use std::marker::Model;
+
+/// Files of a disk whose texts are held in memory: each file is read once, and changed there until a commit puts all
+/// changed texts on the disk as one.
+///
+/// A clause sees its disk, its names, and the texts with all that was put (specs/Set.antt).
+#[derive(Drop)]
+pub struct HeldSet<D: Disk> {
+    set: FileSet<D>,
+    // Texts that were read, as the disk has them.
+    kept: Vec<Held>,
+    // Texts that were put since the last commit, in the order in which the files were first changed.
+    pending: Vec<Held>,
+}
+
+impl<D: Disk> Model for HeldSet<D> {
+    ghost use Rattle.std.specs.Prelude.{◌≡◌, false};
+    ghost use Rattle.org_journal.specs.Standing.{contents};
+    ghost use Rattle.org_held.specs.Held.{held_over};
+    ghost use Rattle.org_held.specs.Set.{Holding, IsSound};
+    ghost use Rattle.org_held.specs.InOrder.{texts_of};
+
+    ghost Value = { Holding D };
+
+    ghost view = { λ s. record {
+      disk = s.set.disk;
+      names = s.set.names;
+      texts = texts_of (held_over s.pending.items (contents (D.files s.set.disk))) s.set.names;
+      broken = s.set.broken;
+    } };
+
+    ghost invariant = { λ s. IsSound s.set.names ((s.set.broken ≡ false) × D.honest s.set.disk) (contents (D.files s.set.disk)) s.kept.items s.pending.items };
+}
+
+impl<D: Disk> HeldSet<D> {
+    /// The files of the given names and of their archive files, with nothing put. No name is an archive file's or the
+    /// journal's; a repeated one counts once. What a stop cut short is brought to an end first: see `FileSet::open`,
+    /// whose faults it answers.
+    pub fn open(alloc: Global, disk: D, names: Vec<FileName>) -> Result<HeldSet<D>, OpenRefused<D>>
+        requires { All IsGiven names.items }
+        ensures names { IfOk result (λ set. AreFew names.items × AreSorted (with_archives names.items) set.names) }
+        ensures texts { IfOk result (λ set. set.texts ≡ texts_of (contents (D.files set.disk)) set.names) }
+        ensures working { IfOk result (λ set. set.broken ≡ false) }
+        ensures contents { IfOk result (λ set. D.honest disk → IsSomeAnd (stands (contents (D.files disk))) (SameFiles (contents (D.files set.disk)))) }
+        ensures sizes { IfOk result (λ set. D.honest disk → first_large (contents (D.files set.disk)) set.names ≡ None) }
+        ensures refused { IfErr result (λ refused. IsReason names.items (D.honest disk) (contents (D.files disk)) (contents (D.files refused.disk)) refused.fault) }
+        ensures unused { IfErr result (λ refused. refused.fault ≡ OpenFault.TooManyFiles → refused.disk ≡ disk) }
+        ensures any_moment { D.honest disk → IsFit (D.files disk) → EachStands (D.files disk) →
+            LeavesOnly (D.moment disk) (D.moment (disk_in result)) (D.left_since disk) (D.left_since (disk_in result)) (StandsAsBefore (D.files disk)) }
+        ensures fit { D.honest disk → IsFit (D.files disk) → EachStands (D.files disk) → IsFit (D.files (disk_in result)) }
+        ensures rest { IfOk result (λ set. D.honest disk → IsFit (D.files disk) → EachStands (D.files disk) → IsAtRest (D.files set.disk)) }
+        ensures failed { IfErr result (λ refused. refused.fault ≡ OpenFault.Device → HasRisen (D.failures disk) (D.failures refused.disk)) }
+        ensures failures { D.failures disk ≤ D.failures (disk_in result) }
+        ensures honest { D.honest (disk_in result) ↔ D.honest disk }
+    {
+        match FileSet::open(alloc, disk, names) {
+            Ok(set) => Ok(HeldSet {
+                set,
+                kept: Vec::new(alloc),
+                pending: Vec::new(alloc),
+            }),
+            Err(refused) => Err(refused),
+        }
+    }
+
+    /// Where the texts are kept.
+    pub fn allocator(&self) -> Global {
+        *self.kept.allocator()
+    }
+
+    /// Whether it is the name of one of the files: of those that were given, or of their archive files.
+    pub fn has(&self, name: &FileName) -> bool
+        ensures name { result ≡ is_name self.now.names name.now }
+        ensures text { result ≡ is_some (text_at self.now.names self.now.texts name.now) }
+    {
+        self.set.names().contains(name)
+    }
+
+    /// Whether a call of the disk has failed.
+    pub fn is_broken(&self) -> bool
+        ensures { result ≡ self.now.broken }
+    {
+        self.set.is_broken()
+    }
+
+    /// The disk as it is. What was put and not committed is given up.
+    pub fn close(self) -> D
+        ensures { result ≡ self.disk }
+    {
+        let HeldSet { set, .. } = self;
+        set.close()
+    }
+
+    /// The text of one of the files, with all that was put, to work on. It is read from the disk where it isn't held;
+    /// where there is no memory to hold it, it is read again the next time.
+    pub fn read(&mut self, name: &FileName) -> Result<Held, SetFault>
+        requires name { is_name self.old.names name.now ≡ true }
+        ensures text { IfOk result (λ held. D.honest self.old.disk → text_at self.old.names self.old.texts name.now ≡ Some held.text.bytes) }
+        ensures name { IfOk result (λ held. held.name ≡ name.now) }
+        ensures heads { IfOk result (λ held. AreHeadsOf held.text.bytes held.heads) }
+        ensures edit { IfOk result (λ held. D.honest self.old.disk → IsEditOf (contents (D.files self.old.disk) name.now) held.text) }
+        ensures texts { D.honest self.old.disk → self.new.texts ≡ self.old.texts }
+        ensures same { D.honest self.old.disk → D.files self.new.disk ≡ D.files self.old.disk }
+        ensures any_moment { D.honest self.old.disk → Passes (D.moment self.old.disk) (D.moment self.new.disk) (D.left_since self.old.disk) (D.left_since self.new.disk)
+            (AreImages (D.files self.old.disk)) }
+        ensures names { self.new.names ≡ self.old.names }
+        ensures broken { IsErrOf result SetFault.Broken ↔ IsTrue self.old.broken }
+        ensures breaks { IsTrue self.new.broken ↔ (IsTrue self.old.broken ⊎ IsErrOf result SetFault.Device) }
+        ensures failed { IsErrOf result SetFault.Device → HasRisen (D.failures self.old.disk) (D.failures self.new.disk) }
+        ensures failures { D.failures self.old.disk ≤ D.failures self.new.disk }
+        ensures honest { D.honest self.new.disk ↔ D.honest self.old.disk }
+    {
+        if self.set.is_broken() {
+            return Err(SetFault::Broken);
+        }
+        if let Some(held) = find(&self.pending, name) {
+            return Ok(held.copy()?);
+        }
+        if let Some(held) = find(&self.kept, name) {
+            return Ok(held.copy()?);
+        }
+        read_to_hold(&mut self.set, &mut self.kept, name)
+    }
+
+    /// Puts the texts of drafts in the place of the files', in memory alone. `AllocError` leaves all as it was.
+    pub fn put(&mut self, drafts: Drafts) -> Result<(), AllocError>
+        requires { Each (IsDraft self.old.names ((self.old.broken ≡ false) × D.honest self.old.disk) (contents (D.files self.old.disk))) (list_of drafts) }
+        ensures ok { OnOk result (self.new ≡ record self.old { texts = with_all self.old.names self.old.texts (list_of drafts) }) }
+        ensures err { OnErr result (self.new ≡ self.old) }
+    {
+        self.pending.reserve(2)?;
+        put_drafts(&mut self.pending, drafts);
+        Ok(())
+    }
+
+    /// Puts the texts of drafts in the place of the files', and commits all that was put: see `FileSet::commit`.
+    /// `OutOfMemory` leaves all as it was, and comes before the first call of the disk that writes.
+    pub fn commit(&mut self, drafts: Drafts) -> Result<(), SetFault>
+        requires { Each (IsDraft self.old.names ((self.old.broken ≡ false) × D.honest self.old.disk) (contents (D.files self.old.disk))) (list_of drafts) }
+        ensures any_moment { D.honest self.old.disk → IsAtRest (D.files self.old.disk) → LeavesOnly (D.moment self.old.disk) (D.moment self.new.disk)
+            (D.left_since self.old.disk) (D.left_since self.new.disk)
+            (HoldsEither self.old.names (contents (D.files self.old.disk)) (with_all self.old.names self.old.texts (list_of drafts))) }
+        ensures texts { OnOk result (D.honest self.old.disk → self.new.texts ≡ with_all self.old.names self.old.texts (list_of drafts)) }
+        ensures settled { OnOk result (self.new.texts ≡ texts_of (contents (D.files self.new.disk)) self.new.names) }
+        ensures others { OnOk result (D.honest self.old.disk → SameFiles (contents (D.files self.new.disk)) (with_texts self.new.names self.new.texts (contents (D.files self.old.disk)))) }
+        ensures rest { OnOk result (D.honest self.old.disk → IsAtRest (D.files self.old.disk) → IsAtRest (D.files self.new.disk)) }
+        ensures memory { IsErrOf result SetFault.OutOfMemory → self.new ≡ self.old }
+        ensures fit { IsErrOf result SetFault.Device → D.honest self.old.disk → IsAtRest (D.files self.old.disk) → IsFit (D.files self.new.disk) }
+        ensures names { self.new.names ≡ self.old.names }
+        ensures broken { IsErrOf result SetFault.Broken ↔ IsTrue self.old.broken }
+        ensures untouched { IsTrue self.old.broken → self.new ≡ self.old }
+        ensures breaks { IsTrue self.new.broken ↔ (IsTrue self.old.broken ⊎ IsErrOf result SetFault.Device) }
+        ensures failed { IsErrOf result SetFault.Device → HasRisen (D.failures self.old.disk) (D.failures self.new.disk) }
+        ensures failures { D.failures self.old.disk ≤ D.failures self.new.disk }
+        ensures honest { D.honest self.new.disk ↔ D.honest self.old.disk }
+    {
+        if self.set.is_broken() {
+            return Err(SetFault::Broken);
+        }
+        let changes = changes_with(&mut self.pending, &drafts)?;
+        commit_texts(&mut self.set, &changes)?;
+        put_drafts(&mut self.pending, drafts);
+        keep_all(&mut self.kept, &mut self.pending);
+        Ok(())
+    }
+
+    /// Commits all that was put: see `FileSet::commit`. `OutOfMemory` leaves all as it was. Where nothing was put, no call
+    /// of the disk is made.
+    pub fn settle(&mut self) -> Result<(), SetFault>
+        ensures any_moment { D.honest self.old.disk → IsAtRest (D.files self.old.disk) → LeavesOnly (D.moment self.old.disk) (D.moment self.new.disk)
+            (D.left_since self.old.disk) (D.left_since self.new.disk) (HoldsEither self.old.names (contents (D.files self.old.disk)) self.old.texts) }
+        ensures texts { OnOk result (D.honest self.old.disk → self.new.texts ≡ self.old.texts) }
+        ensures settled { OnOk result (self.new.texts ≡ texts_of (contents (D.files self.new.disk)) self.new.names) }
+        ensures others { OnOk result (D.honest self.old.disk → SameFiles (contents (D.files self.new.disk)) (with_texts self.new.names self.new.texts (contents (D.files self.old.disk)))) }
+        ensures rest { OnOk result (D.honest self.old.disk → IsAtRest (D.files self.old.disk) → IsAtRest (D.files self.new.disk)) }
+        ensures memory { IsErrOf result SetFault.OutOfMemory → self.new ≡ self.old }
+        ensures fit { IsErrOf result SetFault.Device → D.honest self.old.disk → IsAtRest (D.files self.old.disk) → IsFit (D.files self.new.disk) }
+        ensures names { self.new.names ≡ self.old.names }
+        ensures broken { IsErrOf result SetFault.Broken ↔ IsTrue self.old.broken }
+        ensures untouched { IsTrue self.old.broken → self.new ≡ self.old }
+        ensures breaks { IsTrue self.new.broken ↔ (IsTrue self.old.broken ⊎ IsErrOf result SetFault.Device) }
+        ensures failed { IsErrOf result SetFault.Device → HasRisen (D.failures self.old.disk) (D.failures self.new.disk) }
+        ensures failures { D.failures self.old.disk ≤ D.failures self.new.disk }
+        ensures honest { D.honest self.new.disk ↔ D.honest self.old.disk }
+    {
+        if self.set.is_broken() {
+            return Err(SetFault::Broken);
+        }
+        let changes = changes(*self.pending.allocator(), &self.pending)?;
+        commit_texts(&mut self.set, &changes)?;
+        keep_all(&mut self.kept, &mut self.pending);
+        Ok(())
+    }
+}
+
+// Reads a file, and holds its text.
+fn read_to_hold<D: Disk>(
+    set: &mut FileSet<D>,
+    kept: &mut Vec<Held>,
+    name: &FileName,
+) -> Result<Held, SetFault>
+    requires unbroken { set.old.broken ≡ false }
+    ensures text { IfOk result (λ held. D.honest set.old.disk → held.text.bytes ≡ contents (D.files set.old.disk) name.now) }
+    ensures name { IfOk result (λ held. held.name ≡ name.now) }
+    ensures held { IfOk result IsKept }
+    ensures each { Each IsKept kept.old.items → Each IsKept kept.new.items }
+    ensures over { D.honest set.old.disk → (other : List ℕ) → held_over kept.old.items (contents (D.files set.old.disk)) other ≡ contents (D.files set.old.disk) other
+        → held_over kept.new.items (contents (D.files set.old.disk)) other ≡ contents (D.files set.old.disk) other }
+    ensures same { D.honest set.old.disk → D.files set.new.disk ≡ D.files set.old.disk }
+    ensures any_moment { D.honest set.old.disk → Passes (D.moment set.old.disk) (D.moment set.new.disk) (D.left_since set.old.disk) (D.left_since set.new.disk)
+        (AreImages (D.files set.old.disk)) }
+    ensures names { set.new.names ≡ set.old.names }
+    ensures working { IsErrOf result SetFault.Broken → ⊥ }
+    ensures breaks { IsTrue set.new.broken ↔ IsErrOf result SetFault.Device }
+    ensures failed { IsErrOf result SetFault.Device → HasRisen (D.failures set.old.disk) (D.failures set.new.disk) }
+    ensures failures { D.failures set.old.disk ≤ D.failures set.new.disk }
+    ensures honest { D.honest set.new.disk ↔ D.honest set.old.disk }
+{
+    let bytes = set.read(name)?;
+    let held = Held::new(*kept.allocator(), name.clone()?, bytes)?;
+    let copy = held.copy()?;
+    keep(kept, held);
+    Ok(copy)
+}
+
+// A commit of changes, told in the texts of the set's files.
+fn commit_texts<D: Disk>(
+    set: &mut FileSet<D>,
+    changes: &ChangeSet<FileName>,
+) -> Result<(), SetFault>
+    requires apart { AllByRecursion (λ name. name ≢ journal_name) set.old.names }
+    requires unbroken { set.old.broken ≡ false }
+    requires each { Each (IsCommittable set.old.names (D.honest set.old.disk) (contents (D.files set.old.disk))) changes.now }
+    ensures any_moment { D.honest set.old.disk → IsAtRest (D.files set.old.disk) → LeavesOnly (D.moment set.old.disk) (D.moment set.new.disk)
+        (D.left_since set.old.disk) (D.left_since set.new.disk)
+        (HoldsEither set.old.names (contents (D.files set.old.disk)) (texts_of (changed changes.now (contents (D.files set.old.disk))) set.old.names)) }
+    ensures contents { OnOk result (D.honest set.old.disk → SameFiles (contents (D.files set.new.disk)) (changed changes.now (contents (D.files set.old.disk)))) }
+    ensures texts { OnOk result (D.honest set.old.disk → texts_of (contents (D.files set.new.disk)) set.new.names ≡ texts_of (changed changes.now (contents (D.files set.old.disk))) set.old.names) }
+    ensures others { OnOk result (D.honest set.old.disk → SameFiles (contents (D.files set.new.disk))
+        (with_texts set.new.names (texts_of (contents (D.files set.new.disk)) set.new.names) (contents (D.files set.old.disk)))) }
+    ensures rest { OnOk result (D.honest set.old.disk → IsAtRest (D.files set.old.disk) → IsAtRest (D.files set.new.disk)) }
+    ensures memory { IsErrOf result SetFault.OutOfMemory → set.new ≡ set.old }
+    ensures fit { IsErrOf result SetFault.Device → D.honest set.old.disk → IsAtRest (D.files set.old.disk) → IsFit (D.files set.new.disk) }
+    ensures names { set.new.names ≡ set.old.names }
+    ensures working { IsErrOf result SetFault.Broken → ⊥ }
+    ensures breaks { IsTrue set.new.broken ↔ IsErrOf result SetFault.Device }
+    ensures failed { IsErrOf result SetFault.Device → HasRisen (D.failures set.old.disk) (D.failures set.new.disk) }
+    ensures failures { D.failures set.old.disk ≤ D.failures set.new.disk }
+    ensures honest { D.honest set.new.disk ↔ D.honest set.old.disk }
+{
+    set.commit(changes)
+}
