@@ -1,5 +1,5 @@
 -- How counts rise.
-use Rattle.std.proofs.Common.{◌≡◌, ℕ, ◌+◌, ◌^◌, ◌≤◌, ◌⊎◌, inl, inr, arith, IsTrue}
+use Rattle.std.proofs.Common.{ℕ, ◌+◌, ◌≤◌, inl, inr, arith}
 use Rattle.org_disk.specs.Disk.{IsCounted, HasRisen}
 use Rattle.org_store.specs.Session.{Session}
 use Rattle.org_serve.specs.Counts.{HasRisenBy}

@@ -1,5 +1,5 @@
 -- A line of more fields than a command has is none.
-use Rattle.std.proofs.Common.{◌≡◌, ℕ, ◌+◌, ◌<◌, ◌≤◌, ◌==◌, false, nat_lt, List, [], ◌∷◌, length, None, refl, arith}
+use Rattle.std.proofs.Common.{◌≡◌, ℕ, ◌<◌, ◌≤◌, ◌==◌, false, nat_lt, List, [], ◌∷◌, length, None, refl, arith}
 use Rattle.std.specs.List.{slice_split, count_by}
 use Rattle.std.proofs.lemmas.Bool.{ltb-false}
 use Rattle.std.proofs.lemmas.List.Splits.{length-slice_split}

@@ -1,6 +1,6 @@
 -- Runs, reads and writes, one after another.
 use Rattle.std.proofs.Common.{ℕ, List, [], ◌∷◌, ◌++◌, Option, None, Some, refl, sym, ap, ◌∙◌, append_assoc, append-nil, subst}
-use Rattle.std.specs.Io.KnownBytes.{Consumes, Appends}
+use Rattle.std.specs.Io.KnownBytes.{Consumes, Appends, Keeps}
 use Rattle.org_serve.specs.Transcript.{Answers}
 
 pub Answers-append : {S : Type 0} (AnswersLine : S → List ℕ → List ℕ → S → Type 0) (old mid new : S) (ls ms : List (List ℕ)) (out more : List ℕ)
@@ -31,3 +31,8 @@ Appends-none (Some xs) = sym (append-nil xs)
 pub Consumes-none : (x : Option (List ℕ)) → Consumes x x []
 Consumes-none None = tt
 Consumes-none (Some xs) = refl
+
+pub Consumes-kept : (x y : Option (List ℕ)) → Keeps x y → Consumes x y []
+Consumes-kept None y kept = tt
+Consumes-kept (Some xs) None kept = kept
+Consumes-kept (Some xs) (Some ys) kept = sym kept

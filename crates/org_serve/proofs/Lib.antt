@@ -7,3 +7,4 @@ pub mod Inputs
 pub mod Utf8
 pub mod Counting
 pub mod Escapes
+pub mod Stops

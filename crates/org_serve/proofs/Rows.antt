@@ -1,5 +1,5 @@
 -- The definitions on worked examples.
-use Rattle.std.proofs.Common.{◌≡◌, ℕ, List, [], ◌∷◌, ◌++◌, Option, Some, None, Err, true, refl}
+use Rattle.std.proofs.Common.{◌≡◌, [], ◌∷◌, Some, None, Err, true, refl}
 use Rattle.std.specs.Prelude.{codes}
 use Rattle.std.specs.Str.{is_utf8}
 use Rattle.org_outline.specs.declared.moves.Place.TheVariants.{Last}
@@ -7,7 +7,7 @@ use Rattle.org_stamp.specs.Calendar.{at_minute, civil_day}
 use Rattle.org_store.specs.declared.command.Command.TheVariants.{Capture, Show}
 use Rattle.org_store.specs.declared.command.Target.TheVariants.{Top}
 use Rattle.org_store.specs.declared.command.RunFault.TheVariants.{Device}
-use Rattle.org_serve.specs.Grammar.{command_of, command_of_fields, unescaped, escaped, moment_of, file_of, show_of, capture_of, target_of, place_of}
+use Rattle.org_serve.specs.Grammar.{command_of, unescaped, escaped, moment_of, file_of, show_of, capture_of, target_of, place_of}
 use Rattle.org_serve.specs.Lines.{cut}
 use Rattle.org_serve.specs.Replies.{answer_text}
 

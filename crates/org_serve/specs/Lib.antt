@@ -8,3 +8,4 @@ pub mod Transcript
 pub mod Feeding
 pub mod Replies
 pub mod Serving
+pub mod Stops

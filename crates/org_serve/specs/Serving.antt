@@ -1,5 +1,5 @@
 -- What serving does to the session of a store.
-use Rattle.std.specs.Prelude.{◌≡◌, ◌⊎◌, ℕ, ◌<◌, ◌≤◌, IsTrue, nat_lt, List, [], length, Option, None, Some, Result, Ok, Err, MatchBool}
+use Rattle.std.specs.Prelude.{◌≡◌, ◌⊎◌, ℕ, ◌<◌, ◌≤◌, IsTrue, nat_lt, List, [], length, None, Some, Result, Ok, Err, MatchBool}
 use Rattle.org_disk.specs.Disk.{HasRisen}
 use Rattle.org_store.specs.declared.command.Command.{Command}
 use Rattle.org_store.specs.declared.command.Reply.{Reply}

@@ -1,12 +1,16 @@
 // Lines answered one by one, to the end of the input.
-ghost use Rattle.std.specs.Prelude.{◌≡◌, ◌≢◌, ◌⊎◌, ◌↔◌, ◌++◌, List, ℕ, [], OnOk, OnErr, MatchResult};
+ghost use Rattle.std.specs.Prelude.{◌≡◌, ◌≢◌, ◌⊎◌, ◌↔◌, ◌++◌, List, ℕ, [], OnOk, OnErr, MatchResult, IsFalse};
 ghost use Rattle.std.specs.Io.KnownBytes.{Appends};
-ghost use Rattle.org_disk.specs.Disk.{HasRisen};
+ghost use Rattle.org_disk.specs.Disk.{HasRisen, LeavesOnly};
+ghost use Rattle.org_journal.specs.Standing.{contents};
+ghost use Rattle.org_fileset.specs.Replay.{IsAtRest};
+ghost use Rattle.org_store.specs.Runs.{IsBetween, IsLeftOf};
 ghost use Rattle.org_serve.specs.Counts.{HasRisenBy};
 ghost use Rattle.org_serve.specs.Feeding.{FeedOk, FeedErr, EndsWith};
 ghost use Rattle.org_serve.specs.Lines.{cut};
 ghost use Rattle.org_serve.specs.Pending.{Stands};
-ghost use Rattle.org_serve.specs.Serving.{IsReadAs, AnswersRead, AnswersLine, Finishes, HasSettled, BreaksByFailure, end_of};
+ghost use Rattle.org_serve.specs.Serving.{IsReadAs, AnswersLine, Finishes, HasSettled, BreaksByFailure, end_of};
+ghost use Rattle.org_serve.specs.Stops.{RunsRead, RunsLine, HasSettledOver, FinishesOver, Runs, Reaches, KeepsDisk};
 ghost use Rattle.org_serve.specs.Transcript.{AnswersRest, ServesAll, ServesLines, RunsSome, RunsAllAndSettles};
 
 use crate::end::ServeEnd;
@@ -30,6 +34,10 @@ const PIECE: usize = 4096;
 /// transcript. It ends with `Read` only where a read failed or the turns are used up: the lines that were read whole
 /// are answered then. It ends with `Write` only where a write or a flush failed: of the lines some, from the first on,
 /// were run then.
+///
+/// At every moment since the call began, what a stop leaves stands for the files after the commands that were
+/// acknowledged then, or for those after some of the lines that are run, from the first on; a command in which the disk
+/// failed may be the last of them. The store is changed by calls of `run` and `settle` alone.
 pub fn serve<D: Disk, R: Source, W: Sink>(
     alloc: Global,
     store: &mut Store<D>,
@@ -52,9 +60,21 @@ pub fn serve<D: Disk, R: Source, W: Sink>(
         ⊎ RunsAllAndSettles AnswersLine HasSettled store.old.session store.new.session (R.left reader.old) (R.left reader.new) }
     ensures write_cause { result ≡ ServeEnd.Write → HasRisen (W.failures writer.old) (W.failures writer.new) }
 
+    ensures calls { D.honest store.old.disk
+        → Runs (RunsLine D.files D.moment D.left_since) (HasSettledOver D.files D.moment D.left_since) store.old store.new result
+        (R.left reader.old) (R.left reader.new) (W.written writer.old) (W.written writer.new) }
+    ensures any_moment { D.honest store.old.disk → IsAtRest (D.files store.old.disk) → IsFalse store.old.session.broken
+        → (run : Runs AnswersLine HasSettled store.old.session store.new.session result
+        (R.left reader.old) (R.left reader.new) (W.written writer.old) (W.written writer.new))
+        × LeavesOnly (D.moment store.old.disk) (D.moment store.new.disk) (D.left_since store.old.disk) (D.left_since store.new.disk)
+        (IsLeftOf store.old.session (contents (D.files store.old.disk))
+        (λ mid. Reaches store.old.session run.ran run.out mid × IsBetween store.old.session store.new.session mid)) }
+    ensures disk { D.honest store.old.disk → KeepsDisk D.files store.old store.new }
+
     ensures device { BreaksByFailure store.old.session store.new.session (D.failures store.old.disk) (D.failures store.new.disk) }
     ensures honest { D.honest store.new.disk ↔ D.honest store.old.disk }
 {
+    store.settled_is_on_disk();
     let mut buffer = [0u8; PIECE];
     let mut pending = Pending::new(alloc);
     for _ in 0..turns {
@@ -80,8 +100,8 @@ fn feed<D: Disk, W: Sink>(
 ) -> Result<(), PipeFault>
     ensures fed { D.honest store.old.disk → (part : List ℕ) → (cut part).lines ≡ [] → Stands pending.old part
         → MatchResult result
-        (λ _. FeedOk AnswersLine store.old.session (part ++ piece.now) store.new.session (W.written writer.old) (W.written writer.new) pending.new)
-        (λ _. FeedErr AnswersLine store.old.session (part ++ piece.now) store.new.session) }
+        (λ _. FeedOk (RunsLine D.files D.moment D.left_since) store.old (part ++ piece.now) store.new (W.written writer.old) (W.written writer.new) pending.new)
+        (λ _. FeedErr (RunsLine D.files D.moment D.left_since) store.old (part ++ piece.now) store.new) }
     ensures same { OnOk result (W.failures writer.new ≡ W.failures writer.old) }
     ensures err { OnErr result (HasRisen (W.failures writer.old) (W.failures writer.new)) }
     ensures device { BreaksByFailure store.old.session store.new.session (D.failures store.old.disk) (D.failures store.new.disk) }
@@ -105,7 +125,7 @@ fn answer<D: Disk, W: Sink>(
     writer: &mut W,
 ) -> Result<(), PipeFault>
     ensures step { D.honest store.old.disk → (part : List ℕ) → Stands pending.old part
-        → (out : List ℕ) × AnswersLine store.old.session (part ++ last.now) out store.new.session
+        → (out : List ℕ) × RunsLine D.files D.moment D.left_since store.old (part ++ last.now) out store.new
         × OnOk result (Appends (W.written writer.old) (W.written writer.new) out) }
     ensures cleared { Stands pending.new [] }
     ensures same { OnOk result (W.failures writer.new ≡ W.failures writer.old) }
@@ -116,7 +136,7 @@ fn answer<D: Disk, W: Sink>(
     pending.add(last);
     let read = read_line(alloc, pending);
     pending.clear();
-    answer_read(alloc, store, &read, writer)
+    answer_read(store, &read, writer)
 }
 
 // What a line that was kept is read as.
@@ -131,12 +151,11 @@ fn read_line(alloc: Global, pending: &Pending) -> Result<Command, LineFault>
 
 // Runs what a line was read as, and writes the answer.
 fn answer_read<D: Disk, W: Sink>(
-    alloc: Global,
     store: &mut Store<D>,
     read: &Result<Command, LineFault>,
     writer: &mut W,
 ) -> Result<(), PipeFault>
-    ensures step { D.honest store.old.disk → (out : List ℕ) × AnswersRead store.old.session read.now out store.new.session
+    ensures step { D.honest store.old.disk → (out : List ℕ) × RunsRead D.files D.moment D.left_since store.old read.now out store.new
         × OnOk result (Appends (W.written writer.old) (W.written writer.new) out) }
     ensures same { OnOk result (W.failures writer.new ≡ W.failures writer.old) }
     ensures err { OnErr result (HasRisen (W.failures writer.old) (W.failures writer.new)) }
@@ -146,7 +165,7 @@ fn answer_read<D: Disk, W: Sink>(
     match read {
         Ok(command) => {
             let before = store.acknowledged();
-            let answer = store.run(alloc, command);
+            let answer = store.run(command);
             write_answer(writer, &answer, before, store.acknowledged())
         }
         Err(fault) => write_unread(writer, *fault),
@@ -156,10 +175,10 @@ fn answer_read<D: Disk, W: Sink>(
 // Ends serving at the end of the input.
 fn finish<D: Disk, W: Sink>(store: &mut Store<D>, pending: &Pending, writer: &mut W) -> ServeEnd
     ensures told { D.honest store.old.disk → result ≢ ServeEnd.Write → (part : List ℕ) → Stands pending.now part
-        → EndsWith Finishes part store.old.session result store.new.session (W.written writer.old) (W.written writer.new) }
+        → EndsWith (FinishesOver D.files D.moment D.left_since) part store.old result store.new (W.written writer.old) (W.written writer.new) }
     ensures never { result ≢ ServeEnd.Read }
     ensures write { D.honest store.old.disk → result ≡ ServeEnd.Write
-        → (store.new.session ≡ store.old.session) ⊎ HasSettled store.old.session store.new.session }
+        → (store.new ≡ store.old) ⊎ HasSettledOver D.files D.moment D.left_since store.old store.new }
     ensures write_cause { result ≡ ServeEnd.Write → HasRisen (W.failures writer.old) (W.failures writer.new) }
     ensures device { BreaksByFailure store.old.session store.new.session (D.failures store.old.disk) (D.failures store.new.disk) }
     ensures honest { D.honest store.new.disk ↔ D.honest store.old.disk }
@@ -186,10 +205,10 @@ fn answer_rest<W: Sink>(pending: &Pending, writer: &mut W) -> Result<(), PipeFau
 // Settles where accepted commands aren't settled yet.
 fn settle<D: Disk, W: Sink>(store: &mut Store<D>, writer: &mut W) -> ServeEnd
     ensures told { D.honest store.old.disk → result ≢ ServeEnd.Write → (tail : List ℕ)
-        × Finishes store.old.session result tail store.new.session
+        × FinishesOver D.files D.moment D.left_since store.old result tail store.new
         × Appends (W.written writer.old) (W.written writer.new) tail }
     ensures never { result ≢ ServeEnd.Read }
-    ensures write { D.honest store.old.disk → result ≡ ServeEnd.Write → HasSettled store.old.session store.new.session }
+    ensures write { D.honest store.old.disk → result ≡ ServeEnd.Write → HasSettledOver D.files D.moment D.left_since store.old store.new }
     ensures write_cause { result ≡ ServeEnd.Write → HasRisen (W.failures writer.old) (W.failures writer.new) }
     ensures device { BreaksByFailure store.old.session store.new.session (D.failures store.old.disk) (D.failures store.new.disk) }
     ensures honest { D.honest store.new.disk ↔ D.honest store.old.disk }

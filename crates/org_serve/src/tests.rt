@@ -368,7 +368,7 @@ fn failing(alloc: Global, call: u64) -> Result<Store<MemoryDisk>, Fail> {
 }
 
 const LINES: &str =
-    "capture\ta.org\ttop\tlast\t2026-07-01 10:00\t* N\t\nshow\ta.org\nshow\tq.org\n\n";
+    "capture\ta.org\ttop\tlast\t2026-07-01 10:00\t* N\t\nshow\tb.org\nshow\tq.org\n\n";
 
 // What is written for the lines where this call of the device fails.
 fn written_failing(alloc: Global, call: u64) -> Result<Vec<u8>, Fail> {

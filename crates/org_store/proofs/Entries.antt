@@ -14,7 +14,7 @@ use Rattle.org_store.specs.declared.command.Refusal.TheVariants.{BadTemplate, Ba
 use Rattle.org_store.specs.declared.command.Target.{Target}
 use Rattle.org_store.specs.declared.command.Target.TheVariants.{Top}
 use Rattle.org_store.specs.Capture.{has_percent, only_root, entry_in, entry_of, captured}
-use Rattle.org_store.proofs.Closed.{tree-closed}
+use Rattle.org_store.proofs.Closed.{tree-closed, closed_print}
 
 length-print : (xs ys : List (List ℕ)) → length (print_lines (xs ++ ys)) ≡ length (print_lines xs) + length (print_lines ys)
 length-print xs ys = ap length (print_lines-append xs ys) ∙ length-append (print_lines xs) (print_lines ys)
@@ -105,3 +105,7 @@ captured_is Top old text place k added is at new put node entry =
 
 pub place_within : (text : List ℕ) (place : Place) (k : ℕ) → ((node : Node) → InsertsAt text (insert None place node (tree text)) k (shift_node 1 node)) → k ≤ length text
 place_within text place k at = within text (print (insert None place no_node.node (tree text))) k (print_node (shift_node 1 no_node.node)) (at no_node.node)
+
+-- a text with an entry is closed
+pub captured_shut : (target : Target) (place : Place) (node : Node) (old : List ℕ) → closed (captured target place node old) ≡ captured target place node old
+captured_shut Top place node old = let new = insert None place node (tree old) in closed_print (new.preamble ++ lines new.forest)

@@ -1,9 +1,10 @@
 mod Rows
 pub mod Closed
 pub mod Entries
-pub mod Texts
-pub mod Reading
 pub mod Keeping
+pub mod Sessions
 pub mod Steps
 pub mod Follows
 pub mod Sortings
+pub mod Runs
+pub mod Reopening

@@ -5,7 +5,8 @@ use Rattle.org_outline.specs.declared.moves.Place.TheVariants.{Last}
 use Rattle.org_store.specs.declared.command.Target.TheVariants.{Top}
 use Rattle.org_store.specs.declared.command.Refusal.TheVariants.{NoSuchFile, BadTemplate, BadEntry}
 use Rattle.org_outline.specs.States.{Keywords}
-use Rattle.org_store.specs.Session.{Session, text_at}
+use Rattle.org_held.specs.InOrder.{text_at}
+use Rattle.org_store.specs.Session.{Session}
 use Rattle.org_store.specs.Outcome.{Outcome, Refuses, Shows, Accepts, capture, show}
 
 -- two files with these texts

@@ -10,6 +10,7 @@ use Rattle.org_store.specs.Step.{fills}
 pub record SameCounts (old new : Session) : Type 0 where
   pub accepted : new.accepted ≡ old.accepted
   pub acknowledged : new.acknowledged ≡ old.acknowledged
+  pub group : new.group ≡ old.group
 
 -- a command got this answer
 abbrev pub Counts : Session → Result Reply RunFault → Session → Type 0
@@ -25,3 +26,4 @@ Counts old (Err Broken) new = SameCounts old new
 pub record SettledCounts (old : Session) (answer : Result (Unit {0}) RunFault) (new : Session) : Type 0 where
   pub accepted : new.accepted ≡ old.accepted
   pub acknowledged : new.acknowledged ≡ (if is_ok answer then old.accepted else old.acknowledged)
+  pub group : new.group ≡ old.group

@@ -9,6 +9,10 @@ use Rattle.org_store.specs.declared.command.RunFault.{RunFault}
 use Rattle.org_store.specs.declared.command.RunFault.TheVariants as run
 use Rattle.org_store.specs.Capture.{entry_of}
 
+-- the bytes are one heading of level 1 with what lies below it
+abbrev pub IsEntry : List ℕ → Type 0
+IsEntry entry = (node : Node) × (entry ≡ print_node (shift_node 1 node))
+
 -- the bytes are the entry of the template, moved to level 1; or the template has none, for this reason
 abbrev pub MakesEntry : List ℕ → Result (Vec ℕ Global) EntryFault → Type 0
 MakesEntry template (Ok entry) = (node : Node) × (entry_of template ≡ Ok node) × (entry.items ≡ print_node (shift_node 1 node))

@@ -8,3 +8,5 @@ pub mod Left
 pub mod Counts
 pub mod Keeping
 pub mod Opening
+pub mod Runs
+pub mod Reopening

@@ -8,7 +8,8 @@ use Rattle.org_store.specs.declared.command.Command.TheVariants.{Capture, Show, 
 use Rattle.org_store.specs.declared.command.Refusal.{Refusal}
 use Rattle.org_store.specs.declared.command.Refusal.TheVariants.{NoSuchFile, TooLarge}
 use Rattle.org_fileset.specs.Names.{limit}
-use Rattle.org_store.specs.Session.{Session, text_at, with_text}
+use Rattle.org_held.specs.InOrder.{text_at, with_text}
+use Rattle.org_store.specs.Session.{Session}
 use Rattle.org_store.specs.Capture.{entry_of, captured}
 
 pub data Outcome : Type 0 where

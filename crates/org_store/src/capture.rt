@@ -1,12 +1,15 @@
 // The entry of a template, and a text with it put in.
-ghost use Rattle.std.specs.Prelude.{◌≡◌, ◌≤◌, ◌<◌, ◌↔◌, IsTrue, ◌+◌, ◌++◌, take, drop, length, Ok, Err, IfOk, OnOk};
+ghost use Rattle.std.specs.Prelude.{◌≡◌, ◌↔◌, IsTrue, List, ℕ, length, OnOk};
+ghost use Rattle.org_splice.specs.Lines.{closed};
 ghost use Rattle.org_splice.specs.Texts.{IsEditOf};
+ghost use Rattle.org_outline.specs.Outline.{headings_of};
 ghost use Rattle.org_outline.specs.Tree.{Node, print_node};
 ghost use Rattle.org_outline.specs.Moves.{shift_node, IsPrinted};
 ghost use Rattle.org_store.specs.Capture.{entry_of, captured};
-ghost use Rattle.org_store.specs.Entry.{MakesEntry};
+ghost use Rattle.org_store.specs.Entry.{IsEntry, MakesEntry};
 
 use crate::{Refusal, Target};
+use org_held::Draft;
 use org_outline::{Outline, Place, States, shift};
 use org_splice::Text;
 use std::alloc::{AllocError, Global};
@@ -57,27 +60,29 @@ pub fn entry_of(alloc: Global, template: &[u8], states: &States) -> Result<Vec<u
     Ok(shift(alloc, text.bytes(), 1)?)
 }
 
-/// A file's text with an entry put in, as an edit of it.
-pub fn captured(
-    alloc: Global,
-    text: Vec<u8>,
+/// Puts an entry into the text of a draft.
+pub fn put_entry(
+    draft: &mut Draft,
     states: &States,
     target: &Target,
     place: Place,
     entry: &[u8],
-) -> Result<Text, AllocError>
-    ensures edit { IfOk result (λ new. IsEditOf text.items new) }
-    ensures text { IfOk result (λ new. (node : Node) → entry.now ≡ print_node (shift_node 1 node) → new.bytes ≡ captured target.now place node text.items) }
+) -> Result<(), AllocError>
+    requires shut { closed draft.old.text.bytes ≡ draft.old.text.bytes }
+    requires heads { draft.old.heads ≡ headings_of draft.old.text.bytes }
+    requires entry { IsEntry entry.now }
+    ensures name { draft.new.name ≡ draft.old.name }
+    ensures edit { (old : List ℕ) → IsEditOf old draft.old.text → IsEditOf old draft.new.text }
+    ensures text { OnOk result ((node : Node) → entry.now ≡ print_node (shift_node 1 node) → draft.new.text.bytes ≡ captured target.now place node draft.old.text.bytes) }
+    ensures shut { OnOk result (closed draft.new.text.bytes ≡ draft.new.text.bytes) }
+    ensures heads { OnOk result (draft.new.heads ≡ headings_of draft.new.text.bytes) }
 {
-    let mut text = Text::new(text);
-    text.close_line()?;
     let at = {
-        let outline = Outline::read(alloc, text.bytes(), states)?;
+        let outline = Outline::over(draft.text.bytes(), &draft.heads, states);
         let parent = match target {
             Target::Top => None,
         };
         outline.place(parent, place)
     };
-    text.splice(at, 0, entry)?;
-    Ok(text)
+    draft.splice(at, 0, entry)
 }

@@ -1,12 +1,28 @@
 //! What follows from the relation between a store before and after a call.
-ghost use Rattle.std.specs.Prelude.{◌≡◌, ◌<◌, ◌+◌, ◌++◌, List, ℕ, Result, Ok};
+ghost use Rattle.std.specs.Prelude.{◌≡◌, ◌<◌, ◌+◌, ◌++◌, ◌⊎◌, List, ℕ, None, Result, Ok, IsTrue, IsFalse};
+ghost use Rattle.std.specs.List.{All};
+ghost use Rattle.org_disk.specs.Disk.{HasRisen, LeavesOnly};
+ghost use Rattle.org_outline.specs.States.{Keywords};
+ghost use Rattle.org_journal.specs.Standing.{Image, SameFiles, contents};
+ghost use Rattle.org_fileset.specs.Names.{with_archives, AreSorted, AreFew, IsGiven, first_large};
+ghost use Rattle.org_fileset.specs.Opening.{IsReason};
+ghost use Rattle.org_fileset.specs.Replay.{IsAtRest};
+ghost use Rattle.org_fileset.specs.declared.open.OpenFault.{OpenFault};
+ghost use Rattle.org_fileset.specs.declared.open.OpenFault.TheVariants.{OutOfMemory, Device};
 ghost use Rattle.org_store.specs.declared.command.Command.{Command};
 ghost use Rattle.org_store.specs.declared.command.Reply.{Reply};
 ghost use Rattle.org_store.specs.declared.command.Reply.TheVariants.{Done};
 ghost use Rattle.org_store.specs.declared.command.RunFault.{RunFault};
-ghost use Rattle.org_fileset.specs.Names.{AreSorted};
-ghost use Rattle.org_store.specs.Session.{Session};
+ghost use Rattle.org_store.specs.Left.{IsLeft};
+ghost use Rattle.org_store.specs.Opening.{opened};
+ghost use Rattle.org_store.specs.Outcome.{Accepts, outcome};
+ghost use Rattle.org_store.specs.Reopening.{AreSameNames, AreSmall, IsOpenable};
+ghost use Rattle.org_store.specs.Runs.{RunsAllOver, IsOnDisk, Reaches, IsBetween, IsLeftOf};
+ghost use Rattle.org_held.specs.InOrder.{texts_of, with_texts};
+ghost use Rattle.org_store.specs.Session.{Session, Kept, Holds};
 ghost use Rattle.org_store.specs.Step.{Step, Run, IsReply};
+
+use org_disk::Disk;
 
 /// An answer that is no fault is the only one, and so is the store after it.
 pub fn one_answer()
@@ -31,7 +47,55 @@ pub fn runs_join()
         → Run old commands answers mid → Run mid later more new → Run old (commands ++ later) (answers ++ more) new }
 {}
 
+/// Since a run of commands began, on an honest disk at rest, a stop leaves the files as they were after the commands that
+/// were acknowledged then, or after some of the commands of the run, from the first on: no fewer are accepted then than
+/// when it began, and no more than at its end. That what is settled is on the disk is true of every store
+/// (`Store::settled_is_on_disk`).
+pub fn stops_leave_a_prefix<D: Disk>()
+    ensures any_moment { (old new : Kept D) (commands : List Command) (answers : List (Result Reply RunFault)) → D.honest old.disk → IsAtRest (D.files old.disk)
+        → IsOnDisk old.session (contents (D.files old.disk)) → IsFalse old.session.broken → RunsAllOver D.files D.moment D.left_since old commands answers new
+        → LeavesOnly (D.moment old.disk) (D.moment new.disk) (D.left_since old.disk) (D.left_since new.disk)
+        (IsLeftOf old.session (contents (D.files old.disk)) (λ mid. Reaches old.session commands answers mid × IsBetween old.session new.session mid)) }
+    // A broken store leaves its disk as it is.
+    ensures broken { (old new : Kept D) (commands : List Command) (answers : List (Result Reply RunFault)) → IsTrue old.session.broken
+        → RunsAllOver D.files D.moment D.left_since old commands answers new → new ≡ old }
+{}
+
+/// What is settled is on the disk after an opening; and after a call that met no failure, by its clause on the files
+/// that aren't the store's.
+pub fn settled_is_on_disk()
+    ensures opened { (states : Keywords) (names : List (List ℕ)) (files : Image) → IsOnDisk (opened states names (texts_of files names)) files }
+    ensures called { (s : Session) (old new : Image) → SameFiles new (with_texts s.names s.settled old) → IsOnDisk s new }
+{}
+
 /// There is one way to put names in order, each once. So the given names are few or too many, and never both.
 pub fn one_sorting()
     ensures { (given first second : List (List ℕ)) → AreSorted given first → AreSorted given second → first ≡ second }
+{}
+
+/// No text of a store's files is past the limit after an opening, nor after any command that is accepted.
+pub fn texts_stay_small()
+    ensures opened { (files : Image) (names : List (List ℕ)) → first_large files names ≡ None → AreSmall names (texts_of files names) }
+    ensures accepted { (s : Session) (command : Command) (files : List (List ℕ)) → AreSmall s.names s.files → outcome s command ≡ Accepts files → AreSmall s.names files }
+{}
+
+/// Every image of a store's disk opens again, with the names that the store was opened with: over a disk that holds such
+/// an image, `Store::open` answers Ok, OutOfMemory, or Device with a counted failure, and nothing else.
+pub fn every_image_opens<D: Disk>()
+    // what a refused opening of such an image tells
+    ensures faults { (given : List (List ℕ)) (disk now : D) (fault : OpenFault) → All IsGiven given → D.honest disk → IsOpenable given (contents (D.files disk))
+        → IsReason given (D.honest disk) (contents (D.files disk)) (contents (D.files now)) fault → (fault ≡ Device → HasRisen (D.failures disk) (D.failures now))
+        → (fault ≡ OutOfMemory) ⊎ ((fault ≡ Device) × HasRisen (D.failures disk) (D.failures now)) }
+    // what a stop left of a store's files is such an image, as long as no text of them was past the limit
+    ensures held { (given : List (List ℕ)) (s : Session) (others image : Image) (texts : List (List ℕ)) → AreFew given → AreSorted (with_archives given) s.names
+        → AreSmall s.names texts → Holds s others texts image → IsOpenable given image }
+    // so is what a stop leaves while a command runs
+    ensures left { (given : List (List ℕ)) (s : Session) (others image : Image) (command : Command) (answer : Result Reply RunFault) (accepted : ℕ) → AreFew given → AreSorted (with_archives given) s.names
+        → AreSmall s.names s.settled → AreSmall s.names s.files → IsLeft s others command answer accepted image → IsOpenable given image }
+    // and what a stop leaves of a whole run of commands
+    ensures run { (given : List (List ℕ)) (old new : Session) (others image : Image) (commands : List Command) (answers : List (Result Reply RunFault)) → AreFew given
+        → AreSorted (with_archives given) old.names → AreSmall old.names old.settled → AreSmall old.names old.files
+        → IsLeftOf old others (λ mid. Reaches old commands answers mid × IsBetween old new mid) image → IsOpenable given image }
+    // the names may be given in another order, and repeated
+    ensures names { (given more : List (List ℕ)) (image : Image) → AreSameNames given more → IsOpenable given image → IsOpenable more image }
 {}

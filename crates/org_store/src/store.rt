@@ -1,31 +1,33 @@
 // A store over a disk.
-ghost use Rattle.std.specs.Prelude.{◌≡◌, ◌≤◌, ◌<◌, ◌⊎◌, ◌↔◌, ◌+◌, ◌^◌, ◌-◌, true, false, List, ℕ, [], ◌∷◌, length, is_some, IsSomeAnd, IfOk, IfErr, OnOk, IsErrOf, IsTrue, None};
+ghost use Rattle.std.specs.Prelude.{◌≡◌, ◌≤◌, ◌<◌, ◌⊎◌, ◌↔◌, ◌+◌, ◌^◌, ◌-◌, true, false, List, ℕ, Err, length, is_some, IsSomeAnd, IfOk, IfErr, OnOk, IsErrOf, IsTrue, None};
 ghost use Rattle.std.specs.List.{All, Contains};
 ghost use Rattle.org_disk.specs.Disk.{HasRisen, LeavesOnly, Passes, AreImages};
-ghost use Rattle.org_splice.specs.Lines.{closed};
-ghost use Rattle.org_splice.specs.Texts.{IsEditOf};
-ghost use Rattle.org_outline.specs.Outline.{headings_of};
 ghost use Rattle.org_journal.specs.Standing.{Image, SameFiles, IsFit, stands, contents};
 ghost use Rattle.org_fileset.specs.Names.{with_archives, AreSorted, AreFew, IsGiven, first_large};
 ghost use Rattle.org_fileset.specs.Opening.{IsReason};
 ghost use Rattle.org_fileset.specs.Recovery.{EachStands, StandsAsBefore};
 ghost use Rattle.org_fileset.specs.Replay.{IsAtRest};
 ghost use Rattle.org_fileset.specs.declared.open.OpenFault.{OpenFault};
+ghost use Rattle.org_held.specs.Held.{Each, list_of};
+ghost use Rattle.org_held.specs.InOrder.{is_name, text_at, texts_of, with_texts};
+ghost use Rattle.org_held.specs.Set.{IsDraft};
 ghost use Rattle.org_store.specs.Opening.{opened, disk_in};
-ghost use Rattle.org_store.specs.Session.{is_name, text_at, texts_of, with_texts};
+ghost use Rattle.org_store.specs.Reopening.{IsOpenable};
+ghost use Rattle.org_store.specs.Runs.{IsOnDisk};
 ghost use Rattle.org_store.specs.Outcome.{capture, show};
-ghost use Rattle.org_store.specs.Step.{Does, Step, Settles};
+ghost use Rattle.org_store.specs.Step.{Does, Step, Settles, fills};
 ghost use Rattle.org_store.specs.Left.{IsLeft, IsLeftBy, IsLeftSettling};
 ghost use Rattle.org_store.specs.Counts.{Counts, SameCounts, SettledCounts};
-ghost use Rattle.org_store.specs.Keeping.{Reads, Keeps, KeepsCounts, IsChange, IsLeftKeeping, after};
+ghost use Rattle.org_store.specs.Keeping.{Plans, Keeps, KeepsCounts, IsLeftKeeping, after};
 
-use crate::capture::{captured, entry_of};
+use crate::capture::{entry_of, put_entry};
 use crate::{Command, Refusal, Reply, RunFault, Target};
 use org_disk::{Disk, FileName};
-use org_fileset::{FileSet, OpenRefused, SetFault};
+use org_fileset::{OpenRefused, SetFault};
+use org_held::{Draft, Drafts, HeldSet};
 use org_outline::{Place, States};
-use org_splice::{Bytes, ChangeSet, Text};
-use std::alloc::{AllocError, Global};
+use org_splice::Bytes;
+use std::alloc::Global;
 use std::marker::Model;
 
 /// How many bytes a file may have.
@@ -37,34 +39,36 @@ const LIMIT: usize = 67_108_864;
 /// files anew.
 #[derive(Drop)]
 pub struct Store<D: Disk> {
-    set: FileSet<D>,
+    files: HeldSet<D>,
     states: States,
     accepted: u64,
     acknowledged: u64,
+    group: u32,
 }
 
 impl<D: Disk> Model for Store<D> {
+    ghost use Rattle.std.specs.Prelude.{◌≤◌};
     ghost use Rattle.org_journal.specs.Standing.{contents};
-    ghost use Rattle.org_store.specs.Session.{IsSound, Kept, texts_of};
+    ghost use Rattle.org_held.specs.InOrder.{texts_of};
+    ghost use Rattle.org_store.specs.Session.{Kept};
 
     ghost Value = { Kept D };
 
     ghost view = { λ s. record {
-      disk = s.set.disk;
+      disk = s.files.disk;
       session = record {
         states = s.states;
-        names = s.set.names;
-        files = texts_of (contents (D.files s.set.disk)) s.set.names;
-        settled = texts_of (contents (D.files s.set.disk)) s.set.names;
+        names = s.files.names;
+        files = s.files.texts;
+        settled = texts_of (contents (D.files s.files.disk)) s.files.names;
         accepted = s.accepted;
         acknowledged = s.acknowledged;
-        group = 1;
-        broken = s.set.broken;
+        group = s.group;
+        broken = s.files.broken;
       };
     } };
 
-    // Each command is settled as it is accepted, unless the disk fails on the way.
-    ghost invariant = { λ s. IsSound s.set.names s.set.broken s.accepted s.acknowledged };
+    ghost invariant = { λ s. s.acknowledged ≤ s.accepted };
 }
 
 impl<D: Disk> Store<D> {
@@ -75,8 +79,8 @@ impl<D: Disk> Store<D> {
     /// On a disk that is fit, of which each image stands for files, every image at every moment since the call began
     /// stands for what an image at the start stood for, whatever is answered; so it may be stopped, and called again.
     ///
-    /// The faults come in the order of `OpenFault`; `Device` and `OutOfMemory` as they are met. A refused call hands
-    /// the disk back.
+    /// The faults come in the order of `OpenFault`; `Device` and `OutOfMemory` as they are met, and they alone on a disk
+    /// that stands for files of these names, none past the limit. A refused call hands the disk back.
     pub fn open(
         alloc: Global,
         disk: D,
@@ -89,6 +93,7 @@ impl<D: Disk> Store<D> {
         ensures contents { IfOk result (λ store. D.honest disk → IsSomeAnd (stands (contents (D.files disk))) (SameFiles (contents (D.files store.disk)))) }
         ensures sizes { IfOk result (λ store. D.honest disk → first_large (contents (D.files store.disk)) store.session.names ≡ None) }
         ensures refused { IfErr result (λ refused. IsReason names.items (D.honest disk) (contents (D.files disk)) (contents (D.files refused.disk)) refused.fault) }
+        ensures again { IfErr result (λ refused. D.honest disk → IsOpenable names.items (contents (D.files disk)) → (refused.fault ≡ OpenFault.OutOfMemory) ⊎ (refused.fault ≡ OpenFault.Device)) }
         ensures unused { IfErr result (λ refused. refused.fault ≡ OpenFault.TooManyFiles → refused.disk ≡ disk) }
         ensures any_moment { D.honest disk → IsFit (D.files disk) → EachStands (D.files disk) →
             LeavesOnly (D.moment disk) (D.moment (disk_in result)) (D.left_since disk) (D.left_since (disk_in result)) (StandsAsBefore (D.files disk)) }
@@ -98,12 +103,13 @@ impl<D: Disk> Store<D> {
         ensures failures { D.failures disk ≤ D.failures (disk_in result) }
         ensures honest { D.honest (disk_in result) ↔ D.honest disk }
     {
-        match FileSet::open(alloc, disk, names) {
-            Ok(set) => Ok(Store {
-                set,
+        match HeldSet::open(alloc, disk, names) {
+            Ok(files) => Ok(Store {
+                files,
                 states,
                 accepted: 0,
                 acknowledged: 0,
+                group: 1,
             }),
             Err(refused) => Err(refused),
         }
@@ -127,15 +133,30 @@ impl<D: Disk> Store<D> {
     pub fn is_broken(&self) -> bool
         ensures { result ≡ self.now.session.broken }
     {
-        self.set.is_broken()
+        self.files.is_broken()
+    }
+
+    /// Does nothing. It tells a proof that the texts that are settled are those of the disk's files.
+    pub fn settled_is_on_disk(&self)
+        ensures { IsOnDisk self.now.session (contents (D.files self.now.disk)) }
+    {
+        let _ = &self.files;
+    }
+
+    /// Sets how many commands are accepted before they are settled, from 1 to 1,000. It settles nothing by itself.
+    pub fn set_group(&mut self, group: u32)
+        requires { (1 ≤ group) × (group ≤ 1000) }
+        ensures { self.new ≡ record self.old { session = record self.old.session { group = group } } }
+    {
+        self.group = group;
     }
 
     /// The disk. What is accepted and not acknowledged is given up.
     pub fn close(self) -> D
         ensures { result ≡ self.disk }
     {
-        let Store { set, .. } = self;
-        set.close()
+        let Store { files, .. } = self;
+        files.close()
     }
 
     /// Puts all accepted commands on the disk.
@@ -160,53 +181,22 @@ impl<D: Disk> Store<D> {
         ensures failures { D.failures self.old.disk ≤ D.failures self.new.disk }
         ensures honest { D.honest self.new.disk ↔ D.honest self.old.disk }
     {
-        if self.set.is_broken() {
-            return Err(RunFault::Broken);
-        }
+        self.files.settle()?;
+        self.acknowledged = self.accepted;
         Ok(())
     }
 }
 
 impl<D: Disk> Store<D> {
-    // Whether it is the name of one of the store's files.
-    fn has(&self, name: &FileName) -> bool
-        ensures name { result ≡ is_name self.now.session.names name.now }
-        ensures text { result ≡ is_some (text_at self.now.session.names self.now.session.files name.now) }
-        ensures settled { self.now.session.settled ≡ texts_of (contents (D.files self.now.disk)) self.now.session.names }
-    {
-        self.set.names().contains(name)
-    }
-
-    // The text of one of the store's files.
-    fn read(&mut self, name: &FileName) -> Result<Vec<u8>, SetFault>
+    // Accepts one more command that makes these drafts. Where it fills the group, all is settled.
+    fn accept(&mut self, drafts: Drafts) -> Result<(), RunFault>
         requires unbroken { self.old.session.broken ≡ false }
-        requires name { is_name self.old.session.names name.now ≡ true }
-        ensures reads { D.honest self.old.disk → Reads self.old.session name.now result self.new.session }
-        ensures text { IfOk result (λ text. D.honest self.old.disk → text.items ≡ contents (D.files self.old.disk) name.now) }
-        ensures any_moment { D.honest self.old.disk → Passes (D.moment self.old.disk) (D.moment self.new.disk)
-            (D.left_since self.old.disk) (D.left_since self.new.disk) (AreImages (D.files self.old.disk)) }
-        ensures same { D.honest self.old.disk → D.files self.new.disk ≡ D.files self.old.disk }
-        ensures counts { SameCounts self.old.session self.new.session }
-        ensures names { self.new.session.names ≡ self.old.session.names }
-        ensures settled { self.new.session.settled ≡ texts_of (contents (D.files self.new.disk)) self.new.session.names }
-        ensures failed { IsErrOf result SetFault.Device → HasRisen (D.failures self.old.disk) (D.failures self.new.disk) }
-        ensures not_broken { IsErrOf result SetFault.Broken → ⊥ }
-        ensures breaks { IsErrOf result SetFault.Device ↔ IsTrue self.new.session.broken }
-        ensures failures { D.failures self.old.disk ≤ D.failures self.new.disk }
-        ensures honest { D.honest self.new.disk ↔ D.honest self.old.disk }
-    {
-        self.set.read(name)
-    }
-
-    // Accepts one more command, with this one change after it, and puts it on the disk.
-    fn keep(&mut self, changes: &ChangeSet<FileName>) -> Result<(), RunFault>
-        requires unbroken { self.old.session.broken ≡ false }
-        requires change { IsChange self.old.session.names (D.honest self.old.disk) (contents (D.files self.old.disk)) changes.now }
+        requires drafts { Each (IsDraft self.old.session.names ((self.old.session.broken ≡ false) × D.honest self.old.disk) (contents (D.files self.old.disk))) (list_of drafts) }
         requires countable { self.old.session.accepted + 1 < 2 ^ 64 }
-        ensures keeps { D.honest self.old.disk → Keeps self.old.session (after self.old.session changes.now) result self.new.session }
+        ensures keeps { D.honest self.old.disk → Keeps self.old.session (after self.old.session drafts) result self.new.session }
         ensures any_moment { D.honest self.old.disk → IsAtRest (D.files self.old.disk) → LeavesOnly (D.moment self.old.disk) (D.moment self.new.disk)
             (D.left_since self.old.disk) (D.left_since self.new.disk)
-            (IsLeftKeeping self.old.session (contents (D.files self.old.disk)) (after self.old.session changes.now) result) }
+            (IsLeftKeeping self.old.session (contents (D.files self.old.disk)) (after self.old.session drafts) result) }
         ensures others { (IsErrOf result RunFault.Device → ⊥) → D.honest self.old.disk →
             SameFiles (contents (D.files self.new.disk)) (with_texts self.new.session.names self.new.session.settled (contents (D.files self.old.disk))) }
         ensures rest { (IsErrOf result RunFault.Device → ⊥) → D.honest self.old.disk → IsAtRest (D.files self.old.disk) → IsAtRest (D.files self.new.disk) }
@@ -217,25 +207,115 @@ impl<D: Disk> Store<D> {
         ensures failures { D.failures self.old.disk ≤ D.failures self.new.disk }
         ensures honest { D.honest self.new.disk ↔ D.honest self.old.disk }
     {
-        match self.set.commit(changes) {
+        if self.accepted + 1 - self.acknowledged < u64::from(self.group) {
+            return self.hold(drafts);
+        }
+        self.commit(drafts)
+    }
+
+    // Accepts one more command, and holds what it makes in memory.
+    fn hold(&mut self, drafts: Drafts) -> Result<(), RunFault>
+        requires unbroken { self.old.session.broken ≡ false }
+        requires drafts { Each (IsDraft self.old.session.names ((self.old.session.broken ≡ false) × D.honest self.old.disk) (contents (D.files self.old.disk))) (list_of drafts) }
+        requires countable { self.old.session.accepted + 1 < 2 ^ 64 }
+        requires part { fills self.old.session ≡ false }
+        ensures keeps { D.honest self.old.disk → Keeps self.old.session (after self.old.session drafts) result self.new.session }
+        ensures any_moment { D.honest self.old.disk → IsAtRest (D.files self.old.disk) → LeavesOnly (D.moment self.old.disk) (D.moment self.new.disk)
+            (D.left_since self.old.disk) (D.left_since self.new.disk)
+            (IsLeftKeeping self.old.session (contents (D.files self.old.disk)) (after self.old.session drafts) result) }
+        ensures others { (IsErrOf result RunFault.Device → ⊥) → D.honest self.old.disk →
+            SameFiles (contents (D.files self.new.disk)) (with_texts self.new.session.names self.new.session.settled (contents (D.files self.old.disk))) }
+        ensures rest { (IsErrOf result RunFault.Device → ⊥) → D.honest self.old.disk → IsAtRest (D.files self.old.disk) → IsAtRest (D.files self.new.disk) }
+        ensures fit { D.honest self.old.disk → IsAtRest (D.files self.old.disk) → IsFit (D.files self.new.disk) }
+        ensures counts { KeepsCounts self.old.session result self.new.session }
+        ensures failed { IsErrOf result RunFault.Device → HasRisen (D.failures self.old.disk) (D.failures self.new.disk) }
+        ensures breaks { IsErrOf result RunFault.Device ↔ IsTrue self.new.session.broken }
+        ensures failures { D.failures self.old.disk ≤ D.failures self.new.disk }
+        ensures honest { D.honest self.new.disk ↔ D.honest self.old.disk }
+    {
+        self.files.put(drafts)?;
+        self.accepted += 1;
+        Ok(())
+    }
+
+    // Accepts one more command, and settles it with all before it.
+    fn commit(&mut self, drafts: Drafts) -> Result<(), RunFault>
+        requires unbroken { self.old.session.broken ≡ false }
+        requires drafts { Each (IsDraft self.old.session.names ((self.old.session.broken ≡ false) × D.honest self.old.disk) (contents (D.files self.old.disk))) (list_of drafts) }
+        requires countable { self.old.session.accepted + 1 < 2 ^ 64 }
+        requires full { fills self.old.session ≡ true }
+        ensures keeps { D.honest self.old.disk → Keeps self.old.session (after self.old.session drafts) result self.new.session }
+        ensures any_moment { D.honest self.old.disk → IsAtRest (D.files self.old.disk) → LeavesOnly (D.moment self.old.disk) (D.moment self.new.disk)
+            (D.left_since self.old.disk) (D.left_since self.new.disk)
+            (IsLeftKeeping self.old.session (contents (D.files self.old.disk)) (after self.old.session drafts) result) }
+        ensures others { (IsErrOf result RunFault.Device → ⊥) → D.honest self.old.disk →
+            SameFiles (contents (D.files self.new.disk)) (with_texts self.new.session.names self.new.session.settled (contents (D.files self.old.disk))) }
+        ensures rest { (IsErrOf result RunFault.Device → ⊥) → D.honest self.old.disk → IsAtRest (D.files self.old.disk) → IsAtRest (D.files self.new.disk) }
+        ensures fit { D.honest self.old.disk → IsAtRest (D.files self.old.disk) → IsFit (D.files self.new.disk) }
+        ensures counts { KeepsCounts self.old.session result self.new.session }
+        ensures failed { IsErrOf result RunFault.Device → HasRisen (D.failures self.old.disk) (D.failures self.new.disk) }
+        ensures breaks { IsErrOf result RunFault.Device ↔ IsTrue self.new.session.broken }
+        ensures failures { D.failures self.old.disk ≤ D.failures self.new.disk }
+        ensures honest { D.honest self.new.disk ↔ D.honest self.old.disk }
+    {
+        match self.files.commit(drafts) {
             Ok(()) => {
                 self.accepted += 1;
                 self.acknowledged = self.accepted;
                 Ok(())
             }
-            Err(SetFault::OutOfMemory) => Err(RunFault::OutOfMemory),
             Err(SetFault::Device) => {
                 self.accepted += 1;
                 Err(RunFault::Device)
             }
+            Err(SetFault::OutOfMemory) => Err(RunFault::OutOfMemory),
             Err(SetFault::Broken) => Err(RunFault::Broken),
         }
+    }
+
+    // What a capture into one of the store's files makes: the file with a new entry.
+    fn plan_capture(
+        &mut self,
+        file: &FileName,
+        target: &Target,
+        place: Place,
+        template: &[u8],
+    ) -> Result<Drafts, RunFault>
+        requires unbroken { self.old.session.broken ≡ false }
+        requires name { is_name self.old.session.names file.now ≡ true }
+        requires there { is_some (text_at self.old.session.names self.old.session.files file.now) ≡ true }
+        ensures plans { D.honest self.old.disk → Plans self.old.session
+            (capture self.old.session file.now target.now place template.now (text_at self.old.session.names self.old.session.files file.now)) result self.new.session }
+        ensures drafts { IfOk result (λ drafts. Each (IsDraft self.new.session.names ((self.new.session.broken ≡ false) × D.honest self.new.disk) (contents (D.files self.new.disk))) (list_of drafts)) }
+        ensures countable { IfOk result (λ drafts. self.new.session.accepted + 1 < 2 ^ 64) }
+        ensures any_moment { D.honest self.old.disk → Passes (D.moment self.old.disk) (D.moment self.new.disk)
+            (D.left_since self.old.disk) (D.left_since self.new.disk) (AreImages (D.files self.old.disk)) }
+        ensures same { D.honest self.old.disk → D.files self.new.disk ≡ D.files self.old.disk }
+        ensures settled { self.new.session.settled ≡ texts_of (contents (D.files self.new.disk)) self.new.session.names }
+        ensures counts { SameCounts self.old.session self.new.session }
+        ensures failed { IsErrOf result RunFault.Device → HasRisen (D.failures self.old.disk) (D.failures self.new.disk) }
+        ensures not_broken { IsErrOf result RunFault.Broken → ⊥ }
+        ensures breaks { IsErrOf result RunFault.Device ↔ IsTrue self.new.session.broken }
+        ensures failures { D.failures self.old.disk ≤ D.failures self.new.disk }
+        ensures honest { D.honest self.new.disk ↔ D.honest self.old.disk }
+    {
+        let alloc = self.files.allocator();
+        let entry = entry_of(alloc, template, &self.states)?;
+        let held = self.files.read(file)?;
+        let mut draft = Draft::new(alloc, held)?;
+        put_entry(&mut draft, &self.states, target, place, &entry)?;
+        if draft.text.bytes().len() > LIMIT || self.accepted == u64::MAX {
+            return Err(RunFault::Refused(Refusal::TooLarge));
+        }
+        Ok(Drafts {
+            first: draft,
+            second: None,
+        })
     }
 
     // Puts a new entry into a file.
     fn capture(
         &mut self,
-        alloc: Global,
         file: &FileName,
         target: &Target,
         place: Place,
@@ -246,7 +326,7 @@ impl<D: Disk> Store<D> {
             (capture self.old.session file.now target.now place template.now (text_at self.old.session.names self.old.session.files file.now)) result self.new.session }
         ensures any_moment { D.honest self.old.disk → IsAtRest (D.files self.old.disk) → LeavesOnly (D.moment self.old.disk) (D.moment self.new.disk)
             (D.left_since self.old.disk) (D.left_since self.new.disk) (IsLeftBy self.old.session (contents (D.files self.old.disk))
-            (capture self.old.session file.now target.now place template.now (text_at self.old.session.names self.old.session.files file.now)) result) }
+            (capture self.old.session file.now target.now place template.now (text_at self.old.session.names self.old.session.files file.now)) result self.new.session.accepted) }
         ensures others { (IsErrOf result RunFault.Device → ⊥) → D.honest self.old.disk →
             SameFiles (contents (D.files self.new.disk)) (with_texts self.new.session.names self.new.session.settled (contents (D.files self.old.disk))) }
         ensures rest { (IsErrOf result RunFault.Device → ⊥) → D.honest self.old.disk → IsAtRest (D.files self.old.disk) → IsAtRest (D.files self.new.disk) }
@@ -258,17 +338,11 @@ impl<D: Disk> Store<D> {
         ensures failures { D.failures self.old.disk ≤ D.failures self.new.disk }
         ensures honest { D.honest self.new.disk ↔ D.honest self.old.disk }
     {
-        if !self.has(file) {
+        if !self.files.has(file) {
             return Err(RunFault::Refused(Refusal::NoSuchFile));
         }
-        let entry = entry_of(alloc, template, &self.states)?;
-        let old = self.read(file)?;
-        let text = captured(alloc, old, &self.states, target, place, &entry)?;
-        if text.bytes().len() > LIMIT || self.accepted == u64::MAX {
-            return Err(RunFault::Refused(Refusal::TooLarge));
-        }
-        let changes = one_change(alloc, file, text)?;
-        self.keep(&changes)?;
+        let drafts = self.plan_capture(file, target, place, template)?;
+        self.accept(drafts)?;
         Ok(Reply::Done(self.accepted))
     }
 
@@ -288,11 +362,11 @@ impl<D: Disk> Store<D> {
         ensures failures { D.failures self.old.disk ≤ D.failures self.new.disk }
         ensures honest { D.honest self.new.disk ↔ D.honest self.old.disk }
     {
-        if !self.has(file) {
+        if !self.files.has(file) {
             return Err(RunFault::Refused(Refusal::NoSuchFile));
         }
-        let text = self.read(file)?;
-        Ok(Reply::Text(Bytes::new(text)))
+        let held = self.files.read(file)?;
+        Ok(Reply::Text(Bytes::new(held.text.into_bytes())))
     }
 
     /// Runs one command.
@@ -303,10 +377,10 @@ impl<D: Disk> Store<D> {
     /// `Refused` and `OutOfMemory` leave files and counts as they were; where a settling finds no memory, this command
     /// is undone, and those before it stay pending. `Device` comes only where the disk counted a failure in this call,
     /// and breaks the store; `Broken` comes exactly where it was broken before.
-    pub fn run(&mut self, alloc: Global, command: &Command) -> Result<Reply, RunFault>
+    pub fn run(&mut self, command: &Command) -> Result<Reply, RunFault>
         ensures step { D.honest self.old.disk → Step self.old.session command.now result self.new.session }
         ensures any_moment { D.honest self.old.disk → IsAtRest (D.files self.old.disk) → LeavesOnly (D.moment self.old.disk) (D.moment self.new.disk)
-            (D.left_since self.old.disk) (D.left_since self.new.disk) (IsLeft self.old.session (contents (D.files self.old.disk)) command.now result) }
+            (D.left_since self.old.disk) (D.left_since self.new.disk) (IsLeft self.old.session (contents (D.files self.old.disk)) command.now result self.new.session.accepted) }
         ensures others { (IsErrOf result RunFault.Device → ⊥) → D.honest self.old.disk →
             SameFiles (contents (D.files self.new.disk)) (with_texts self.new.session.names self.new.session.settled (contents (D.files self.old.disk))) }
         ensures rest { (IsErrOf result RunFault.Device → ⊥) → D.honest self.old.disk → IsAtRest (D.files self.old.disk) → IsAtRest (D.files self.new.disk) }
@@ -319,7 +393,7 @@ impl<D: Disk> Store<D> {
         ensures failures { D.failures self.old.disk ≤ D.failures self.new.disk }
         ensures honest { D.honest self.new.disk ↔ D.honest self.old.disk }
     {
-        if self.set.is_broken() {
+        if self.files.is_broken() {
             return Err(RunFault::Broken);
         }
         match command {
@@ -329,7 +403,7 @@ impl<D: Disk> Store<D> {
                 place,
                 template,
                 ..
-            } => self.capture(alloc, file, target, *place, template.as_slice()),
+            } => self.capture(file, target, *place, template.as_slice()),
             Command::Show { file } => self.show(file),
             Command::Settle => {
                 self.settle()?;
@@ -337,13 +411,4 @@ impl<D: Disk> Store<D> {
             }
         }
     }
-}
-
-// The change of one file.
-fn one_change(alloc: Global, name: &FileName, text: Text) -> Result<ChangeSet<FileName>, AllocError>
-    ensures { IfOk result (λ changes. changes ≡ (name.now, text) ∷ []) }
-{
-    let mut changes = ChangeSet::new(alloc);
-    changes.put(name.clone()?, text)?;
-    Ok(changes)
 }

@@ -1,5 +1,5 @@
 // A store over a disk in memory.
-ghost use Rattle.std.specs.Prelude.{IfOk};
+ghost use Rattle.std.specs.Prelude.{◌≤◌, IfOk};
 ghost use Rattle.std.specs.List.{All};
 ghost use Rattle.org_fileset.specs.Names.{IsGiven};
 
@@ -9,6 +9,7 @@ use org_outline::{Place, States};
 use org_splice::Bytes;
 use org_stamp::Moment;
 use std::alloc::Global;
+use std::process::Abort;
 use std::test::Fail;
 
 // A disk with two files.
@@ -77,23 +78,35 @@ fn show(alloc: Global, file: &str) -> Result<Command, Fail> {
 
 // What a show of the file answers.
 fn shown(alloc: Global, store: &mut Store<MemoryDisk>, file: &str) -> Result<Vec<u8>, Fail> {
-    match store.run(alloc, &show(alloc, file)?)? {
+    match store.run(&show(alloc, file)?)? {
         Reply::Text(text) => Ok(text.into_vec()),
         _ => Err("no text")?,
     }
 }
 
-#[test]
-fn captures_and_shows(rt: HostRuntime) -> Result<(), Fail> {
-    let alloc = rt.alloc();
-    let mut store = open(alloc, two_files(alloc, b"* A", b"* Z")?)?;
-    let done = store.run(alloc, &capture(alloc, "a.org", b"* B")?);
+// The texts of both files, as the store shows them.
+fn both(alloc: Global, store: &mut Store<MemoryDisk>) -> Result<(Vec<u8>, Vec<u8>), Fail> {
+    let a = shown(alloc, store, "a.org")?;
+    Ok((a, shown(alloc, store, "b.org")?))
+}
+
+// The texts of both files, as a store over this disk shows them.
+fn left_on(alloc: Global, disk: MemoryDisk) -> Result<(Vec<u8>, Vec<u8>), Fail> {
+    let mut store = open(alloc, disk)?;
+    both(alloc, &mut store)
+}
+
+fn capture_and_show(
+    rt: &impl Abort,
+    alloc: Global,
+    store: &mut Store<MemoryDisk>,
+) -> Result<(), Fail> {
+    let done = store.run(&capture(alloc, "a.org", b"* B")?);
     assert!(rt; matches!(done, Ok(Reply::Done(1))));
-    let text = shown(alloc, &mut store, "a.org")?;
+    let (text, other) = both(alloc, store)?;
     assert_eq!(rt; text.as_slice(), b"* A\n* B\n".as_slice());
-    let other = shown(alloc, &mut store, "b.org")?;
     assert_eq!(rt; other.as_slice(), b"* Z".as_slice());
-    let archive = shown(alloc, &mut store, "a.org_archive")?;
+    let archive = shown(alloc, store, "a.org_archive")?;
     assert!(rt; archive.is_empty());
     assert!(rt; store.settle().is_ok());
     assert_eq!(rt; (store.accepted(), store.acknowledged()), (1, 1));
@@ -102,9 +115,13 @@ fn captures_and_shows(rt: HostRuntime) -> Result<(), Fail> {
 }
 
 #[test]
-fn refuses(rt: HostRuntime) -> Result<(), Fail> {
+fn captures_and_shows(rt: HostRuntime) -> Result<(), Fail> {
     let alloc = rt.alloc();
-    let mut store = open(alloc, two_files(alloc, b"* A", b"")?)?;
+    let mut store = open(alloc, two_files(alloc, b"* A", b"* Z")?)?;
+    capture_and_show(&rt, alloc, &mut store)
+}
+
+fn refuse(rt: &impl Abort, alloc: Global, store: &mut Store<MemoryDisk>) -> Result<(), Fail> {
     for (file, template, why) in [
         ("q.org", b"%".as_slice(), Refusal::NoSuchFile),
         ("a.org", b"* %d".as_slice(), Refusal::BadTemplate),
@@ -112,7 +129,7 @@ fn refuses(rt: HostRuntime) -> Result<(), Fail> {
         ("a.org", b"* A\n* B".as_slice(), Refusal::BadEntry),
         ("a.org", b"".as_slice(), Refusal::BadEntry),
     ] {
-        let answer = store.run(alloc, &capture(alloc, file, template)?);
+        let answer = store.run(&capture(alloc, file, template)?);
         let refused = match answer {
             Err(RunFault::Refused(refusal)) => refusal == why,
             _ => false,
@@ -120,9 +137,16 @@ fn refuses(rt: HostRuntime) -> Result<(), Fail> {
         assert!(rt; refused);
     }
     assert_eq!(rt; store.accepted(), 0);
-    let text = shown(alloc, &mut store, "a.org")?;
+    let text = shown(alloc, store, "a.org")?;
     assert_eq!(rt; text.as_slice(), b"* A".as_slice());
     Ok(())
+}
+
+#[test]
+fn refuses(rt: HostRuntime) -> Result<(), Fail> {
+    let alloc = rt.alloc();
+    let mut store = open(alloc, two_files(alloc, b"* A", b"")?)?;
+    refuse(&rt, alloc, &mut store)
 }
 
 // How many calls of the disk an opening makes.
@@ -131,40 +155,66 @@ fn calls_of_opening(alloc: Global) -> Result<u64, Fail> {
     Ok(store.close().calls())
 }
 
+// A capture at which the disk fails, and what comes after it.
+fn fail_in_capture(
+    rt: &impl Abort,
+    alloc: Global,
+    store: &mut Store<MemoryDisk>,
+    accepted: u64,
+) -> Result<(), Fail> {
+    let answer = store.run(&capture(alloc, "a.org", b"* B")?);
+    assert!(rt; matches!(answer, Err(RunFault::Device)));
+    assert!(rt; store.is_broken());
+    assert_eq!(rt; (store.accepted(), store.acknowledged()), (accepted, 0));
+    let later = store.run(&show(alloc, "b.org")?);
+    assert!(rt; matches!(later, Err(RunFault::Broken)));
+    assert!(rt; matches!(store.settle(), Err(RunFault::Broken)));
+    Ok(())
+}
+
+// A store over a disk of which so many calls behind its opening go well.
+fn failing_behind(alloc: Global, calls: u64) -> Result<Store<MemoryDisk>, Fail> {
+    let mut disk = two_files(alloc, b"* A\n", b"")?;
+    disk.fail_at(calls_of_opening(alloc)?.wrapping_add(calls));
+    open(alloc, disk)
+}
+
 // A capture reads a length and a text; then it writes the record, opens the gate, writes the file, asks for its length,
 // and closes the gate, with a sync behind each of the four writes.
 #[test]
 fn a_failing_device(rt: HostRuntime) -> Result<(), Fail> {
     let alloc = rt.alloc();
-    let opening = calls_of_opening(alloc)?;
     for call in 1..12u64 {
-        let mut disk = two_files(alloc, b"* A\n", b"")?;
-        disk.fail_at(opening.wrapping_add(call));
-        let mut store = open(alloc, disk)?;
-        let answer = store.run(alloc, &capture(alloc, "a.org", b"* B")?);
-        assert!(rt; matches!(answer, Err(RunFault::Device)));
-        assert!(rt; store.is_broken());
+        let mut store = failing_behind(alloc, call)?;
         let accepted = if call > 2 { 1 } else { 0 };
-        assert_eq!(rt; (store.accepted(), store.acknowledged()), (accepted, 0));
-        let later = store.run(alloc, &show(alloc, "b.org")?);
-        assert!(rt; matches!(later, Err(RunFault::Broken)));
-        assert!(rt; matches!(store.settle(), Err(RunFault::Broken)));
-        let mut again = open(alloc, store.close())?;
-        let text = shown(alloc, &mut again, "a.org")?;
+        fail_in_capture(&rt, alloc, &mut store, accepted)?;
+        let (text, _) = left_on(alloc, store.close())?;
         let done = text.as_slice() == b"* A\n* B\n".as_slice();
         assert!(rt; done || text.as_slice() == b"* A\n".as_slice());
     }
-    let mut disk = two_files(alloc, b"* A\n", b"")?;
-    disk.fail_at(opening.wrapping_add(12));
-    let mut store = open(alloc, disk)?;
-    let answer = store.run(alloc, &capture(alloc, "a.org", b"* B")?);
+    let mut store = failing_behind(alloc, 12)?;
+    let answer = store.run(&capture(alloc, "a.org", b"* B")?);
     assert!(rt; matches!(answer, Ok(Reply::Done(1))));
     Ok(())
 }
 
-// Runs a capture into each of two files over a disk that stops on the way, and tells how many were acknowledged and how
-// many accepted, and what the stop left.
-fn stopped(alloc: Global, call: u64, outcome: Outcome) -> Result<(u64, u64, MemoryDisk), Fail> {
+// A capture into each of two files.
+fn capture_twice(alloc: Global, store: &mut Store<MemoryDisk>) -> Result<(), Fail> {
+    let _ = store.run(&capture(alloc, "a.org", b"* B")?);
+    let _ = store.run(&capture(alloc, "b.org", b"* C")?);
+    Ok(())
+}
+
+// Makes two captures, in groups, over a disk that stops on the way, and tells how many were acknowledged and how many
+// accepted, and what the stop left.
+fn stopped(
+    alloc: Global,
+    group: u32,
+    call: u64,
+    outcome: Outcome,
+) -> Result<(u64, u64, MemoryDisk), Fail>
+    requires { (1 ≤ group) × (group ≤ 1000) }
+{
     let mut disk = two_files(alloc, b"* A\n", b"* Z")?;
     disk.stop_at(call, outcome);
     let names = vec![in alloc; org_name(alloc, "a.org")?, org_name(alloc, "b.org")?]?;
@@ -172,19 +222,17 @@ fn stopped(alloc: Global, call: u64, outcome: Outcome) -> Result<(u64, u64, Memo
     match Store::open(alloc, disk, names, states) {
         Err(refused) => Ok((0, 0, refused.disk.image(alloc)?)),
         Ok(mut store) => {
-            let _ = store.run(alloc, &capture(alloc, "a.org", b"* B")?);
-            let _ = store.run(alloc, &capture(alloc, "b.org", b"* C")?);
-            let counts = (store.acknowledged(), store.accepted());
-            Ok((counts.0, counts.1, store.close().image(alloc)?))
+            store.set_group(group);
+            capture_twice(alloc, &mut store)?;
+            let (acknowledged, accepted) = (store.acknowledged(), store.accepted());
+            Ok((acknowledged, accepted, store.close().image(alloc)?))
         }
     }
 }
 
 // How many of the two captures are in the files.
 fn prefix_in(alloc: Global, disk: MemoryDisk) -> Result<u64, Fail> {
-    let mut store = open(alloc, disk)?;
-    let a = shown(alloc, &mut store, "a.org")?;
-    let b = shown(alloc, &mut store, "b.org")?;
+    let (a, b) = left_on(alloc, disk)?;
     match (a.as_slice(), b.as_slice()) {
         (b"* A\n", b"* Z") => Ok(0),
         (b"* A\n* B\n", b"* Z") => Ok(1),
@@ -193,10 +241,12 @@ fn prefix_in(alloc: Global, disk: MemoryDisk) -> Result<u64, Fail> {
     }
 }
 
-#[test]
-fn stopped_at_every_call(rt: HostRuntime) -> Result<(), Fail> {
-    let alloc = rt.alloc();
-    let end = calls_of_opening(alloc)?.wrapping_add(23);
+// Stops the two captures at each of so many calls behind the opening, in each way: what is left is one of the states
+// between those that were acknowledged and those that were accepted. After all calls both are there.
+fn stop_each_call(rt: &impl Abort, alloc: Global, group: u32, calls: u64) -> Result<(), Fail>
+    requires { (1 ≤ group) × (group ≤ 1000) }
+{
+    let end = calls_of_opening(alloc)?.wrapping_add(calls);
     for call in 1..end {
         for outcome in [
             Outcome::All,
@@ -207,12 +257,12 @@ fn stopped_at_every_call(rt: HostRuntime) -> Result<(), Fail> {
             Outcome::Fill(1),
             Outcome::Fill(0x55),
         ] {
-            let (acknowledged, accepted, disk) = stopped(alloc, call, outcome)?;
+            let (acknowledged, accepted, disk) = stopped(alloc, group, call, outcome)?;
             let prefix = prefix_in(alloc, disk)?;
             assert!(rt; acknowledged <= prefix && prefix <= accepted);
         }
     }
-    let (acknowledged, accepted, disk) = stopped(alloc, end, Outcome::None)?;
+    let (acknowledged, accepted, disk) = stopped(alloc, group, end, Outcome::None)?;
     assert_eq!(rt;
         (acknowledged, accepted, prefix_in(alloc, disk)?),
         (2, 2, 2)
@@ -220,14 +270,88 @@ fn stopped_at_every_call(rt: HostRuntime) -> Result<(), Fail> {
     Ok(())
 }
 
+// Each capture reads a length and a text, and makes nine calls to be settled.
+#[test]
+fn stopped_at_every_call(rt: HostRuntime) -> Result<(), Fail> {
+    stop_each_call(&rt, rt.alloc(), 1, 23)
+}
+
+// The captures read two calls each. They are settled in one: the record and the gate with a sync each, a write and a
+// length for each file, a sync of each, and the gate with its sync.
+#[test]
+fn a_group_stopped_at_every_call(rt: HostRuntime) -> Result<(), Fail> {
+    stop_each_call(&rt, rt.alloc(), 2, 17)
+}
+
+// Makes a capture, and asserts that it is the one of this number, and that so many are on the disk then.
+fn capture_as(
+    rt: &impl Abort,
+    store: &mut Store<MemoryDisk>,
+    command: &Command,
+    number: u64,
+    acknowledged: u64,
+) {
+    let answer = store.run(command);
+    let done = match answer {
+        Ok(Reply::Done(n)) => n == number,
+        _ => false,
+    };
+    assert!(rt; done);
+    assert_eq!(rt;
+        (store.accepted(), store.acknowledged()),
+        (number, acknowledged)
+    );
+}
+
+fn capture_in_threes(
+    rt: &impl Abort,
+    alloc: Global,
+    store: &mut Store<MemoryDisk>,
+) -> Result<(), Fail> {
+    store.set_group(3);
+    capture_as(rt, store, &capture(alloc, "a.org", b"* B")?, 1, 0);
+    capture_as(rt, store, &capture(alloc, "b.org", b"* C")?, 2, 0);
+    let (a, b) = both(alloc, store)?;
+    assert_eq!(rt; a.as_slice(), b"* A\n* B\n".as_slice());
+    assert_eq!(rt; b.as_slice(), b"* Z\n* C\n".as_slice());
+    capture_as(rt, store, &capture(alloc, "a.org", b"* D")?, 3, 3);
+    capture_as(rt, store, &capture(alloc, "b.org", b"* E")?, 4, 3);
+    Ok(())
+}
+
+// What is accepted is shown, and is on the disk once the group is full; what isn't is given up by a close.
+#[test]
+fn a_group_of_three(rt: HostRuntime) -> Result<(), Fail> {
+    let alloc = rt.alloc();
+    let mut store = open(alloc, two_files(alloc, b"* A", b"* Z")?)?;
+    capture_in_threes(&rt, alloc, &mut store)?;
+    let (a, b) = left_on(alloc, store.close())?;
+    assert_eq!(rt; a.as_slice(), b"* A\n* B\n* D\n".as_slice());
+    assert_eq!(rt; b.as_slice(), b"* Z\n* C\n".as_slice());
+    Ok(())
+}
+
+fn settle_by_command(
+    rt: &impl Abort,
+    alloc: Global,
+    store: &mut Store<MemoryDisk>,
+) -> Result<(), Fail> {
+    assert!(rt; matches!(store.run(&Command::Settle), Ok(Reply::Safe(0))));
+    capture_as(rt, store, &capture(alloc, "a.org", b"* B")?, 1, 1);
+    assert!(rt; matches!(store.run(&Command::Settle), Ok(Reply::Safe(1))));
+    store.set_group(1000);
+    capture_as(rt, store, &capture(alloc, "a.org", b"* C")?, 2, 1);
+    assert!(rt; matches!(store.run(&Command::Settle), Ok(Reply::Safe(2))));
+    Ok(())
+}
+
 #[test]
 fn settles_by_command(rt: HostRuntime) -> Result<(), Fail> {
     let alloc = rt.alloc();
     let mut store = open(alloc, two_files(alloc, b"", b"")?)?;
-    assert!(rt; matches!(store.run(alloc, &Command::Settle), Ok(Reply::Safe(0))));
-    let done = store.run(alloc, &capture(alloc, "a.org", b"* B")?);
-    assert!(rt; matches!(done, Ok(Reply::Done(1))));
-    assert!(rt; matches!(store.run(alloc, &Command::Settle), Ok(Reply::Safe(1))));
+    settle_by_command(&rt, alloc, &mut store)?;
+    let (text, _) = left_on(alloc, store.close())?;
+    assert_eq!(rt; text.as_slice(), b"* B\n* C\n".as_slice());
     Ok(())
 }
 
@@ -238,7 +362,7 @@ fn captured_at(alloc: Global, size: usize) -> Result<Result<Reply, RunFault>, Fa
         *last = b'\n';
     }
     let mut store = open(alloc, two_files(alloc, b"", &text)?)?;
-    Ok(store.run(alloc, &capture(alloc, "b.org", b"* B")?))
+    Ok(store.run(&capture(alloc, "b.org", b"* B")?))
 }
 
 #[test]

@@ -9,13 +9,13 @@ returns-in_err-answer-clause-fed g c = λ honest part free stands.
     let p = err_from_is_err_and c.from_residual.result c.from_residual.ensures.1 in
     let f = c.loop-line.invariant.0 honest part free stands in
     let s = c.in_err-answer.ensures.step (c.loop-line.invariant.2.1 honest) f.part f.stands in
-    rw p.1 (Fed-err f c.in-Some.line.now c.in-Some.more.now c.in-Some.ensures.whole c.in-Some.ensures.free c.answer.new.store.session s.0 s.1)
+    rw p.1 (Fed-err f c.in-Some.line.now c.in-Some.more.now c.in-Some.ensures.whole c.in-Some.ensures.free c.answer.new.store s.0 s.1)
 
 pub loop-line-preserved : goal.loop-line-preserved
 loop-line-preserved g c = (
   λ honest part free stands.
       Fed-step (c.loop-line.invariant.0 honest part free stands) c.in-Some.line.now c.in-Some.more.now c.in-Some.ensures.whole c.in-Some.ensures.free
-      c.answer.new.store.session (g.W.Sink.written c.answer.new.writer) c.answer.new.pending
+      c.answer.new.store (g.W.Sink.written c.answer.new.writer) c.answer.new.pending
       (c.in_ok-answer.ensures.step (c.loop-line.invariant.2.1 honest)) c.in_ok-answer.ensures.cleared,
   Breaks-then c.loop-line.invariant.1 c.in_ok-answer.ensures.device,
   (λ h. c.loop-line.invariant.2.0 (c.in_ok-answer.ensures.honest.0 h), λ h. c.in_ok-answer.ensures.honest.1 (c.loop-line.invariant.2.1 h)),

@@ -1,7 +1,8 @@
 use Rattle.std.proofs.Common.{◌≡◌, ◌++◌, ◌↔◌, List, ℕ, [], length}
 use Rattle.org_serve.specs.Lines.{cut}
 use Rattle.org_serve.specs.Pending.{Stands}
-use Rattle.org_serve.specs.Serving.{AnswersLine, BreaksByFailure}
+use Rattle.org_serve.specs.Serving.{BreaksByFailure}
+use Rattle.org_serve.specs.Stops.{RunsLine}
 use Rattle.org_serve.proofs.Feeding.{Fed}
 use Rattle.org_serve.proofs.serving.feed.Given as goal
 
@@ -9,7 +10,7 @@ use Rattle.org_serve.proofs.serving.feed.Given as goal
 abbrev pub invariant-loop-line : goal.invariant-loop-line
 invariant-loop-line g l =
     (g.D.Disk.honest l.initial.store.disk → (part : List ℕ) → (cut part).lines ≡ [] → Stands l.initial.pending part
-    → Fed AnswersLine l.initial.store.session (part ++ l.piece) l.rest l.store.session
+    → Fed (RunsLine g.D.Disk.files g.D.Disk.moment g.D.Disk.left_since) l.initial.store (part ++ l.piece) l.rest l.store
     (g.W.Sink.written l.initial.writer) (g.W.Sink.written l.writer) l.pending)
     × BreaksByFailure l.initial.store.session l.store.session (g.D.Disk.failures l.initial.store.disk) (g.D.Disk.failures l.store.disk)
     × (g.D.Disk.honest l.store.disk ↔ g.D.Disk.honest l.initial.store.disk)

@@ -1,34 +1,44 @@
-use Rattle.std.proofs.Common.{Ok, Err}
-use Rattle.org_disk.proofs.Moments.{passes_none, leaves_only}
+use Rattle.std.proofs.Common.{◌≡◌, ◌∙◌, ap, Err, rules}
 use Rattle.org_journal.specs.Standing.{contents}
-use Rattle.org_store.specs.declared.command.RunFault.TheVariants.{Broken}
-use Rattle.org_store.specs.Left.{IsLeftSettling}
-use Rattle.org_store.proofs.Reading.{store_of}
-use Rattle.org_store.proofs.Keeping.{others_same, at_rest_holds, settling_quiet}
+use Rattle.org_fileset.specs.declared.fault.SetFault.{SetFault}
+use Rattle.org_store.specs.Keeping.{fault_of_set}
+use Rattle.org_store.proofs.Keeping.{at_rest_holds}
+use Rattle.org_store.proofs.Sessions.{Fails, session_over, settle_failed, settling_left, others_failed}
 use Rattle.org_store.proofs.store.Store.settle.Goals as goal
 
-pub returns-then-is_broken-clause-any_moment : goal.returns-then-is_broken-clause-any_moment
-returns-then-is_broken-clause-any_moment g c =
+pub returns-in_err-settle-clause-step : goal.returns-in_err-settle-clause-step
+returns-in_err-settle-clause-step g c =
     let inside = c.self.inside in
-    let disk = inside.set.disk in
-    let files = g.D.Disk.files disk in
-    let s = store_of inside.states inside.set.names (contents files) inside.accepted inside.acknowledged inside.set.broken in
-    rw (← c.self.view_is) (λ honest rest.
-    leaves_only (passes_none (g.D.Disk.moment disk) (g.D.Disk.left_since disk) (IsLeftSettling s (contents files) (Err Broken)))
-    (λ image left. settling_quiet s (contents files) (Err Broken) image (at_rest_holds s files rest image (g.met.D.Disk.only_now disk image honest left))))
+    let made = c.settle.ensures in
+    let fault = c.in_err-settle.field-0.0 in
+    let fails : Fails inside.files c.settle.new.self c.settle.result fault =
+    record { is = c.in_err-settle.was; memory = made.memory; broken = made.broken; untouched = made.untouched; breaks = made.breaks; names = made.names } in
+    let given : c.from_residual.result ≡ Err (fault_of_set fault) = search rules in
+    rw (← c.self.view_is, given) (λ honest.
+    settle_failed (λ disk. contents (g.D.Disk.files disk)) inside.states inside.files c.settle.new.self inside.accepted inside.acknowledged inside.group c.settle.result fault fails)
 
-pub returns-then-is_broken-clause-others : goal.returns-then-is_broken-clause-others
-returns-then-is_broken-clause-others g c = rw (← c.self.view_is) (λ fault honest. others_same c.self.inside.set.names (contents (g.D.Disk.files c.self.inside.set.disk)))
-
-pub returns-clause-any_moment : goal.returns-clause-any_moment
-returns-clause-any_moment g c =
+pub returns-in_err-settle-clause-any_moment : goal.returns-in_err-settle-clause-any_moment
+returns-in_err-settle-clause-any_moment g c =
     let inside = c.self.inside in
-    let disk = inside.set.disk in
-    let files = g.D.Disk.files disk in
-    let s = store_of inside.states inside.set.names (contents files) inside.accepted inside.acknowledged inside.set.broken in
-    rw (← c.self.view_is) (λ honest rest.
-    leaves_only (passes_none (g.D.Disk.moment disk) (g.D.Disk.left_since disk) (IsLeftSettling s (contents files) (Ok tt)))
-    (λ image left. settling_quiet s (contents files) (Ok tt) image (at_rest_holds s files rest image (g.met.D.Disk.only_now disk image honest left))))
+    let made = c.settle.ensures in
+    let fault = c.in_err-settle.field-0.0 in
+    let fails : Fails inside.files c.settle.new.self c.settle.result fault =
+    record { is = c.in_err-settle.was; memory = made.memory; broken = made.broken; untouched = made.untouched; breaks = made.breaks; names = made.names } in
+    let given : c.from_residual.result ≡ Err (fault_of_set fault) = search rules in
+    let disk = inside.files.disk in
+    let s = session_over (λ disk. contents (g.D.Disk.files disk)) inside.states inside.files inside.accepted inside.acknowledged inside.group in
+    rw (← c.self.view_is, given) (λ honest rest.
+    settling_left g.D.Disk.moment g.D.Disk.left_since g.D.Disk.files s inside.files c.settle.new.self c.settle.result fault fails
+    (λ image left. at_rest_holds s (g.D.Disk.files disk) rest image (g.met.D.Disk.only_now disk image honest left)) (λ image either. either) (made.any_moment honest rest))
 
-pub returns-clause-others : goal.returns-clause-others
-returns-clause-others g c = rw (← c.self.view_is) (λ fault honest. others_same c.self.inside.set.names (contents (g.D.Disk.files c.self.inside.set.disk)))
+pub returns-in_err-settle-clause-others : goal.returns-in_err-settle-clause-others
+returns-in_err-settle-clause-others g c =
+    let inside = c.self.inside in
+    let made = c.settle.ensures in
+    let fault = c.in_err-settle.field-0.0 in
+    let fails : Fails inside.files c.settle.new.self c.settle.result fault =
+    record { is = c.in_err-settle.was; memory = made.memory; broken = made.broken; untouched = made.untouched; breaks = made.breaks; names = made.names } in
+    let given : c.from_residual.result ≡ Err (fault_of_set fault) = search rules in
+    rw (← c.self.view_is) (λ no_fault honest.
+    others_failed (λ disk. contents (g.D.Disk.files disk)) inside.files c.settle.new.self c.settle.result fault fails
+    (λ is. no_fault (given ∙ ap (λ (f : SetFault). Err (fault_of_set f)) is)))

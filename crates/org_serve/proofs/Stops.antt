@@ -1,0 +1,245 @@
+-- What serving does to the disk of a store, line by line.
+use Rattle.std.proofs.Common.{◌≡◌, ◌≢◌, ◌⊎◌, inl, inr, ⊎_elim, ℕ, ◌<◌, Bool, true, false, nat_lt, List, [], ◌∷◌, ◌++◌, Option, Result, Ok, Err, refl, sym, ap, ◌∙◌, subst, append-nil, append_assoc, arith}
+use Rattle.std.specs.Prelude.{MatchBool, IsFalse}
+use Rattle.std.specs.Io.KnownBytes.{Consumes, Appends}
+use Rattle.org_disk.specs.Disk.{FileState, AreImages, LeavesOnly}
+use Rattle.org_journal.specs.Standing.{Image, contents}
+use Rattle.org_fileset.specs.Replay.{IsAtRest}
+use Rattle.org_store.specs.declared.command.Command.{Command}
+use Rattle.org_store.specs.declared.command.RunFault.{RunFault}
+use Rattle.org_store.specs.declared.command.RunFault.TheVariants as run
+use Rattle.org_store.specs.Session.{Session, Kept}
+use Rattle.org_store.specs.Outcome.{outcome}
+use Rattle.org_store.specs.Step.{Settles, done}
+use Rattle.org_store.specs.Runs.{SettlesOver, IsOnDisk, IsBetween, IsLeftOf}
+use Rattle.org_store.proofs.Runs.{Course, course_none, course_as, course_run, course_settle, course_leaves, goes_on}
+use Rattle.org_serve.specs.declared.end.ServeEnd.{ServeEnd}
+use Rattle.org_serve.specs.declared.end.ServeEnd.TheVariants.{End, Unsettled, Device, Read, Write}
+use Rattle.org_serve.specs.declared.fault.LineFault.{LineFault}
+use Rattle.org_serve.specs.declared.pending.Pending.{Pending}
+use Rattle.org_serve.specs.Feeding.{FeedErr, EndsWith}
+use Rattle.org_serve.specs.Lines.{Cut, cut}
+use Rattle.org_serve.specs.Replies.{answer_text, settled_text}
+use Rattle.org_serve.specs.Serving.{IsReadAs, AnswersRead, AnswersLine, Finishes, HasSettled, end_of}
+use Rattle.org_serve.specs.Stops.{RunsRead, RunsLine, HasSettledOver, FinishesOver, Runs, Reaches, KeepsDisk}
+use Rattle.org_serve.specs.Transcript.{Answers}
+use Rattle.org_serve.proofs.Cuts.{cut-append}
+use Rattle.org_serve.proofs.Inputs.{Served}
+use Rattle.org_serve.proofs.Joins.{Answers-append, Appends-append, Appends-none, Consumes-append}
+
+-- What was run, as serving ends.
+
+write_or_not : (end : ServeEnd) → (end ≡ Write) ⊎ (end ≢ Write)
+write_or_not End = inr (λ e. absurd (cc))
+write_or_not Unsettled = inr (λ e. absurd (cc))
+write_or_not Device = inr (λ e. absurd (cc))
+write_or_not Read = inr (λ e. absurd (cc))
+write_or_not Write = inl refl
+
+-- the input was read to here, and no line is left
+pub runs_whole : {S : Type 0} {AnswersLine : S → List ℕ → List ℕ → S → Type 0} (Settles : S → S → Type 0) {old mid : S} {left between written among : Option (List ℕ)} {pending : Pending}
+    → (s : Served AnswersLine old mid left between written among pending) (new : S) (end : ServeEnd) (left' written' : Option (List ℕ)) → Consumes between left' []
+    → (new ≡ mid) ⊎ Settles mid new → (end ≢ Write → (tail : List ℕ) × Appends among written' tail) → Runs AnswersLine Settles old new end left left' written written'
+runs_whole Settles {mid = mid} {left = left} {between = between} {written = written} {among = among} s new end left' written' read ends wrote = record {
+  input = s.input ++ [];
+  ran = (cut s.input).lines;
+  others = [];
+  out = s.out;
+  mid = mid;
+  read = Consumes-append left between left' s.input [] s.read read;
+  lines = ap (λ (i : List ℕ). (cut i).lines) (append-nil s.input) ∙ sym (append-nil (cut s.input).lines);
+  answered = s.answered;
+  ends = ends;
+  wrote = λ not. let tail = wrote not in (tail.0, Appends-append written among written' s.out tail.0 s.wrote tail.1);
+}
+
+-- a write fails within a piece
+pub runs_some : {S : Type 0} {AnswersLine : S → List ℕ → List ℕ → S → Type 0} (Settles : S → S → Type 0) {old mid : S} {left between written among : Option (List ℕ)} {pending : Pending}
+    → (s : Served AnswersLine old mid left between written among pending) (piece : List ℕ) (new : S) (left' written' : Option (List ℕ))
+    → Consumes between left' piece → FeedErr AnswersLine mid ((cut s.input).rest ++ piece) new → Runs AnswersLine Settles old new Write left left' written written'
+runs_some {AnswersLine = AnswersLine} Settles {old = old} {mid = mid} {left = left} {between = between} s piece new left' written' read fed = record {
+  input = s.input ++ piece;
+  ran = (cut s.input).lines ++ fed.0;
+  others = fed.1;
+  out = s.out ++ fed.2;
+  mid = new;
+  read = Consumes-append left between left' s.input piece s.read read;
+  lines = ap (λ (c : Cut). c.lines) (cut-append s.input piece) ∙ ap (λ (ls : List (List ℕ)). (cut s.input).lines ++ ls) fed.3
+      ∙ sym (append_assoc (cut s.input).lines fed.0 fed.1);
+  answered = Answers-append AnswersLine old mid new (cut s.input).lines fed.0 s.out fed.2 s.answered fed.4;
+  ends = inl refl;
+  wrote = λ not. absurd (not refl);
+}
+
+-- One state for another.
+
+answers_by : {S T : Type 0} (view : S → T) (One : S → List ℕ → List ℕ → S → Type 0) (Other : T → List ℕ → List ℕ → T → Type 0)
+    → ((old : S) (line out : List ℕ) (new : S) → One old line out new → Other (view old) line out (view new))
+    → (old : S) (lines : List (List ℕ)) (out : List ℕ) (new : S) → Answers One old lines out new → Answers Other (view old) lines out (view new)
+answers_by view One Other each old [] out new a = (a.0, ap view a.1)
+answers_by view One Other each old (line ∷ lines) out new a = (view a.0, a.1, a.2, each old line a.1 a.0 a.3, a.4, answers_by view One Other each a.0 lines a.2 new a.5)
+
+module _ {D : Type 0} (files : D → List ℕ → FileState) (moment : D → ℕ) (left_since : D → ℕ → Image → Type 0) where
+  abbrev Line : Kept D → List ℕ → List ℕ → Kept D → Type 0
+  Line = RunsLine files moment left_since
+
+  abbrev Settled : Kept D → Kept D → Type 0
+  Settled = HasSettledOver files moment left_since
+
+  -- What is said of the session alone.
+
+  session_of_read : (old : Kept D) (read : Result Command LineFault) (out : List ℕ) (new : Kept D) → RunsRead files moment left_since old read out new → AnswersRead old.session read out new.session
+  session_of_read old (Err fault) out new ran = (ran.0, ap (λ (k : Kept D). k.session) ran.1)
+  session_of_read old (Ok command) out new ran = (ran.0, ran.1.step, ran.2)
+
+  pub session_of_lines : (old : Kept D) (lines : List (List ℕ)) (out : List ℕ) (new : Kept D) → Answers Line old lines out new → Answers AnswersLine old.session lines out new.session
+  session_of_lines old lines out new a =
+      answers_by (λ (k : Kept D). k.session) Line AnswersLine (λ old line out new one. (one.0, one.1, session_of_read old one.0 out new one.2)) old lines out new a
+
+  abbrev pub session_of_served : {old new : Kept D} {left left' written written' : Option (List ℕ)} {pending : Pending} → Served Line old new left left' written written' pending
+      → Served AnswersLine old.session new.session left left' written written' pending
+  session_of_served {old} {new} s = record {
+    input = s.input;
+    out = s.out;
+    read = s.read;
+    answered = session_of_lines old (cut s.input).lines s.out new s.answered;
+    wrote = s.wrote;
+    stands = s.stands;
+  }
+
+  pub session_of_fed : (old new : Kept D) (bytes : List ℕ) → FeedErr Line old bytes new → FeedErr AnswersLine old.session bytes new.session
+  session_of_fed old new bytes fed = (fed.0, fed.1, fed.2, fed.3, session_of_lines old fed.0 fed.2 new fed.4)
+
+  pub session_of_settled : (old new : Kept D) → Settled old new → HasSettled old.session new.session
+  session_of_settled old new settled = (settled.0, settled.1.step)
+
+  -- an end of serving, by whether the store is broken and whether accepted commands aren't settled yet
+  abbrev Ends : Bool → Bool → Kept D → ServeEnd → List ℕ → Kept D → Type 0
+  Ends fell pending old end out new =
+      MatchBool fell ((end ≡ Device) × (out ≡ []) × (new ≡ old))
+      (MatchBool pending ((answer : Result (Unit {0}) RunFault) × SettlesOver files moment left_since old answer new × (end ≡ end_of answer) × (out ≡ settled_text answer new.session.acknowledged))
+      ((end ≡ End) × (out ≡ []) × (new ≡ old)))
+
+  abbrev SessionEnds : Bool → Bool → Session → ServeEnd → List ℕ → Session → Type 0
+  SessionEnds fell pending old end out new =
+      MatchBool fell ((end ≡ Device) × (out ≡ []) × (new ≡ old))
+      (MatchBool pending ((answer : Result (Unit {0}) RunFault) × Settles old answer new × (end ≡ end_of answer) × (out ≡ settled_text answer new.acknowledged)) ((end ≡ End) × (out ≡ []) × (new ≡ old)))
+
+  session_of_end : (fell pending : Bool) (old : Kept D) (end : ServeEnd) (out : List ℕ) (new : Kept D) → Ends fell pending old end out new → SessionEnds fell pending old.session end out new.session
+  session_of_end true pending old end out new f = (f.0, f.1, ap (λ (k : Kept D). k.session) f.2)
+  session_of_end false true old end out new f = (f.0, f.1.step, f.2, f.3)
+  session_of_end false false old end out new f = (f.0, f.1, ap (λ (k : Kept D). k.session) f.2)
+
+  settled_or_not : (fell pending : Bool) (old : Kept D) (end : ServeEnd) (out : List ℕ) (new : Kept D) → Ends fell pending old end out new → (new ≡ old) ⊎ Settled old new
+  settled_or_not true pending old end out new f = inl f.2
+  settled_or_not false true old end out new f = inr (f.0, f.1)
+  settled_or_not false false old end out new f = inl f.2
+
+  pub session_of_ends : (part : List ℕ) (old : Kept D) (end : ServeEnd) (new : Kept D) (written written' : Option (List ℕ)) → EndsWith (FinishesOver files moment left_since) part old end new written written'
+      → EndsWith Finishes part old.session end new.session written written'
+  session_of_ends part old end new written written' e =
+      (e.0, e.1, e.2, session_of_end old.session.broken (nat_lt old.session.acknowledged old.session.accepted) old end e.1 new e.3, e.4)
+
+  settled_at_end : (part : List ℕ) (old : Kept D) (end : ServeEnd) (new : Kept D) (written written' : Option (List ℕ)) → EndsWith (FinishesOver files moment left_since) part old end new written written'
+      → (new ≡ old) ⊎ Settled old new
+  settled_at_end part old end new written written' e = settled_or_not old.session.broken (nat_lt old.session.acknowledged old.session.accepted) old end e.1 new e.3
+
+  -- no more was read
+  pub runs_read : {old new : Kept D} {left between written written' : Option (List ℕ)} {pending : Pending} → Served Line old new left between written written' pending → (left' : Option (List ℕ)) → Consumes between left' []
+      → Runs Line Settled old new Read left left' written written'
+  runs_read {new = new} {written' = written'} s left' read = runs_whole Settled s new Read left' written' read (inl refl) (λ not. ([], Appends-none written'))
+
+  -- the input was read to its end
+  pub runs_finish : {old mid : Kept D} {left between written among : Option (List ℕ)} {pending : Pending} → (s : Served Line old mid left between written among pending) (new : Kept D) (end : ServeEnd) (left' written' : Option (List ℕ))
+      → Consumes between left' [] → (end ≢ Write → EndsWith (FinishesOver files moment left_since) (cut s.input).rest mid end new among written') → (end ≡ Write → (new ≡ mid) ⊎ Settled mid new)
+      → Runs Line Settled old new end left left' written written'
+  runs_finish s new end left' written' read told failed =
+      runs_whole Settled s new end left' written' read (⊎_elim failed (λ not. settled_at_end _ _ _ _ _ _ (told not)) (write_or_not end)) (λ not. let e = told not in (e.0 ++ e.1, e.4))
+
+  -- a settling at the end
+  pub finishes_settling : (old : Kept D) (answer : Result (Unit {0}) RunFault) (new : Kept D) (end : ServeEnd) → old.session.broken ≡ false → old.session.acknowledged < old.session.accepted
+      → SettlesOver files moment left_since old answer new → end ≡ end_of answer → FinishesOver files moment left_since old end (settled_text answer new.session.acknowledged) new
+  finishes_settling old answer new end sound pending over is =
+      let less : nat_lt old.session.acknowledged old.session.accepted ≡ true = grind (arith, pending) in
+      ends old.session.broken (nat_lt old.session.acknowledged old.session.accepted) sound less
+    where
+      ends : (fell some : Bool) → fell ≡ false → some ≡ true → Ends fell some old end (settled_text answer new.session.acknowledged) new
+      ends false true sound less = (answer, over, is, refl)
+      ends true some sound less = absurd (cc)
+      ends false false sound less = absurd (cc)
+
+  -- What a stop leaves.
+
+  abbrev Goes : Kept D → Kept D → (Session → Type 0) → Type 0
+  Goes old new P = Course files moment left_since old new P
+
+  course_end : (mid new : Kept D) → (new ≡ mid) ⊎ Settled mid new → Goes mid new (λ s. s ≡ mid.session)
+  course_end mid new ends = ⊎_elim
+      (λ same. subst (λ k. Goes mid k (λ s. s ≡ mid.session)) (sym same) (course_none files moment left_since mid (λ s. s ≡ mid.session) refl))
+      (λ settled. course_settle files moment left_since mid new settled.0 (λ s. s ≡ mid.session) settled.1 refl)
+      ends
+
+  reaches_self : (s : Session) (lines : List (List ℕ)) (out : List ℕ) → Reaches s lines out s
+  reaches_self s [] out = refl
+  reaches_self s (line ∷ lines) out = inl refl
+
+  -- one line, and the lines after it
+  module _ (old mid new : Kept D) (line : List ℕ) (lines : List (List ℕ)) (out first later : List ℕ) (is : out ≡ first ++ later) (course : Goes mid new (Reaches mid.session lines later)) where
+    course_read : (read : Result Command LineFault) → IsReadAs line read → RunsRead files moment left_since old read first mid → Goes old new (Reaches old.session (line ∷ lines) out)
+    course_read (Err fault) readable ran =
+        let session : mid.session ≡ old.session = ap (λ (k : Kept D). k.session) ran.1 in
+        let same = course_as files moment left_since mid new (Reaches mid.session lines later) (Reaches old.session (line ∷ lines) out) course
+        (λ s reached. inr (mid.session, first, later, (Err fault, readable, (ran.0, session)), is, reached)) in
+        subst (λ k. Goes k new (Reaches old.session (line ∷ lines) out)) ran.1 same
+    course_read (Ok command) readable ran =
+        course_run files moment left_since old mid new command ran.0 (Reaches old.session (line ∷ lines) out) (Reaches mid.session lines later) ran.1 course (inl refl)
+        (λ fine s reached. inr (
+          mid.session,
+          first,
+          later,
+          (Ok command, readable, (ran.0, goes_on old.session mid.session (outcome old.session command) ran.0 fine ran.1.step, ran.2)),
+          is,
+          reached,
+        ))
+        (reaches_self mid.session lines later)
+        (λ texts failed accepted full. inr (
+          done old.session texts,
+          first,
+          later,
+          (Ok command, readable, (Err run.Device, (texts, accepted, full, refl), ran.2 ∙ ap (λ a. answer_text a old.session.acknowledged mid.session.acknowledged) failed)),
+          is,
+          reaches_self (done old.session texts) lines later,
+        ))
+
+  course_lines : (old mid new : Kept D) (lines : List (List ℕ)) (out : List ℕ) → Answers Line old lines out mid → Goes mid new (λ s. s ≡ mid.session) → Goes old new (Reaches old.session lines out)
+  course_lines old mid new [] out answers course = subst (λ k. Goes k new (λ s. s ≡ k.session)) answers.1 course
+  course_lines old mid new (line ∷ lines) out answers course =
+      course_read old answers.0 new line lines out answers.1 answers.2 answers.4 (course_lines answers.0 mid new lines answers.2 answers.5 course) answers.3.0 answers.3.1 answers.3.2
+
+  module _ {old new : Kept D} {end : ServeEnd} {left left' written written' : Option (List ℕ)} (run : Runs Line Settled old new end left left' written written') where
+    course_runs : Goes old new (Reaches old.session run.ran run.out)
+    course_runs = course_lines old run.mid new run.ran run.out run.answered (course_end run.mid new run.ends)
+
+    pub session_of_runs : Runs AnswersLine HasSettled old.session new.session end left left' written written'
+    session_of_runs = record {
+      input = run.input;
+      ran = run.ran;
+      others = run.others;
+      out = run.out;
+      mid = run.mid.session;
+      read = run.read;
+      lines = run.lines;
+      answered = session_of_lines old run.ran run.out run.mid run.answered;
+      ends = ⊎_elim (λ same. inl (ap (λ (k : Kept D). k.session) same)) (λ settled. inr (session_of_settled run.mid new settled)) run.ends;
+      wrote = run.wrote;
+    }
+
+    pub runs_leave : ((image : Image) → left_since old.disk (moment old.disk) image → AreImages (files old.disk) image) → IsOnDisk old.session (contents (files old.disk)) → IsAtRest (files old.disk) → IsFalse old.session.broken
+        → (ran : Runs AnswersLine HasSettled old.session new.session end left left' written written')
+        × LeavesOnly (moment old.disk) (moment new.disk) (left_since old.disk) (left_since new.disk)
+        (IsLeftOf old.session (contents (files old.disk)) (λ mid. Reaches old.session ran.ran ran.out mid × IsBetween old.session new.session mid))
+    unfolding session_of_runs
+    runs_leave start disk rest sound = (session_of_runs, course_leaves files moment left_since old new (Reaches old.session run.ran run.out) course_runs rest disk sound start)
+
+    pub runs_keep : IsOnDisk old.session (contents (files old.disk)) → KeepsDisk files old new
+    runs_keep disk = record { fit = course_runs.fit; rest = course_runs.rest; others = λ sound. course_runs.others sound disk; untouched = course_runs.stays }

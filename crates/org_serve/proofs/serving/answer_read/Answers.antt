@@ -1,0 +1,22 @@
+use Rattle.std.proofs.Common.{refl}
+use Rattle.org_store.specs.Runs.{RunsOver}
+use Rattle.org_serve.specs.Replies.{answer_text}
+use Rattle.org_serve.proofs.serving.answer_read.Goals as goal
+
+pub returns-in-Ok-clause-step : goal.returns-in-Ok-clause-step
+returns-in-Ok-clause-step g c = λ honest.
+    let e = c.run-answer.ensures in
+    let d = g.D.Disk in
+    let over : RunsOver d.files d.moment d.left_since c.args.store.now c.in-Ok.command c.run-answer.result c.run-answer.new.self = record {
+      step = e.step honest;
+      any_moment = e.any_moment honest;
+      others = λ fine. e.others fine honest;
+      rest = λ fine. e.rest fine honest;
+      fit = e.fit honest;
+      untouched = e.untouched;
+    } in
+    rw c.in-Ok.is (
+      answer_text c.run-answer.result c.args.store.now.session.acknowledged c.run-answer.new.self.session.acknowledged,
+      (c.run-answer.result, over, refl),
+      rw (c.acknowledged-before.ensures, c.acknowledged.ensures) at c.write_answer.ensures.ok,
+    )

@@ -1,0 +1,285 @@
+-- An image that stands for small files is opened again.
+use Rattle.std.proofs.Common.{◌≡◌, ◌≢◌, ◌⊎◌, inl, inr, ⊎_elim, ℕ, ◌+◌, ◌-◌, ◌^◌, ◌==◌, ◌≤◌, nat_lt, Bool, true, false, List, [], ◌∷◌, length, Option, Some, None, Result, Ok, Err, refl, sym, ◌∙◌, ap, subst, if◌then◌else◌, arith}
+use Rattle.std.specs.Prelude.{IsSomeAnd}
+use Rattle.std.specs.List.{All, AllByRecursion, Contains}
+use Rattle.std.specs.Str.{bytes_eq}
+use Rattle.std.proofs.lemmas.Bool.Decides.{nat_tests}
+use Rattle.std.proofs.lemmas.List.Elements.{All-from_recursion, recursion_from_All}
+use Rattle.org_disk.specs.Names.{journal_name}
+use Rattle.org_journal.specs.Standing.{Image, SameFiles, stands}
+use Rattle.org_fileset.specs.Names.{with_archives, AreSorted, AreFew, AreTooMany, IsGiven, first_large, limit}
+use Rattle.org_fileset.specs.Opening.{IsReason}
+use Rattle.org_fileset.specs.declared.open.OpenFault.{OpenFault}
+use Rattle.org_fileset.specs.declared.open.OpenFault.TheVariants.{TooManyFiles, BadJournal, TooLarge, Device, OutOfMemory}
+use Rattle.org_fileset.proofs.Sorted.{no_member, cons_cases, cons_here, cons_later, all_sorted, archives_apart, archives_grow}
+use Rattle.org_outline.specs.declared.moves.Place.{Place}
+use Rattle.org_outline.specs.Tree.{Node}
+use Rattle.org_store.specs.declared.command.Command.{Command}
+use Rattle.org_store.specs.declared.command.Command.TheVariants.{Capture, Show, Settle}
+use Rattle.org_store.specs.declared.command.Target.{Target}
+use Rattle.org_store.specs.declared.command.Refusal.{Refusal}
+use Rattle.org_store.specs.declared.command.Refusal.TheVariants as refusal
+use Rattle.org_store.specs.declared.command.Reply.{Reply}
+use Rattle.org_store.specs.declared.command.Reply.TheVariants.{Done, Safe, Text}
+use Rattle.org_store.specs.declared.command.RunFault.{RunFault}
+use Rattle.org_store.specs.declared.command.RunFault.TheVariants as run
+use Rattle.org_held.specs.InOrder.{texts_of, text_at, with_text, with_texts}
+use Rattle.org_store.specs.Session.{Session, Holds}
+use Rattle.org_store.specs.Capture.{entry_of, captured}
+use Rattle.org_store.specs.Outcome.{Outcome, Accepts, Shows, Settles, Refuses, changed, with_entry, capture, show, outcome}
+use Rattle.org_store.specs.Step.{fills, done, settled}
+use Rattle.org_store.specs.Left.{to_settle, IsEither, IsLeftFailing, IsLeftBy, IsLeft}
+use Rattle.org_store.specs.Runs.{GoesOn, Reaches, IsBetween, IsLeftOf}
+use Rattle.org_store.specs.Reopening.{AreSameNames, IsOpenable, AreSmall}
+use Rattle.org_held.proofs.Names.{name_cases}
+use Rattle.org_store.proofs.Sortings.{one_sorting}
+
+never_both : (given : List (List ℕ)) → AreFew given → AreTooMany given → ⊥
+never_both given few many = let same : few.0 ≡ many.0 = one_sorting given few.0 many.0 few.1 many.1 in omega (arith, few.2, many.2, ap length same)
+
+-- the first file past the limit, where files agree
+same_large : (one other : Image) (names : List (List ℕ)) → AllByRecursion (λ name. name ≢ journal_name) names → SameFiles one other → first_large one names ≡ first_large other names
+same_large one other [] apart same = refl
+same_large one other (name ∷ names) apart same = rw (same name apart.0, same_large one other names apart.1 same) refl
+
+-- what the disk stood for, and what lies on it once that was brought about
+agreeing : (stood : Option Image) (now texts : Image) → IsSomeAnd stood (SameFiles now) → IsSomeAnd stood (λ found. SameFiles found texts) → SameFiles now texts
+agreeing (Some found) now texts made is = λ name not. made name not ∙ is name not
+agreeing None now texts made is = absurd made
+
+apart_names : (given names : List (List ℕ)) → All IsGiven given → AreSorted (with_archives given) names → AllByRecursion (λ name. name ≢ journal_name) names
+apart_names given names all sorted =
+    recursion_from_All (λ name. name ≢ journal_name) names
+    (all_sorted (λ name. name ≢ journal_name) (with_archives given) names sorted
+    (All-from_recursion (λ name. name ≢ journal_name) (with_archives given) (archives_apart given (recursion_from_All IsGiven given all))))
+
+pub only_faults : (given : List (List ℕ)) (honest : Type 0) (image now : Image) (fault : OpenFault) → All IsGiven given → honest → IsOpenable given image → IsReason given honest image now fault
+    → (fault ≡ OutOfMemory) ⊎ (fault ≡ Device)
+only_faults given honest image now TooManyFiles all is can many = absurd (never_both given can.few many)
+only_faults given honest image now BadJournal all is can reason =
+    absurd (subst (λ (o : Option Image). IsSomeAnd o (λ found. SameFiles found can.texts)) (reason.1 is).0 can.stands_for)
+only_faults given honest image now (TooLarge name) all is can reason =
+    let found = reason.1 is in
+    let one_names : found.0 ≡ can.names = one_sorting (with_archives given) found.0 can.names found.1 can.sorted in
+    let same : SameFiles now can.texts = agreeing (stands image) now can.texts found.3 can.stands_for in
+    let large : first_large can.texts can.names ≡ Some name =
+    sym (same_large now can.texts can.names (apart_names given can.names all can.sorted) same) ∙ ap (first_large now) (sym one_names) ∙ found.2 in
+    let small = can.small in
+    absurd (cc)
+only_faults given honest image now Device all is can reason = inr refl
+only_faults given honest image now OutOfMemory all is can reason = inl refl
+
+-- the fault of the disk comes with a failure
+pub counted_faults : (given : List (List ℕ)) (honest Counted : Type 0) (image now : Image) (fault : OpenFault) → All IsGiven given → honest → IsOpenable given image
+    → IsReason given honest image now fault → (fault ≡ Device → Counted) → (fault ≡ OutOfMemory) ⊎ ((fault ≡ Device) × Counted)
+counted_faults given honest Counted image now fault all is can reason counted =
+    ⊎_elim (λ memory. inl memory) (λ device. inr (device, counted device)) (only_faults given honest image now fault all is can reason)
+
+-- the same names, put in order
+in_order : (given more names : List (List ℕ)) → AreSameNames given more → AreSorted given names → AreSorted more names
+in_order given more names same sorted = record {
+  ordered = sorted.ordered;
+  members = λ name. (λ there. (same name).0 ((sorted.members name).0 there), λ there. (sorted.members name).1 ((same name).1 there));
+}
+
+pub any_order : (given more : List (List ℕ)) (image : Image) → AreSameNames given more → IsOpenable given image → IsOpenable more image
+any_order given more image same can = record {
+  few = (can.few.0, in_order given more can.few.0 same can.few.1, can.few.2);
+  names = can.names;
+  sorted = in_order (with_archives given) (with_archives more) can.names
+      (λ name. (archives_grow given more (λ one there. (same one).0 there) name, archives_grow more given (λ one there. (same one).1 there) name)) can.sorted;
+  texts = can.texts;
+  stands_for = can.stands_for;
+  small = can.small;
+}
+
+-- what holds of each text holds of the file of each name
+of_each : (P : List ℕ → Type 0) (names texts : List (List ℕ)) (others : Image) (name : List ℕ) → length texts ≡ length names → AllByRecursion P texts → Contains names name
+    → P (with_texts names texts others name)
+of_each P [] texts others name size each there = absurd (no_member name there)
+of_each P (one ∷ names) [] others name size each there = absurd (omega arith)
+of_each P (one ∷ names) (text ∷ texts) others name size each there = elim (name_cases one name) [
+  | inl is ↦ let t = is.1 in rw t each.0
+  | inr apart ↦
+      let f = apart.1 in
+      rw f (of_each P names texts others name (omega arith) each.1 (⊎_elim (λ e. absurd (apart.0 e)) (λ later. later) (cons_cases one names name there)))
+]
+
+none_large : (files : Image) (names : List (List ℕ)) → ((name : List ℕ) → Contains names name → length (files name) ≤ limit) → first_large files names ≡ None
+none_large files [] small = refl
+none_large files (name ∷ names) small =
+    let here = small name (cons_here name names) in
+    let within : nat_lt limit (length (files name)) ≡ false = grind (arith, nat_tests, here) in
+    rw within (none_large files names (λ one there. small one (cons_later name names one there)))
+
+pub held_opens : (given : List (List ℕ)) (s : Session) (others image : Image) (texts : List (List ℕ)) → AreFew given → AreSorted (with_archives given) s.names → AreSmall s.names texts → Holds s others texts image
+    → IsOpenable given image
+held_opens given s others image texts few sorted are holds = record {
+  few = few;
+  names = s.names;
+  sorted = sorted;
+  texts = with_texts s.names texts others;
+  stands_for = holds;
+  small = none_large (with_texts s.names texts others) s.names
+      (λ name there. of_each (λ text. length text ≤ limit) s.names texts others name are.one_each (recursion_from_All (λ text. length text ≤ limit) texts are.small) there);
+}
+
+-- the files of a store that was just opened
+small_texts : (files : Image) (names : List (List ℕ)) → first_large files names ≡ None → AllByRecursion (λ text. length text ≤ limit) (texts_of files names)
+small_texts files [] none = tt
+small_texts files (name ∷ names) none = go (nat_lt limit (length (files name))) refl (small_texts files names)
+  where
+    go : (large : Bool) → nat_lt limit (length (files name)) ≡ large → (first_large files names ≡ None → AllByRecursion (λ text. length text ≤ limit) (texts_of files names))
+        → (length (files name) ≤ limit) × AllByRecursion (λ text. length text ≤ limit) (texts_of files names)
+    go true is rest = let first : first_large files (name ∷ names) ≡ Some name = rw is refl in absurd (cc)
+    go false is rest =
+        let first : first_large files (name ∷ names) ≡ first_large files names = rw is refl in
+        (grind (arith, nat_tests, is), rest (sym first ∙ none))
+
+length-texts_of : (files : Image) (names : List (List ℕ)) → length (texts_of files names) ≡ length names
+length-texts_of files [] = refl
+length-texts_of files (name ∷ names) = let rest = length-texts_of files names in omega (arith, rest)
+
+pub opened_small : (files : Image) (names : List (List ℕ)) → first_large files names ≡ None → AreSmall names (texts_of files names)
+opened_small files names none = record {
+  one_each = length-texts_of files names;
+  small = All-from_recursion (λ text. length text ≤ limit) (texts_of files names) (small_texts files names none);
+}
+
+-- one text in the place of another
+length-with_text : (names texts : List (List ℕ)) (name new : List ℕ) → length texts ≡ length names → length (with_text names texts name new) ≡ length names
+length-with_text [] texts name new size = refl
+length-with_text (one ∷ names) [] name new size = absurd (omega arith)
+length-with_text (one ∷ names) (text ∷ texts) name new size = let rest = length-with_text names texts name new (omega arith) in omega (arith, rest)
+
+all_with : (P : List ℕ → Type 0) (names texts : List (List ℕ)) (name new : List ℕ) → P new → AllByRecursion P texts → AllByRecursion P (with_text names texts name new)
+all_with P [] texts name new here each = tt
+all_with P (one ∷ names) [] name new here each = tt
+all_with P (one ∷ names) (text ∷ texts) name new here each = (either (bytes_eq one name), all_with P names texts name new here each.1)
+  where
+    either : (same : Bool) → P (if same then new else text)
+    either true = here
+    either false = each.0
+
+small_with : (names texts : List (List ℕ)) (name new : List ℕ) → length new ≤ limit → AreSmall names texts → AreSmall names (with_text names texts name new)
+small_with names texts name new here are = record {
+  one_each = length-with_text names texts name new are.one_each;
+  small = All-from_recursion (λ text. length text ≤ limit) (with_text names texts name new)
+      (all_with (λ text. length text ≤ limit) names texts name new here (recursion_from_All (λ text. length text ≤ limit) texts are.small));
+}
+
+-- what a command makes of the texts
+small_changed : (s : Session) (name text : List ℕ) (files : List (List ℕ)) → AreSmall s.names s.files → changed s name text ≡ Accepts files → AreSmall s.names files
+small_changed s name text files are = go (nat_lt limit (length text)) refl (s.accepted == 2 ^ 64 - 1)
+  where
+    go : (large : Bool) → nat_lt limit (length text) ≡ large → (full : Bool)
+        → (if large then Refuses refusal.TooLarge else if full then Refuses refusal.TooLarge else Accepts (with_text s.names s.files name text)) ≡ Accepts files → AreSmall s.names files
+    go true is full accepts = absurd (cc)
+    go false is true accepts = absurd (cc)
+    go false is false accepts =
+        let same : with_text s.names s.files name text ≡ files = cc in
+        subst (AreSmall s.names) same (small_with s.names s.files name text (grind (arith, nat_tests, is)) are)
+
+small_with_entry : (s : Session) (name : List ℕ) (target : Target) (place : Place) (entry : Result Node Refusal) (text : List ℕ) (files : List (List ℕ)) → AreSmall s.names s.files
+    → with_entry s name target place entry text ≡ Accepts files → AreSmall s.names files
+small_with_entry s name target place (Err why) text files are accepts = absurd (cc)
+small_with_entry s name target place (Ok entry) text files are accepts = small_changed s name (captured target place entry text) files are accepts
+
+small_capture : (s : Session) (name : List ℕ) (target : Target) (place : Place) (template : List ℕ) (old : Option (List ℕ)) (files : List (List ℕ)) → AreSmall s.names s.files
+    → capture s name target place template old ≡ Accepts files → AreSmall s.names files
+small_capture s name target place template None files are accepts = absurd (cc)
+small_capture s name target place template (Some text) files are accepts = small_with_entry s name target place (entry_of template) text files are accepts
+
+shows_none : (old : Option (List ℕ)) (files : List (List ℕ)) → show old ≡ Accepts files → ⊥
+shows_none None files accepts = absurd (cc)
+shows_none (Some text) files accepts = absurd (cc)
+
+pub accepted_small : (s : Session) (command : Command) (files : List (List ℕ)) → AreSmall s.names s.files → outcome s command ≡ Accepts files → AreSmall s.names files
+accepted_small s (Capture file target place moment template initial) files are accepts =
+    small_capture s file target place template (text_at s.names s.files file) files are accepts
+accepted_small s (Show file) files are accepts = absurd (shows_none (text_at s.names s.files file) files accepts)
+accepted_small s Settle files are accepts = absurd (cc)
+
+-- what a stop leaves while a command runs
+abbrev HoldsSmall : Session → Image → Image → Type 0
+HoldsSmall s others image = (texts : List (List ℕ)) × AreSmall s.names texts × Holds s others texts image
+
+small_settled : (s : Session) (others : Image) (outcome : Outcome) (image : Image) → AreSmall s.names s.files → ((files : List (List ℕ)) → outcome ≡ Accepts files → AreSmall s.names files)
+    → IsSomeAnd (to_settle s outcome) (λ texts. Holds s others texts image) → HoldsSmall s others image
+small_settled s others (Accepts files) image are accepted holds = (files, accepted files refl, go (fills s) holds)
+  where
+    go : (full : Bool) → IsSomeAnd (if full then Some files else None) (λ texts. Holds s others texts image) → Holds s others files image
+    go true there = there
+    go false there = absurd there
+small_settled s others Settles image are accepted holds = (s.files, are, holds)
+small_settled s others (Shows text) image are accepted holds = absurd holds
+small_settled s others (Refuses why) image are accepted holds = absurd holds
+
+small_either : (s : Session) (others : Image) (outcome : Outcome) (image : Image) → AreSmall s.names s.settled → AreSmall s.names s.files
+    → ((files : List (List ℕ)) → outcome ≡ Accepts files → AreSmall s.names files) → IsEither s others outcome image → HoldsSmall s others image
+small_either s others outcome image before are accepted = ⊎_elim (λ holds. (s.settled, before, holds)) (small_settled s others outcome image are accepted)
+
+small_failing : (s : Session) (others : Image) (outcome : Outcome) (accepted : ℕ) (image : Image) → AreSmall s.names s.settled → AreSmall s.names s.files
+    → ((files : List (List ℕ)) → outcome ≡ Accepts files → AreSmall s.names files) → IsLeftFailing s others outcome accepted image → HoldsSmall s others image
+small_failing s others (Accepts files) accepted image before are small left = ⊎_elim (λ holds. (s.settled, before, holds)) (λ now. (files, small files refl, now.2)) left
+small_failing s others Settles accepted image before are small left = ⊎_elim (λ holds. (s.settled, before, holds)) (λ now. (s.files, are, now)) left
+small_failing s others (Shows text) accepted image before are small left = (s.settled, before, left)
+small_failing s others (Refuses why) accepted image before are small left = (s.settled, before, left)
+
+small_left : (s : Session) (others : Image) (outcome : Outcome) (answer : Result Reply RunFault) (accepted : ℕ) (image : Image) → AreSmall s.names s.settled → AreSmall s.names s.files
+    → ((files : List (List ℕ)) → outcome ≡ Accepts files → AreSmall s.names files) → IsLeftBy s others outcome answer accepted image → HoldsSmall s others image
+small_left s others outcome (Ok (Done n)) accepted image before are small left = small_either s others outcome image before are small left
+small_left s others outcome (Ok (Safe n)) accepted image before are small left = small_either s others outcome image before are small left
+small_left s others outcome (Err run.Device) accepted image before are small left = small_failing s others outcome accepted image before are small left
+small_left s others outcome (Ok (Text text)) accepted image before are small left = (s.settled, before, left)
+small_left s others outcome (Err (run.Refused why)) accepted image before are small left = (s.settled, before, left)
+small_left s others outcome (Err run.OutOfMemory) accepted image before are small left = (s.settled, before, left)
+small_left s others outcome (Err run.Broken) accepted image before are small left = (s.settled, before, left)
+
+pub left_opens : (given : List (List ℕ)) (s : Session) (others image : Image) (command : Command) (answer : Result Reply RunFault) (accepted : ℕ) → AreFew given → AreSorted (with_archives given) s.names
+    → AreSmall s.names s.settled → AreSmall s.names s.files → IsLeft s others command answer accepted image → IsOpenable given image
+left_opens given s others image command answer accepted few sorted before are left =
+    let held = small_left s others (outcome s command) answer accepted image before are (λ files. accepted_small s command files are) left in
+    held_opens given s others image held.0 few sorted held.1 held.2
+
+-- the texts after commands that were run one after another
+abbrev StaysSmall : Session → Session → Type 0
+StaysSmall old new = (new.names ≡ old.names) × AreSmall old.names new.files
+
+stays_same : (old new : Session) → AreSmall old.names old.files → new ≡ old → StaysSmall old new
+stays_same old new are same = subst (StaysSmall old) (sym same) (refl, are)
+
+done_small : (old new : Session) (files : List (List ℕ)) → AreSmall old.names files → new ≡ done old files → StaysSmall old new
+done_small old new files are is = subst (StaysSmall old) (sym is) (go (fills old))
+  where
+    go : (full : Bool) → StaysSmall old
+        (if full then record old { files = files; settled = files; accepted = old.accepted + 1; acknowledged = old.accepted + 1 } else record old { files = files; accepted = old.accepted + 1 })
+    go true = (refl, are)
+    go false = (refl, are)
+
+goes_small : (old new : Session) (command : Command) (answer : Result Reply RunFault) → AreSmall old.names old.files → GoesOn old (outcome old command) answer new → StaysSmall old new
+goes_small old new command (Ok (Done n)) are on = done_small old new on.1.0 (accepted_small old command on.1.0 are on.1.1) on.1.3
+goes_small old new command (Ok (Text text)) are on = stays_same old new are on.2
+goes_small old new command (Ok (Safe n)) are on = let is : new ≡ settled old = on.3 in subst (StaysSmall old) (sym is) (refl, are)
+goes_small old new command (Err (run.Refused why)) are on = stays_same old new are on.2
+goes_small old new command (Err run.OutOfMemory) are on = stays_same old new are on.1
+goes_small old new command (Err run.Device) are on = done_small old new on.0 (accepted_small old command on.0 are on.1) on.3
+goes_small old new command (Err run.Broken) are on = stays_same old new are on.1
+
+reached_small : (old mid : Session) (commands : List Command) (answers : List (Result Reply RunFault)) → AreSmall old.names old.files → Reaches old commands answers mid → StaysSmall old mid
+reached_small old mid [] answers are is = stays_same old mid are is
+reached_small old mid (command ∷ commands) [] are is = stays_same old mid are is
+reached_small old mid (command ∷ commands) (answer ∷ answers) are reaches = ⊎_elim
+    (λ is. stays_same old mid are is)
+    (λ on.
+    let next = goes_small old on.0 command answer are on.1 in
+    let last = reached_small on.0 mid commands answers (subst (λ names. AreSmall names on.0.files) (sym next.0) next.1) on.2 in
+    (last.0 ∙ next.0, subst (λ names. AreSmall names mid.files) next.0 last.1))
+    reaches
+
+pub run_opens : (given : List (List ℕ)) (old new : Session) (others image : Image) (commands : List Command) (answers : List (Result Reply RunFault)) → AreFew given
+    → AreSorted (with_archives given) old.names → AreSmall old.names old.settled → AreSmall old.names old.files
+    → IsLeftOf old others (λ mid. Reaches old commands answers mid × IsBetween old new mid) image → IsOpenable given image
+run_opens given old new others image commands answers few sorted before are = ⊎_elim
+    (λ holds. held_opens given old others image old.settled few sorted before holds)
+    (λ left. held_opens given old others image left.0.files few sorted (reached_small old left.0 commands answers are left.1.0).1 left.2)

@@ -1,0 +1,523 @@
+-- Runs of commands over a disk: what a stop leaves meanwhile, and what the disk is after them.
+use Rattle.std.proofs.Common.{◌≡◌, ◌⊎◌, inl, inr, ⊎_elim, ℕ, ◌+◌, ◌-◌, ◌^◌, ◌==◌, ◌≤◌, nat_lt, length, Bool, true, false, List, [], ◌∷◌, Option, Some, None, is_some, Result, Ok, Err, refl, sym, ◌∙◌, ap, subst, if◌then◌else◌, arith, IsTrue}
+use Rattle.std.specs.Prelude.{IsSomeAnd, IsErrOf}
+use Rattle.std.specs.Str.{bytes_eq}
+use Rattle.std.proofs.lemmas.Bool.{false≢true}
+use Rattle.std.proofs.lemmas.Slice.Eq.{bytes_eq-Decides}
+use Rattle.org_disk.specs.Disk.{FileState, AreImages, Passes, LeavesOnly}
+use Rattle.org_disk.proofs.Moments.{passes_none, passes_as, passes_then, leaves_only}
+use Rattle.org_outline.specs.declared.moves.Place.{Place}
+use Rattle.org_outline.specs.Tree.{Node}
+use Rattle.org_journal.specs.Standing.{Image, SameFiles, IsFit, StandsFor, stands, contents}
+use Rattle.org_fileset.specs.Replay.{IsAtRest}
+use Rattle.org_fileset.specs.Names.{limit}
+use Rattle.org_fileset.proofs.Commits.{at_rest_stands}
+use Rattle.org_store.specs.declared.command.Target.{Target}
+use Rattle.org_store.specs.declared.command.Refusal.{Refusal}
+use Rattle.org_store.specs.declared.command.Refusal.TheVariants.{TooLarge}
+use Rattle.org_store.specs.declared.command.Command.{Command}
+use Rattle.org_store.specs.declared.command.Command.TheVariants.{Capture, Show, Settle}
+use Rattle.org_store.specs.declared.command.Reply.{Reply}
+use Rattle.org_store.specs.declared.command.Reply.TheVariants.{Done, Safe, Text}
+use Rattle.org_store.specs.declared.command.RunFault.{RunFault}
+use Rattle.org_store.specs.declared.command.RunFault.TheVariants.{Refused, OutOfMemory, Device, Broken}
+use Rattle.org_held.specs.InOrder.{texts_of, text_at, with_text, with_texts}
+use Rattle.org_store.specs.Session.{Session, Kept, Holds}
+use Rattle.org_store.specs.Outcome.{Outcome, Accepts, Shows, Settles as Asks, Refuses, outcome, capture, show, changed, with_entry}
+use Rattle.org_store.specs.Capture.{entry_of}
+use Rattle.org_store.specs.Step.{Does, Step, Settles, fills, done, settled}
+use Rattle.org_store.specs.Left.{IsLeftBy, IsLeftFailing, IsLeftSettling, IsEither, to_settle}
+use Rattle.org_store.specs.Runs.{RunsOver, SettlesOver, RunsAllOver, IsOnDisk, GoesOn, Reaches, IsBetween, IsLeftOf}
+
+bool_cases : (b : Bool) → (b ≡ true) ⊎ (b ≡ false)
+bool_cases true = inl refl
+bool_cases false = inr refl
+
+-- The files with the texts of some names depend on the other files alone.
+
+texts_over : (names texts : List (List ℕ)) (first second : Image) (name : List ℕ) → (is_some (text_at names texts name) ≡ false → first name ≡ second name)
+    → with_texts names texts first name ≡ with_texts names texts second name
+texts_over [] texts first second name same = same refl
+texts_over (one ∷ names) [] first second name same = same refl
+texts_over (one ∷ names) (text ∷ texts) first second name same = elim (bool_cases (bytes_eq one name)) [
+  | inl t ↦ rw t refl
+  | inr f ↦ rw f (texts_over names texts first second name (λ none. same (rw f none)))
+]
+
+texts_apart : (names texts : List (List ℕ)) (files : Image) (name : List ℕ) → is_some (text_at names texts name) ≡ false → with_texts names texts files name ≡ files name
+texts_apart [] texts files name none = refl
+texts_apart (one ∷ names) [] files name none = refl
+texts_apart (one ∷ names) (text ∷ texts) files name none = elim (bool_cases (bytes_eq one name)) [
+  | inl t ↦ let some : true ≡ false = rw t at none in absurd (false≢true (sym some))
+  | inr f ↦ rw f (texts_apart names texts files name (rw f at none))
+]
+
+-- the same names have texts
+abbrev pub HaveTexts : List (List ℕ) → List (List ℕ) → List (List ℕ) → Type 0
+HaveTexts names texts more = (name : List ℕ) → is_some (text_at names more name) ≡ is_some (text_at names texts name)
+
+with_text_has : (names texts : List (List ℕ)) (name new : List ℕ) → HaveTexts names texts (with_text names texts name new)
+with_text_has [] texts name new other = refl
+with_text_has (one ∷ names) [] name new other = refl
+with_text_has (one ∷ names) (text ∷ texts) name new other = elim (bool_cases (bytes_eq one other)) [
+  | inl t ↦ rw t refl
+  | inr f ↦ rw f (with_text_has names texts name new other)
+]
+
+-- A command that is accepted keeps the names that have texts.
+
+accepts_changed : (s : Session) (name text : List ℕ) (files : List (List ℕ)) → changed s name text ≡ Accepts files → HaveTexts s.names s.files files
+accepts_changed s name text files is =
+    subst (HaveTexts s.names s.files) (accepted (nat_lt limit (length text)) (s.accepted == 2 ^ 64 - 1) (with_text s.names s.files name text) files is) (with_text_has s.names s.files name text)
+  where
+    accepted : (large full : Bool) (texts files : List (List ℕ)) → (if large then Refuses TooLarge else (if full then Refuses TooLarge else Accepts texts)) ≡ Accepts files → texts ≡ files
+    accepted true full texts files is = absurd (cc)
+    accepted false true texts files is = absurd (cc)
+    accepted false false texts files is = cc
+
+accepts_entry : (s : Session) (name : List ℕ) (target : Target) (place : Place) (entry : Result Node Refusal) (text : List ℕ) (files : List (List ℕ)) → with_entry s name target place entry text ≡ Accepts files
+    → HaveTexts s.names s.files files
+accepts_entry s name target place (Err why) text files is = absurd (cc)
+accepts_entry s name target place (Ok entry) text files is = accepts_changed s name _ files is
+
+accepts_capture : (s : Session) (name : List ℕ) (target : Target) (place : Place) (template : List ℕ) (text : Option (List ℕ)) (files : List (List ℕ)) → capture s name target place template text ≡ Accepts files
+    → HaveTexts s.names s.files files
+accepts_capture s name target place template None files is = absurd (cc)
+accepts_capture s name target place template (Some text) files is = accepts_entry s name target place (entry_of template) text files is
+
+accepts_show : (text : Option (List ℕ)) (files : List (List ℕ)) → show text ≡ Accepts files → ⊥
+accepts_show None files is = absurd (cc)
+accepts_show (Some text) files is = absurd (cc)
+
+accepts : (s : Session) (command : Command) (files : List (List ℕ)) → outcome s command ≡ Accepts files → HaveTexts s.names s.files files
+accepts s (Capture file target place moment template initial) files is = accepts_capture s file target place template (text_at s.names s.files file) files is
+accepts s (Show file) files is = absurd (accepts_show (text_at s.names s.files file) files is)
+accepts s Settle files is = absurd (cc)
+
+-- What a call that met no failure of the disk does to the session.
+pub record Onward (old new : Session) : Type 0 where
+  pub names : new.names ≡ old.names
+  pub broken : new.broken ≡ old.broken
+  pub settled : (new.settled ≡ old.settled) ⊎ HaveTexts old.names old.files new.settled
+  pub texts : HaveTexts old.names old.files new.files
+
+onward_none : (s : Session) → Onward s s
+onward_none s = record { names = refl; broken = refl; settled = inl refl; texts = λ name. refl }
+
+onward_then : (old mid new : Session) → Onward old mid → Onward mid new → Onward old new
+onward_then old mid new first second = record {
+  names = second.names ∙ first.names;
+  broken = second.broken ∙ first.broken;
+  settled = ⊎_elim
+      (λ same. ⊎_elim (λ before. inl (same ∙ before)) (λ has. inr (subst (HaveTexts old.names old.files) (sym same) has)) first.settled)
+      (λ has. inr (λ name. rw first.names at (has name) ∙ first.texts name)) second.settled;
+  texts = λ name. rw first.names at (second.texts name) ∙ first.texts name;
+}
+
+-- the session after an accepted command
+done_files : (s : Session) (files : List (List ℕ)) → (done s files).files ≡ files
+done_files s files = elim (bool_cases (fills s)) [ inl t ↦ rw t refl | inr f ↦ rw f refl ]
+
+done_accepted : (s : Session) (files : List (List ℕ)) → (done s files).accepted ≡ s.accepted + 1
+done_accepted s files = elim (bool_cases (fills s)) [ inl t ↦ rw t refl | inr f ↦ rw f refl ]
+
+abbrev Settling : Session → Session → Type 0
+Settling old new = (new.settled ≡ old.settled) ⊎ (new.settled ≡ new.files)
+
+onward_done : (s : Session) (files : List (List ℕ)) → HaveTexts s.names s.files files → Onward s (done s files) × Settling s (done s files)
+onward_done s files has = elim (bool_cases (fills s)) [
+  | inl t ↦ rw t (record { names = refl; broken = refl; settled = inr has; texts = has }, inr refl)
+  | inr f ↦ rw f (record { names = refl; broken = refl; settled = inl refl; texts = has }, inl refl)
+]
+
+abbrev Onwards : Session → Session → Type 0
+Onwards old new = Onward old new × Settling old new
+
+onwards_same : (old new : Session) → new ≡ old → Onwards old new
+onwards_same old new same = subst (λ s. Onwards old s) (sym same) (onward_none old, inl refl)
+
+onward : (old new : Session) (command : Command) (answer : Result Reply RunFault) → old.broken ≡ false → (IsErrOf answer Device → ⊥) → Step old command answer new → Onwards old new
+onward old new command (Ok (Done n)) unbroken fine step = subst (λ s. Onwards old s) (sym step.1.3) (onward_done old step.1.0 (accepts old command step.1.0 step.1.1))
+onward old new command (Ok (Text bytes)) unbroken fine step = onwards_same old new step.2
+onward old new command (Ok (Safe n)) unbroken fine step =
+    subst (λ s. Onwards old s) (sym step.3) (record { names = refl; broken = refl; settled = inr (λ name. refl); texts = λ name. refl }, inr refl)
+onward old new command (Err (Refused why)) unbroken fine step = onwards_same old new step.2
+onward old new command (Err OutOfMemory) unbroken fine step = onwards_same old new step.1
+onward old new command (Err Device) unbroken fine step = absurd (fine refl)
+onward old new command (Err Broken) unbroken fine step = absurd (false≢true (sym unbroken ∙ step.0))
+
+-- the counts after a call, and what a failure does
+counts_rise : (old new : Session) (command : Command) (answer : Result Reply RunFault) → Step old command answer new → old.accepted ≤ new.accepted
+counts_rise old new command (Ok (Done n)) step = subst (λ s. old.accepted ≤ s.accepted) (sym step.1.3) (omega (arith, done_accepted old step.1.0))
+counts_rise old new command (Ok (Text bytes)) step = subst (λ s. old.accepted ≤ s.accepted) (sym step.2) (omega arith)
+counts_rise old new command (Ok (Safe n)) step = subst (λ s. old.accepted ≤ s.accepted) (sym step.3) (omega arith)
+counts_rise old new command (Err (Refused why)) step = subst (λ s. old.accepted ≤ s.accepted) (sym step.2) (omega arith)
+counts_rise old new command (Err OutOfMemory) step = subst (λ s. old.accepted ≤ s.accepted) (sym step.1) (omega arith)
+counts_rise old new command (Err Broken) step = subst (λ s. old.accepted ≤ s.accepted) (sym step.1) (omega arith)
+counts_rise old new command (Err Device) step = elim step.1 [
+  | inl in_read ↦ subst (λ s. old.accepted ≤ s.accepted) (sym in_read) (omega arith)
+  | inr torn ↦ elim torn [
+    | inl fell ↦ subst (λ s. old.accepted ≤ s.accepted) (sym fell.5) (omega arith)
+    | inr between ↦ subst (λ s. old.accepted ≤ s.accepted) (sym between.3) (omega arith)
+  ]
+]
+
+falls : (old new : Session) (command : Command) → Step old command (Err Device) new → new.broken ≡ true
+falls old new command step = elim step.1 [
+  | inl in_read ↦ subst (λ s. s.broken ≡ true) (sym in_read) refl
+  | inr torn ↦ elim torn [
+    | inl fell ↦ subst (λ s. s.broken ≡ true) (sym fell.5) refl
+    | inr between ↦ subst (λ s. s.broken ≡ true) (sym between.3) refl
+  ]
+]
+
+-- an image stands for files that agree
+stands_as : (first second image : Image) → SameFiles first second → StandsFor first image → StandsFor second image
+stands_as first second image same = go (stands image)
+  where
+    go : (o : Option Image) → IsSomeAnd o (λ found. SameFiles found first) → IsSomeAnd o (λ found. SameFiles found second)
+    go (Some found) is = λ name not. is name not ∙ same name not
+    go None is = is
+
+-- What is left of one call: the files that were settled, or those of a session that was reached.
+
+either_of : (old : Session) (others : Image) (outcome : Outcome) (image : Image) (IsReached : Session → Type 0) → IsReached old
+    → ((files : List (List ℕ)) → outcome ≡ Accepts files → IsTrue (fills old) → IsReached (done old files)) → IsEither old others outcome image → IsLeftOf old others IsReached image
+either_of old others outcome image IsReached self accepted left = ⊎_elim (λ before. inl before) (some outcome accepted) left
+  where
+    some : (outcome : Outcome) → ((files : List (List ℕ)) → outcome ≡ Accepts files → IsTrue (fills old) → IsReached (done old files))
+        → IsSomeAnd (to_settle old outcome) (λ texts. Holds old others texts image) → IsLeftOf old others IsReached image
+    some (Accepts files) accepted now = elim (bool_cases (fills old)) [
+      | inl t ↦ inr (done old files, accepted files refl t, subst (λ texts. Holds old others texts image) (sym (done_files old files)) (rw t at now))
+      | inr f ↦ let none : ⊥ = rw f at now in absurd none
+    ]
+    some Asks accepted now = inr (old, self, now)
+    some (Shows text) accepted now = absurd now
+    some (Refuses why) accepted now = absurd now
+
+failing_of : (old : Session) (others : Image) (outcome : Outcome) (accepted : ℕ) (image : Image) (IsReached : Session → Type 0) → IsReached old
+    → ((files : List (List ℕ)) → outcome ≡ Accepts files → IsTrue (fills old) → accepted ≡ old.accepted + 1 → IsReached (done old files)) → IsLeftFailing old others outcome accepted image
+    → IsLeftOf old others IsReached image
+failing_of old others (Accepts files) accepted image IsReached self torn left = ⊎_elim
+    (λ before. inl before)
+    (λ now. inr (done old files, torn files refl now.1 now.0, subst (λ texts. Holds old others texts image) (sym (done_files old files)) now.2))
+    left
+failing_of old others Asks accepted image IsReached self torn left = ⊎_elim (λ before. inl before) (λ now. inr (old, self, now)) left
+failing_of old others (Shows text) accepted image IsReached self torn left = inl left
+failing_of old others (Refuses why) accepted image IsReached self torn left = inl left
+
+left_of : (old mid : Session) (others : Image) (outcome : Outcome) (answer : Result Reply RunFault) (image : Image) (IsReached : Session → Type 0) → Does old outcome answer mid → IsReached old
+    → ((IsErrOf answer Device → ⊥) → IsReached mid) → ((files : List (List ℕ)) → IsErrOf answer Device → outcome ≡ Accepts files → IsTrue (fills old) → mid.accepted ≡ old.accepted + 1 → IsReached (done old files))
+    → IsLeftBy old others outcome answer mid.accepted image → IsLeftOf old others IsReached image
+left_of old mid others outcome (Ok (Done n)) image IsReached does self here torn left =
+    either_of old others outcome image IsReached self
+    (λ files accepts full. let same : does.1.0 ≡ files = accepted does.1.0 files (sym does.1.1 ∙ accepts) in
+    subst IsReached (does.1.3 ∙ ap (done old) same) (here (λ (e : ◌≡◌ {A = Result Reply RunFault} (Ok (Done n)) (Err Device)). absurd (cc)))) left
+  where
+    accepted : (files more : List (List ℕ)) → Accepts files ≡ Accepts more → files ≡ more
+    accepted files more same = cc
+left_of old mid others outcome (Ok (Safe n)) image IsReached does self here torn left =
+    either_of old others outcome image IsReached self (λ files accepts full. let apart : Asks ≡ Accepts files = sym does.1 ∙ accepts in absurd (cc)) left
+left_of old mid others outcome (Err Device) image IsReached does self here torn left =
+    failing_of old others outcome mid.accepted image IsReached self (λ files accepts full counted. torn files refl accepts full counted) left
+left_of old mid others outcome (Ok (Text bytes)) image IsReached does self here torn left = inl left
+left_of old mid others outcome (Err (Refused why)) image IsReached does self here torn left = inl left
+left_of old mid others outcome (Err OutOfMemory) image IsReached does self here torn left = inl left
+left_of old mid others outcome (Err Broken) image IsReached does self here torn left = inl left
+
+-- Files before and after calls that gave the store's files texts.
+
+agree : (names was files now more : List (List ℕ)) (before after : Image) (name : List ℕ) → before name ≡ with_texts names was before name → after name ≡ with_texts names now before name
+    → (now ≡ was) ⊎ HaveTexts names files now → HaveTexts names files more → (texts : List (List ℕ)) → (texts ≡ now) ⊎ HaveTexts names more texts
+    → is_some (text_at names texts name) ≡ false → after name ≡ before name
+agree names was files now more before after name disk same settled has texts which none = ⊎_elim
+    (λ is. apart (subst (λ (t : List (List ℕ)). is_some (text_at names t name) ≡ false) is none))
+    (λ have. ⊎_elim
+    (λ is. same ∙ ap (λ t. with_texts names t before name) is ∙ sym disk)
+    (λ had. apart (had name ∙ sym (has name) ∙ sym (have name) ∙ none))
+    settled)
+    which
+  where
+    apart : is_some (text_at names now name) ≡ false → after name ≡ before name
+    apart nothing = same ∙ texts_apart names now before name nothing
+
+others_over : (old mid : Session) (before after : Image) → Onward old mid → IsOnDisk old before → SameFiles after (with_texts mid.names mid.settled before)
+    → (texts : List (List ℕ)) → (texts ≡ mid.settled) ⊎ HaveTexts mid.names mid.files texts → SameFiles (with_texts mid.names texts after) (with_texts mid.names texts before)
+others_over old mid before after onward disk same texts which name not =
+    texts_over mid.names texts after before name
+    (agree mid.names old.settled old.files mid.settled mid.files before after name (rw onward.names (disk name not)) (same name not)
+    (rw onward.names onward.settled) (rw onward.names onward.texts) texts which)
+
+holds_back : (old mid : Session) (before after image : Image) → Onward old mid → IsOnDisk old before → SameFiles after (with_texts mid.names mid.settled before)
+    → (texts : List (List ℕ)) → (texts ≡ mid.settled) ⊎ HaveTexts mid.names mid.files texts → Holds mid after texts image → Holds old before texts image
+holds_back old mid before after image onward disk same texts which holds =
+    subst (λ names. StandsFor (with_texts names texts before) image) onward.names
+    (stands_as (with_texts mid.names texts after) (with_texts mid.names texts before) image (others_over old mid before after onward disk same texts which) holds)
+
+-- texts of files, laid over these files
+pub own_over : (names : List (List ℕ)) (files : Image) (name : List ℕ) → files name ≡ with_texts names (texts_of files names) files name
+own_over [] files name = refl
+own_over (one ∷ names) files name = elim (bool_cases (bytes_eq one name)) [
+  | inl t ↦ rw t (ap files (sym ((bytes_eq-Decides one name).0 t)))
+  | inr f ↦ rw f (own_over names files name)
+]
+
+pub on_disk_after : (names settled : List (List ℕ)) (before after : Image) → SameFiles after (with_texts names settled before) → SameFiles after (with_texts names settled after)
+on_disk_after names settled before after same name not =
+    same name not ∙ texts_over names settled before after name (λ none. sym (same name not ∙ texts_apart names settled before name none))
+
+-- a session that was reached, with what a proof by steps needs of it
+abbrev Reached : Session → Session → (Session → Type 0) → Session → Type 0
+Reached old new P s = HaveTexts old.names old.files s.files × IsBetween old new s × P s
+
+-- What a run of calls does, from the one store to the other; the sessions that are reached have P.
+pub record Course {D : Type 0} (files : D → List ℕ → FileState) (moment : D → ℕ) (left_since : D → ℕ → Image → Type 0) (old new : Kept D) (P : Session → Type 0) : Type 0 where
+  pub passes : IsAtRest (files old.disk) → IsOnDisk old.session (contents (files old.disk)) → old.session.broken ≡ false
+      → Passes (moment old.disk) (moment new.disk) (left_since old.disk) (left_since new.disk) (IsLeftOf old.session (contents (files old.disk)) (Reached old.session new.session P))
+  pub rest : new.session.broken ≡ false → IsAtRest (files old.disk) → IsAtRest (files new.disk)
+  pub fit : IsAtRest (files old.disk) → IsFit (files new.disk)
+  pub others : new.session.broken ≡ false → IsOnDisk old.session (contents (files old.disk))
+      → SameFiles (contents (files new.disk)) (with_texts new.session.names new.session.settled (contents (files old.disk)))
+  pub onward : new.session.broken ≡ false → Onward old.session new.session
+  pub stays : old.session.broken ≡ true → new ≡ old
+  pub rises : old.session.accepted ≤ new.session.accepted
+
+self_between : (old new : Session) → old.accepted ≤ new.accepted → IsBetween old new old
+self_between old new rises = record { no_fewer = omega arith; no_more = rises }
+
+device_or_not : (answer : Result Reply RunFault) → IsErrOf answer Device ⊎ (IsErrOf answer Device → ⊥)
+device_or_not (Ok reply) = inr (λ (e : ◌≡◌ {A = Result Reply RunFault} (Ok reply) (Err Device)). absurd (cc))
+device_or_not (Err (Refused why)) = inr (λ (e : ◌≡◌ {A = Result Reply RunFault} (Err (Refused why)) (Err Device)). absurd (cc))
+device_or_not (Err OutOfMemory) = inr (λ (e : ◌≡◌ {A = Result Reply RunFault} (Err OutOfMemory) (Err Device)). absurd (cc))
+device_or_not (Err Device) = inl refl
+device_or_not (Err Broken) = inr (λ (e : ◌≡◌ {A = Result Reply RunFault} (Err Broken) (Err Device)). absurd (cc))
+
+-- a broken store answers that it is
+answers_broken : (old new : Session) (command : Command) (answer : Result Reply RunFault) → Step old command answer new → old.broken ≡ true → IsErrOf answer Broken
+answers_broken old new command (Ok (Done n)) step fell = absurd (false≢true (sym step.0 ∙ fell))
+answers_broken old new command (Ok (Text bytes)) step fell = absurd (false≢true (sym step.0 ∙ fell))
+answers_broken old new command (Ok (Safe n)) step fell = absurd (false≢true (sym step.0 ∙ fell))
+answers_broken old new command (Err (Refused why)) step fell = absurd (false≢true (sym step.0 ∙ fell))
+answers_broken old new command (Err OutOfMemory) step fell = absurd (false≢true (sym step.0 ∙ fell))
+answers_broken old new command (Err Device) step fell = absurd (false≢true (sym step.0 ∙ fell))
+answers_broken old new command (Err Broken) step fell = refl
+
+pub goes_on : (old new : Session) (outcome : Outcome) (answer : Result Reply RunFault) → (IsErrOf answer Device → ⊥) → Does old outcome answer new → GoesOn old outcome answer new
+goes_on old new outcome (Ok reply) fine does = does
+goes_on old new outcome (Err (Refused why)) fine does = does
+goes_on old new outcome (Err OutOfMemory) fine does = does
+goes_on old new outcome (Err Device) fine does = absurd (fine refl)
+goes_on old new outcome (Err Broken) fine does = does
+
+-- what a settling does to the session
+settling_ends : (old new : Session) (answer : Result (Unit {0}) RunFault) → Settles old answer new
+    → (old.accepted ≤ new.accepted) × (new.broken ≡ false → (IsErrOf answer Device → ⊥) × Onward old new) × (old.broken ≡ true → IsErrOf answer Broken)
+settling_ends old new (Ok _) step = (
+  subst (λ s. old.accepted ≤ s.accepted) (sym step.1) (omega arith),
+  λ sound. (
+    λ (e : ◌≡◌ {A = Result (Unit {0}) RunFault} (Ok tt) (Err Device)). absurd (cc),
+    subst (Onward old) (sym step.1) (record { names = refl; broken = refl; settled = inr (λ name. refl); texts = λ name. refl }),
+  ),
+  λ fell. absurd (false≢true (sym step.0 ∙ fell)),
+)
+settling_ends old new (Err (Refused why)) step = absurd step
+settling_ends old new (Err OutOfMemory) step = (
+  subst (λ s. old.accepted ≤ s.accepted) (sym step.1) (omega arith),
+  λ sound. (λ (e : ◌≡◌ {A = Result (Unit {0}) RunFault} (Err OutOfMemory) (Err Device)). absurd (cc), subst (Onward old) (sym step.1) (onward_none old)),
+  λ fell. absurd (false≢true (sym step.0 ∙ fell)),
+)
+settling_ends old new (Err Device) step = (
+  subst (λ s. old.accepted ≤ s.accepted) (sym step.1.2) (omega arith),
+  λ sound. absurd (false≢true (sym sound ∙ ap (λ (s : Session). s.broken) step.1.2)),
+  λ fell. absurd (false≢true (sym step.0 ∙ fell)),
+)
+settling_ends old new (Err Broken) step = (
+  subst (λ s. old.accepted ≤ s.accepted) (sym step.1) (omega arith),
+  λ sound. absurd (false≢true (sym sound ∙ ap (λ (s : Session). s.broken) step.1 ∙ step.0)),
+  λ fell. refl,
+)
+
+module _ {D : Type 0} (files : D → List ℕ → FileState) (moment : D → ℕ) (left_since : D → ℕ → Image → Type 0) where
+  abbrev Goes : Kept D → Kept D → (Session → Type 0) → Type 0
+  Goes old new P = Course files moment left_since old new P
+
+  pub course_none : (old : Kept D) (P : Session → Type 0) → P old.session → Goes old old P
+  course_none old P self = record {
+    passes = λ rest disk sound. passes_none _ _ _;
+    rest = λ sound rest. rest;
+    fit = λ rest. inl (λ name not. rest.stable name);
+    others = λ sound disk. disk;
+    onward = λ sound. onward_none old.session;
+    stays = λ fell. refl;
+    rises = omega arith;
+  }
+
+  -- more sessions may count as reached
+  pub course_as : (old new : Kept D) (P Q : Session → Type 0) → Goes old new P → ((s : Session) → P s → Q s) → Goes old new Q
+  course_as old new P Q course weaker = record {
+    passes = λ rest disk sound.
+        passes_as (course.passes rest disk sound) (λ image left. ⊎_elim (λ held. inl held) (λ reached. inr (reached.0, (reached.1.0, reached.1.1, weaker reached.0 reached.1.2), reached.2)) left);
+    rest = course.rest;
+    fit = course.fit;
+    others = course.others;
+    onward = course.onward;
+    stays = course.stays;
+    rises = course.rises;
+  }
+
+  -- a run that was unbroken at its end was so at its start
+  sound_before : (old new : Kept D) → (old.session.broken ≡ true → new ≡ old) → new.session.broken ≡ false → old.session.broken ≡ false
+  sound_before old new stays sound =
+      ⊎_elim (λ fell. absurd (false≢true (sym sound ∙ ap (λ (k : Kept D). k.session.broken) (stays fell) ∙ fell))) (λ f. f) (bool_cases old.session.broken)
+
+  -- one call, and a run after it
+  module _ (old mid new : Kept D) (command : Command) (answer : Result Reply RunFault) (P Later : Session → Type 0) (ran : RunsOver files moment left_since old command answer mid) (course : Goes mid new Later)
+      (self : P old.session) (later : (IsErrOf answer Device → ⊥) → (s : Session) → Later s → P s) (first : Later mid.session)
+      (torn : (texts : List (List ℕ)) → IsErrOf answer Device → outcome old.session command ≡ Accepts texts → IsTrue (fills old.session) → P (done old.session texts)) where
+    rises : old.session.accepted ≤ new.session.accepted
+    rises = omega (arith, counts_rise old.session mid.session command answer ran.step, course.rises)
+
+    stays : old.session.broken ≡ true → new ≡ old
+    stays fell =
+        let same = ran.untouched (answers_broken old.session mid.session command answer ran.step fell) in
+        course.stays (ap (λ (k : Kept D). k.session.broken) same ∙ fell) ∙ same
+
+    self_reached : Reached old.session new.session P old.session
+    self_reached = (λ name. refl, self_between old.session new.session rises, self)
+
+    after_failure : IsErrOf answer Device → Goes old new P
+    after_failure failed =
+        let fallen = falls old.session mid.session command (subst (λ a. Step old.session command a mid.session) failed ran.step) in
+        let same : new ≡ mid = course.stays fallen in
+        let broken : new.session.broken ≡ true = ap (λ (k : Kept D). k.session.broken) same ∙ fallen in
+        let reached : (texts : List (List ℕ)) → IsErrOf answer Device → outcome old.session command ≡ Accepts texts → IsTrue (fills old.session)
+        → mid.session.accepted ≡ old.session.accepted + 1 → Reached old.session new.session P (done old.session texts) =
+        λ texts is accepted full counted. (
+          rw (done_files old.session texts) (accepts old.session command texts accepted),
+          record { no_fewer = omega (arith, done_accepted old.session texts); no_more = omega (arith, done_accepted old.session texts, counted, course.rises) },
+          torn texts is accepted full,
+        ) in
+        record {
+          passes = λ rest disk sound.
+              subst (λ (k : Kept D). Passes (moment old.disk) (moment k.disk) (left_since old.disk) (left_since k.disk) (IsLeftOf old.session (contents (files old.disk)) (Reached old.session new.session P)))
+              (sym same)
+              (passes_as (ran.any_moment rest).passes
+              (λ image left. left_of old.session mid.session (contents (files old.disk)) (outcome old.session command) answer image (Reached old.session new.session P) ran.step self_reached
+              (λ fine. absurd (fine failed)) reached left));
+          rest = λ sound. absurd (false≢true (sym sound ∙ broken));
+          fit = λ rest. subst (λ (k : Kept D). IsFit (files k.disk)) (sym same) (ran.fit rest);
+          others = λ sound. absurd (false≢true (sym sound ∙ broken));
+          onward = λ sound. absurd (false≢true (sym sound ∙ broken));
+          stays = stays;
+          rises = rises;
+        }
+
+    after_answer : (IsErrOf answer Device → ⊥) → Goes old new P
+    after_answer fine =
+        let same : SameFiles (contents (files mid.disk)) (with_texts mid.session.names mid.session.settled (contents (files old.disk))) = ran.others fine in
+        let now : IsOnDisk mid.session (contents (files mid.disk)) =
+        on_disk_after mid.session.names mid.session.settled (contents (files old.disk)) (contents (files mid.disk)) same in
+        let goes : old.session.broken ≡ false → Onwards old.session mid.session = λ sound. onward old.session mid.session command answer sound fine ran.step in
+        let further : old.session.broken ≡ false → (s : Session) → Reached mid.session new.session Later s → Reached old.session new.session P s =
+        λ sound s reached. (
+          λ name. rw (goes sound).0.names at (reached.0 name) ∙ (goes sound).0.texts name,
+          record { no_fewer = omega (arith, counts_rise old.session mid.session command answer ran.step, reached.1.no_fewer); no_more = reached.1.no_more },
+          later fine s reached.2,
+        ) in
+        let here : old.session.broken ≡ false → Reached old.session new.session P mid.session =
+        λ sound. further sound mid.session (λ name. refl, self_between mid.session new.session course.rises, first) in
+        let back : old.session.broken ≡ false → IsOnDisk old.session (contents (files old.disk)) → (image : Image) → IsLeftOf mid.session (contents (files mid.disk)) (Reached mid.session new.session Later) image
+        → IsLeftOf old.session (contents (files old.disk)) (Reached old.session new.session P) image =
+        λ sound disk image left. ⊎_elim
+        (λ held.
+        let holds = holds_back old.session mid.session (contents (files old.disk)) (contents (files mid.disk)) image (goes sound).0 disk same mid.session.settled (inl refl) held in
+        ⊎_elim
+        (λ is. inl (subst (λ texts. Holds old.session (contents (files old.disk)) texts image) is holds))
+        (λ is. inr (mid.session, here sound, subst (λ texts. Holds old.session (contents (files old.disk)) texts image) is holds))
+        (goes sound).1)
+        (λ reached. inr (
+          reached.0,
+          further sound reached.0 reached.1,
+          holds_back old.session mid.session (contents (files old.disk)) (contents (files mid.disk)) image (goes sound).0 disk same reached.0.files (inr reached.1.0) reached.2,
+        ))
+        left in
+        let sound_then : new.session.broken ≡ false → old.session.broken ≡ false = sound_before old new stays in
+        record {
+          passes = λ rest disk sound.
+              passes_then
+              (passes_as (ran.any_moment rest).passes
+              (λ image left. left_of old.session mid.session (contents (files old.disk)) (outcome old.session command) answer image (Reached old.session new.session P) ran.step self_reached
+              (λ not. here sound) (λ texts failed. absurd (fine failed)) left))
+              (course.passes (ran.rest fine rest) now ((goes sound).0.broken ∙ sound))
+              (back sound disk);
+          rest = λ sound rest. course.rest sound (ran.rest fine rest);
+          fit = λ rest. course.fit (ran.rest fine rest);
+          others = λ sound disk name not.
+              let o = (goes (sound_then sound)).0 in
+              let l = course.onward sound in
+              course.others sound now name not
+              ∙ rw l.names (others_over old.session mid.session (contents (files old.disk)) (contents (files mid.disk)) o disk same new.session.settled l.settled name not);
+          onward = λ sound. onward_then old.session mid.session new.session (goes (sound_then sound)).0 (course.onward sound);
+          stays = stays;
+          rises = rises;
+        }
+
+    pub course_run : Goes old new P
+    course_run = ⊎_elim after_failure after_answer (device_or_not answer)
+
+  -- a settling
+  module _ (old new : Kept D) (answer : Result (Unit {0}) RunFault) (P : Session → Type 0) (ran : SettlesOver files moment left_since old answer new) (self : P old.session) where
+    settling_left : (others : Image) (answer : Result (Unit {0}) RunFault) (image : Image) (IsReached : Session → Type 0) → IsReached old.session → IsLeftSettling old.session others answer image
+        → IsLeftOf old.session others IsReached image
+    settling_left others (Ok _) image IsReached here left = either_of old.session others Asks image IsReached here (λ texts (accepts : Asks ≡ Accepts texts). absurd (cc)) left
+    settling_left others (Err Device) image IsReached here left = either_of old.session others Asks image IsReached here (λ texts (accepts : Asks ≡ Accepts texts). absurd (cc)) left
+    settling_left others (Err (Refused why)) image IsReached here left = inl left
+    settling_left others (Err OutOfMemory) image IsReached here left = inl left
+    settling_left others (Err Broken) image IsReached here left = inl left
+
+    pub course_settle : Goes old new P
+    course_settle =
+        let ends = settling_ends old.session new.session answer ran.step in
+        record {
+          passes = λ rest disk sound.
+              passes_as (ran.any_moment rest).passes
+              (λ image left. settling_left (contents (files old.disk)) answer image (Reached old.session new.session P) (λ name. refl, self_between old.session new.session ends.0, self) left);
+          rest = λ sound rest. ran.rest (ends.1 sound).0 rest;
+          fit = ran.fit;
+          others = λ sound disk. ran.others (ends.1 sound).0;
+          onward = λ sound. (ends.1 sound).1;
+          stays = λ fell. ran.untouched (ends.2 fell);
+          rises = ends.0;
+        }
+
+  -- what is left of a run, with no word of how it is proved
+  pub course_leaves : (old new : Kept D) (P : Session → Type 0) → Goes old new P → IsAtRest (files old.disk) → IsOnDisk old.session (contents (files old.disk)) → old.session.broken ≡ false
+      → ((image : Image) → left_since old.disk (moment old.disk) image → AreImages (files old.disk) image)
+      → LeavesOnly (moment old.disk) (moment new.disk) (left_since old.disk) (left_since new.disk)
+      (IsLeftOf old.session (contents (files old.disk)) (λ mid. P mid × IsBetween old.session new.session mid))
+  course_leaves old new P course rest disk sound start =
+      leaves_only
+      (passes_as (course.passes rest disk sound) (λ image left. ⊎_elim (λ held. inl held) (λ reached. inr (reached.0, (reached.1.2, reached.1.1), reached.2)) left))
+      (λ image left. inl (stands_as (contents (files old.disk)) (with_texts old.session.names old.session.settled (contents (files old.disk))) image disk
+      (at_rest_stands (files old.disk) rest image (start image left))))
+
+  reaches_self : (s : Session) (commands : List Command) (answers : List (Result Reply RunFault)) → Reaches s commands answers s
+  reaches_self s [] answers = refl
+  reaches_self s (command ∷ commands) [] = refl
+  reaches_self s (command ∷ commands) (answer ∷ answers) = inl refl
+
+  pub course_all : (old new : Kept D) (commands : List Command) (answers : List (Result Reply RunFault)) → RunsAllOver files moment left_since old commands answers new
+      → Goes old new (Reaches old.session commands answers)
+  course_all old new [] [] run = subst (λ k. Goes old k (Reaches old.session [] [])) (sym run) (course_none old (Reaches old.session [] []) refl)
+  course_all old new [] (answer ∷ answers) run = absurd run
+  course_all old new (command ∷ commands) [] run = absurd run
+  course_all old new (command ∷ commands) (answer ∷ answers) run =
+      course_run old run.0 new command answer (Reaches old.session (command ∷ commands) (answer ∷ answers)) (Reaches run.0.session commands answers) run.1
+      (course_all run.0 new commands answers run.2) (inl refl)
+      (λ fine s later. inr (run.0.session, goes_on old.session run.0.session (outcome old.session command) answer fine run.1.step, later))
+      (reaches_self run.0.session commands answers)
+      (λ texts failed accepted full. inr (
+        done old.session texts,
+        subst (λ a. GoesOn old.session (outcome old.session command) a (done old.session texts)) (sym failed) (texts, accepted, full, refl),
+        reaches_self (done old.session texts) commands answers,
+      ))
