@@ -1,1 +1,2 @@
+pub mod Group
 pub mod Statuses

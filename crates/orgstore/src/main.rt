@@ -1,6 +1,9 @@
-//! `orgstore DIR [--new NAME]..`: runs the command lines of standard input over the Org files of a folder, and writes
-//! their replies to standard output. A fault is a line on standard error and the exit status.
+//! `orgstore DIR [--new NAME].. [--group K]`: runs the command lines of standard input over the Org files of a folder,
+//! and writes their replies to standard output. A fault is a line on standard error and the exit status.
 #![tactic(auto)]
+
+ghost use Rattle.std.specs.Prelude.{◌≡◌, IfOk};
+ghost use Rattle.orgstore.specs.Group.{IsGroup};
 
 mod arguments;
 mod fault;
@@ -43,12 +46,18 @@ fn run(rt: &HostRuntime) -> Result<(), Fault> {
     }
 }
 
-fn open(rt: &HostRuntime, arguments: &Arguments) -> Result<Store<FolderDisk<HostRuntime>>, Fault> {
+fn open(rt: &HostRuntime, arguments: &Arguments) -> Result<Store<FolderDisk<HostRuntime>>, Fault>
+    requires { IsGroup arguments.now.group }
+    ensures { IfOk result (λ store. store.session.group ≡ arguments.now.group) }
+{
     let names = names(rt, &arguments.folder, &arguments.new)?;
     let states = States::new(rt.alloc(), &["TODO"], &["DONE"])?;
     let disk = FolderDisk::new(rt.clone()?, rt.alloc(), &arguments.folder)?;
     match Store::open(rt.alloc(), disk, names, states) {
-        Ok(store) => Ok(store),
+        Ok(mut store) => {
+            store.set_group(arguments.group);
+            Ok(store)
+        }
         Err(refused) => Err(Fault::Open(refused.fault)),
     }
 }

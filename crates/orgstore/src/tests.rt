@@ -1,4 +1,6 @@
 // What the program says and answers for each fault, and how its words are read.
+mod folder;
+
 use crate::arguments::read_words;
 use crate::fault::Fault;
 use org_disk::FileName;
@@ -82,6 +84,22 @@ fn folder_and_new_files(rt: HostRuntime) -> Result<(), Fail> {
     Ok(())
 }
 
+// The group that these words ask for.
+fn group(alloc: Global, line: &str) -> Result<u32, Fail> {
+    let words = words(alloc, line)?;
+    Ok(read_words(alloc, words.as_slice())?.group)
+}
+
+#[test]
+fn groups(rt: HostRuntime) -> Result<(), Fail> {
+    assert_eq!(rt; group(rt.alloc(), "orgstore notes")?, 1);
+    assert_eq!(rt; group(rt.alloc(), "orgstore notes --group 1")?, 1);
+    assert_eq!(rt; group(rt.alloc(), "orgstore --group 2 notes")?, 2);
+    assert_eq!(rt; group(rt.alloc(), "orgstore notes --group=1000")?, 1000);
+    assert_eq!(rt; group(rt.alloc(), "orgstore notes --group 010")?, 10);
+    Ok(())
+}
+
 // These words are a fault with status 2.
 fn is_usage(rt: &(impl Abort + AllocGlobal), line: &str) -> Result<(), Fail> {
     let words = words(rt.alloc(), line)?;
@@ -98,5 +116,31 @@ fn usages(rt: HostRuntime) -> Result<(), Fail> {
     is_usage(&rt, "orgstore --help")?;
     is_usage(&rt, "orgstore notes more")?;
     is_usage(&rt, "orgstore notes --new")?;
-    is_usage(&rt, "orgstore notes --old a.org")
+    is_usage(&rt, "orgstore notes --old a.org")?;
+    is_usage(&rt, "orgstore notes --group")?;
+    is_usage(&rt, "orgstore notes --group 0")?;
+    is_usage(&rt, "orgstore notes --group 1001")?;
+    is_usage(&rt, "orgstore notes --group +10")?;
+    is_usage(&rt, "orgstore notes --group= ")?;
+    is_usage(&rt, "orgstore notes --group 1 --group 1")?;
+    is_usage(&rt, "orgstore notes --group 4294967296")?;
+    is_usage(&rt, "orgstore notes --group -1")?;
+    is_usage(&rt, "orgstore notes --group x")
+}
+
+// A group that can't be taken is told with the words of the command line.
+#[test]
+fn a_group_that_is_none(rt: HostRuntime) -> Result<(), Fail> {
+    let words = words(rt.alloc(), "orgstore notes --group 1001")?;
+    match read_words(rt.alloc(), words.as_slice()) {
+        Ok(_) => Err("no fault")?,
+        Err(fault) => {
+            let told = format!(in rt.alloc(); "{fault}")?;
+            assert!(rt;
+                told.as_str()
+                    .contains("'--group <K>' is a number from 1 to 1000")
+            );
+        }
+    }
+    Ok(())
 }
