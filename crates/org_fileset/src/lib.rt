@@ -15,4 +15,4 @@ mod tests;
 
 pub use fault::SetFault;
 pub use open::{OpenFault, OpenRefused};
-pub use set::FileSet;
+pub use set::{FileSet, LIMIT};

@@ -89,11 +89,6 @@ impl<D: Disk> HeldSet<D> {
         }
     }
 
-    /// Where the texts are kept.
-    pub fn allocator(&self) -> Global {
-        *self.kept.allocator()
-    }
-
     /// Whether it is the name of one of the files: of those that were given, or of their archive files.
     pub fn has(&self, name: &FileName) -> bool
         ensures name { result ≡ is_name self.now.names name.now }

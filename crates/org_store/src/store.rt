@@ -23,15 +23,12 @@ ghost use Rattle.org_store.specs.Keeping.{Plans, Keeps, KeepsCounts, IsLeftKeepi
 use crate::capture::{entry_of, put_entry};
 use crate::{Command, Refusal, Reply, RunFault, Target};
 use org_disk::{Disk, FileName};
-use org_fileset::{OpenRefused, SetFault};
+use org_fileset::{LIMIT, OpenRefused, SetFault};
 use org_held::{Draft, Drafts, HeldSet};
 use org_outline::{Place, States};
 use org_splice::Bytes;
 use std::alloc::Global;
 use std::marker::Model;
-
-/// How many bytes a file may have.
-const LIMIT: usize = 67_108_864;
 
 /// Org files on a disk, and what was done to them since the store was opened.
 ///
@@ -39,6 +36,7 @@ const LIMIT: usize = 67_108_864;
 /// files anew.
 #[derive(Drop)]
 pub struct Store<D: Disk> {
+    alloc: Global,
     files: HeldSet<D>,
     states: States,
     accepted: u64,
@@ -105,6 +103,7 @@ impl<D: Disk> Store<D> {
     {
         match HeldSet::open(alloc, disk, names) {
             Ok(files) => Ok(Store {
+                alloc,
                 files,
                 states,
                 accepted: 0,
@@ -299,7 +298,7 @@ impl<D: Disk> Store<D> {
         ensures failures { D.failures self.old.disk ≤ D.failures self.new.disk }
         ensures honest { D.honest self.new.disk ↔ D.honest self.old.disk }
     {
-        let alloc = self.files.allocator();
+        let alloc = self.alloc;
         let entry = entry_of(alloc, template, &self.states)?;
         let held = self.files.read(file)?;
         let mut draft = Draft::new(alloc, held)?;
