@@ -8,3 +8,4 @@ pub mod Utf8
 pub mod Counting
 pub mod Escapes
 pub mod Stops
+mod Opened

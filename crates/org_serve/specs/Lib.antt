@@ -2,6 +2,7 @@ pub mod Counts
 pub mod Faults
 pub mod Gives
 pub mod Grammar
+pub mod Group
 pub mod Lines
 pub mod Pending
 pub mod Transcript
@@ -9,3 +10,4 @@ pub mod Feeding
 pub mod Replies
 pub mod Serving
 pub mod Stops
+pub mod Whole

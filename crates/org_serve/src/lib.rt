@@ -14,6 +14,7 @@ mod pipes;
 mod reading;
 mod replies;
 mod serving;
+mod whole;
 
 pub use counted::Counted;
 pub use end::ServeEnd;
@@ -21,6 +22,7 @@ pub use fault::LineFault;
 pub use pipes::{PipeFault, Sink, Source};
 pub use reading::read_command;
 pub use serving::serve;
+pub use whole::{Served, Setup, serve_disk};
 
 #[cfg(test)]
 mod tests;

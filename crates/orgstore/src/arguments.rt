@@ -1,6 +1,6 @@
 // The command line. Nothing else of the program knows how its words are read.
 ghost use Rattle.std.specs.Prelude.{IfOk, IfSome};
-ghost use Rattle.orgstore.specs.Group.{IsGroup};
+ghost use Rattle.org_serve.specs.Group.{IsGroup};
 
 use crate::fault::Fault;
 use clap::error::ErrorKind;

@@ -2,27 +2,27 @@
 //! and writes their replies to standard output. A fault is a line on standard error and the exit status.
 #![tactic(auto)]
 
-ghost use Rattle.std.specs.Prelude.{◌≡◌, IfOk};
-ghost use Rattle.orgstore.specs.Group.{IsGroup};
+ghost use Rattle.std.specs.Prelude.{◌≡◌, IfOk, All};
+ghost use Rattle.org_fileset.specs.Names.{IsGiven};
+ghost use Rattle.org_serve.specs.Group.{IsGroup};
 
 mod arguments;
 mod fault;
+mod folder;
 mod names;
 #[cfg(test)]
 mod tests;
 
 use arguments::Arguments;
 use fault::Fault;
+use folder::serve_folder;
 use names::names;
 use org_folder::FolderDisk;
 use org_outline::States;
-use org_serve::{Counted, ServeEnd, serve};
-use org_store::{OpenFault, Store};
+use org_serve::{Counted, ServeEnd, Served, Setup};
+use org_store::OpenFault;
 use std::io::{BufWriter, Stdout};
 use std::process::ExitCode;
-
-/// More reads than an input has.
-const TURNS: u64 = 4_294_967_295;
 
 fn main(rt: HostRuntime) -> ExitCode {
     match run(&rt) {
@@ -37,29 +37,29 @@ fn main(rt: HostRuntime) -> ExitCode {
 
 fn run(rt: &HostRuntime) -> Result<(), Fault> {
     let arguments = arguments::read(rt)?;
-    let mut store = open(rt, &arguments)?;
+    let setup = setup(rt, &arguments)?;
+    let disk = FolderDisk::new(rt.clone()?, rt.alloc(), &arguments.folder)?;
     let mut reader = Counted::new(rt.stdin());
     let mut writer = Counted::new(stdout(rt)?);
-    match serve(rt.alloc(), &mut store, &mut reader, &mut writer, TURNS) {
-        ServeEnd::End => Ok(()),
-        end => Err(Fault::Ended(end)),
+    let served = serve_folder(rt.alloc(), disk, setup, &mut reader, &mut writer);
+    let Served { disk: _, end } = served;
+    match end {
+        Ok(ServeEnd::End) => Ok(()),
+        Ok(end) => Err(Fault::Ended(end)),
+        Err(fault) => Err(Fault::Open(fault)),
     }
 }
 
-fn open(rt: &HostRuntime, arguments: &Arguments) -> Result<Store<FolderDisk<HostRuntime>>, Fault>
+fn setup(rt: &HostRuntime, arguments: &Arguments) -> Result<Setup, Fault>
     requires { IsGroup arguments.now.group }
-    ensures { IfOk result (λ store. store.session.group ≡ arguments.now.group) }
+    ensures names { IfOk result (λ setup. All IsGiven setup.names.items) }
+    ensures group { IfOk result (λ setup. setup.group ≡ arguments.now.group) }
 {
-    let names = names(rt, &arguments.folder, &arguments.new)?;
-    let states = States::new(rt.alloc(), &["TODO"], &["DONE"])?;
-    let disk = FolderDisk::new(rt.clone()?, rt.alloc(), &arguments.folder)?;
-    match Store::open(rt.alloc(), disk, names, states) {
-        Ok(mut store) => {
-            store.set_group(arguments.group);
-            Ok(store)
-        }
-        Err(refused) => Err(Fault::Open(refused.fault)),
-    }
+    Ok(Setup {
+        names: names(rt, &arguments.folder, &arguments.new)?,
+        states: States::new(rt.alloc(), &["TODO"], &["DONE"])?,
+        group: arguments.group,
+    })
 }
 
 fn stdout(rt: &HostRuntime) -> Result<BufWriter<Stdout>, Fault> {

@@ -1,0 +1,45 @@
+use Rattle.std.proofs.Common.{◌≡◌}
+use Rattle.org_fileset.specs.Replay.{IsAtRest}
+use Rattle.org_journal.specs.Standing.{IsFit}
+use Rattle.org_serve.proofs.Stops.{session_of_runs}
+use Rattle.org_serve.proofs.Opened.{of_disk, is_sound, serves, leaves}
+use Rattle.org_serve.proofs.whole.serve_disk.Goals as goal
+
+pub returns-in-Ok-clause-served : goal.returns-in-Ok-clause-served
+returns-in-Ok-clause-served g c = λ honest.
+    let d = g.D.Disk in
+    let store = c.in-Ok.store in
+    let begun = c.set_group.new.self in
+    let setup = c.args.setup in
+    let opens = c.in-Ok.ensures.session in
+    let now = of_disk d.files setup.states setup.group setup.names.items c.args.disk store begun c.set_group.ensures opens d.honest (c.in-Ok.ensures.honest.1 honest) in
+    serves d.files setup.states setup.group setup.names.items c.args.disk store begun c.set_group.ensures opens c.in-Ok.ensures.names.1 (c.in-Ok.ensures.contents honest)
+    c.serve-end.new.store.session (session_of_runs d.files d.moment d.left_since (c.serve-end.ensures.calls now)) (c.serve-end.ensures.end now)
+
+pub returns-in-Ok-clause-any_moment : goal.returns-in-Ok-clause-any_moment
+returns-in-Ok-clause-any_moment g c = λ honest fit each.
+    let d = g.D.Disk in
+    let store = c.in-Ok.store in
+    let begun = c.set_group.new.self in
+    let setup = c.args.setup in
+    let opens = c.in-Ok.ensures.session in
+    let here = of_disk d.files setup.states setup.group setup.names.items c.args.disk store begun c.set_group.ensures opens in
+    let now = here d.honest (c.in-Ok.ensures.honest.1 honest) in
+    let rest = here (λ k. IsAtRest (d.files k)) (c.in-Ok.ensures.rest honest fit each) in
+    let sound = is_sound d.files setup.states setup.group setup.names.items c.args.disk store begun c.set_group.ensures opens in
+    let run = c.serve-end.ensures.any_moment now rest sound in
+    leaves d.files setup.states setup.group setup.names.items c.args.disk store begun c.set_group.ensures opens d.moment d.left_since c.in-Ok.ensures.names.1
+    (c.in-Ok.ensures.contents honest) (c.in-Ok.ensures.any_moment honest fit each) c.serve-end.new.store.session c.close.result c.serve-end.new.store.disk c.close.ensures
+    (c.serve-end.ensures.end now) run.0 run.1
+
+pub returns-in-Ok-clause-fit : goal.returns-in-Ok-clause-fit
+returns-in-Ok-clause-fit g c = λ honest fit each.
+    let d = g.D.Disk in
+    let store = c.in-Ok.store in
+    let begun = c.set_group.new.self in
+    let setup = c.args.setup in
+    let opens = c.in-Ok.ensures.session in
+    let here = of_disk d.files setup.states setup.group setup.names.items c.args.disk store begun c.set_group.ensures opens in
+    let now = here d.honest (c.in-Ok.ensures.honest.1 honest) in
+    let rest = here (λ k. IsAtRest (d.files k)) (c.in-Ok.ensures.rest honest fit each) in
+    rw c.close.ensures ((c.serve-end.ensures.disk now).fit rest)

@@ -1,0 +1,93 @@
+// A whole run over a disk, from the opening to the end of the input.
+ghost use Rattle.std.specs.Prelude.{◌≡◌, ◌⊎◌, ◌≤◌, ◌↔◌, Ok, All, IfOk, IfErr, MatchResult};
+ghost use Rattle.org_disk.specs.Disk.{HasRisen, LeavesOnly};
+ghost use Rattle.org_journal.specs.Standing.{IsFit, contents};
+ghost use Rattle.org_fileset.specs.Names.{IsGiven};
+ghost use Rattle.org_fileset.specs.Opening.{IsReason};
+ghost use Rattle.org_fileset.specs.Recovery.{EachStands, StandsAsBefore};
+ghost use Rattle.org_fileset.specs.declared.open.OpenFault.{OpenFault};
+ghost use Rattle.org_serve.specs.Counts.{HasRisenBy};
+ghost use Rattle.org_serve.specs.Group.{IsGroup};
+ghost use Rattle.org_serve.specs.Whole.{ServesOver, IsLeftServing};
+
+use crate::end::ServeEnd;
+use crate::pipes::{Sink, Source};
+use crate::serving::serve;
+use org_disk::{Disk, FileName};
+use org_outline::States;
+use org_store::{OpenFault, OpenRefused, Store};
+use std::alloc::Global;
+
+/// What a store is opened with.
+#[derive(Drop)]
+pub struct Setup {
+    /// The names of its files. No name is an archive file's or the journal's; a repeated one counts once.
+    pub names: Vec<FileName>,
+    /// The words that are TODO keywords.
+    pub states: States,
+    /// How many commands are accepted before they are settled, from 1 to 1,000.
+    pub group: u32,
+}
+
+/// How a run over a disk ended.
+#[derive(Drop)]
+pub struct Served<D> {
+    /// The disk as the run left it.
+    pub disk: D,
+    /// How serving ended, or why the store wasn't opened.
+    pub end: Result<ServeEnd, OpenFault>,
+}
+
+/// Opens a store over the files of a disk, answers the lines of a reader by it as `serve` does, and gives the disk back.
+///
+/// On a disk that is fit, of which each image stands for files, every image at every moment since the call began stands
+/// for what an image at the start stood for, or for the files as the store was opened over them, or for those after some
+/// of the lines that are run, from the first on. The disk is as fit at the end, so that all this may be done again.
+///
+/// The faults are those of `Store::open`; the ends, and when each comes, those of `serve`.
+pub fn serve_disk<D: Disk, R: Source, W: Sink>(
+    alloc: Global,
+    disk: D,
+    setup: Setup,
+    reader: &mut R,
+    writer: &mut W,
+    turns: u64,
+) -> Served<D>
+    requires names { All IsGiven setup.names.items }
+    requires group { IsGroup setup.group }
+    ensures served { D.honest disk → IfOk result.end (λ end.
+        ServesOver setup.states setup.group setup.names.items (contents (D.files disk)) end
+        (R.left reader.old) (R.left reader.new) (W.written writer.old) (W.written writer.new)) }
+    ensures any_moment { D.honest disk → IsFit (D.files disk) → EachStands (D.files disk) → MatchResult result.end
+        (λ end. (served : ServesOver setup.states setup.group setup.names.items (contents (D.files disk)) end
+        (R.left reader.old) (R.left reader.new) (W.written writer.old) (W.written writer.new))
+        × LeavesOnly (D.moment disk) (D.moment result.disk) (D.left_since disk) (D.left_since result.disk) (IsLeftServing (D.files disk) served))
+        (λ fault. LeavesOnly (D.moment disk) (D.moment result.disk) (D.left_since disk) (D.left_since result.disk) (StandsAsBefore (D.files disk))) }
+    ensures fit { D.honest disk → IsFit (D.files disk) → EachStands (D.files disk) → IsFit (D.files result.disk) }
+    ensures read_cause { result.end ≡ Ok ServeEnd.Read → HasRisen (R.failures reader.old) (R.failures reader.new)
+        ⊎ HasRisenBy turns (R.reads reader.old) (R.reads reader.new) }
+    ensures write_cause { result.end ≡ Ok ServeEnd.Write → HasRisen (W.failures writer.old) (W.failures writer.new) }
+    ensures refused { IfErr result.end (IsReason setup.names.items (D.honest disk) (contents (D.files disk)) (contents (D.files result.disk))) }
+    ensures failed { IfErr result.end (λ fault. fault ≡ OpenFault.Device → HasRisen (D.failures disk) (D.failures result.disk)) }
+    ensures honest { D.honest result.disk ↔ D.honest disk }
+{
+    let Setup {
+        names,
+        states,
+        group,
+    } = setup;
+    match Store::open(alloc, disk, names, states) {
+        Ok(mut store) => {
+            store.set_group(group);
+            let end = serve(alloc, &mut store, reader, writer, turns);
+            Served {
+                disk: store.close(),
+                end: Ok(end),
+            }
+        }
+        Err(OpenRefused { disk, fault }) => Served {
+            disk,
+            end: Err(fault),
+        },
+    }
+}
