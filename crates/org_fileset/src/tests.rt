@@ -119,12 +119,32 @@ fn open(alloc: Global, disk: MemoryDisk) -> Result<FileSet<MemoryDisk>, Fail> {
     }
 }
 
-fn text_of(alloc: Global, set: &mut FileSet<MemoryDisk>, name: &str) -> Result<Vec<u8>, Fail> {
-    Ok(set.read(&FileName::new(alloc, name)?)?)
+// What the journal and the two files hold.
+#[derive(Drop)]
+struct Held {
+    journal: Vec<u8>,
+    a: Vec<u8>,
+    inbox: Vec<u8>,
 }
 
-fn journal_of(alloc: Global, set: &mut FileSet<MemoryDisk>) -> Result<Vec<u8>, Fail> {
-    Ok(set.read(&FileName::journal_name(alloc)?)?)
+fn read_all(alloc: Global, set: &mut FileSet<MemoryDisk>) -> Result<Held, Fail> {
+    Ok(Held {
+        journal: set.read(&FileName::journal_name(alloc)?)?,
+        a: set.read(&FileName::new(alloc, "a.org")?)?,
+        inbox: set.read(&FileName::new(alloc, "inbox.org")?)?,
+    })
+}
+
+// What is read once a set was opened, and the disk then.
+fn read_opened(alloc: Global, disk: MemoryDisk) -> Result<(Held, MemoryDisk), Fail> {
+    let mut set = open(alloc, disk)?;
+    let held = read_all(alloc, &mut set)?;
+    Ok((held, set.close()))
+}
+
+fn held_in(alloc: Global, disk: MemoryDisk) -> Result<Held, Fail> {
+    let (held, _) = read_opened(alloc, disk)?;
+    Ok(held)
 }
 
 // Adds an edit of what a file holds to the changes.
@@ -171,31 +191,35 @@ fn commit(
     Ok(set.commit(&changes))
 }
 
-// Opens a set and commits the two edits; the disk, and whether all of it was done.
-fn change_both(alloc: Global, disk: MemoryDisk) -> Result<(MemoryDisk, bool), Fail> {
+// Opens a set and commits these edits: what that answers, and the disk then.
+fn change(
+    alloc: Global,
+    disk: MemoryDisk,
+    edits: &[Edit],
+) -> Result<(MemoryDisk, Result<(), SetFault>), Fail> {
     match opened(alloc, disk)? {
         Ok(set) => {
             let mut set = set;
-            let done = commit(alloc, &mut set, &[RENAME, CAPTURE])?.is_ok();
-            Ok((set.close(), done))
+            let answer = commit(alloc, &mut set, edits)?;
+            Ok((set.close(), answer))
         }
-        Err(refused) => Ok((refused.disk, false)),
+        Err(refused) => Ok((refused.disk, Err(SetFault::Device))),
     }
 }
 
+const BOTH: [Edit; 2] = [RENAME, CAPTURE];
+
 // How many calls an opening and the reading of the two files make.
 fn calls_before_commit(alloc: Global, disk: MemoryDisk) -> Result<u64, Fail> {
-    let mut set = open(alloc, disk)?;
-    let _ = text_of(alloc, &mut set, "a.org")?;
-    let _ = text_of(alloc, &mut set, "inbox.org")?;
-    Ok(set.close().calls())
+    let (_, disk) = read_opened(alloc, disk)?;
+    // the journal was read too
+    Ok(disk.calls().saturating_sub(2))
 }
 
-// Whether the set has both of the new texts; that it has one of them is a failure.
-fn are_changed(alloc: Global, set: &mut FileSet<MemoryDisk>) -> Result<bool, Fail> {
-    let a = text_of(alloc, set, "a.org")?;
-    let inbox = text_of(alloc, set, "inbox.org")?;
-    let texts = (a.as_slice(), inbox.as_slice());
+// Whether both files have their new texts; that one of them has it is a failure.
+fn are_changed(alloc: Global, disk: MemoryDisk) -> Result<bool, Fail> {
+    let held = held_in(alloc, disk)?;
+    let texts = (held.a.as_slice(), held.inbox.as_slice());
     if texts == (b"* Better\n".as_slice(), TEXT.as_slice()) {
         Ok(true)
     } else if texts == (b"* A\n".as_slice(), b"".as_slice()) {
@@ -208,82 +232,90 @@ fn are_changed(alloc: Global, set: &mut FileSet<MemoryDisk>) -> Result<bool, Fai
 #[test]
 fn opening_ends_a_record(rt: HostRuntime) -> Result<(), Fail> {
     let alloc = rt.alloc();
-    let mut set = open(alloc, stopped(alloc, 1)?)?;
-    assert_eq!(rt;
-        text_of(alloc, &mut set, "inbox.org")?.as_slice(),
-        TEXT.as_slice()
-    );
-    assert_eq!(rt;
-        text_of(alloc, &mut set, "a.org")?.as_slice(),
-        b"* A\n".as_slice()
-    );
-    let mut names = Vec::new(alloc);
-    for name in set.names() {
-        names.push(name.as_str())?;
-    }
-    assert_eq!(rt;
-        names.as_slice(),
-        ["a.org", "a.org_archive", "inbox.org", "inbox.org_archive"].as_slice()
-    );
+    let held = held_in(alloc, stopped(alloc, 1)?)?;
+    assert_eq!(rt; held.inbox.as_slice(), TEXT.as_slice());
+    assert_eq!(rt; held.a.as_slice(), b"* A\n".as_slice());
     Ok(())
 }
 
 #[test]
-fn a_record_counts_for_other_files_too(rt: HostRuntime) -> Result<(), Fail> {
+fn names_are_in_byte_order(rt: HostRuntime) -> Result<(), Fail> {
     let alloc = rt.alloc();
+    let set = open(alloc, MemoryDisk::new(alloc))?;
+    let texts = match set.names() {
+        [a, b, c, d] => [a.as_str(), b.as_str(), c.as_str(), d.as_str()],
+        _ => [""; 4],
+    };
+    assert_eq!(rt;
+        texts,
+        ["a.org", "a.org_archive", "inbox.org", "inbox.org_archive"]
+    );
+    Ok(())
+}
+
+// The length of inbox.org once a set over a.org alone was opened.
+fn inbox_beside(alloc: Global, disk: MemoryDisk) -> Result<u64, Fail> {
     let names = vec![in alloc; org_name(alloc, "a.org")?]?;
-    match FileSet::open(alloc, stopped(alloc, 1)?, names) {
+    match FileSet::open(alloc, disk, names) {
         Ok(set) => {
-            let mut set = set;
-            assert_eq!(rt;
-                text_of(alloc, &mut set, "inbox.org")?.as_slice(),
-                TEXT.as_slice()
-            );
-            Ok(())
+            let mut disk = set.close();
+            Ok(disk.length(&FileName::new(alloc, "inbox.org")?)?)
         }
         Err(_) => Err(Fail::from("not opened")),
     }
 }
 
 #[test]
+fn a_record_counts_for_other_files_too(rt: HostRuntime) -> Result<(), Fail> {
+    let alloc = rt.alloc();
+    assert_eq!(rt; inbox_beside(alloc, stopped(alloc, 1)?)?, 16);
+    assert_eq!(rt; inbox_beside(alloc, stopped(alloc, 0)?)?, 4);
+    Ok(())
+}
+
+#[test]
 fn a_closed_record_is_left(rt: HostRuntime) -> Result<(), Fail> {
     let alloc = rt.alloc();
     for gate in [0, 2, 0x55, 0xff] {
-        let mut set = open(alloc, stopped(alloc, gate)?)?;
-        assert_eq!(rt;
-            text_of(alloc, &mut set, "inbox.org")?.as_slice(),
-            b"* TO".as_slice()
-        );
+        let held = held_in(alloc, stopped(alloc, gate)?)?;
+        assert_eq!(rt; held.inbox.as_slice(), b"* TO".as_slice());
         let journal = with_byte(alloc, &ARMED, 0, gate)?;
-        assert_eq!(rt; journal_of(alloc, &mut set)?, journal);
+        assert_eq!(rt; held.journal, journal);
     }
     Ok(())
+}
+
+// The disk that an opening leaves, whatever it answers.
+fn opened_disk(alloc: Global, disk: MemoryDisk) -> Result<MemoryDisk, Fail> {
+    match opened(alloc, disk)? {
+        Ok(set) => Ok(set.close()),
+        Err(refused) => Ok(refused.disk),
+    }
 }
 
 // Opens with a stop at the k-th call, and opens what is left.
 fn opened_twice(alloc: Global, gate: u8, k: u64, outcome: Outcome) -> Result<Vec<u8>, Fail> {
     let mut disk = stopped(alloc, gate)?;
     disk.stop_at(k, outcome);
-    let disk = match opened(alloc, disk)? {
-        Ok(set) => set.close(),
-        Err(refused) => refused.disk,
-    };
-    let mut set = open(alloc, disk.image(alloc)?)?;
-    text_of(alloc, &mut set, "inbox.org")
+    let disk = opened_disk(alloc, disk)?;
+    let held = held_in(alloc, disk.image(alloc)?)?;
+    Ok(held.inbox)
+}
+
+fn stop_opening(rt: &impl Abort, alloc: Global, gate: u8, text: &[u8]) -> Result<(), Fail> {
+    for k in 1..24u64 {
+        for outcome in OUTCOMES {
+            let left = opened_twice(alloc, gate, k, outcome)?;
+            assert_eq!(rt; left.as_slice(), text, "stopped at call {k}");
+        }
+    }
+    Ok(())
 }
 
 #[test]
 fn a_stopped_opening_goes_on(rt: HostRuntime) -> Result<(), Fail> {
-    let alloc = rt.alloc();
-    for (gate, text) in [(1, TEXT.as_slice()), (0x55, b"* TO".as_slice())] {
-        for k in 1..24u64 {
-            for outcome in OUTCOMES {
-                let left = opened_twice(alloc, gate, k, outcome)?;
-                assert_eq!(rt; left.as_slice(), text, "stopped at call {k}");
-            }
-        }
-    }
-    Ok(())
+    stop_opening(&rt, rt.alloc(), 1, &TEXT)?;
+    stop_opening(&rt, rt.alloc(), 0x55, b"* TO")
 }
 
 // A journal of these bytes over a.org and an absent inbox.org is bad, and the disk is handed back as it was.
@@ -343,44 +375,32 @@ fn too_many_names_are_refused(rt: HostRuntime) -> Result<(), Fail> {
     Ok(())
 }
 
-// Opens over an a.org of this length and what a stop left; whether a.org was too large.
-fn is_too_large(alloc: Global, length: usize) -> Result<bool, Fail> {
+// What opening answers over an a.org of this length and what a stop left, and how long inbox.org is then.
+fn open_large(alloc: Global, length: usize) -> Result<(Option<OpenFault>, u64), Fail> {
     let mut disk = stopped(alloc, 1)?;
     let text = vec![in alloc; b'*'; length]?;
     disk.set(&FileName::new(alloc, "a.org")?, &text)?;
-    let (disk, is_large) = match opened(alloc, disk)? {
-        Ok(set) => (set.close(), false),
-        Err(refused) => {
-            let OpenRefused { disk, fault } = refused;
-            match fault {
-                OpenFault::TooLarge(name) => (disk, name.as_str() == "a.org"),
-                _ => return Err(Fail::from("another fault")),
-            }
-        }
-    };
-    // what the stop had cut short was brought to an end
-    let mut disk = disk;
-    if disk.length(&FileName::new(alloc, "inbox.org")?)? == 16 {
-        Ok(is_large)
-    } else {
-        Err(Fail::from("the record wasn't laid"))
+    let inbox = FileName::new(alloc, "inbox.org")?;
+    match opened(alloc, disk)? {
+        Ok(set) => Ok((None, set.close().length(&inbox)?)),
+        Err(OpenRefused { mut disk, fault }) => Ok((Some(fault), disk.length(&inbox)?)),
     }
 }
 
+// What the stop had cut short is brought to an end, also where the opening is refused.
 #[test]
 fn files_up_to_the_limit_are_taken(rt: HostRuntime) -> Result<(), Fail> {
     let alloc = rt.alloc();
-    assert!(rt; !is_too_large(alloc, LIMIT)?);
-    assert!(rt; is_too_large(alloc, LIMIT + 1)?);
+    assert!(rt; matches!(open_large(alloc, LIMIT)?, (None, 16)));
+    let (fault, inbox) = open_large(alloc, LIMIT + 1)?;
+    match fault {
+        Some(OpenFault::TooLarge(name)) => assert_eq!(rt; (name.as_str(), inbox), ("a.org", 16)),
+        _ => return Err(Fail::from("another fault")),
+    }
     Ok(())
 }
 
-#[test]
-fn a_failed_read_breaks_the_set(rt: HostRuntime) -> Result<(), Fail> {
-    let alloc = rt.alloc();
-    let mut disk = open(alloc, stopped(alloc, 1)?)?.close();
-    disk.fail_at(12);
-    let mut set = open(alloc, disk)?;
+fn read_failing(rt: &impl Abort, alloc: Global, set: &mut FileSet<MemoryDisk>) -> Result<(), Fail> {
     let name = FileName::new(alloc, "a.org")?;
     let mut failed = false;
     for _ in 0..8 {
@@ -395,45 +415,50 @@ fn a_failed_read_breaks_the_set(rt: HostRuntime) -> Result<(), Fail> {
 }
 
 #[test]
+fn a_failed_read_breaks_the_set(rt: HostRuntime) -> Result<(), Fail> {
+    let alloc = rt.alloc();
+    let mut disk = opened_disk(alloc, stopped(alloc, 1)?)?;
+    disk.fail_at(12);
+    let mut set = open(alloc, disk)?;
+    read_failing(&rt, alloc, &mut set)
+}
+
+#[test]
 fn a_commit_leaves_its_record(rt: HostRuntime) -> Result<(), Fail> {
     let alloc = rt.alloc();
-    let mut set = open(alloc, with_journal(alloc, b"")?)?;
-    assert_eq!(rt; commit(alloc, &mut set, &[CAPTURE])?, Ok(()));
-    assert_eq!(rt;
-        text_of(alloc, &mut set, "inbox.org")?.as_slice(),
-        TEXT.as_slice()
-    );
+    let (disk, answer) = change(alloc, with_journal(alloc, b"")?, &[CAPTURE])?;
+    assert_eq!(rt; answer, Ok(()));
+    let held = held_in(alloc, disk)?;
+    assert_eq!(rt; held.inbox.as_slice(), TEXT.as_slice());
     let journal = with_byte(alloc, &ARMED, 0, 0)?;
-    assert_eq!(rt; journal_of(alloc, &mut set)?, journal);
-    // with no changed file no call is made
-    let calls = set.close().calls();
-    let mut set = open(alloc, with_journal(alloc, b"")?)?;
-    assert_eq!(rt; commit(alloc, &mut set, &[CAPTURE])?, Ok(()));
-    assert_eq!(rt; commit(alloc, &mut set, &[])?, Ok(()));
-    // the journal and inbox.org were read before
-    assert_eq!(rt; set.close().calls() + 4, calls);
+    assert_eq!(rt; held.journal, journal);
+    Ok(())
+}
+
+#[test]
+fn a_commit_of_nothing_makes_no_call(rt: HostRuntime) -> Result<(), Fail> {
+    let alloc = rt.alloc();
+    let opened = opened_disk(alloc, with_journal(alloc, b"")?)?;
+    let (disk, answer) = change(alloc, with_journal(alloc, b"")?, &[])?;
+    assert_eq!(rt; answer, Ok(()));
+    assert_eq!(rt; disk.calls(), opened.calls());
     Ok(())
 }
 
 #[test]
 fn an_old_record_is_ended_and_a_new_one_follows(rt: HostRuntime) -> Result<(), Fail> {
     let alloc = rt.alloc();
-    let mut set = open(alloc, with_journal(alloc, &OLD)?)?;
-    assert_eq!(rt;
-        text_of(alloc, &mut set, "inbox.org")?.as_slice(),
-        TEXT.as_slice()
-    );
     let closed = with_byte(alloc, &OLD, 0, 0)?;
-    assert_eq!(rt; journal_of(alloc, &mut set)?, closed);
+    let (held, disk) = read_opened(alloc, with_journal(alloc, &OLD)?)?;
+    assert_eq!(rt; held.inbox.as_slice(), TEXT.as_slice());
+    assert_eq!(rt; held.journal.as_slice(), closed.as_slice());
     // opened once more, no file changes
-    let mut set = open(alloc, set.close())?;
-    assert_eq!(rt; journal_of(alloc, &mut set)?, closed);
-    assert_eq!(rt;
-        text_of(alloc, &mut set, "inbox.org")?.as_slice(),
-        TEXT.as_slice()
-    );
-    assert_eq!(rt; commit(alloc, &mut set, &[RENAME])?, Ok(()));
-    let journal = journal_of(alloc, &mut set)?;
+    let (held, disk) = read_opened(alloc, disk)?;
+    assert_eq!(rt; held.inbox.as_slice(), TEXT.as_slice());
+    assert_eq!(rt; held.journal.as_slice(), closed.as_slice());
+    let (disk, answer) = change(alloc, disk, &[RENAME])?;
+    assert_eq!(rt; answer, Ok(()));
+    let journal = held_in(alloc, disk)?.journal;
     assert_eq!(rt; (journal.get(0), journal.get(5)), (Some(&0), Some(&2)));
     Ok(())
 }
@@ -447,31 +472,39 @@ fn is_gate_open(is_write: bool, outcome: Outcome) -> bool {
     }
 }
 
+// Whether both files are changed after a stop at this call of a commit of both.
+fn stop_commit(alloc: Global, k: u64, outcome: Outcome, journal: &[u8]) -> Result<bool, Fail> {
+    let mut disk = with_journal(alloc, journal)?;
+    disk.stop_at(k, outcome);
+    let (disk, answer) = change(alloc, disk, &BOTH)?;
+    if answer.is_ok() {
+        return Err(Fail::from("it isn't stopped"));
+    }
+    are_changed(alloc, disk.image(alloc)?)
+}
+
+// Whether both files are changed after a stop at this call, the first of the commit being 1.
+fn is_done(call: u64, outcome: Outcome) -> bool {
+    // the body is written and synced, and then the gate
+    match call {
+        0..=2 => false,
+        3 => is_gate_open(true, outcome),
+        4 => is_gate_open(false, outcome),
+        _ => true,
+    }
+}
+
 #[test]
 fn a_stopped_commit_changes_both_files_or_none(rt: HostRuntime) -> Result<(), Fail> {
     let alloc = rt.alloc();
     let before = calls_before_commit(alloc, with_journal(alloc, b"")?)?;
-    let (disk, done) = change_both(alloc, with_journal(alloc, b"")?)?;
-    assert!(rt; done);
+    let (disk, answer) = change(alloc, with_journal(alloc, b"")?, &BOTH)?;
+    assert_eq!(rt; answer, Ok(()));
     for k in 1..=disk.calls() {
         for outcome in OUTCOMES {
-            let mut disk = with_journal(alloc, b"")?;
-            disk.stop_at(k, outcome);
-            let (disk, done) = change_both(alloc, disk)?;
-            assert!(rt; !done);
-            let mut set = open(alloc, disk.image(alloc)?)?;
-            // the body is written and synced, and then the gate
-            let expected = match k.saturating_sub(before) {
-                0..=2 => false,
-                3 => is_gate_open(true, outcome),
-                4 => is_gate_open(false, outcome),
-                _ => true,
-            };
-            assert_eq!(rt;
-                are_changed(alloc, &mut set)?,
-                expected,
-                "stopped at call {k}"
-            );
+            let expected = is_done(k.saturating_sub(before), outcome);
+            let changed = stop_commit(alloc, k, outcome, b"")?;
+            assert_eq!(rt; changed, expected, "stopped at call {k}");
         }
     }
     Ok(())
@@ -482,13 +515,22 @@ fn a_body_behind_a_short_journal_opens_nothing(rt: HostRuntime) -> Result<(), Fa
     let alloc = rt.alloc();
     let before = calls_before_commit(alloc, with_journal(alloc, &[1])?)?;
     for outcome in OUTCOMES {
-        let mut disk = with_journal(alloc, &[1])?;
-        disk.stop_at(before.saturating_add(1), outcome);
-        let (disk, done) = change_both(alloc, disk)?;
-        assert!(rt; !done);
-        let mut set = open(alloc, disk.image(alloc)?)?;
-        assert!(rt; !are_changed(alloc, &mut set)?);
+        let changed = stop_commit(alloc, before.saturating_add(1), outcome, &[1])?;
+        assert!(rt; !changed);
     }
+    Ok(())
+}
+
+// A commit at which the disk fails, and one after it.
+fn commit_failing(
+    rt: &impl Abort,
+    alloc: Global,
+    set: &mut FileSet<MemoryDisk>,
+) -> Result<(), Fail> {
+    let failed = commit(alloc, set, &BOTH)?;
+    assert_eq!(rt; failed, Err(SetFault::Device));
+    assert!(rt; set.is_broken());
+    assert_eq!(rt; commit(alloc, set, &[])?, Err(SetFault::Broken));
     Ok(())
 }
 
@@ -499,14 +541,9 @@ fn a_failed_sync_of_the_gate_breaks_the_set(rt: HostRuntime) -> Result<(), Fail>
     let mut disk = with_journal(alloc, b"")?;
     disk.fail_at(before.saturating_add(4));
     let mut set = open(alloc, disk)?;
-    let failed = commit(alloc, &mut set, &[RENAME, CAPTURE])?;
-    assert_eq!(rt; failed, Err(SetFault::Device));
-    assert!(rt; set.is_broken());
-    assert_eq!(rt; commit(alloc, &mut set, &[])?, Err(SetFault::Broken));
+    commit_failing(&rt, alloc, &mut set)?;
     let disk = set.close();
-    let mut image = open(alloc, disk.image(alloc)?)?;
-    assert!(rt; are_changed(alloc, &mut image)?);
-    let mut again = open(alloc, disk)?;
-    assert!(rt; are_changed(alloc, &mut again)?);
+    assert!(rt; are_changed(alloc, disk.image(alloc)?)?);
+    assert!(rt; are_changed(alloc, disk)?);
     Ok(())
 }
