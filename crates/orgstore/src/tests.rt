@@ -37,6 +37,8 @@ fn faults_of_opening(rt: HostRuntime) -> Result<(), Fail> {
     tells(&rt, &large, 3, "orgstore: open: TooLarge x.org\n")?;
     let many = Fault::Open(OpenFault::TooManyFiles);
     tells(&rt, &many, 3, "orgstore: open: TooManyFiles\n")?;
+    let bad = Fault::Open(OpenFault::BadJournal);
+    tells(&rt, &bad, 3, "orgstore: open: BadJournal\n")?;
     tells(
         &rt,
         &Fault::Open(OpenFault::Device),
