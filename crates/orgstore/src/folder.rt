@@ -15,13 +15,12 @@ use std::alloc::Global;
 /// More reads than an input has.
 const TURNS: u64 = 4_294_967_295;
 
-/// Serves the lines of a reader over a folder, by calls of its system, and tells what a stop leaves where these calls are
-/// honest: where each answers as the trait `Calls` says. They stand for the files that the record of the calls before
-/// gives, which is no longer than the run.
+/// Serves the lines of a reader over a folder, by the calls of its system.
 ///
-/// At every moment since this began, what a stop leaves stands for the files as they were opened, or as they are after
-/// some of the lines that are run, from the first on; within the opening, for what the folder stood for then. Where the
-/// input was read to its end, what was written is the transcript of its lines.
+/// Where these calls are honest, as the trait `Calls` says it, then at every moment since this began what a stop leaves
+/// stands for the files as they were opened, or as they are after some of the lines that are run, from the first on;
+/// within the opening, for what the folder stood for before. Where the input was read to its end, what was written is the
+/// transcript of its lines. The folder is left as one that can be opened again.
 pub fn serve_folder<C: Calls + Drop, R: Source, W: Sink>(
     alloc: Global,
     disk: CallsDisk<C>,
