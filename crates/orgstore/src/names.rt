@@ -1,5 +1,5 @@
 // The names that the store is opened with.
-ghost use Rattle.std.specs.Prelude.{IfOk, All};
+ghost use Rattle.std.specs.Prelude.{◌≡◌, ◌++◌, ℕ, List, map, string_bytes, IfOk, All};
 ghost use Rattle.org_folder.specs.OrgFiles.{IsOpenable};
 
 use crate::fault::Fault;
@@ -9,7 +9,8 @@ use org_store::OpenFault;
 
 /// The names given as new ones, each a file name in `.org`, and those of the folder's Org files.
 pub fn names(rt: &HostRuntime, folder: &str, new: &[String]) -> Result<Vec<FileName>, Fault>
-    ensures { IfOk result (λ names. All IsOpenable names.items) }
+    ensures openable { IfOk result (λ names. All IsOpenable names.items) }
+    ensures new { IfOk result (λ names. (listed : List (List ℕ)) × (names.items ≡ map string_bytes new.now ++ listed)) }
 {
     let mut names = new_names(rt, new)?;
     names.append(&mut org_files(rt, folder)?)?;
@@ -17,7 +18,8 @@ pub fn names(rt: &HostRuntime, folder: &str, new: &[String]) -> Result<Vec<FileN
 }
 
 fn new_names(rt: &HostRuntime, new: &[String]) -> Result<Vec<FileName>, Fault>
-    ensures { IfOk result (λ names. All IsOpenable names.items) }
+    ensures openable { IfOk result (λ names. All IsOpenable names.items) }
+    ensures names { IfOk result (λ names. names.items ≡ map string_bytes new.now) }
 {
     let mut names = Vec::new(rt.alloc());
     for name in new {
@@ -27,7 +29,8 @@ fn new_names(rt: &HostRuntime, new: &[String]) -> Result<Vec<FileName>, Fault>
 }
 
 fn new_name(rt: &HostRuntime, name: &str) -> Result<FileName, Fault>
-    ensures { IfOk result IsOpenable }
+    ensures openable { IfOk result IsOpenable }
+    ensures name { IfOk result (λ one. one ≡ name.now) }
 {
     match org_file(rt.alloc(), name) {
         Ok(name) => Ok(name),
