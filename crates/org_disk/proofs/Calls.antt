@@ -1,5 +1,6 @@
 -- What a call in the record of a disk in memory did to its files and its past.
-use Rattle.std.proofs.Common.{◌≡◌, ◌≢◌, ◌⊎◌, ℕ, ◌+◌, ◌≤◌, List, [], ◌∷◌, ◌++◌, length, take, Bool, true, false, Result, Ok, Err, OnOk, OnErr, IsNone, Option, None, Some, Vec, refl, sym, ◌∙◌, ap, subst, inl, inr, ⊎_elim, arith, length-append}
+use Rattle.std.proofs.Common.{◌≡◌, ◌≢◌, ◌⊎◌, ℕ, ◌+◌, ◌≤◌, List, [], ◌∷◌, ◌++◌, length, take, Bool, true, false, Result, Ok, Err, OnOk, OnErr, IsNone, Option, None, Some, Vec, refl, sym, ◌∙◌, ap, subst, inl, inr, ⊎_elim, arith, length-append, count_by, cond}
+use Rattle.std.proofs.lemmas.List.Sums.{sum_by_push}
 use Rattle.std.proofs.lemmas.Bool.{cond-true, cond-false, cases_lt, false≢true, true≢false}
 use Rattle.std.proofs.lemmas.List.{take_all, take-append-le}
 use Rattle.std.proofs.lemmas.Slice.Eq.{bytes_eq-Decides}
@@ -13,7 +14,7 @@ use Rattle.org_disk.specs.declared.disk.DiskFault.{DiskFault}
 use Rattle.org_disk.specs.declared.memory.Effect.{Effect}
 use Rattle.org_disk.specs.declared.memory.Effect.TheVariants.{Set, Nothing}
 use Rattle.org_disk.specs.declared.memory.Call.{Call}
-use Rattle.org_disk.specs.Record.{effect_of, step, state_after, files_after, LeftSince, IsTried, call_of, Contents, content_in, items_or, Keeps}
+use Rattle.org_disk.specs.Record.{effect_of, step, state_after, files_after, is_call, is_call_effect, LeftSince, IsTried, call_of, Contents, content_in, items_or, Keeps}
 use Rattle.org_disk.specs.RecordLaws.{bool_cases, own_image}
 use Rattle.org_disk.specs.Memory.{HasNoEffect}
 use Rattle.org_disk.specs.declared.memory.MemoryDisk.{MemoryDisk}
@@ -254,3 +255,17 @@ pub tried_stopped : (name : List ℕ) (effect made : Effect) (calls later : List
 tried_stopped name effect made calls later which (Err e) ok err = inl err
 tried_stopped name effect made calls later (inl same) (Ok tt) ok err = inr (inl (true, ok ∙ ap (λ (e : Effect). calls ++ call_of name e true ∷ []) same))
 tried_stopped name effect made calls later (inr none) (Ok tt) ok err = inr (inr (true, ok ∙ ap (λ (e : Effect). calls ++ call_of name e true ∷ []) none))
+
+-- what a call that was made adds to the count
+pub count_made : (name : List ℕ) (effect : Effect) (calls later : List Call) (result : Result (Unit {0}) DiskFault) → is_call_effect effect ≡ true
+    → OnOk result (later ≡ calls ++ call_of name effect false ∷ []) → OnOk result (count_by is_call later ≡ count_by is_call calls + 1)
+count_made name effect calls later (Ok u) is made =
+    ap (count_by is_call) made ∙ sum_by_push (λ call. cond (is_call call) 1 0) calls (call_of name effect false) ∙ ap (λ b. count_by is_call calls + cond b 1 0) is
+count_made name effect calls later (Err e) is made = tt
+
+-- a `set` is no call
+pub count_set : (name : List ℕ) (bytes : Vec ℕ Global) (calls later : List Call) (result : Result (Unit {0}) AllocError)
+    → OnOk result (later ≡ calls ++ call_of name (Set bytes) false ∷ []) → OnErr result (later ≡ calls) → count_by is_call later ≡ count_by is_call calls
+count_set name bytes calls later (Ok u) made kept =
+    let more = ap (count_by is_call) made ∙ sum_by_push (λ call. cond (is_call call) 1 0) calls (call_of name (Set bytes) false) in omega (arith, more)
+count_set name bytes calls later (Err e) made kept = ap (count_by is_call) kept

@@ -1,7 +1,7 @@
 -- A disk in memory, as callers see it.
-use Rattle.std.specs.Prelude.{◌≡◌, ℕ, ◌-◌, ◌==◌, List, length, Bool, true, false, ◌||◌, if◌then◌else◌, IsTrue}
+use Rattle.std.specs.Prelude.{◌≡◌, ℕ, ◌-◌, ◌==◌, List, length, Bool, true, false, ◌||◌, if◌then◌else◌, IsTrue, count_by}
 use Rattle.org_disk.specs.Disk.{FileState, IsImage, AreImages, Passes}
-use Rattle.org_disk.specs.Record.{files_after, LeftSince}
+use Rattle.org_disk.specs.Record.{files_after, is_call, LeftSince}
 use Rattle.org_disk.specs.declared.memory.MemoryDisk.{MemoryDisk}
 use Rattle.org_disk.specs.declared.memory.Outcome.{Outcome}
 use Rattle.org_disk.specs.declared.memory.Outcome.TheVariants.{All}
@@ -11,6 +11,10 @@ use Rattle.org_disk.specs.declared.memory.Stop.TheVariants.{Never, In, Came}
 -- the files of a disk in memory
 abbrev pub memory_files : MemoryDisk → List ℕ → FileState
 memory_files disk = files_after disk.calls.items
+
+-- how many calls of `Disk` are in the record
+abbrev pub call_count : MemoryDisk → ℕ
+call_count disk = count_by is_call disk.calls.items
 
 -- no stop came, or one that leaves all that was written
 abbrev pub stop_leaves_all : Stop → Bool

@@ -1,5 +1,5 @@
 // A disk in memory, which keeps a record of its calls. What it holds is what the record stands for.
-ghost use Rattle.std.specs.Prelude.{◌≡◌, ◌≢◌, ◌⊎◌, List, ℕ, [], ◌∷◌, ◌++◌, ◌≤◌, length, IsTrue, IfOk, IfSome, OnOk, OnErr, IsNone};
+ghost use Rattle.std.specs.Prelude.{◌≡◌, ◌≢◌, ◌⊎◌, List, ℕ, [], ◌∷◌, ◌++◌, ◌≤◌, length, IsTrue, IsFalse, IfOk, IfSome, OnOk, OnErr, IsNone};
 ghost use Rattle.std.specs.Str.{bytes_eq};
 ghost use Rattle.indexmap.specs.IndexMap.{get};
 ghost use Rattle.org_disk.specs.Disk.{FileState, IsCounted, IsImage, laid};
@@ -82,7 +82,7 @@ impl MemoryDisk {
     ghost use Rattle.std.specs.Prelude.{◌≡◌, ◌≢◌, List, ℕ, [], count_by, IsTrue, IfOk, OnOk, OnErr};
     ghost use Rattle.org_disk.specs.Disk.{AreImages, stable};
     ghost use Rattle.org_disk.specs.Record.{is_call};
-    ghost use Rattle.org_disk.specs.Memory.{leaves_all, memory_files, stop_asked, KeepsPlan};
+    ghost use Rattle.org_disk.specs.Memory.{call_count, leaves_all, memory_files, stop_asked, KeepsPlan};
 
     /// A disk without files, of which no call has failed.
     pub fn new(alloc: Global) -> Self
@@ -110,6 +110,7 @@ impl MemoryDisk {
         ensures err { OnErr result (memory_files self.new ≡ memory_files self.old) }
         ensures failures { self.new.failures ≡ self.old.failures }
         ensures plan { KeepsPlan self.old self.new }
+        ensures uncounted { call_count self.new ≡ call_count self.old }
     {
         let bytes = bytes.to_vec(self.alloc)?;
         self.record(name, Effect::Set(bytes), false)
@@ -155,6 +156,8 @@ impl MemoryDisk {
         ensures whole { IsTrue (leaves_all self.now) →
             IfOk result (λ image. (name : List ℕ) →
             (memory_files image name).content ≡ (memory_files self.now name).content) }
+        ensures fresh { IfOk result (λ image. (image.failures ≡ 0) × (image.fail_in ≡ 0) × (image.stop ≡ Stop.Never)) }
+        ensures uncounted { IfOk result (λ image. call_count image ≡ 0) }
     {
         let mut image = MemoryDisk::new(alloc);
         for i in 0..self.contents.len() {
@@ -180,10 +183,10 @@ fn is_call(call: &Call) -> bool
 }
 
 impl MemoryDisk {
-    ghost use Rattle.std.specs.Prelude.{◌≡◌, ◌≢◌, [], ◌∷◌, ◌++◌, false, length, IsTrue, IsFalse, IsErr, IfOk, OnOk, OnErr};
+    ghost use Rattle.std.specs.Prelude.{◌≡◌, ◌≢◌, ◌+◌, [], ◌∷◌, ◌++◌, false, length, IsTrue, IsFalse, IsErr, IfOk, OnOk, OnErr};
     ghost use Rattle.org_disk.specs.Disk.{AreImages, IsCounted, IsImage, Passes};
     ghost use Rattle.org_disk.specs.Record.{IsTried, LeftSince};
-    ghost use Rattle.org_disk.specs.Memory.{is_due, leaves_all, memory_files, stops_within, CountsDown, KeepsPlan};
+    ghost use Rattle.org_disk.specs.Memory.{call_count, is_due, leaves_all, memory_files, stops_within, CountsDown, KeepsPlan};
 
     // What a file holds.
     fn content(&self, name: &FileName) -> &[u8]
@@ -221,6 +224,7 @@ impl MemoryDisk {
         ensures calls { self.new.calls.items ≡ self.old.calls.items }
         ensures failures { self.new.failures ≡ self.old.failures }
         ensures due { IsTrue (is_due self.old) → result ≢ Turn.Made }
+        ensures made { IsFalse (is_due self.old) → result ≡ Turn.Made }
         ensures stopped { result ≡ Turn.Stopped → IsTrue (stops_within self.old.stop) }
         ensures counts { CountsDown self.old self.new }
     {
@@ -252,6 +256,8 @@ impl MemoryDisk {
         ensures count_ok { OnOk result (self.new.failures ≡ self.old.failures) }
         ensures count_err { OnErr result (IsCounted self.old.failures self.new.failures) }
         ensures due { IsTrue (is_due self.old) → IsErr result }
+        ensures unasked { IsFalse (is_due self.old) →
+            OnErr result (self.new.calls.items ≡ self.old.calls.items) }
         ensures counts { CountsDown self.old self.new }
     {
         match self.turn() {
@@ -281,7 +287,10 @@ impl MemoryDisk {
         ensures count_ok { OnOk result (self.new.failures ≡ self.old.failures) }
         ensures count_err { OnErr result (IsCounted self.old.failures self.new.failures) }
         ensures due { IsTrue (is_due self.old) → IsErr result }
+        ensures unasked { IsFalse (is_due self.old) →
+            OnErr result (self.new.calls.items ≡ self.old.calls.items) }
         ensures counts { CountsDown self.old self.new }
+        ensures recorded { OnOk result (call_count self.new ≡ call_count self.old + 1) }
     {
         self.call(name, Effect::Nothing)
     }
@@ -309,7 +318,7 @@ impl MemoryDisk {
 impl Disk for MemoryDisk {
     ghost use Rattle.std.specs.Prelude.{◌≡◌, ◌+◌, ◌^◌, ◌<◌, ◌≤◌, length, take, drop, IfOk, IsTrue, IsFalse, IsErr, OnOk, OnErr};
     ghost use Rattle.org_disk.specs.Disk.{AreImages, AreLeftBy, Changes, IsCounted, Passes, cut, sync, write};
-    ghost use Rattle.org_disk.specs.Memory.{is_due, memory_files, stops_within, CountsDown, HasNoEffect};
+    ghost use Rattle.org_disk.specs.Memory.{call_count, is_due, memory_files, stops_within, CountsDown, HasNoEffect};
     ghost use Rattle.org_disk.specs.Record.{LeftSince};
     ghost use Rattle.org_disk.specs.RecordLaws.{own_image, now_counts, now_alone};
 
@@ -338,7 +347,10 @@ impl Disk for MemoryDisk {
         ensures count_ok { OnOk result (self.new.failures ≡ self.old.failures) }
         ensures count_err { OnErr result (IsCounted self.old.failures self.new.failures) }
         ensures due { IsTrue (is_due self.old) → IsErr result }
+        ensures unasked { IsFalse (is_due self.old) →
+            OnErr result (self.new.calls.items ≡ self.old.calls.items) }
         ensures counts { CountsDown self.old self.new }
+        ensures recorded { OnOk result (call_count self.new ≡ call_count self.old + 1) }
     {
         self.look(name)?;
         Ok(self.content(name).len() as u64)
@@ -355,7 +367,10 @@ impl Disk for MemoryDisk {
         ensures count_ok { OnOk result (self.new.failures ≡ self.old.failures) }
         ensures count_err { OnErr result (IsCounted self.old.failures self.new.failures) }
         ensures due { IsTrue (is_due self.old) → IsErr result }
+        ensures unasked { IsFalse (is_due self.old) →
+            OnErr result (self.new.calls.items ≡ self.old.calls.items) }
         ensures counts { CountsDown self.old self.new }
+        ensures recorded { OnOk result (call_count self.new ≡ call_count self.old + 1) }
     {
         self.look(name)?;
         let start = from as usize;
@@ -376,7 +391,10 @@ impl Disk for MemoryDisk {
         ensures no_effect { IsFalse (stops_within self.old.stop) →
             OnErr result (HasNoEffect self.old self.new) }
         ensures due { IsTrue (is_due self.old) → IsErr result }
+        ensures unasked { IsFalse (is_due self.old) →
+            OnErr result (self.new.calls.items ≡ self.old.calls.items) }
         ensures counts { CountsDown self.old self.new }
+        ensures recorded { OnOk result (call_count self.new ≡ call_count self.old + 1) }
     {
         match bytes.to_vec(self.alloc) {
             Ok(copy) => self.call(name, Effect::Write(from, copy)),
@@ -399,7 +417,10 @@ impl Disk for MemoryDisk {
         ensures no_effect { IsFalse (stops_within self.old.stop) →
             OnErr result (HasNoEffect self.old self.new) }
         ensures due { IsTrue (is_due self.old) → IsErr result }
+        ensures unasked { IsFalse (is_due self.old) →
+            OnErr result (self.new.calls.items ≡ self.old.calls.items) }
         ensures counts { CountsDown self.old self.new }
+        ensures recorded { OnOk result (call_count self.new ≡ call_count self.old + 1) }
     {
         self.call(name, Effect::Cut(to))
     }
@@ -413,7 +434,10 @@ impl Disk for MemoryDisk {
         ensures count_err { OnErr result (IsCounted self.old.failures self.new.failures) }
         ensures no_effect { OnErr result (HasNoEffect self.old self.new) }
         ensures due { IsTrue (is_due self.old) → IsErr result }
+        ensures unasked { IsFalse (is_due self.old) →
+            OnErr result (self.new.calls.items ≡ self.old.calls.items) }
         ensures counts { CountsDown self.old self.new }
+        ensures recorded { OnOk result (call_count self.new ≡ call_count self.old + 1) }
     {
         self.call(name, Effect::Sync)
     }
@@ -421,6 +445,7 @@ impl Disk for MemoryDisk {
 
 fn fate(is_due: bool) -> Turn
     ensures due { IsTrue is_due → result ≢ Turn.Made }
+    ensures made { IsFalse is_due → result ≡ Turn.Made }
     ensures stopped { result ≢ Turn.Stopped }
 {
     if is_due { Turn::Failed } else { Turn::Made }

@@ -22,14 +22,15 @@ loop-i-preserved c =
     take_more entries i (name, content) (slice_get_within entries i (name, content) at)
     ∙ ap (λ (e : List ℕ × Vec ℕ Global). take i entries ++ e ∷ []) (get_or_from_slice_get entries i (name, content) (name, content) at) in
     let left : IsLeft self name c.in_ok-left.left.items = record { image = c.in_ok-left.ensures.image; whole = c.in_ok-left.ensures.whole } in
-    one_more self.contents (IsLeft self) i (memory_files c.loop-i.image) (memory_files c.set.new.self) c.loop-i.invariant name content c.in_ok-left.left.items more
+    let held = one_more self.contents (IsLeft self) i (memory_files c.loop-i.image) (memory_files c.set.new.self) c.loop-i.invariant.0 name content c.in_ok-left.left.items more
     (subst (λ o. IfSome o (λ p. get bytes_eq self.contents p.0.now ≡ Some p.1.now)) c.unwrap.ensures c.get_index.ensures.value)
-    (c.in_ok-set.ensures.ok ∙ ap stable c.deref.ensures.value) c.set.ensures.others left
+    (c.in_ok-set.ensures.ok ∙ ap stable c.deref.ensures.value) c.set.ensures.others left in
+    (held, c.set.ensures.failures ∙ c.loop-i.invariant.1, c.set.ensures.plan.fail_in ∙ c.loop-i.invariant.2, c.set.ensures.plan.stop ∙ c.loop-i.invariant.3, c.set.ensures.uncounted ∙ c.loop-i.invariant.4)
 
 pub returns-clause-left : goal.returns-clause-left
 returns-clause-left c name =
-    (all_left c.args.self.now c.loop-i.i (memory_files c.loop-i.image) c.loop-i.invariant (omega (arith, c.loop-i-test.false, c.len-i-end.ensures.len)) name).image
+    (all_left c.args.self.now c.loop-i.i (memory_files c.loop-i.image) c.loop-i.invariant.0 (omega (arith, c.loop-i-test.false, c.len-i-end.ensures.len)) name).image
 
 pub returns-clause-whole : goal.returns-clause-whole
 returns-clause-whole c whole name =
-    (all_left c.args.self.now c.loop-i.i (memory_files c.loop-i.image) c.loop-i.invariant (omega (arith, c.loop-i-test.false, c.len-i-end.ensures.len)) name).whole whole
+    (all_left c.args.self.now c.loop-i.i (memory_files c.loop-i.image) c.loop-i.invariant.0 (omega (arith, c.loop-i-test.false, c.len-i-end.ensures.len)) name).whole whole

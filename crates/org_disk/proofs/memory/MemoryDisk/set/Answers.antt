@@ -1,5 +1,5 @@
 use Rattle.std.proofs.Common.{◌≡◌, rules}
-use Rattle.org_disk.proofs.Calls.{set_here, set_others}
+use Rattle.org_disk.proofs.Calls.{count_set, set_here, set_others}
 use Rattle.org_disk.proofs.memory.MemoryDisk.set.Goals as goal
 
 pub returns-clause-ok : goal.returns-clause-ok
@@ -9,3 +9,6 @@ returns-clause-ok c =
 
 pub returns-clause-others : goal.returns-clause-others
 returns-clause-others c = set_others c.args.name.now c.in_ok-bytes.bytes c.args.self.now.calls.items c.record.new.self.calls.items c.record.result c.record.ensures.ok c.record.ensures.err
+
+pub returns-clause-uncounted : goal.returns-clause-uncounted
+returns-clause-uncounted c = count_set c.args.name.now c.in_ok-bytes.bytes c.args.self.now.calls.items c.record.new.self.calls.items c.record.result c.record.ensures.ok c.record.ensures.err
