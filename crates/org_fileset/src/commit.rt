@@ -26,6 +26,7 @@ pub fn replay<D: Disk>(disk: &mut D, journal: &FileName, entries: &[Entry]) -> R
     ensures rest { OnOk result (D.honest disk.old → IsReplayable entries.now (D.files disk.old) → IsAtRest (D.files disk.new)) }
     ensures fit { OnErr result (D.honest disk.old → IsReplayable entries.now (D.files disk.old) → IsFit (D.files disk.new)) }
     ensures failed { OnErr result (HasRisen (D.failures disk.old) (D.failures disk.new)) }
+    ensures told { OnOk result (D.failures disk.new ≡ D.failures disk.old) }
     ensures failures { D.failures disk.old ≤ D.failures disk.new }
     ensures honest { D.honest disk.new ↔ D.honest disk.old }
 {
@@ -55,6 +56,7 @@ pub fn commit_entries<D: Disk>(
     ensures rest { OnOk result (D.honest disk.old → IsAtRest (D.files disk.old) → IsAtRest (D.files disk.new)) }
     ensures fit { OnErr result (D.honest disk.old → IsAtRest (D.files disk.old) → IsFit (D.files disk.new)) }
     ensures failed { OnErr result (HasRisen (D.failures disk.old) (D.failures disk.new)) }
+    ensures told { OnOk result (D.failures disk.new ≡ D.failures disk.old) }
     ensures failures { D.failures disk.old ≤ D.failures disk.new }
     ensures honest { D.honest disk.new ↔ D.honest disk.old }
 {

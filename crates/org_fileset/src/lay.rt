@@ -23,6 +23,7 @@ pub fn lay_entry<D: Disk>(disk: &mut D, entry: &Entry) -> Result<(), DiskFault>
         ≡ lay (pairs entry.now.patches) entry.now.length (D.files disk.old entry.now.name).content) }
     ensures others { D.honest disk.old → (other : List ℕ) → other ≢ entry.now.name → D.files disk.new other ≡ D.files disk.old other }
     ensures failed { OnErr result (HasRisen (D.failures disk.old) (D.failures disk.new)) }
+    ensures told { OnOk result (D.failures disk.new ≡ D.failures disk.old) }
     ensures failures { D.failures disk.old ≤ D.failures disk.new }
     ensures honest { D.honest disk.new ↔ D.honest disk.old }
 {
@@ -46,6 +47,7 @@ pub fn lay_all<D: Disk>(disk: &mut D, entries: &[Entry]) -> Result<(), DiskFault
     ensures contents { OnOk result (D.honest disk.old → (name : List ℕ) → contents (D.files disk.new) name ≡ replayed entries.now (contents (D.files disk.old)) name) }
     ensures others { D.honest disk.old → (name : List ℕ) → IsFalse (is_named name entries.now) → D.files disk.new name ≡ D.files disk.old name }
     ensures failed { OnErr result (HasRisen (D.failures disk.old) (D.failures disk.new)) }
+    ensures told { OnOk result (D.failures disk.new ≡ D.failures disk.old) }
     ensures failures { D.failures disk.old ≤ D.failures disk.new }
     ensures honest { D.honest disk.new ↔ D.honest disk.old }
 {
@@ -65,6 +67,7 @@ pub fn sync_all<D: Disk>(disk: &mut D, entries: &[Entry]) -> Result<(), DiskFaul
     ensures stable { OnOk result (D.honest disk.old → (name : List ℕ) → (IsFalse (is_named name entries.now) → IsStable (D.files disk.old name)) → IsStable (D.files disk.new name)) }
     ensures others { D.honest disk.old → (name : List ℕ) → IsFalse (is_named name entries.now) → D.files disk.new name ≡ D.files disk.old name }
     ensures failed { OnErr result (HasRisen (D.failures disk.old) (D.failures disk.new)) }
+    ensures told { OnOk result (D.failures disk.new ≡ D.failures disk.old) }
     ensures failures { D.failures disk.old ≤ D.failures disk.new }
     ensures honest { D.honest disk.new ↔ D.honest disk.old }
 {

@@ -108,6 +108,7 @@ pub fn check_sizes<D: Disk>(disk: &mut D, names: &[FileName]) -> Result<(), Open
     ensures same { D.honest disk.old → D.files disk.new ≡ D.files disk.old }
     ensures any_moment { D.honest disk.old → Passes (D.moment disk.old) (D.moment disk.new) (D.left_since disk.old) (D.left_since disk.new) (AreImages (D.files disk.old)) }
     ensures failed { IsErrOf result OpenFault.Device → HasRisen (D.failures disk.old) (D.failures disk.new) }
+    ensures told { (IsErrOf result OpenFault.Device → ⊥) → D.failures disk.new ≡ D.failures disk.old }
     ensures failures { D.failures disk.old ≤ D.failures disk.new }
     ensures honest { D.honest disk.new ↔ D.honest disk.old }
 {
@@ -137,6 +138,7 @@ pub fn make_ready<D: Disk>(
     ensures fit { D.honest disk.old → IsFit (D.files disk.old) → EachStands (D.files disk.old) → IsFit (D.files disk.new) }
     ensures rest { OnOk result (D.honest disk.old → IsFit (D.files disk.old) → EachStands (D.files disk.old) → IsAtRest (D.files disk.new)) }
     ensures failed { IsErrOf result OpenFault.Device → HasRisen (D.failures disk.old) (D.failures disk.new) }
+    ensures told { (IsErrOf result OpenFault.Device → ⊥) → D.failures disk.new ≡ D.failures disk.old }
     ensures failures { D.failures disk.old ≤ D.failures disk.new }
     ensures honest { D.honest disk.new ↔ D.honest disk.old }
 {

@@ -32,6 +32,7 @@ pub fn recover<D: Disk>(alloc: Global, disk: &mut D, journal: &FileName) -> Resu
     ensures fit { D.honest disk.old → IsFit (D.files disk.old) → EachStands (D.files disk.old) → IsFit (D.files disk.new) }
     ensures rest { OnOk result (D.honest disk.old → IsFit (D.files disk.old) → EachStands (D.files disk.old) → IsAtRest (D.files disk.new)) }
     ensures failed { IsErrOf result FindFault.Device → HasRisen (D.failures disk.old) (D.failures disk.new) }
+    ensures told { (IsErrOf result FindFault.Device → ⊥) → D.failures disk.new ≡ D.failures disk.old }
     ensures failures { D.failures disk.old ≤ D.failures disk.new }
     ensures honest { D.honest disk.new ↔ D.honest disk.old }
 {

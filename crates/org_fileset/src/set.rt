@@ -1,5 +1,5 @@
 //! The files of a store as one.
-ghost use Rattle.std.specs.Prelude.{◌≡◌, ◌≢◌, ◌≤◌, ◌⊎◌, ◌↔◌, List, ℕ, None, true, false, length, IsTrue, IsFalse, IsSomeAnd, IfOk, IfErr, OnOk, OnErr, IsErrOf};
+ghost use Rattle.std.specs.Prelude.{◌≡◌, ◌≢◌, ◌≤◌, ◌⊎◌, ◌↔◌, List, ℕ, None, true, false, length, IsTrue, IsFalse, IsSomeAnd, IfOk, IfErr, OnOk, OnErr, IsErrOf, MatchResult};
 ghost use Rattle.std.specs.List.{All, Contains};
 ghost use Rattle.org_disk.specs.Disk.{HasRisen, Passes, LeavesOnly, AreImages};
 ghost use Rattle.org_disk.specs.Names.{journal_name};
@@ -67,6 +67,7 @@ impl<D: Disk> FileSet<D> {
         ensures fit { D.honest disk → IsFit (D.files disk) → EachStands (D.files disk) → IsFit (D.files (disk_in result)) }
         ensures rest { IfOk result (λ set. D.honest disk → IsFit (D.files disk) → EachStands (D.files disk) → IsAtRest (D.files set.disk)) }
         ensures failed { IfErr result (λ refused. refused.fault ≡ OpenFault.Device → HasRisen (D.failures disk) (D.failures refused.disk)) }
+        ensures told { MatchResult result (λ opened. D.failures opened.disk ≡ D.failures disk) (λ refused. (refused.fault ≡ OpenFault.Device → ⊥) → D.failures refused.disk ≡ D.failures disk) }
         ensures failures { D.failures disk ≤ D.failures (disk_in result) }
         ensures honest { D.honest (disk_in result) ↔ D.honest disk }
     {
@@ -123,6 +124,7 @@ impl<D: Disk> FileSet<D> {
         ensures broken { IsErrOf result SetFault.Broken ↔ IsTrue self.old.broken }
         ensures breaks { IsTrue self.new.broken ↔ (IsTrue self.old.broken ⊎ IsErrOf result SetFault.Device) }
         ensures failed { IsErrOf result SetFault.Device → HasRisen (D.failures self.old.disk) (D.failures self.new.disk) }
+        ensures told { (IsErrOf result SetFault.Device → ⊥) → D.failures self.new.disk ≡ D.failures self.old.disk }
         ensures failures { D.failures self.old.disk ≤ D.failures self.new.disk }
         ensures honest { D.honest self.new.disk ↔ D.honest self.old.disk }
     {
@@ -161,6 +163,7 @@ impl<D: Disk> FileSet<D> {
         ensures same { IsTrue self.old.broken → self.new ≡ self.old }
         ensures breaks { IsTrue self.new.broken ↔ (IsTrue self.old.broken ⊎ IsErrOf result SetFault.Device) }
         ensures failed { IsErrOf result SetFault.Device → HasRisen (D.failures self.old.disk) (D.failures self.new.disk) }
+        ensures told { (IsErrOf result SetFault.Device → ⊥) → D.failures self.new.disk ≡ D.failures self.old.disk }
         ensures failures { D.failures self.old.disk ≤ D.failures self.new.disk }
         ensures honest { D.honest self.new.disk ↔ D.honest self.old.disk }
     {
@@ -194,6 +197,7 @@ pub(crate) fn read_file<D: Disk>(
     ensures any_moment { D.honest disk.old → Passes (D.moment disk.old) (D.moment disk.new) (D.left_since disk.old) (D.left_since disk.new) (AreImages (D.files disk.old)) }
     ensures not_broken { IsErrOf result SetFault.Broken → ⊥ }
     ensures failed { IsErrOf result SetFault.Device → HasRisen (D.failures disk.old) (D.failures disk.new) }
+    ensures told { (IsErrOf result SetFault.Device → ⊥) → D.failures disk.new ≡ D.failures disk.old }
     ensures failures { D.failures disk.old ≤ D.failures disk.new }
     ensures honest { D.honest disk.new ↔ D.honest disk.old }
 {

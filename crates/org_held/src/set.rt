@@ -1,5 +1,5 @@
 //! Files of a disk with what is held of their texts.
-ghost use Rattle.std.specs.Prelude.{◌≡◌, ◌≢◌, ◌≤◌, ◌⊎◌, ◌↔◌, List, ℕ, Some, None, true, false, length, IsTrue, IsFalse, IsSomeAnd, is_some, IfOk, IfErr, OnOk, OnErr, IsErrOf};
+ghost use Rattle.std.specs.Prelude.{◌≡◌, ◌≢◌, ◌≤◌, ◌⊎◌, ◌↔◌, List, ℕ, Some, None, true, false, length, IsTrue, IsFalse, IsSomeAnd, is_some, IfOk, IfErr, OnOk, OnErr, IsErrOf, MatchResult};
 ghost use Rattle.std.specs.List.{All, AllByRecursion, Contains};
 ghost use Rattle.org_disk.specs.Disk.{HasRisen, Passes, LeavesOnly, AreImages};
 ghost use Rattle.org_disk.specs.Names.{journal_name};
@@ -76,6 +76,7 @@ impl<D: Disk> HeldSet<D> {
         ensures fit { D.honest disk → IsFit (D.files disk) → EachStands (D.files disk) → IsFit (D.files (disk_in result)) }
         ensures rest { IfOk result (λ set. D.honest disk → IsFit (D.files disk) → EachStands (D.files disk) → IsAtRest (D.files set.disk)) }
         ensures failed { IfErr result (λ refused. refused.fault ≡ OpenFault.Device → HasRisen (D.failures disk) (D.failures refused.disk)) }
+        ensures told { MatchResult result (λ opened. D.failures opened.disk ≡ D.failures disk) (λ refused. (refused.fault ≡ OpenFault.Device → ⊥) → D.failures refused.disk ≡ D.failures disk) }
         ensures failures { D.failures disk ≤ D.failures (disk_in result) }
         ensures honest { D.honest (disk_in result) ↔ D.honest disk }
     {
@@ -128,6 +129,7 @@ impl<D: Disk> HeldSet<D> {
         ensures broken { IsErrOf result SetFault.Broken ↔ IsTrue self.old.broken }
         ensures breaks { IsTrue self.new.broken ↔ (IsTrue self.old.broken ⊎ IsErrOf result SetFault.Device) }
         ensures failed { IsErrOf result SetFault.Device → HasRisen (D.failures self.old.disk) (D.failures self.new.disk) }
+        ensures told { (IsErrOf result SetFault.Device → ⊥) → D.failures self.new.disk ≡ D.failures self.old.disk }
         ensures failures { D.failures self.old.disk ≤ D.failures self.new.disk }
         ensures honest { D.honest self.new.disk ↔ D.honest self.old.disk }
     {
@@ -172,6 +174,7 @@ impl<D: Disk> HeldSet<D> {
         ensures untouched { IsTrue self.old.broken → self.new ≡ self.old }
         ensures breaks { IsTrue self.new.broken ↔ (IsTrue self.old.broken ⊎ IsErrOf result SetFault.Device) }
         ensures failed { IsErrOf result SetFault.Device → HasRisen (D.failures self.old.disk) (D.failures self.new.disk) }
+        ensures told { (IsErrOf result SetFault.Device → ⊥) → D.failures self.new.disk ≡ D.failures self.old.disk }
         ensures failures { D.failures self.old.disk ≤ D.failures self.new.disk }
         ensures honest { D.honest self.new.disk ↔ D.honest self.old.disk }
     {
@@ -201,6 +204,7 @@ impl<D: Disk> HeldSet<D> {
         ensures untouched { IsTrue self.old.broken → self.new ≡ self.old }
         ensures breaks { IsTrue self.new.broken ↔ (IsTrue self.old.broken ⊎ IsErrOf result SetFault.Device) }
         ensures failed { IsErrOf result SetFault.Device → HasRisen (D.failures self.old.disk) (D.failures self.new.disk) }
+        ensures told { (IsErrOf result SetFault.Device → ⊥) → D.failures self.new.disk ≡ D.failures self.old.disk }
         ensures failures { D.failures self.old.disk ≤ D.failures self.new.disk }
         ensures honest { D.honest self.new.disk ↔ D.honest self.old.disk }
     {
@@ -234,6 +238,7 @@ fn read_to_hold<D: Disk>(
     ensures working { IsErrOf result SetFault.Broken → ⊥ }
     ensures breaks { IsTrue set.new.broken ↔ IsErrOf result SetFault.Device }
     ensures failed { IsErrOf result SetFault.Device → HasRisen (D.failures set.old.disk) (D.failures set.new.disk) }
+    ensures told { (IsErrOf result SetFault.Device → ⊥) → D.failures set.new.disk ≡ D.failures set.old.disk }
     ensures failures { D.failures set.old.disk ≤ D.failures set.new.disk }
     ensures honest { D.honest set.new.disk ↔ D.honest set.old.disk }
 {
@@ -266,6 +271,7 @@ fn commit_texts<D: Disk>(
     ensures working { IsErrOf result SetFault.Broken → ⊥ }
     ensures breaks { IsTrue set.new.broken ↔ IsErrOf result SetFault.Device }
     ensures failed { IsErrOf result SetFault.Device → HasRisen (D.failures set.old.disk) (D.failures set.new.disk) }
+    ensures told { (IsErrOf result SetFault.Device → ⊥) → D.failures set.new.disk ≡ D.failures set.old.disk }
     ensures failures { D.failures set.old.disk ≤ D.failures set.new.disk }
     ensures honest { D.honest set.new.disk ↔ D.honest set.old.disk }
 {

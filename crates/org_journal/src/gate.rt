@@ -23,6 +23,7 @@ pub fn prepare<D: Disk>(disk: &mut D, journal: &FileName) -> Result<(), DiskFaul
     ensures content { OnOk result (D.honest disk.old → (D.files disk.new journal.now).content ≡ 0 ∷ drop 1 (D.files disk.old journal.now).content) }
     ensures others { D.honest disk.old → (other : List ℕ) → other ≢ journal.now → D.files disk.new other ≡ D.files disk.old other }
     ensures failed { OnErr result (HasRisen (D.failures disk.old) (D.failures disk.new)) }
+    ensures told { OnOk result (D.failures disk.new ≡ D.failures disk.old) }
     ensures failures { D.failures disk.old ≤ D.failures disk.new }
     ensures honest { D.honest disk.new ↔ D.honest disk.old }
 {
@@ -39,6 +40,7 @@ pub fn arm<D: Disk>(disk: &mut D, journal: &FileName, body: &[u8]) -> Result<(),
     ensures content { OnOk result (D.honest disk.old → (D.files disk.new journal.now).content ≡ laid 1 body.now (D.files disk.old journal.now).content) }
     ensures others { D.honest disk.old → (other : List ℕ) → other ≢ journal.now → D.files disk.new other ≡ D.files disk.old other }
     ensures failed { OnErr result (HasRisen (D.failures disk.old) (D.failures disk.new)) }
+    ensures told { OnOk result (D.failures disk.new ≡ D.failures disk.old) }
     ensures failures { D.failures disk.old ≤ D.failures disk.new }
     ensures honest { D.honest disk.new ↔ D.honest disk.old }
 {
@@ -57,6 +59,7 @@ pub fn open_gate<D: Disk>(disk: &mut D, journal: &FileName) -> Result<(), DiskFa
     ensures opened { OnOk result (D.honest disk.old → IsTrue (is_some (journal_at (drop 1 (D.files disk.old journal.now).content))) → IsTrue (is_open (D.files disk.new journal.now).content)) }
     ensures others { D.honest disk.old → (other : List ℕ) → other ≢ journal.now → D.files disk.new other ≡ D.files disk.old other }
     ensures failed { OnErr result (HasRisen (D.failures disk.old) (D.failures disk.new)) }
+    ensures told { OnOk result (D.failures disk.new ≡ D.failures disk.old) }
     ensures failures { D.failures disk.old ≤ D.failures disk.new }
     ensures honest { D.honest disk.new ↔ D.honest disk.old }
 {
@@ -74,6 +77,7 @@ pub fn close_gate<D: Disk>(disk: &mut D, journal: &FileName) -> Result<(), DiskF
     ensures content { OnOk result (D.honest disk.old → (D.files disk.new journal.now).content ≡ 0 ∷ drop 1 (D.files disk.old journal.now).content) }
     ensures others { D.honest disk.old → (other : List ℕ) → other ≢ journal.now → D.files disk.new other ≡ D.files disk.old other }
     ensures failed { OnErr result (HasRisen (D.failures disk.old) (D.failures disk.new)) }
+    ensures told { OnOk result (D.failures disk.new ≡ D.failures disk.old) }
     ensures failures { D.failures disk.old ≤ D.failures disk.new }
     ensures honest { D.honest disk.new ↔ D.honest disk.old }
 {
@@ -89,6 +93,7 @@ fn set_gate<D: Disk>(disk: &mut D, journal: &FileName, gate: u8) -> Result<(), D
     ensures content { OnOk result (D.honest disk.old → (D.files disk.new journal.now).content ≡ gate ∷ drop 1 (D.files disk.old journal.now).content) }
     ensures others { D.honest disk.old → (other : List ℕ) → other ≢ journal.now → D.files disk.new other ≡ D.files disk.old other }
     ensures failed { OnErr result (HasRisen (D.failures disk.old) (D.failures disk.new)) }
+    ensures told { OnOk result (D.failures disk.new ≡ D.failures disk.old) }
     ensures failures { D.failures disk.old ≤ D.failures disk.new }
     ensures honest { D.honest disk.new ↔ D.honest disk.old }
 {

@@ -1,5 +1,5 @@
 // A store over a disk.
-ghost use Rattle.std.specs.Prelude.{◌≡◌, ◌≤◌, ◌<◌, ◌⊎◌, ◌↔◌, ◌+◌, ◌^◌, ◌-◌, true, false, List, ℕ, Err, length, is_some, IsSomeAnd, IfOk, IfErr, OnOk, IsErrOf, IsTrue, None};
+ghost use Rattle.std.specs.Prelude.{◌≡◌, ◌≤◌, ◌<◌, ◌⊎◌, ◌↔◌, ◌+◌, ◌^◌, ◌-◌, true, false, List, ℕ, Err, length, is_some, IsSomeAnd, IfOk, IfErr, OnOk, IsErrOf, IsTrue, None, MatchResult};
 ghost use Rattle.std.specs.List.{All, Contains};
 ghost use Rattle.org_disk.specs.Disk.{HasRisen, LeavesOnly, Passes, AreImages};
 ghost use Rattle.org_journal.specs.Standing.{Image, SameFiles, IsFit, stands, contents};
@@ -98,6 +98,7 @@ impl<D: Disk> Store<D> {
         ensures fit { D.honest disk → IsFit (D.files disk) → EachStands (D.files disk) → IsFit (D.files (disk_in result)) }
         ensures rest { IfOk result (λ store. D.honest disk → IsFit (D.files disk) → EachStands (D.files disk) → IsAtRest (D.files store.disk)) }
         ensures failed { IfErr result (λ refused. refused.fault ≡ OpenFault.Device → HasRisen (D.failures disk) (D.failures refused.disk)) }
+        ensures told { MatchResult result (λ opened. D.failures opened.disk ≡ D.failures disk) (λ refused. (refused.fault ≡ OpenFault.Device → ⊥) → D.failures refused.disk ≡ D.failures disk) }
         ensures failures { D.failures disk ≤ D.failures (disk_in result) }
         ensures honest { D.honest (disk_in result) ↔ D.honest disk }
     {
@@ -174,6 +175,7 @@ impl<D: Disk> Store<D> {
         ensures fit { D.honest self.old.disk → IsAtRest (D.files self.old.disk) → IsFit (D.files self.new.disk) }
         ensures counts { SettledCounts self.old.session result self.new.session }
         ensures failed { IsErrOf result RunFault.Device → HasRisen (D.failures self.old.disk) (D.failures self.new.disk) }
+        ensures told { (IsErrOf result RunFault.Device → ⊥) → D.failures self.new.disk ≡ D.failures self.old.disk }
         ensures broken { IsErrOf result RunFault.Broken ↔ IsTrue self.old.session.broken }
         ensures untouched { IsErrOf result RunFault.Broken → self.new ≡ self.old }
         ensures breaks { IsTrue self.new.session.broken ↔ (IsTrue self.old.session.broken ⊎ IsErrOf result RunFault.Device) }
@@ -202,6 +204,7 @@ impl<D: Disk> Store<D> {
         ensures fit { D.honest self.old.disk → IsAtRest (D.files self.old.disk) → IsFit (D.files self.new.disk) }
         ensures counts { KeepsCounts self.old.session result self.new.session }
         ensures failed { IsErrOf result RunFault.Device → HasRisen (D.failures self.old.disk) (D.failures self.new.disk) }
+        ensures told { (IsErrOf result RunFault.Device → ⊥) → D.failures self.new.disk ≡ D.failures self.old.disk }
         ensures breaks { IsErrOf result RunFault.Device ↔ IsTrue self.new.session.broken }
         ensures failures { D.failures self.old.disk ≤ D.failures self.new.disk }
         ensures honest { D.honest self.new.disk ↔ D.honest self.old.disk }
@@ -228,6 +231,7 @@ impl<D: Disk> Store<D> {
         ensures fit { D.honest self.old.disk → IsAtRest (D.files self.old.disk) → IsFit (D.files self.new.disk) }
         ensures counts { KeepsCounts self.old.session result self.new.session }
         ensures failed { IsErrOf result RunFault.Device → HasRisen (D.failures self.old.disk) (D.failures self.new.disk) }
+        ensures told { (IsErrOf result RunFault.Device → ⊥) → D.failures self.new.disk ≡ D.failures self.old.disk }
         ensures breaks { IsErrOf result RunFault.Device ↔ IsTrue self.new.session.broken }
         ensures failures { D.failures self.old.disk ≤ D.failures self.new.disk }
         ensures honest { D.honest self.new.disk ↔ D.honest self.old.disk }
@@ -253,6 +257,7 @@ impl<D: Disk> Store<D> {
         ensures fit { D.honest self.old.disk → IsAtRest (D.files self.old.disk) → IsFit (D.files self.new.disk) }
         ensures counts { KeepsCounts self.old.session result self.new.session }
         ensures failed { IsErrOf result RunFault.Device → HasRisen (D.failures self.old.disk) (D.failures self.new.disk) }
+        ensures told { (IsErrOf result RunFault.Device → ⊥) → D.failures self.new.disk ≡ D.failures self.old.disk }
         ensures breaks { IsErrOf result RunFault.Device ↔ IsTrue self.new.session.broken }
         ensures failures { D.failures self.old.disk ≤ D.failures self.new.disk }
         ensures honest { D.honest self.new.disk ↔ D.honest self.old.disk }
@@ -293,6 +298,7 @@ impl<D: Disk> Store<D> {
         ensures settled { self.new.session.settled ≡ texts_of (contents (D.files self.new.disk)) self.new.session.names }
         ensures counts { SameCounts self.old.session self.new.session }
         ensures failed { IsErrOf result RunFault.Device → HasRisen (D.failures self.old.disk) (D.failures self.new.disk) }
+        ensures told { (IsErrOf result RunFault.Device → ⊥) → D.failures self.new.disk ≡ D.failures self.old.disk }
         ensures not_broken { IsErrOf result RunFault.Broken → ⊥ }
         ensures breaks { IsErrOf result RunFault.Device ↔ IsTrue self.new.session.broken }
         ensures failures { D.failures self.old.disk ≤ D.failures self.new.disk }
@@ -332,6 +338,7 @@ impl<D: Disk> Store<D> {
         ensures fit { D.honest self.old.disk → IsAtRest (D.files self.old.disk) → IsFit (D.files self.new.disk) }
         ensures counts { Counts self.old.session result self.new.session }
         ensures failed { IsErrOf result RunFault.Device → HasRisen (D.failures self.old.disk) (D.failures self.new.disk) }
+        ensures told { (IsErrOf result RunFault.Device → ⊥) → D.failures self.new.disk ≡ D.failures self.old.disk }
         ensures not_broken { IsErrOf result RunFault.Broken → ⊥ }
         ensures breaks { IsErrOf result RunFault.Device ↔ IsTrue self.new.session.broken }
         ensures failures { D.failures self.old.disk ≤ D.failures self.new.disk }
@@ -356,6 +363,7 @@ impl<D: Disk> Store<D> {
         ensures settled { self.new.session.settled ≡ texts_of (contents (D.files self.new.disk)) self.new.session.names }
         ensures counts { Counts self.old.session result self.new.session }
         ensures failed { IsErrOf result RunFault.Device → HasRisen (D.failures self.old.disk) (D.failures self.new.disk) }
+        ensures told { (IsErrOf result RunFault.Device → ⊥) → D.failures self.new.disk ≡ D.failures self.old.disk }
         ensures not_broken { IsErrOf result RunFault.Broken → ⊥ }
         ensures breaks { IsErrOf result RunFault.Device ↔ IsTrue self.new.session.broken }
         ensures failures { D.failures self.old.disk ≤ D.failures self.new.disk }
@@ -386,6 +394,7 @@ impl<D: Disk> Store<D> {
         ensures fit { D.honest self.old.disk → IsAtRest (D.files self.old.disk) → IsFit (D.files self.new.disk) }
         ensures counts { Counts self.old.session result self.new.session }
         ensures failed { IsErrOf result RunFault.Device → HasRisen (D.failures self.old.disk) (D.failures self.new.disk) }
+        ensures told { (IsErrOf result RunFault.Device → ⊥) → D.failures self.new.disk ≡ D.failures self.old.disk }
         ensures broken { IsErrOf result RunFault.Broken ↔ IsTrue self.old.session.broken }
         ensures untouched { IsErrOf result RunFault.Broken → self.new ≡ self.old }
         ensures breaks { IsTrue self.new.session.broken ↔ (IsTrue self.old.session.broken ⊎ IsErrOf result RunFault.Device) }

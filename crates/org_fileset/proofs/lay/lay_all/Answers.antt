@@ -13,6 +13,7 @@ pub loop-entry-init : goal.loop-entry-init
 loop-entry-init g c = record {
   honest = (λ h. h, λ h. h);
   failures = omega arith;
+  told = refl;
   replays = λ honest stable texts takes. replays_none (g.D.Disk.moment c.args.disk.now) (g.D.Disk.left_since c.args.disk.now) (g.D.Disk.files c.args.disk.now) takes;
   have = λ honest j entry none is. absurd (omega arith);
   untouched = λ honest j entry le is. refl;
@@ -77,6 +78,7 @@ loop-entry-preserved g c =
     record {
       honest = (λ h. sofar.honest.0 (c.lay_entry.ensures.honest.0 h), λ h. c.lay_entry.ensures.honest.1 (sofar.honest.1 h));
       failures = omega (arith, sofar.failures, c.lay_entry.ensures.failures);
+      told = c.in_ok-lay_entry.ensures.told ∙ sofar.told;
       replays = λ honest stable texts takes.
           let h = sofar.honest.1 honest in
           let now = sofar.replays honest stable texts takes in

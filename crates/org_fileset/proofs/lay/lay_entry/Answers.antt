@@ -9,6 +9,7 @@ pub loop-patch-init : goal.loop-patch-init
 loop-patch-init g c = record {
   honest = (λ h. h, λ h. h);
   failures = omega arith;
+  told = refl;
   content = λ honest. refl;
   others = λ honest other apart. refl;
   lays = λ honest to takes. lays_none (g.D.Disk.moment c.args.disk.now) (g.D.Disk.left_since c.args.disk.now) (g.D.Disk.files c.args.disk.now) takes;
@@ -67,6 +68,7 @@ loop-patch-preserved g c =
     record {
       honest = (λ h. sofar.honest.0 (c.write_at.ensures.honest.0 h), λ h. c.write_at.ensures.honest.1 (sofar.honest.1 h));
       failures = omega (arith, sofar.failures, c.in_ok-write_at.ensures.count_ok);
+      told = c.in_ok-write_at.ensures.count_ok ∙ sofar.told;
       content = λ honest.
           let done = (c.in_ok-write_at.ensures.effect (sofar.honest.1 honest)).ok in
           ap (λ (f : FileState). f.content) done

@@ -12,6 +12,7 @@ invariant-loop-patch g l =
     record {
       honest : disk.honest l.disk ↔ disk.honest l.fn.disk;
       failures : disk.failures l.fn.disk ≤ disk.failures l.disk;
+      told : disk.failures l.disk ≡ disk.failures l.fn.disk;
       content : disk.honest l.fn.disk → (disk.files l.disk l.entry.name).content ≡ lay_each (take l.patch-index patches) (disk.files l.fn.disk l.entry.name).content;
       others : disk.honest l.fn.disk → (other : List ℕ) → other ≢ l.entry.name → disk.files l.disk other ≡ disk.files l.fn.disk other;
       lays : disk.honest l.fn.disk → (to : List ℕ) → EachLaysTo patches l.entry.length to (disk.files l.fn.disk l.entry.name)

@@ -10,6 +10,7 @@ pub loop-entry-init : goal.loop-entry-init
 loop-entry-init g c = record {
   honest = (λ h. h, λ h. h);
   failures = omega arith;
+  told = refl;
   replays = λ honest stable texts takes. replays_none (g.D.Disk.moment c.args.disk.now) (g.D.Disk.left_since c.args.disk.now) (g.D.Disk.files c.args.disk.now) takes;
   contents = λ honest name. refl;
   others = λ honest name none. refl;
@@ -38,6 +39,7 @@ loop-entry-preserved g c =
     record {
       honest = (λ h. sofar.honest.0 (c.sync.ensures.honest.0 h), λ h. c.sync.ensures.honest.1 (sofar.honest.1 h));
       failures = omega (arith, sofar.failures, c.in_ok-sync.ensures.count_ok);
+      told = c.in_ok-sync.ensures.count_ok ∙ sofar.told;
       replays = λ honest stable texts takes.
           let h = sofar.honest.1 honest in
           let now = sofar.replays honest stable texts takes in

@@ -17,6 +17,7 @@ invariant-loop-entry g l =
     record {
       honest : disk.honest l.disk ↔ disk.honest l.fn.disk;
       failures : disk.failures l.fn.disk ≤ disk.failures l.disk;
+      told : disk.failures l.disk ≡ disk.failures l.fn.disk;
       replays : disk.honest l.fn.disk → IsStable (disk.files l.fn.disk journal_name) → (texts : Image) → EachTakes l.entries texts (disk.files l.fn.disk)
           → Replays l.entries texts (disk.moment l.fn.disk) (disk.moment l.disk) (disk.left_since l.fn.disk) (disk.left_since l.disk) (disk.files l.fn.disk) (disk.files l.disk);
       contents : disk.honest l.fn.disk → (name : List ℕ) → contents (disk.files l.disk) name ≡ contents (disk.files l.fn.disk) name;

@@ -20,5 +20,6 @@ loop-name-preserved g c =
       any_moment = λ honest. passes_then (sofar.any_moment honest) (c.length.ensures.time (sofar.honest.1 honest))
           (λ image left. subst (λ (f : List ℕ → FileState). AreImages f image) (sofar.same honest) left);
       failures = omega (arith, sofar.failures, c.in_ok-length.ensures.count_ok);
+      told = c.in_ok-length.ensures.count_ok ∙ sofar.told;
       honest = (λ h. sofar.honest.0 (c.length.ensures.honest.0 h), λ h. c.length.ensures.honest.1 (sofar.honest.1 h));
     }

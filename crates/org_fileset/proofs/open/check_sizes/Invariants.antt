@@ -12,5 +12,6 @@ invariant-loop-name g l =
       same : disk.honest l.fn.disk → disk.files l.disk ≡ disk.files l.fn.disk;
       any_moment : disk.honest l.fn.disk → Passes (disk.moment l.fn.disk) (disk.moment l.disk) (disk.left_since l.fn.disk) (disk.left_since l.disk) (AreImages (disk.files l.fn.disk));
       failures : disk.failures l.fn.disk ≤ disk.failures l.disk;
+      told : disk.failures l.disk ≡ disk.failures l.fn.disk;
       honest : disk.honest l.disk ↔ disk.honest l.fn.disk;
     }

@@ -20,6 +20,7 @@ loop-entry-preserved g c =
       written = (written_first entries i entry c.loop-entry-test.true c.entry-item.is so_far.written).1;
       honest = (λ h. so_far.honest.0 (call.honest.0 h), λ h. call.honest.1 (so_far.honest.1 h));
       failures = omega (arith, so_far.failures, c.in_ok-size.ensures.count_ok);
+      told = c.in_ok-size.ensures.count_ok ∙ so_far.told;
       same = λ honest. call.same (so_far.honest.1 honest) ∙ so_far.same honest;
       any_moment = λ honest. passes_then (so_far.any_moment honest) (call.time (so_far.honest.1 honest)) (λ image left. subst (λ f. AreImages f image) (so_far.same honest) left);
       fit = λ honest.

@@ -11,6 +11,7 @@ invariant-loop-entry g l =
       written : AreWritten (drop l.entry-index l.entries);
       honest : disk.honest l.disk ↔ disk.honest l.fn.disk;
       failures : disk.failures l.fn.disk ≤ disk.failures l.disk;
+      told : disk.failures l.disk ≡ disk.failures l.fn.disk;
       same : disk.honest l.fn.disk → disk.files l.disk ≡ disk.files l.fn.disk;
       any_moment : disk.honest l.fn.disk → Passes (disk.moment l.fn.disk) (disk.moment l.disk) (disk.left_since l.fn.disk) (disk.left_since l.disk) (AreImages (disk.files l.fn.disk));
       fit : disk.honest l.fn.disk → all_fit (drop l.entry-index l.entries) (contents (disk.files l.fn.disk)) ≡ all_fit l.entries (contents (disk.files l.fn.disk));
