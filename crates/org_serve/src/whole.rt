@@ -69,6 +69,7 @@ pub fn serve_disk<D: Disk, R: Source, W: Sink>(
     ensures write_cause { result.end ≡ Ok ServeEnd.Write → HasRisen (W.failures writer.old) (W.failures writer.new) }
     ensures refused { IfErr result.end (IsReason setup.names.items (D.honest disk) (contents (D.files disk)) (contents (D.files result.disk))) }
     ensures failed { IfErr result.end (λ fault. fault ≡ OpenFault.Device → HasRisen (D.failures disk) (D.failures result.disk)) }
+    ensures told { IfErr result.end (λ fault. (fault ≡ OpenFault.Device → ⊥) → D.failures result.disk ≡ D.failures disk) }
     ensures honest { D.honest result.disk ↔ D.honest disk }
 {
     let Setup {
