@@ -1,6 +1,4 @@
-use Rattle.std.proofs.Common.{◌≡◌}
 use Rattle.org_fileset.specs.Replay.{IsAtRest}
-use Rattle.org_journal.specs.Standing.{IsFit}
 use Rattle.org_serve.proofs.Stops.{session_of_runs}
 use Rattle.org_serve.proofs.Opened.{of_disk, is_sound, serves, leaves}
 use Rattle.org_serve.proofs.whole.serve_disk.Goals as goal
