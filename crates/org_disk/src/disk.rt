@@ -1,6 +1,6 @@
 // A disk as the layers above see it: what a read gives, and what a stop may leave.
-ghost use Rattle.std.specs.Prelude.{◌≡◌, ◌+◌, ◌^◌, ◌<◌, ◌≤◌, ◌↔◌, List, ℕ, length, take, drop, IfOk, OnOk, OnErr};
-ghost use Rattle.org_disk.specs.Disk.{FileState, IsImage, AreImages, AreLeftBy, Changes, Passes, write, cut, sync, IsCounted};
+ghost use Rattle.std.specs.Prelude.{◌≡◌, ◌+◌, ◌^◌, ◌<◌, ◌≤◌, List, ℕ, length, take, drop, IfOk, OnOk, OnErr};
+ghost use Rattle.org_disk.specs.Disk.{FileState, IsImage, AreImages, AreLeftBy, Changes, KeepsHonesty, Passes, write, cut, sync, IsCounted};
 
 use crate::FileName;
 use thiserror::Error;
@@ -12,11 +12,16 @@ pub struct DiskFault;
 
 /// A disk that holds files by name; an absent file and an empty one are the same.
 ///
-/// What is said of contents, lengths and images, and what a call asks of them, is said and asked of an honest disk
-/// alone. A call that fails adds one to the failures, whose greatest number is 2^64 - 1.
+/// What a call asks of contents, lengths and images is asked of an honest disk alone, and what is said of them is said
+/// where the disk is honest after the call. A call that fails adds one to the failures, whose greatest number is
+/// 2^64 - 1.
 pub trait Disk {
-    /// The disk is as it says: a read gives the content, and each call has its effect.
+    /// The disk has been as it says: each read gave the content, and each call had its effect. A wrong answer ends this
+    /// for good.
     ghost honest: { Self → Type 0 };
+
+    /// No answer is wrong: an honest disk of this type stays honest.
+    ghost steady: { Type 0 };
 
     /// The file of each name, a name being its bytes.
     ghost files: { Self → List ℕ → FileState };
@@ -32,67 +37,67 @@ pub trait Disk {
 
     /// The length of a file in bytes. It changes nothing, failed or not.
     fn length(&mut self, name: &FileName) -> Result<u64, DiskFault>
-        ensures value { IfOk result (λ n. honest self.old →
+        ensures value { IfOk result (λ n. honest self.new →
             n ≡ length (files self.old name.now).content) }
-        ensures same { honest self.old → files self.new ≡ files self.old }
-        ensures time { honest self.old →
+        ensures same { honest self.new → files self.new ≡ files self.old }
+        ensures time { honest self.new →
             Passes (moment self.old) (moment self.new) (left_since self.old) (left_since self.new)
             (AreImages (files self.old)) }
         ensures count_ok { OnOk result (failures self.new ≡ failures self.old) }
         ensures count_err { OnErr result (IsCounted (failures self.old) (failures self.new)) }
-        ensures honest { honest self.new ↔ honest self.old };
+        ensures honest { KeepsHonesty steady (honest self.old) (honest self.new) };
 
     /// Fills the buffer with the bytes of a file from `from` on; they lie within its length. It changes nothing of the
     /// disk, failed or not; what the buffer holds after a failure is open.
     fn read_at(&mut self, name: &FileName, from: u64, into: &mut [u8]) -> Result<(), DiskFault>
         requires { honest self.old → from + length into.old ≤ length (files self.old name.now).content }
-        ensures bytes { OnOk result (honest self.old →
+        ensures bytes { OnOk result (honest self.new →
             into.new ≡ take (length into.old) (drop from (files self.old name.now).content)) }
-        ensures same { honest self.old → files self.new ≡ files self.old }
-        ensures time { honest self.old →
+        ensures same { honest self.new → files self.new ≡ files self.old }
+        ensures time { honest self.new →
             Passes (moment self.old) (moment self.new) (left_since self.old) (left_since self.new)
             (AreImages (files self.old)) }
         ensures count_ok { OnOk result (failures self.new ≡ failures self.old) }
         ensures count_err { OnErr result (IsCounted (failures self.old) (failures self.new)) }
-        ensures honest { honest self.new ↔ honest self.old };
+        ensures honest { KeepsHonesty steady (honest self.old) (honest self.new) };
 
     /// Writes bytes over a file from `from` on, which is at most its length; the file grows where they reach past its
     /// end. Until the next sync a stop may leave any bytes in that range, and any length that the file had.
     fn write_at(&mut self, name: &FileName, from: u64, bytes: &[u8]) -> Result<(), DiskFault>
         requires within { honest self.old → from ≤ length (files self.old name.now).content }
         requires fits { honest self.old → from + length bytes.now < 2 ^ 64 }
-        ensures effect { honest self.old →
+        ensures effect { honest self.new →
             Changes (write from bytes.now) name.now (files self.old) (files self.new) result }
-        ensures time { honest self.old →
+        ensures time { honest self.new →
             Passes (moment self.old) (moment self.new) (left_since self.old) (left_since self.new)
             (AreLeftBy (write from bytes.now) name.now (files self.old)) }
         ensures count_ok { OnOk result (failures self.new ≡ failures self.old) }
         ensures count_err { OnErr result (IsCounted (failures self.old) (failures self.new)) }
-        ensures honest { honest self.new ↔ honest self.old };
+        ensures honest { KeepsHonesty steady (honest self.old) (honest self.new) };
 
     /// Takes away the bytes of a file from `to` on, which is at most its length. Until the next sync a stop may leave
     /// any length that the file had.
     fn cut(&mut self, name: &FileName, to: u64) -> Result<(), DiskFault>
         requires { honest self.old → to ≤ length (files self.old name.now).content }
-        ensures effect { honest self.old →
+        ensures effect { honest self.new →
             Changes (cut to) name.now (files self.old) (files self.new) result }
-        ensures time { honest self.old →
+        ensures time { honest self.new →
             Passes (moment self.old) (moment self.new) (left_since self.old) (left_since self.new)
             (AreLeftBy (cut to) name.now (files self.old)) }
         ensures count_ok { OnOk result (failures self.new ≡ failures self.old) }
         ensures count_err { OnErr result (IsCounted (failures self.old) (failures self.new)) }
-        ensures honest { honest self.new ↔ honest self.old };
+        ensures honest { KeepsHonesty steady (honest self.old) (honest self.new) };
 
     /// Puts a file on the disk: from then on a stop leaves its content, and nothing else.
     fn sync(&mut self, name: &FileName) -> Result<(), DiskFault>
-        ensures effect { honest self.old →
+        ensures effect { honest self.new →
             Changes sync name.now (files self.old) (files self.new) result }
-        ensures time { honest self.old →
+        ensures time { honest self.new →
             Passes (moment self.old) (moment self.new) (left_since self.old) (left_since self.new)
             (AreLeftBy sync name.now (files self.old)) }
         ensures count_ok { OnOk result (failures self.new ≡ failures self.old) }
         ensures count_err { OnErr result (IsCounted (failures self.old) (failures self.new)) }
-        ensures honest { honest self.new ↔ honest self.old };
+        ensures honest { KeepsHonesty steady (honest self.old) (honest self.new) };
 
     /// The content is one of the images.
     ghost content_is_image: { (disk : Self) (name : List ℕ) → honest disk →

@@ -1,6 +1,6 @@
 // A disk whose calls fail from some call on.
 ghost use Rattle.std.specs.Prelude.{◌≡◌, ◌+◌, ◌-◌, ◌^◌, ◌↔◌, IsErr, OnOk, OnErr};
-ghost use Rattle.org_disk.specs.Disk.{IsCounted};
+ghost use Rattle.org_disk.specs.Disk.{IsCounted, KeepsHonesty};
 
 use crate::{Disk, DiskFault, FileName};
 
@@ -60,6 +60,8 @@ impl<D: Disk> Disk for Fuse<D> {
 
     ghost honest = { λ fuse. D.honest fuse.disk };
 
+    ghost steady = { D.steady };
+
     ghost files = { λ fuse. D.files fuse.disk };
 
     ghost moment = { λ fuse. D.moment fuse.disk };
@@ -75,10 +77,10 @@ impl<D: Disk> Disk for Fuse<D> {
     ghost only_now = { λ fuse image honest left. D.only_now fuse.disk image honest left };
 
     fn length(&mut self, name: &FileName) -> Result<u64, DiskFault>
-        ensures value { IfOk result (λ n. D.honest self.old.disk →
+        ensures value { IfOk result (λ n. D.honest self.new.disk →
             n ≡ length (D.files self.old.disk name.now).content) }
-        ensures same { D.honest self.old.disk → D.files self.new.disk ≡ D.files self.old.disk }
-        ensures time { D.honest self.old.disk →
+        ensures same { D.honest self.new.disk → D.files self.new.disk ≡ D.files self.old.disk }
+        ensures time { D.honest self.new.disk →
             Passes (D.moment self.old.disk) (D.moment self.new.disk)
             (D.left_since self.old.disk) (D.left_since self.new.disk)
             (AreImages (D.files self.old.disk)) }
@@ -88,7 +90,7 @@ impl<D: Disk> Disk for Fuse<D> {
         ensures count_err { OnErr result
             (IsCounted (fuse_failures self.old.failures (D.failures self.old.disk))
             (fuse_failures self.new.failures (D.failures self.new.disk))) }
-        ensures honest { D.honest self.new.disk ↔ D.honest self.old.disk }
+        ensures honest { KeepsHonesty D.steady (D.honest self.old.disk) (D.honest self.new.disk) }
         ensures spent { self.new.passes ≡ self.old.passes - 1 }
         ensures blown { self.old.passes ≡ 0 → IsErr result × (self.new.disk ≡ self.old.disk) }
         ensures passed { 0 < self.old.passes → self.new.failures ≡ self.old.failures }
@@ -100,10 +102,10 @@ impl<D: Disk> Disk for Fuse<D> {
     fn read_at(&mut self, name: &FileName, from: u64, into: &mut [u8]) -> Result<(), DiskFault>
         requires { D.honest self.old.disk →
             from + length into.old ≤ length (D.files self.old.disk name.now).content }
-        ensures bytes { OnOk result (D.honest self.old.disk → into.new ≡
+        ensures bytes { OnOk result (D.honest self.new.disk → into.new ≡
             take (length into.old) (drop from (D.files self.old.disk name.now).content)) }
-        ensures same { D.honest self.old.disk → D.files self.new.disk ≡ D.files self.old.disk }
-        ensures time { D.honest self.old.disk →
+        ensures same { D.honest self.new.disk → D.files self.new.disk ≡ D.files self.old.disk }
+        ensures time { D.honest self.new.disk →
             Passes (D.moment self.old.disk) (D.moment self.new.disk)
             (D.left_since self.old.disk) (D.left_since self.new.disk)
             (AreImages (D.files self.old.disk)) }
@@ -113,7 +115,7 @@ impl<D: Disk> Disk for Fuse<D> {
         ensures count_err { OnErr result
             (IsCounted (fuse_failures self.old.failures (D.failures self.old.disk))
             (fuse_failures self.new.failures (D.failures self.new.disk))) }
-        ensures honest { D.honest self.new.disk ↔ D.honest self.old.disk }
+        ensures honest { KeepsHonesty D.steady (D.honest self.old.disk) (D.honest self.new.disk) }
         ensures spent { self.new.passes ≡ self.old.passes - 1 }
         ensures blown { self.old.passes ≡ 0 → IsErr result × (self.new.disk ≡ self.old.disk) }
         ensures passed { 0 < self.old.passes → self.new.failures ≡ self.old.failures }
@@ -126,10 +128,10 @@ impl<D: Disk> Disk for Fuse<D> {
         requires within { D.honest self.old.disk →
             from ≤ length (D.files self.old.disk name.now).content }
         requires fits { D.honest self.old.disk → from + length bytes.now < 2 ^ 64 }
-        ensures effect { D.honest self.old.disk →
+        ensures effect { D.honest self.new.disk →
             Changes (write from bytes.now) name.now
             (D.files self.old.disk) (D.files self.new.disk) result }
-        ensures time { D.honest self.old.disk →
+        ensures time { D.honest self.new.disk →
             Passes (D.moment self.old.disk) (D.moment self.new.disk)
             (D.left_since self.old.disk) (D.left_since self.new.disk)
             (AreLeftBy (write from bytes.now) name.now (D.files self.old.disk)) }
@@ -139,7 +141,7 @@ impl<D: Disk> Disk for Fuse<D> {
         ensures count_err { OnErr result
             (IsCounted (fuse_failures self.old.failures (D.failures self.old.disk))
             (fuse_failures self.new.failures (D.failures self.new.disk))) }
-        ensures honest { D.honest self.new.disk ↔ D.honest self.old.disk }
+        ensures honest { KeepsHonesty D.steady (D.honest self.old.disk) (D.honest self.new.disk) }
         ensures spent { self.new.passes ≡ self.old.passes - 1 }
         ensures blown { self.old.passes ≡ 0 → IsErr result × (self.new.disk ≡ self.old.disk) }
         ensures passed { 0 < self.old.passes → self.new.failures ≡ self.old.failures }
@@ -150,9 +152,9 @@ impl<D: Disk> Disk for Fuse<D> {
 
     fn cut(&mut self, name: &FileName, to: u64) -> Result<(), DiskFault>
         requires { D.honest self.old.disk → to ≤ length (D.files self.old.disk name.now).content }
-        ensures effect { D.honest self.old.disk →
+        ensures effect { D.honest self.new.disk →
             Changes (cut to) name.now (D.files self.old.disk) (D.files self.new.disk) result }
-        ensures time { D.honest self.old.disk →
+        ensures time { D.honest self.new.disk →
             Passes (D.moment self.old.disk) (D.moment self.new.disk)
             (D.left_since self.old.disk) (D.left_since self.new.disk)
             (AreLeftBy (cut to) name.now (D.files self.old.disk)) }
@@ -162,7 +164,7 @@ impl<D: Disk> Disk for Fuse<D> {
         ensures count_err { OnErr result
             (IsCounted (fuse_failures self.old.failures (D.failures self.old.disk))
             (fuse_failures self.new.failures (D.failures self.new.disk))) }
-        ensures honest { D.honest self.new.disk ↔ D.honest self.old.disk }
+        ensures honest { KeepsHonesty D.steady (D.honest self.old.disk) (D.honest self.new.disk) }
         ensures spent { self.new.passes ≡ self.old.passes - 1 }
         ensures blown { self.old.passes ≡ 0 → IsErr result × (self.new.disk ≡ self.old.disk) }
         ensures passed { 0 < self.old.passes → self.new.failures ≡ self.old.failures }
@@ -172,9 +174,9 @@ impl<D: Disk> Disk for Fuse<D> {
     }
 
     fn sync(&mut self, name: &FileName) -> Result<(), DiskFault>
-        ensures effect { D.honest self.old.disk →
+        ensures effect { D.honest self.new.disk →
             Changes sync name.now (D.files self.old.disk) (D.files self.new.disk) result }
-        ensures time { D.honest self.old.disk →
+        ensures time { D.honest self.new.disk →
             Passes (D.moment self.old.disk) (D.moment self.new.disk)
             (D.left_since self.old.disk) (D.left_since self.new.disk)
             (AreLeftBy sync name.now (D.files self.old.disk)) }
@@ -184,7 +186,7 @@ impl<D: Disk> Disk for Fuse<D> {
         ensures count_err { OnErr result
             (IsCounted (fuse_failures self.old.failures (D.failures self.old.disk))
             (fuse_failures self.new.failures (D.failures self.new.disk))) }
-        ensures honest { D.honest self.new.disk ↔ D.honest self.old.disk }
+        ensures honest { KeepsHonesty D.steady (D.honest self.old.disk) (D.honest self.new.disk) }
         ensures spent { self.new.passes ≡ self.old.passes - 1 }
         ensures blown { self.old.passes ≡ 0 → IsErr result × (self.new.disk ≡ self.old.disk) }
         ensures passed { 0 < self.old.passes → self.new.failures ≡ self.old.failures }

@@ -324,6 +324,8 @@ impl Disk for MemoryDisk {
 
     ghost honest = { λ _. Unit {0} };
 
+    ghost steady = { Unit {0} };
+
     ghost files = { memory_files };
 
     ghost moment = { λ disk. length disk.calls.items };

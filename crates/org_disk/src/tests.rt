@@ -274,7 +274,7 @@ fn write_sync_write<D: Disk>(
     first: &[u8],
     second: &[u8],
 ) -> Result<(), DiskFault>
-    ensures { OnOk result (D.honest disk.old → (image : List ℕ → List ℕ) → AreImages (D.files disk.new) image → take (length first.now) (image name.now) ≡ first.now) }
+    ensures { OnOk result (D.honest disk.new → (image : List ℕ → List ℕ) → AreImages (D.files disk.new) image → take (length first.now) (image name.now) ≡ first.now) }
 {
     disk.write_at(name, 0, first)?;
     disk.sync(name)?;

@@ -1,7 +1,7 @@
 //! What is asked of files before a set is opened over them.
-ghost use Rattle.std.specs.Prelude.{◌≡◌, ◌≤◌, ◌↔◌, List, Err, IsSomeAnd, IfOk, IfErr, OnOk, IsErrOf};
+ghost use Rattle.std.specs.Prelude.{◌≡◌, ◌≤◌, List, Err, IsSomeAnd, IfOk, IfErr, OnOk, IsErrOf};
 ghost use Rattle.std.specs.List.{All};
-ghost use Rattle.org_disk.specs.Disk.{HasRisen, Passes, LeavesOnly, AreImages};
+ghost use Rattle.org_disk.specs.Disk.{HasRisen, Passes, LeavesOnly, AreImages, KeepsHonesty};
 ghost use Rattle.org_disk.specs.Names.{journal_name};
 ghost use Rattle.org_journal.specs.Gate.{HasClosedGate};
 ghost use Rattle.org_journal.specs.Standing.{SameFiles, IsFit, stands, contents};
@@ -102,15 +102,15 @@ pub fn journal_and_names(
 
 /// Asks for the length of each of these files.
 pub fn check_sizes<D: Disk>(disk: &mut D, names: &[FileName]) -> Result<(), OpenFault>
-    ensures sizes { D.honest disk.old → HaveSizes (contents (D.files disk.old)) names.now result }
+    ensures sizes { D.honest disk.new → HaveSizes (contents (D.files disk.old)) names.now result }
     ensures only { IsErrOf result OpenFault.TooManyFiles → ⊥ }
     ensures found { IsErrOf result OpenFault.BadJournal → ⊥ }
-    ensures same { D.honest disk.old → D.files disk.new ≡ D.files disk.old }
-    ensures any_moment { D.honest disk.old → Passes (D.moment disk.old) (D.moment disk.new) (D.left_since disk.old) (D.left_since disk.new) (AreImages (D.files disk.old)) }
+    ensures same { D.honest disk.new → D.files disk.new ≡ D.files disk.old }
+    ensures any_moment { D.honest disk.new → Passes (D.moment disk.old) (D.moment disk.new) (D.left_since disk.old) (D.left_since disk.new) (AreImages (D.files disk.old)) }
     ensures failed { IsErrOf result OpenFault.Device → HasRisen (D.failures disk.old) (D.failures disk.new) }
     ensures told { (IsErrOf result OpenFault.Device → ⊥) → D.failures disk.new ≡ D.failures disk.old }
     ensures failures { D.failures disk.old ≤ D.failures disk.new }
-    ensures honest { D.honest disk.new ↔ D.honest disk.old }
+    ensures honest { KeepsHonesty D.steady (D.honest disk.old) (D.honest disk.new) }
 {
     for name in names {
         if disk.length(name)? > LIMIT as u64 {
@@ -128,19 +128,19 @@ pub fn make_ready<D: Disk>(
     names: &[FileName],
 ) -> Result<(), OpenFault>
     requires { journal.now ≡ journal_name }
-    ensures gate { OnOk result (D.honest disk.old → HasClosedGate (D.files disk.new journal_name)) }
-    ensures contents { OnOk result (D.honest disk.old → IsSomeAnd (stands (contents (D.files disk.old))) (SameFiles (contents (D.files disk.new)))) }
-    ensures journal { OnOk result (D.honest disk.old → contents (D.files disk.new) journal_name ≡ closed_journal (contents (D.files disk.old) journal_name)) }
-    ensures answer { D.honest disk.old → IsAnswer (contents (D.files disk.old)) (contents (D.files disk.new)) names.now result }
+    ensures gate { OnOk result (D.honest disk.new → HasClosedGate (D.files disk.new journal_name)) }
+    ensures contents { OnOk result (D.honest disk.new → IsSomeAnd (stands (contents (D.files disk.old))) (SameFiles (contents (D.files disk.new)))) }
+    ensures journal { OnOk result (D.honest disk.new → contents (D.files disk.new) journal_name ≡ closed_journal (contents (D.files disk.old) journal_name)) }
+    ensures answer { D.honest disk.new → IsAnswer (contents (D.files disk.old)) (contents (D.files disk.new)) names.now result }
     ensures only { IsErrOf result OpenFault.TooManyFiles → ⊥ }
-    ensures any_moment { D.honest disk.old → IsFit (D.files disk.old) → EachStands (D.files disk.old) →
+    ensures any_moment { D.honest disk.new → IsFit (D.files disk.old) → EachStands (D.files disk.old) →
         LeavesOnly (D.moment disk.old) (D.moment disk.new) (D.left_since disk.old) (D.left_since disk.new) (StandsAsBefore (D.files disk.old)) }
-    ensures fit { D.honest disk.old → IsFit (D.files disk.old) → EachStands (D.files disk.old) → IsFit (D.files disk.new) }
-    ensures rest { OnOk result (D.honest disk.old → IsFit (D.files disk.old) → EachStands (D.files disk.old) → IsAtRest (D.files disk.new)) }
+    ensures fit { D.honest disk.new → IsFit (D.files disk.old) → EachStands (D.files disk.old) → IsFit (D.files disk.new) }
+    ensures rest { OnOk result (D.honest disk.new → IsFit (D.files disk.old) → EachStands (D.files disk.old) → IsAtRest (D.files disk.new)) }
     ensures failed { IsErrOf result OpenFault.Device → HasRisen (D.failures disk.old) (D.failures disk.new) }
     ensures told { (IsErrOf result OpenFault.Device → ⊥) → D.failures disk.new ≡ D.failures disk.old }
     ensures failures { D.failures disk.old ≤ D.failures disk.new }
-    ensures honest { D.honest disk.new ↔ D.honest disk.old }
+    ensures honest { KeepsHonesty D.steady (D.honest disk.old) (D.honest disk.new) }
 {
     recover(alloc, disk, journal)?;
     check_sizes(disk, names)

@@ -1,7 +1,7 @@
 //! The files of a store as one.
 ghost use Rattle.std.specs.Prelude.{◌≡◌, ◌≢◌, ◌≤◌, ◌⊎◌, ◌↔◌, List, ℕ, None, true, false, length, IsTrue, IsFalse, IsSomeAnd, IfOk, IfErr, OnOk, OnErr, IsErrOf, MatchResult};
 ghost use Rattle.std.specs.List.{All, Contains};
-ghost use Rattle.org_disk.specs.Disk.{HasRisen, Passes, LeavesOnly, AreImages};
+ghost use Rattle.org_disk.specs.Disk.{HasRisen, Passes, LeavesOnly, AreImages, KeepsHonesty};
 ghost use Rattle.org_disk.specs.Names.{journal_name};
 ghost use Rattle.org_splice.specs.Texts.{IsEditOf};
 ghost use Rattle.org_journal.specs.Standing.{IsFit, SameFiles, stands, contents};
@@ -57,19 +57,19 @@ impl<D: Disk> FileSet<D> {
         requires { All IsGiven names.items }
         ensures names { IfOk result (λ set. AreFew names.items × AreSorted (with_archives names.items) set.names) }
         ensures working { IfOk result (λ set. set.broken ≡ false) }
-        ensures contents { IfOk result (λ set. D.honest disk → IsSomeAnd (stands (contents (D.files disk))) (SameFiles (contents (D.files set.disk)))) }
-        ensures journal { IfOk result (λ set. D.honest disk → contents (D.files set.disk) journal_name ≡ closed_journal (contents (D.files disk) journal_name)) }
-        ensures sizes { IfOk result (λ set. D.honest disk → first_large (contents (D.files set.disk)) set.names ≡ None) }
-        ensures refused { IfErr result (λ refused. IsReason names.items (D.honest disk) (contents (D.files disk)) (contents (D.files refused.disk)) refused.fault) }
+        ensures contents { IfOk result (λ set. D.honest set.disk → IsSomeAnd (stands (contents (D.files disk))) (SameFiles (contents (D.files set.disk)))) }
+        ensures journal { IfOk result (λ set. D.honest set.disk → contents (D.files set.disk) journal_name ≡ closed_journal (contents (D.files disk) journal_name)) }
+        ensures sizes { IfOk result (λ set. D.honest set.disk → first_large (contents (D.files set.disk)) set.names ≡ None) }
+        ensures refused { IfErr result (λ refused. IsReason names.items (D.honest refused.disk) (contents (D.files disk)) (contents (D.files refused.disk)) refused.fault) }
         ensures unused { IfErr result (λ refused. refused.fault ≡ OpenFault.TooManyFiles → refused.disk ≡ disk) }
-        ensures any_moment { D.honest disk → IsFit (D.files disk) → EachStands (D.files disk) →
+        ensures any_moment { D.honest (disk_in result) → IsFit (D.files disk) → EachStands (D.files disk) →
             LeavesOnly (D.moment disk) (D.moment (disk_in result)) (D.left_since disk) (D.left_since (disk_in result)) (StandsAsBefore (D.files disk)) }
-        ensures fit { D.honest disk → IsFit (D.files disk) → EachStands (D.files disk) → IsFit (D.files (disk_in result)) }
-        ensures rest { IfOk result (λ set. D.honest disk → IsFit (D.files disk) → EachStands (D.files disk) → IsAtRest (D.files set.disk)) }
+        ensures fit { D.honest (disk_in result) → IsFit (D.files disk) → EachStands (D.files disk) → IsFit (D.files (disk_in result)) }
+        ensures rest { IfOk result (λ set. D.honest set.disk → IsFit (D.files disk) → EachStands (D.files disk) → IsAtRest (D.files set.disk)) }
         ensures failed { IfErr result (λ refused. refused.fault ≡ OpenFault.Device → HasRisen (D.failures disk) (D.failures refused.disk)) }
         ensures told { MatchResult result (λ opened. D.failures opened.disk ≡ D.failures disk) (λ refused. (refused.fault ≡ OpenFault.Device → ⊥) → D.failures refused.disk ≡ D.failures disk) }
         ensures failures { D.failures disk ≤ D.failures (disk_in result) }
-        ensures honest { D.honest (disk_in result) ↔ D.honest disk }
+        ensures honest { KeepsHonesty D.steady (D.honest disk) (D.honest (disk_in result)) }
     {
         let mut disk = disk;
         let (journal, names) = match journal_and_names(alloc, names) {
@@ -116,9 +116,9 @@ impl<D: Disk> FileSet<D> {
 
     /// The bytes of a file.
     pub fn read(&mut self, name: &FileName) -> Result<Vec<u8>, SetFault>
-        ensures text { IfOk result (λ bytes. D.honest self.old.disk → bytes.items ≡ contents (D.files self.old.disk) name.now) }
-        ensures same { D.honest self.old.disk → D.files self.new.disk ≡ D.files self.old.disk }
-        ensures any_moment { D.honest self.old.disk → Passes (D.moment self.old.disk) (D.moment self.new.disk) (D.left_since self.old.disk) (D.left_since self.new.disk)
+        ensures text { IfOk result (λ bytes. D.honest self.new.disk → bytes.items ≡ contents (D.files self.old.disk) name.now) }
+        ensures same { D.honest self.new.disk → D.files self.new.disk ≡ D.files self.old.disk }
+        ensures any_moment { D.honest self.new.disk → Passes (D.moment self.old.disk) (D.moment self.new.disk) (D.left_since self.old.disk) (D.left_since self.new.disk)
             (AreImages (D.files self.old.disk)) }
         ensures names { self.new.names ≡ self.old.names }
         ensures broken { IsErrOf result SetFault.Broken ↔ IsTrue self.old.broken }
@@ -126,7 +126,7 @@ impl<D: Disk> FileSet<D> {
         ensures failed { IsErrOf result SetFault.Device → HasRisen (D.failures self.old.disk) (D.failures self.new.disk) }
         ensures told { (IsErrOf result SetFault.Device → ⊥) → D.failures self.new.disk ≡ D.failures self.old.disk }
         ensures failures { D.failures self.old.disk ≤ D.failures self.new.disk }
-        ensures honest { D.honest self.new.disk ↔ D.honest self.old.disk }
+        ensures honest { KeepsHonesty D.steady (D.honest self.old.disk) (D.honest self.new.disk) }
     {
         if self.broken {
             return Err(SetFault::Broken);
@@ -152,12 +152,12 @@ impl<D: Disk> FileSet<D> {
         requires named { All (λ change. Contains self.old.names change.0) changes.now }
         requires small { All (λ change. length change.1.bytes ≤ LIMIT) changes.now }
         requires edits { IsFalse self.old.broken → D.honest self.old.disk → All (λ change. IsEditOf (contents (D.files self.old.disk) change.0) change.1) changes.now }
-        ensures any_moment { D.honest self.old.disk → IsAtRest (D.files self.old.disk) → LeavesOnly (D.moment self.old.disk) (D.moment self.new.disk)
+        ensures any_moment { D.honest self.new.disk → IsAtRest (D.files self.old.disk) → LeavesOnly (D.moment self.old.disk) (D.moment self.new.disk)
             (D.left_since self.old.disk) (D.left_since self.new.disk) (IsWithOrWithout changes.now (contents (D.files self.old.disk))) }
-        ensures contents { OnOk result (D.honest self.old.disk → SameFiles (contents (D.files self.new.disk)) (changed changes.now (contents (D.files self.old.disk)))) }
-        ensures rest { OnOk result (D.honest self.old.disk → IsAtRest (D.files self.old.disk) → IsAtRest (D.files self.new.disk)) }
+        ensures contents { OnOk result (D.honest self.new.disk → SameFiles (contents (D.files self.new.disk)) (changed changes.now (contents (D.files self.old.disk)))) }
+        ensures rest { OnOk result (D.honest self.new.disk → IsAtRest (D.files self.old.disk) → IsAtRest (D.files self.new.disk)) }
         ensures memory { IsErrOf result SetFault.OutOfMemory → self.new ≡ self.old }
-        ensures fit { IsErrOf result SetFault.Device → D.honest self.old.disk → IsAtRest (D.files self.old.disk) → IsFit (D.files self.new.disk) }
+        ensures fit { IsErrOf result SetFault.Device → D.honest self.new.disk → IsAtRest (D.files self.old.disk) → IsFit (D.files self.new.disk) }
         ensures names { self.new.names ≡ self.old.names }
         ensures broken { IsErrOf result SetFault.Broken ↔ IsTrue self.old.broken }
         ensures same { IsTrue self.old.broken → self.new ≡ self.old }
@@ -165,7 +165,7 @@ impl<D: Disk> FileSet<D> {
         ensures failed { IsErrOf result SetFault.Device → HasRisen (D.failures self.old.disk) (D.failures self.new.disk) }
         ensures told { (IsErrOf result SetFault.Device → ⊥) → D.failures self.new.disk ≡ D.failures self.old.disk }
         ensures failures { D.failures self.old.disk ≤ D.failures self.new.disk }
-        ensures honest { D.honest self.new.disk ↔ D.honest self.old.disk }
+        ensures honest { KeepsHonesty D.steady (D.honest self.old.disk) (D.honest self.new.disk) }
     {
         if self.broken {
             return Err(SetFault::Broken);
@@ -192,14 +192,14 @@ pub(crate) fn read_file<D: Disk>(
     disk: &mut D,
     name: &FileName,
 ) -> Result<Vec<u8>, SetFault>
-    ensures text { IfOk result (λ bytes. D.honest disk.old → bytes.items ≡ contents (D.files disk.old) name.now) }
-    ensures same { D.honest disk.old → D.files disk.new ≡ D.files disk.old }
-    ensures any_moment { D.honest disk.old → Passes (D.moment disk.old) (D.moment disk.new) (D.left_since disk.old) (D.left_since disk.new) (AreImages (D.files disk.old)) }
+    ensures text { IfOk result (λ bytes. D.honest disk.new → bytes.items ≡ contents (D.files disk.old) name.now) }
+    ensures same { D.honest disk.new → D.files disk.new ≡ D.files disk.old }
+    ensures any_moment { D.honest disk.new → Passes (D.moment disk.old) (D.moment disk.new) (D.left_since disk.old) (D.left_since disk.new) (AreImages (D.files disk.old)) }
     ensures not_broken { IsErrOf result SetFault.Broken → ⊥ }
     ensures failed { IsErrOf result SetFault.Device → HasRisen (D.failures disk.old) (D.failures disk.new) }
     ensures told { (IsErrOf result SetFault.Device → ⊥) → D.failures disk.new ≡ D.failures disk.old }
     ensures failures { D.failures disk.old ≤ D.failures disk.new }
-    ensures honest { D.honest disk.new ↔ D.honest disk.old }
+    ensures honest { KeepsHonesty D.steady (D.honest disk.old) (D.honest disk.new) }
 {
     let length = disk.length(name)?;
     let mut bytes = vec![in alloc; 0u8; length as usize]?;

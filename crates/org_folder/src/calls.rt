@@ -31,19 +31,15 @@ impl<F: Drop> Opened<F> {
 /// The calls of a system on the files of one folder, as a disk needs them. A call that fails may have gone any part of
 /// its way.
 ///
-/// Their contracts are the premise under which a `CallsDisk` is an honest disk. Honest calls tell what they were asked
-/// and answered, in a record that stands in proofs alone, and each answer in it is right (`IsRight`): a length and a
-/// read give what the calls before made of the file, a name without a file stands for the empty file, after a stop
-/// too, and a call that failed left what a stop within it may leave. Of calls that aren't called honest nothing is
-/// said.
+/// Each call is told with its answer, in a record that stands in proofs alone. Whether the answers were right
+/// (`AreRight`) is no clause: that a length and a read gave what the calls before made of the file, that a name without
+/// a file stands for the empty file, after a stop too, and that a call that failed left what a stop within it may leave.
+/// It is the premise under which a `CallsDisk` is an honest disk.
 pub trait Calls {
     /// A file of the system, open for reading and, where that is permitted, for writing.
     type File;
 
-    /// The calls answer as the record of the calls before demands.
-    ghost honest: { Type 0 };
-
-    /// What no call shows of the files.
+    /// What no call shows of the files: each as it was at first, and what calls that failed left.
     ghost world: { World };
 
     /// The calls so far, the newest first.
@@ -52,22 +48,22 @@ pub trait Calls {
     /// Opens the file of a name, where there is one.
     fn open(&mut self, name: &FileName) -> Result<Option<Opened<Self::File>>, DiskFault>
         ensures name { IfOk result (λ found. IfSome found (λ opened. opened.name ≡ name.now)) }
-        ensures found { honest → IfOk result (λ found. IfSome found (λ _.
+        ensures found { IfOk result (λ found. IfSome found (λ _.
             history self.new ≡ history self.old)) }
-        ensures absent { honest → IfOk result (λ found. IfNone found
+        ensures absent { IfOk result (λ found. IfNone found
             (history self.new ≡ Absent name.now ∷ history self.old)) }
-        ensures err { honest → OnErr result (history self.new ≡ history self.old) };
+        ensures err { OnErr result (history self.new ≡ history self.old) };
 
     /// Opens the file of a name, which is made where there is none. Its content stays as it is.
     fn make(&mut self, name: &FileName) -> Result<Opened<Self::File>, DiskFault>
         ensures name { IfOk result (λ opened. opened.name ≡ name.now) }
-        ensures same { honest → history self.new ≡ history self.old };
+        ensures same { history self.new ≡ history self.old };
 
     /// The length of a file in bytes.
     fn length(&mut self, opened: &Opened<Self::File>) -> Result<u64, DiskFault>
-        ensures ok { honest → IfOk result (λ n.
+        ensures ok { IfOk result (λ n.
             history self.new ≡ Length opened.now.name n ∷ history self.old) }
-        ensures err { honest → OnErr result (history self.new ≡ history self.old) };
+        ensures err { OnErr result (history self.new ≡ history self.old) };
 
     /// Fills the buffer with the bytes of a file from `from` on.
     fn read_at(
@@ -76,9 +72,9 @@ pub trait Calls {
         from: u64,
         into: &mut [u8],
     ) -> Result<(), DiskFault>
-        ensures ok { honest → OnOk result
+        ensures ok { OnOk result
             (history self.new ≡ Read opened.now.name from into.new ∷ history self.old) }
-        ensures err { honest → OnErr result (history self.new ≡ history self.old) };
+        ensures err { OnErr result (history self.new ≡ history self.old) };
 
     /// Writes bytes over a file from `from` on, which is at most its length.
     fn write_at(
@@ -87,32 +83,28 @@ pub trait Calls {
         from: u64,
         bytes: &[u8],
     ) -> Result<(), DiskFault>
-        requires { honest → from ≤ length (files world (history self.old) opened.now.name).content }
-        ensures { honest →
-            history self.new ≡ Write opened.now.name from bytes.now (is_ok result) ∷ history self.old };
+        requires { AreRight world (history self.old) →
+            from ≤ length (files world (history self.old) opened.now.name).content }
+        ensures { history self.new ≡ Write opened.now.name from bytes.now (is_ok result) ∷ history self.old };
 
     /// A write of no bytes, which needs no file and no call of the system.
     fn write_nothing(&mut self, name: &FileName, from: u64)
-        ensures { honest → history self.new ≡ Write name.now from [] true ∷ history self.old };
+        ensures { history self.new ≡ Write name.now from [] true ∷ history self.old };
 
     /// Takes away the bytes of a file from `to` on, which is at most its length.
     fn cut(&mut self, opened: &Opened<Self::File>, to: u64) -> Result<(), DiskFault>
-        requires { honest → to ≤ length (files world (history self.old) opened.now.name).content }
-        ensures { honest →
-            history self.new ≡ Cut opened.now.name to (is_ok result) ∷ history self.old };
+        requires { AreRight world (history self.old) →
+            to ≤ length (files world (history self.old) opened.now.name).content }
+        ensures { history self.new ≡ Cut opened.now.name to (is_ok result) ∷ history self.old };
 
     /// Puts a file on the device. Its entry in the folder is there already.
     fn sync(&mut self, opened: &Opened<Self::File>) -> Result<(), DiskFault>
         requires { IsTrue opened.now.is_entered }
-        ensures { honest →
-            history self.new ≡ Sync opened.now.name (is_ok result) ∷ history self.old };
+        ensures { history self.new ≡ Sync opened.now.name (is_ok result) ∷ history self.old };
 
     /// Puts the entry of a file in its folder on the device.
     fn sync_entry(&mut self, opened: &mut Opened<Self::File>) -> Result<(), DiskFault>
         ensures name { opened.new.name ≡ opened.old.name }
         ensures ok { OnOk result (IsTrue opened.new.is_entered) }
-        ensures same { honest → history self.new ≡ history self.old };
-
-    /// Each answer was right.
-    ghost right: { (calls : Self) → honest → AreRight world (history calls) };
+        ensures same { history self.new ≡ history self.old };
 }

@@ -1,9 +1,11 @@
-ghost use Rattle.std.specs.Prelude.{◌≡◌, IfOk, OnOk, OnErr, length};
+ghost use Rattle.std.specs.Prelude.{◌≡◌, [], IfOk, OnOk, OnErr, length};
 ghost use Rattle.org_disk.specs.Disk.{IsCounted};
-ghost use Rattle.org_folder.specs.Calls.{files, LeftSince};
+ghost use Rattle.org_folder.specs.Calls.{files, AreRight, LeftSince};
+ghost use Rattle.org_folder.specs.FolderDisk.{record_of};
 
 use crate::calls::Calls;
 use crate::folder::Folder;
+use crate::start::Start;
 use crate::system::SystemCalls;
 use org_disk::{Disk, DiskFault, FileName};
 use std::alloc::{AllocError, Global};
@@ -15,7 +17,8 @@ use std::os::unix::fs::FileExt;
 /// first use on; the first sync of a file also syncs the folder that holds it. A call of the system that fails, and
 /// want of memory, is a counted failure.
 ///
-/// It is an honest disk where the calls are honest; its files are those that their record stands for.
+/// Its files are those that the record of its calls stands for. It is an honest disk as long as each answer in that
+/// record was right, and a wrong one ends it for good; no contract says that a system's answers are right.
 #[derive(Drop)]
 pub struct CallsDisk<C: Calls> {
     folder: Folder<C>,
@@ -25,8 +28,9 @@ pub struct CallsDisk<C: Calls> {
 /// The files of a folder of the operating system, as a disk. Links are followed, and permissions stay as they are. A
 /// call that a signal interrupted is made again.
 ///
-/// What is proved of it is proved of a disk over any honest calls; that the system's are honest is a premise.
-pub type FolderDisk<R> = CallsDisk<SystemCalls<R>>;
+/// That each answer in its record was right is a premise: no contract says what a real file gives. The record stands in
+/// proofs alone and takes no memory. `S` says what the files held as they were first reached, which no code can read.
+pub type FolderDisk<R, S> = CallsDisk<SystemCalls<R, S>>;
 
 impl<C: Calls + Drop> CallsDisk<C>
 where
@@ -51,13 +55,14 @@ where
     }
 }
 
-impl<R: Files + AllocGlobal + Drop> CallsDisk<SystemCalls<R>>
+impl<R: Files + AllocGlobal + Drop, S: Start> CallsDisk<SystemCalls<R, S>>
 where
     R::File: FileExt,
 {
-    /// The disk of the folder at this path. It makes no call of the system.
-    pub fn new(rt: R, alloc: Global, path: &str) -> Result<FolderDisk<R>, AllocError>
-        ensures { IfOk result (λ disk. disk.failures ≡ 0) }
+    /// The disk of the folder at this path. It makes no call of the system, and its record is empty.
+    pub fn new(rt: R, alloc: Global, path: &str) -> Result<FolderDisk<R, S>, AllocError>
+        ensures failures { IfOk result (λ disk. disk.failures ≡ 0) }
+        ensures empty { IfOk result (λ disk. record_of disk ≡ []) }
     {
         Ok(CallsDisk::over(alloc, SystemCalls::new(rt, alloc, path)?))
     }
@@ -81,7 +86,9 @@ where
 {
     ghost use Rattle.org_folder.specs.CallsLaws.{own_image, counts_now, only_now};
 
-    ghost honest = { λ _. C.honest };
+    ghost honest = { λ disk. AreRight C.world (C.history disk.folder.calls) };
+
+    ghost steady = { ⊥ };
 
     ghost files = { λ disk. files C.world (C.history disk.folder.calls) };
 
@@ -92,7 +99,7 @@ where
     ghost failures = { λ disk. disk.failures };
 
     ghost content_is_image = { λ disk name honest.
-        own_image C.world (C.history disk.folder.calls) (C.right disk.folder.calls honest) name };
+        own_image C.world (C.history disk.folder.calls) honest name };
 
     ghost counts_now = { λ disk t image _ le now.
         counts_now C.world (C.history disk.folder.calls) t image le now };

@@ -2,7 +2,7 @@
 ghost use Rattle.std.specs.Prelude.{◌≡◌, ◌<◌, ◌≤◌, [], length, take, drop, IfOk, IfSome, IfNone, OnOk};
 ghost use Rattle.std.specs.List.{HoldsAt};
 ghost use Rattle.org_disk.specs.Disk.{cut, stable, sync, write};
-ghost use Rattle.org_folder.specs.Calls.{files, Does, Looks};
+ghost use Rattle.org_folder.specs.Calls.{files, AreRight, Does, Looks};
 
 use crate::calls::{Calls, Opened};
 use org_disk::{DiskFault, FileName};
@@ -28,9 +28,11 @@ where
     }
 
     pub fn length(&mut self, name: &FileName) -> Result<u64, DiskFault>
-        ensures value { C.honest → IfOk result (λ n.
-            n ≡ length (files C.world (C.history self.old.calls) name.now).content) }
-        ensures looks { C.honest → Looks C.world (C.history self.old.calls) (C.history self.new.calls) }
+        ensures value { AreRight C.world (C.history self.new.calls) →
+            IfOk result (λ n. n ≡ length (files C.world (C.history self.old.calls) name.now).content) }
+        ensures looks { AreRight C.world (C.history self.new.calls) →
+            Looks C.world (C.history self.old.calls) (C.history self.new.calls) }
+        ensures honest { AreRight C.world (C.history self.new.calls) → AreRight C.world (C.history self.old.calls) }
     {
         match self.find(name)? {
             Some(at) => self.calls.length(&self.files[at]),
@@ -39,9 +41,11 @@ where
     }
 
     pub fn read(&mut self, name: &FileName, from: u64, into: &mut [u8]) -> Result<(), DiskFault>
-        ensures bytes { C.honest → OnOk result (into.new ≡
+        ensures bytes { AreRight C.world (C.history self.new.calls) → OnOk result (into.new ≡
             take (length into.old) (drop from (files C.world (C.history self.old.calls) name.now).content)) }
-        ensures looks { C.honest → Looks C.world (C.history self.old.calls) (C.history self.new.calls) }
+        ensures looks { AreRight C.world (C.history self.new.calls) →
+            Looks C.world (C.history self.old.calls) (C.history self.new.calls) }
+        ensures honest { AreRight C.world (C.history self.new.calls) → AreRight C.world (C.history self.old.calls) }
     {
         match self.find(name)? {
             Some(at) => self.calls.read_at(&self.files[at], from, into),
@@ -52,9 +56,11 @@ where
 
     // A write of no bytes makes no file.
     pub fn write(&mut self, name: &FileName, from: u64, bytes: &[u8]) -> Result<(), DiskFault>
-        requires { C.honest → from ≤ length (files C.world (C.history self.old.calls) name.now).content }
-        ensures { C.honest → Does C.world (write from bytes.now) name.now
+        requires { AreRight C.world (C.history self.old.calls) →
+            from ≤ length (files C.world (C.history self.old.calls) name.now).content }
+        ensures effect { AreRight C.world (C.history self.new.calls) → Does C.world (write from bytes.now) name.now
             (C.history self.old.calls) (C.history self.new.calls) result }
+        ensures honest { AreRight C.world (C.history self.new.calls) → AreRight C.world (C.history self.old.calls) }
     {
         if bytes.is_empty() {
             self.calls.write_nothing(name, from);
@@ -65,9 +71,11 @@ where
     }
 
     pub fn cut(&mut self, name: &FileName, to: u64) -> Result<(), DiskFault>
-        requires { C.honest → to ≤ length (files C.world (C.history self.old.calls) name.now).content }
-        ensures { C.honest → Does C.world (cut to) name.now
+        requires { AreRight C.world (C.history self.old.calls) →
+            to ≤ length (files C.world (C.history self.old.calls) name.now).content }
+        ensures effect { AreRight C.world (C.history self.new.calls) → Does C.world (cut to) name.now
             (C.history self.old.calls) (C.history self.new.calls) result }
+        ensures honest { AreRight C.world (C.history self.new.calls) → AreRight C.world (C.history self.old.calls) }
     {
         match self.find(name)? {
             Some(at) => self.calls.cut(&self.files[at], to),
@@ -78,8 +86,9 @@ where
 
     // The first sync of a file takes its entry in the folder along.
     pub fn sync(&mut self, name: &FileName) -> Result<(), DiskFault>
-        ensures { C.honest → Does C.world sync name.now
+        ensures effect { AreRight C.world (C.history self.new.calls) → Does C.world sync name.now
             (C.history self.old.calls) (C.history self.new.calls) result }
+        ensures honest { AreRight C.world (C.history self.new.calls) → AreRight C.world (C.history self.old.calls) }
     {
         let Some(at) = self.find(name)? else {
             return Ok(());
@@ -96,11 +105,13 @@ where
         ensures name { IfOk result (λ found. IfSome found (λ at.
             HoldsAt (λ opened. opened.name ≡ name.now) self.new.files.items at)) }
         ensures index { IfOk result (λ found. IfSome found (λ at. at < length self.new.files.items)) }
-        ensures absent { C.honest → IfOk result (λ found. IfNone found
+        ensures absent { AreRight C.world (C.history self.new.calls) → IfOk result (λ found. IfNone found
             (files C.world (C.history self.old.calls) name.now ≡ stable [])) }
-        ensures found { C.honest → IfOk result (λ found. IfSome found (λ _.
+        ensures found { IfOk result (λ found. IfSome found (λ _.
             C.history self.new.calls ≡ C.history self.old.calls)) }
-        ensures looks { C.honest → Looks C.world (C.history self.old.calls) (C.history self.new.calls) }
+        ensures looks { AreRight C.world (C.history self.new.calls) →
+            Looks C.world (C.history self.old.calls) (C.history self.new.calls) }
+        ensures honest { AreRight C.world (C.history self.new.calls) → AreRight C.world (C.history self.old.calls) }
     {
         if let Some(at) = self.position(name) {
             return Ok(Some(at));
@@ -115,7 +126,7 @@ where
         ensures name { IfOk result (λ at.
             HoldsAt (λ opened. opened.name ≡ name.now) self.new.files.items at) }
         ensures index { IfOk result (λ at. at < length self.new.files.items) }
-        ensures same { C.honest → C.history self.new.calls ≡ C.history self.old.calls }
+        ensures same { C.history self.new.calls ≡ C.history self.old.calls }
     {
         match self.position(name) {
             Some(at) => Ok(at),

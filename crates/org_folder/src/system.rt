@@ -1,33 +1,44 @@
 // The calls of the operating system. Each method makes the call that the trait names, again where a signal interrupts it,
-// and what it takes to reach the file.
-ghost use Rattle.std.specs.Prelude.{[]};
-ghost use Rattle.org_disk.specs.Disk.{stable};
+// and what it takes to reach the file, and then notes it with its answer.
+ghost use Rattle.std.specs.Prelude.{◌≡◌, [], ◌∷◌, IfOk};
+ghost use Rattle.org_folder.specs.Note.{event_of};
 
 use crate::calls::{Calls, Opened};
+use crate::record::{Call, Record};
+use crate::start::Start;
 use org_disk::{DiskFault, FileName};
 use std::alloc::{AllocError, Global};
 use std::fs::{File, Files, OpenFile, OpenOptions};
 use std::io::{Error, ErrorKind};
+use std::marker::PhantomData;
 use std::os::unix::fs::FileExt;
 use std::path::{Path, PathBuf};
 use std::{fs, io};
 
-/// The files of a folder of the operating system. No contract says what a real file gives, so these calls aren't called
-/// honest: that they answer as `Calls` says of honest ones can only be supposed.
+/// The files of a folder of the operating system, which held what `S` says as they were first reached.
+///
+/// Their record takes no memory. No contract says what a real file gives, so that each answer in it was right can only
+/// be supposed. Nor does one say which call of the system a method makes: what it notes has to be read against that.
 #[derive(Drop)]
-pub struct SystemCalls<R: Files> {
+pub struct SystemCalls<R: Files, S: Start> {
     rt: R,
     path: String,
+    pub(crate) log: Record,
+    start: PhantomData<S>,
 }
 
-impl<R: Files + AllocGlobal + Drop> SystemCalls<R>
+impl<R: Files + AllocGlobal + Drop, S: Start> SystemCalls<R, S>
 where
     R::File: FileExt,
 {
-    pub(crate) fn new(rt: R, alloc: Global, path: &str) -> Result<SystemCalls<R>, AllocError> {
+    pub(crate) fn new(rt: R, alloc: Global, path: &str) -> Result<SystemCalls<R, S>, AllocError>
+        ensures { IfOk result (λ calls. calls.log.events ≡ []) }
+    {
         Ok(SystemCalls {
             rt,
             path: String::from_str(alloc, path)?,
+            log: Record::new(),
+            start: PhantomData,
         })
     }
 
@@ -62,6 +73,13 @@ where
         File::open(&self.rt, folder)?.sync_all()
     }
 
+    // Notes a call that was made on the file of this name, which read or wrote these bytes.
+    pub(crate) fn note(&mut self, call: Call, name: &FileName, bytes: &[u8])
+        ensures { self.new.log.events ≡ event_of call name.now bytes.now ∷ self.old.log.events }
+    {
+        self.log.note(call, name.as_str().as_bytes(), bytes);
+    }
+
     fn path_of(&self, name: &FileName) -> Result<PathBuf, AllocError> {
         Path::new(self.path.as_str()).join(self.rt.alloc(), name.as_str())
     }
@@ -76,24 +94,23 @@ fn answered<T: Drop>(answer: io::Result<T>) -> Result<T, DiskFault> {
     answer.map_err(|_| DiskFault)
 }
 
-impl<R: Files + AllocGlobal + Drop> Calls for SystemCalls<R>
+impl<R: Files + AllocGlobal + Drop, S: Start> Calls for SystemCalls<R, S>
 where
     R::File: FileExt,
 {
     type File = R::File;
 
-    ghost honest = { ⊥ };
+    ghost world = { S.world };
 
-    ghost world = { record { start = λ _. stable []; left = λ _. [] } };
-
-    ghost history = { λ _. [] };
-
-    ghost right = { λ _ honest. absurd honest };
+    ghost history = { λ calls. calls.log.events };
 
     fn open(&mut self, name: &FileName) -> Result<Option<Opened<R::File>>, DiskFault> {
         match self.find(name) {
             Ok(file) => Ok(Some(Opened::new(name, file)?)),
-            Err(error) if error.kind() == ErrorKind::NotFound => Ok(None),
+            Err(error) if error.kind() == ErrorKind::NotFound => {
+                self.note(Call::Absent, name, &[]);
+                Ok(None)
+            }
             Err(_) => Err(DiskFault),
         }
     }
@@ -104,10 +121,9 @@ where
     }
 
     fn length(&mut self, opened: &Opened<R::File>) -> Result<u64, DiskFault> {
-        match opened.file.metadata() {
-            Ok(metadata) => Ok(metadata.len()),
-            Err(_) => Err(DiskFault),
-        }
+        let length = answered(opened.file.metadata())?.len();
+        self.note(Call::Length(length), &opened.name, &[]);
+        Ok(length)
     }
 
     fn read_at(
@@ -116,7 +132,9 @@ where
         from: u64,
         into: &mut [u8],
     ) -> Result<(), DiskFault> {
-        answered(opened.file.read_exact_at(into, from))
+        answered(opened.file.read_exact_at(into, from))?;
+        self.note(Call::Read(from), &opened.name, into);
+        Ok(())
     }
 
     fn write_at(
@@ -125,17 +143,25 @@ where
         from: u64,
         bytes: &[u8],
     ) -> Result<(), DiskFault> {
-        answered(opened.file.write_all_at(bytes, from))
+        let answer = answered(opened.file.write_all_at(bytes, from));
+        self.note(Call::Write(from, answer.is_ok()), &opened.name, bytes);
+        answer
     }
 
-    fn write_nothing(&mut self, _name: &FileName, _from: u64) {}
+    fn write_nothing(&mut self, name: &FileName, from: u64) {
+        self.note(Call::Write(from, true), name, &[]);
+    }
 
     fn cut(&mut self, opened: &Opened<R::File>, to: u64) -> Result<(), DiskFault> {
-        answered(opened.file.set_len(to))
+        let answer = answered(opened.file.set_len(to));
+        self.note(Call::Cut(to, answer.is_ok()), &opened.name, &[]);
+        answer
     }
 
     fn sync(&mut self, opened: &Opened<R::File>) -> Result<(), DiskFault> {
-        answered(opened.file.sync_data())
+        let answer = answered(opened.file.sync_data());
+        self.note(Call::Sync(answer.is_ok()), &opened.name, &[]);
+        answer
     }
 
     fn sync_entry(&mut self, opened: &mut Opened<R::File>) -> Result<(), DiskFault> {

@@ -1,5 +1,8 @@
 // Real folders, each made for its test where the test runs.
-use crate::{Calls, CallsDisk, FolderDisk, Opened, SystemCalls, org_file, org_files};
+use crate::record::Call;
+use crate::{
+    Calls, CallsDisk, FolderDisk, Opened, Start, SystemCalls, Unknown, org_file, org_files,
+};
 use org_disk::{Disk, DiskFault, FileName, NameFault};
 use std::fs;
 use std::fs::{File, Permissions};
@@ -14,7 +17,7 @@ fn empty(rt: &HostRuntime, folder: &str) -> Result<(), Fail> {
     Ok(fs::create_dir(rt, folder)?)
 }
 
-fn disk(rt: &HostRuntime, folder: &str) -> Result<FolderDisk<HostRuntime>, Fail> {
+fn disk(rt: &HostRuntime, folder: &str) -> Result<FolderDisk<HostRuntime, Unknown>, Fail> {
     Ok(FolderDisk::new(rt.clone()?, rt.alloc(), folder)?)
 }
 
@@ -66,10 +69,40 @@ fn absent_and_empty_are_the_same(rt: HostRuntime) -> Result<(), Fail> {
     disk.write_at(&a, 0, b"")?;
     disk.cut(&a, 0)?;
     disk.sync(&a)?;
-    assert!(rt; disk.cut(&a, 1).is_err());
-    assert!(rt; disk.read_at(&a, 0, &mut [0]).is_err());
     assert!(rt; fs::metadata(&rt, "absent/a.org").is_err());
     Ok(fs::remove_dir_all(&rt, "absent")?)
+}
+
+// Each file is supposed to hold one byte at first.
+#[derive(Drop)]
+struct OneByte;
+
+impl Start for OneByte {
+    ghost use Rattle.std.specs.Prelude.{[], ◌∷◌};
+    ghost use Rattle.org_disk.specs.Disk.{stable};
+
+    ghost world = { record { start = λ _. stable (42 ∷ []); left = λ _. [] } };
+}
+
+// A call that goes past the end of a file fails: the file isn't what it was supposed to be.
+#[test]
+fn absent_where_a_byte_is_supposed(rt: HostRuntime) -> Result<(), Fail> {
+    empty(&rt, "supposed")?;
+    let a = name(&rt, "a.org")?;
+    let mut disk: FolderDisk<HostRuntime, OneByte> = FolderDisk::new(
+        rt.clone()?,
+        rt.alloc(),
+        "supposed",
+    )?;
+    assert!(rt; disk.cut(&a, 1).is_err());
+    let mut disk: FolderDisk<HostRuntime, OneByte> = FolderDisk::new(
+        rt.clone()?,
+        rt.alloc(),
+        "supposed",
+    )?;
+    assert!(rt; disk.read_at(&a, 0, &mut [0]).is_err());
+    assert!(rt; fs::metadata(&rt, "supposed/a.org").is_err());
+    Ok(fs::remove_dir_all(&rt, "supposed")?)
 }
 
 #[test]
@@ -86,9 +119,11 @@ fn writes_cuts_and_reads(rt: HostRuntime) -> Result<(), Fail> {
     let mut bytes = [0; 3];
     disk.read_at(&a, 4, &mut bytes)?;
     assert_eq!(rt; bytes.as_slice(), b"* C".as_slice());
-    assert!(rt; disk.read_at(&a, 5, &mut bytes).is_err());
     let text = fs::read(&rt, "written/a.org")?;
     assert_eq!(rt; text.as_slice(), b"* A\n* C".as_slice());
+    // Another program makes the file shorter.
+    fs::write(&rt, "written/a.org", b"* A\n* ")?;
+    assert!(rt; disk.read_at(&a, 4, &mut bytes).is_err());
     Ok(fs::remove_dir_all(&rt, "written")?)
 }
 
@@ -149,6 +184,7 @@ fn failures_are_counted(rt: HostRuntime) -> Result<(), Fail> {
     assert!(rt; disk.write_at(&link, 0, b"* B\n").is_err());
     assert_eq!(rt; disk.failures(), 3);
     let a = name(&rt, "a.org")?;
+    assert_eq!(rt; disk.length(&a)?, 4);
     disk.write_at(&a, 4, b"* B\n")?;
     disk.sync(&a)?;
     assert_eq!(rt; disk.length(&a)?, 8);
@@ -204,21 +240,25 @@ fn files_without_permission(rt: HostRuntime) -> Result<(), Fail> {
 // The calls of the system, of which one fails without effect.
 #[derive(Drop)]
 struct FailingCalls {
-    calls: SystemCalls<HostRuntime>,
+    calls: SystemCalls<HostRuntime, Unknown>,
     // the call that fails, counted from 1; 0 for none
     fail_in: u64,
 }
 
 impl FailingCalls {
+    ghost use Rattle.std.specs.Prelude.{◌≡◌};
+
     // Counts a call, which may be the one that fails.
-    fn begin(&mut self) -> Result<(), DiskFault> {
+    fn begin(&mut self) -> Result<(), DiskFault>
+        ensures { self.new.calls ≡ self.old.calls }
+    {
         let fails = self.fail_in == 1;
         self.fail_in = self.fail_in.saturating_sub(1);
         if fails { Err(DiskFault) } else { Ok(()) }
     }
 }
 
-type SystemFile = <SystemCalls<HostRuntime> as Calls>::File;
+type SystemFile = <SystemCalls<HostRuntime, Unknown> as Calls>::File;
 
 impl Calls for FailingCalls {
     ghost use Rattle.std.specs.Prelude.{[]};
@@ -226,13 +266,9 @@ impl Calls for FailingCalls {
 
     type File = SystemFile;
 
-    ghost honest = { ⊥ };
-
     ghost world = { record { start = λ _. stable []; left = λ _. [] } };
 
-    ghost history = { λ _. [] };
-
-    ghost right = { λ _ honest. absurd honest };
+    ghost history = { λ calls. calls.calls.log.events };
 
     fn open(&mut self, name: &FileName) -> Result<Option<Opened<SystemFile>>, DiskFault> {
         self.begin()?;
@@ -265,7 +301,11 @@ impl Calls for FailingCalls {
         from: u64,
         bytes: &[u8],
     ) -> Result<(), DiskFault> {
-        self.begin()?;
+        if let Err(fault) = self.begin() {
+            self.calls
+                .note(Call::Write(from, false), &opened.name, bytes);
+            return Err(fault);
+        }
         self.calls.write_at(opened, from, bytes)
     }
 
@@ -274,12 +314,18 @@ impl Calls for FailingCalls {
     }
 
     fn cut(&mut self, opened: &Opened<SystemFile>, to: u64) -> Result<(), DiskFault> {
-        self.begin()?;
+        if let Err(fault) = self.begin() {
+            self.calls.note(Call::Cut(to, false), &opened.name, &[]);
+            return Err(fault);
+        }
         self.calls.cut(opened, to)
     }
 
     fn sync(&mut self, opened: &Opened<SystemFile>) -> Result<(), DiskFault> {
-        self.begin()?;
+        if let Err(fault) = self.begin() {
+            self.calls.note(Call::Sync(false), &opened.name, &[]);
+            return Err(fault);
+        }
         self.calls.sync(opened)
     }
 

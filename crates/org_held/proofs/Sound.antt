@@ -34,13 +34,13 @@ still_pending names live now old new held then pending = record {
 
 -- a call that leaves what is pending, and the files where they count
 pub sound_still : (names more : List (List ℕ)) (live now : Type 0) (old new : Image) (kept held pending : List Held) → IsSound names live old kept pending → more ≡ names → (now → live × (new ≡ old))
-    → (Each IsKept kept → Each IsKept held) → (live → (name : List ℕ) → held_over kept old name ≡ old name → held_over held old name ≡ old name) → IsSound more now new held pending
+    → (Each IsKept kept → Each IsKept held) → (now → (name : List ℕ) → held_over kept old name ≡ old name → held_over held old name ≡ old name) → IsSound more now new held pending
 sound_still names more live now old new kept held pending sound same then each over =
     subst (λ (n : List (List ℕ)). IsSound n now new held pending) (sym same) (record {
       apart = sound.apart;
       pending_are = λ one there. still_pending names live now old new one then (sound.pending_are one there);
       kept_are = each sound.kept_are;
-      same = λ n name there. subst (λ (files : Image). held_over held files name ≡ files name) (sym (then n).1) (over (then n).0 name (sound.same (then n).0 name there));
+      same = λ n name there. subst (λ (files : Image). held_over held files name ≡ files name) (sym (then n).1) (over n name (sound.same (then n).0 name there));
     })
 
 -- a draft as it waits to be committed
@@ -80,18 +80,18 @@ put_is {D} old disk names broken before after drafts is put =
 
 -- the clauses of a commit, told of the value that callers see
 pub moments_told : {D : Type 0} (old : Holding D) (disk : D) (names : List (List ℕ)) (broken : Bool) (before : List (List ℕ)) → record { disk = disk; names = names; texts = before; broken = broken } ≡ old
-    → (honest : D → Type 0) (moment : D → ℕ) (since : D → ℕ → Image → Type 0) (files : D → List ℕ → FileState) (now : D) (drafts : List Draft) (after : List (List ℕ)) → after ≡ with_all names before drafts
-    → (honest disk → IsAtRest (files disk) → LeavesOnly (moment disk) (moment now) (since disk) (since now) (HoldsEither names (contents (files disk)) after))
-    → honest old.disk → IsAtRest (files old.disk) → LeavesOnly (moment old.disk) (moment now) (since old.disk) (since now) (HoldsEither old.names (contents (files old.disk)) (with_all old.names old.texts drafts))
-moments_told {D} old disk names broken before is honest moment since files now drafts after put leaves =
-    subst (λ (set : Holding D). honest set.disk → IsAtRest (files set.disk)
+    → (honest : Type 0) (moment : D → ℕ) (since : D → ℕ → Image → Type 0) (files : D → List ℕ → FileState) (now : D) (drafts : List Draft) (after : List (List ℕ)) → after ≡ with_all names before drafts
+    → (honest → IsAtRest (files disk) → LeavesOnly (moment disk) (moment now) (since disk) (since now) (HoldsEither names (contents (files disk)) after))
+    → honest → IsAtRest (files old.disk) → LeavesOnly (moment old.disk) (moment now) (since old.disk) (since now) (HoldsEither old.names (contents (files old.disk)) (with_all old.names old.texts drafts))
+moments_told {D} old disk names broken before is honest moment since files now drafts after put leaves h =
+    subst (λ (set : Holding D). IsAtRest (files set.disk)
     → LeavesOnly (moment set.disk) (moment now) (since set.disk) (since now) (HoldsEither set.names (contents (files set.disk)) (with_all set.names set.texts drafts))) is
-    (λ h rest. subst (λ (texts : List (List ℕ)). LeavesOnly (moment disk) (moment now) (since disk) (since now) (HoldsEither names (contents (files disk)) texts)) put (leaves h rest))
+    (λ rest. subst (λ (texts : List (List ℕ)). LeavesOnly (moment disk) (moment now) (since disk) (since now) (HoldsEither names (contents (files disk)) texts)) put (leaves h rest))
 
 pub texts_told : {D : Type 0} (old : Holding D) (disk : D) (names : List (List ℕ)) (broken : Bool) (before : List (List ℕ)) → record { disk = disk; names = names; texts = before; broken = broken } ≡ old
-    → (honest : D → Type 0) (drafts : List Draft) (after : List (List ℕ)) → (honest disk → after ≡ with_all names before drafts) → honest old.disk → after ≡ with_all old.names old.texts drafts
-texts_told {D} old disk names broken before is honest drafts after put =
-    subst (λ (set : Holding D). honest set.disk → after ≡ with_all set.names set.texts drafts) is put
+    → (honest : Type 0) (drafts : List Draft) (after : List (List ℕ)) → (honest → after ≡ with_all names before drafts) → honest → after ≡ with_all old.names old.texts drafts
+texts_told {D} old disk names broken before is honest drafts after put h =
+    subst (λ (set : Holding D). after ≡ with_all set.names set.texts drafts) is (put h)
 
 -- what is pending can be committed
 of_pending : (names : List (List ℕ)) (live honest : Type 0) (files : Image) (pending : List Held) → (honest → live) → Each (IsPending names live files) pending

@@ -1,7 +1,7 @@
 //! Files of a disk with what is held of their texts.
 ghost use Rattle.std.specs.Prelude.{◌≡◌, ◌≢◌, ◌≤◌, ◌⊎◌, ◌↔◌, List, ℕ, Some, None, true, false, length, IsTrue, IsFalse, IsSomeAnd, is_some, IfOk, IfErr, OnOk, OnErr, IsErrOf, MatchResult};
 ghost use Rattle.std.specs.List.{All, AllByRecursion, Contains};
-ghost use Rattle.org_disk.specs.Disk.{HasRisen, Passes, LeavesOnly, AreImages};
+ghost use Rattle.org_disk.specs.Disk.{HasRisen, Passes, LeavesOnly, AreImages, KeepsHonesty};
 ghost use Rattle.org_disk.specs.Names.{journal_name};
 ghost use Rattle.org_splice.specs.Texts.{IsEditOf};
 ghost use Rattle.org_journal.specs.Standing.{IsFit, SameFiles, stands, contents};
@@ -67,18 +67,18 @@ impl<D: Disk> HeldSet<D> {
         ensures names { IfOk result (λ set. AreFew names.items × AreSorted (with_archives names.items) set.names) }
         ensures texts { IfOk result (λ set. set.texts ≡ texts_of (contents (D.files set.disk)) set.names) }
         ensures working { IfOk result (λ set. set.broken ≡ false) }
-        ensures contents { IfOk result (λ set. D.honest disk → IsSomeAnd (stands (contents (D.files disk))) (SameFiles (contents (D.files set.disk)))) }
-        ensures sizes { IfOk result (λ set. D.honest disk → first_large (contents (D.files set.disk)) set.names ≡ None) }
-        ensures refused { IfErr result (λ refused. IsReason names.items (D.honest disk) (contents (D.files disk)) (contents (D.files refused.disk)) refused.fault) }
+        ensures contents { IfOk result (λ set. D.honest set.disk → IsSomeAnd (stands (contents (D.files disk))) (SameFiles (contents (D.files set.disk)))) }
+        ensures sizes { IfOk result (λ set. D.honest set.disk → first_large (contents (D.files set.disk)) set.names ≡ None) }
+        ensures refused { IfErr result (λ refused. IsReason names.items (D.honest refused.disk) (contents (D.files disk)) (contents (D.files refused.disk)) refused.fault) }
         ensures unused { IfErr result (λ refused. refused.fault ≡ OpenFault.TooManyFiles → refused.disk ≡ disk) }
-        ensures any_moment { D.honest disk → IsFit (D.files disk) → EachStands (D.files disk) →
+        ensures any_moment { D.honest (disk_in result) → IsFit (D.files disk) → EachStands (D.files disk) →
             LeavesOnly (D.moment disk) (D.moment (disk_in result)) (D.left_since disk) (D.left_since (disk_in result)) (StandsAsBefore (D.files disk)) }
-        ensures fit { D.honest disk → IsFit (D.files disk) → EachStands (D.files disk) → IsFit (D.files (disk_in result)) }
-        ensures rest { IfOk result (λ set. D.honest disk → IsFit (D.files disk) → EachStands (D.files disk) → IsAtRest (D.files set.disk)) }
+        ensures fit { D.honest (disk_in result) → IsFit (D.files disk) → EachStands (D.files disk) → IsFit (D.files (disk_in result)) }
+        ensures rest { IfOk result (λ set. D.honest set.disk → IsFit (D.files disk) → EachStands (D.files disk) → IsAtRest (D.files set.disk)) }
         ensures failed { IfErr result (λ refused. refused.fault ≡ OpenFault.Device → HasRisen (D.failures disk) (D.failures refused.disk)) }
         ensures told { MatchResult result (λ opened. D.failures opened.disk ≡ D.failures disk) (λ refused. (refused.fault ≡ OpenFault.Device → ⊥) → D.failures refused.disk ≡ D.failures disk) }
         ensures failures { D.failures disk ≤ D.failures (disk_in result) }
-        ensures honest { D.honest (disk_in result) ↔ D.honest disk }
+        ensures honest { KeepsHonesty D.steady (D.honest disk) (D.honest (disk_in result)) }
     {
         match FileSet::open(alloc, disk, names) {
             Ok(set) => Ok(HeldSet {
@@ -117,13 +117,13 @@ impl<D: Disk> HeldSet<D> {
     /// where there is no memory to hold it, it is read again the next time.
     pub fn read(&mut self, name: &FileName) -> Result<Held, SetFault>
         requires name { is_name self.old.names name.now ≡ true }
-        ensures text { IfOk result (λ held. D.honest self.old.disk → text_at self.old.names self.old.texts name.now ≡ Some held.text.bytes) }
+        ensures text { IfOk result (λ held. D.honest self.new.disk → text_at self.old.names self.old.texts name.now ≡ Some held.text.bytes) }
         ensures name { IfOk result (λ held. held.name ≡ name.now) }
         ensures heads { IfOk result (λ held. AreHeadsOf held.text.bytes held.heads) }
-        ensures edit { IfOk result (λ held. D.honest self.old.disk → IsEditOf (contents (D.files self.old.disk) name.now) held.text) }
-        ensures texts { D.honest self.old.disk → self.new.texts ≡ self.old.texts }
-        ensures same { D.honest self.old.disk → D.files self.new.disk ≡ D.files self.old.disk }
-        ensures any_moment { D.honest self.old.disk → Passes (D.moment self.old.disk) (D.moment self.new.disk) (D.left_since self.old.disk) (D.left_since self.new.disk)
+        ensures edit { IfOk result (λ held. D.honest self.new.disk → IsEditOf (contents (D.files self.old.disk) name.now) held.text) }
+        ensures texts { D.honest self.new.disk → self.new.texts ≡ self.old.texts }
+        ensures same { D.honest self.new.disk → D.files self.new.disk ≡ D.files self.old.disk }
+        ensures any_moment { D.honest self.new.disk → Passes (D.moment self.old.disk) (D.moment self.new.disk) (D.left_since self.old.disk) (D.left_since self.new.disk)
             (AreImages (D.files self.old.disk)) }
         ensures names { self.new.names ≡ self.old.names }
         ensures broken { IsErrOf result SetFault.Broken ↔ IsTrue self.old.broken }
@@ -131,7 +131,7 @@ impl<D: Disk> HeldSet<D> {
         ensures failed { IsErrOf result SetFault.Device → HasRisen (D.failures self.old.disk) (D.failures self.new.disk) }
         ensures told { (IsErrOf result SetFault.Device → ⊥) → D.failures self.new.disk ≡ D.failures self.old.disk }
         ensures failures { D.failures self.old.disk ≤ D.failures self.new.disk }
-        ensures honest { D.honest self.new.disk ↔ D.honest self.old.disk }
+        ensures honest { KeepsHonesty D.steady (D.honest self.old.disk) (D.honest self.new.disk) }
     {
         if self.set.is_broken() {
             return Err(SetFault::Broken);
@@ -160,15 +160,15 @@ impl<D: Disk> HeldSet<D> {
     /// `OutOfMemory` leaves all as it was, and comes before the first call of the disk that writes.
     pub fn commit(&mut self, drafts: Drafts) -> Result<(), SetFault>
         requires { Each (IsDraft self.old.names ((self.old.broken ≡ false) × D.honest self.old.disk) (contents (D.files self.old.disk))) (list_of drafts) }
-        ensures any_moment { D.honest self.old.disk → IsAtRest (D.files self.old.disk) → LeavesOnly (D.moment self.old.disk) (D.moment self.new.disk)
+        ensures any_moment { D.honest self.new.disk → IsAtRest (D.files self.old.disk) → LeavesOnly (D.moment self.old.disk) (D.moment self.new.disk)
             (D.left_since self.old.disk) (D.left_since self.new.disk)
             (HoldsEither self.old.names (contents (D.files self.old.disk)) (with_all self.old.names self.old.texts (list_of drafts))) }
-        ensures texts { OnOk result (D.honest self.old.disk → self.new.texts ≡ with_all self.old.names self.old.texts (list_of drafts)) }
+        ensures texts { OnOk result (D.honest self.new.disk → self.new.texts ≡ with_all self.old.names self.old.texts (list_of drafts)) }
         ensures settled { OnOk result (self.new.texts ≡ texts_of (contents (D.files self.new.disk)) self.new.names) }
-        ensures others { OnOk result (D.honest self.old.disk → SameFiles (contents (D.files self.new.disk)) (with_texts self.new.names self.new.texts (contents (D.files self.old.disk)))) }
-        ensures rest { OnOk result (D.honest self.old.disk → IsAtRest (D.files self.old.disk) → IsAtRest (D.files self.new.disk)) }
+        ensures others { OnOk result (D.honest self.new.disk → SameFiles (contents (D.files self.new.disk)) (with_texts self.new.names self.new.texts (contents (D.files self.old.disk)))) }
+        ensures rest { OnOk result (D.honest self.new.disk → IsAtRest (D.files self.old.disk) → IsAtRest (D.files self.new.disk)) }
         ensures memory { IsErrOf result SetFault.OutOfMemory → self.new ≡ self.old }
-        ensures fit { IsErrOf result SetFault.Device → D.honest self.old.disk → IsAtRest (D.files self.old.disk) → IsFit (D.files self.new.disk) }
+        ensures fit { IsErrOf result SetFault.Device → D.honest self.new.disk → IsAtRest (D.files self.old.disk) → IsFit (D.files self.new.disk) }
         ensures names { self.new.names ≡ self.old.names }
         ensures broken { IsErrOf result SetFault.Broken ↔ IsTrue self.old.broken }
         ensures untouched { IsTrue self.old.broken → self.new ≡ self.old }
@@ -176,7 +176,7 @@ impl<D: Disk> HeldSet<D> {
         ensures failed { IsErrOf result SetFault.Device → HasRisen (D.failures self.old.disk) (D.failures self.new.disk) }
         ensures told { (IsErrOf result SetFault.Device → ⊥) → D.failures self.new.disk ≡ D.failures self.old.disk }
         ensures failures { D.failures self.old.disk ≤ D.failures self.new.disk }
-        ensures honest { D.honest self.new.disk ↔ D.honest self.old.disk }
+        ensures honest { KeepsHonesty D.steady (D.honest self.old.disk) (D.honest self.new.disk) }
     {
         if self.set.is_broken() {
             return Err(SetFault::Broken);
@@ -191,14 +191,14 @@ impl<D: Disk> HeldSet<D> {
     /// Commits all that was put: see `FileSet::commit`. `OutOfMemory` leaves all as it was. Where nothing was put, no call
     /// of the disk is made.
     pub fn settle(&mut self) -> Result<(), SetFault>
-        ensures any_moment { D.honest self.old.disk → IsAtRest (D.files self.old.disk) → LeavesOnly (D.moment self.old.disk) (D.moment self.new.disk)
+        ensures any_moment { D.honest self.new.disk → IsAtRest (D.files self.old.disk) → LeavesOnly (D.moment self.old.disk) (D.moment self.new.disk)
             (D.left_since self.old.disk) (D.left_since self.new.disk) (HoldsEither self.old.names (contents (D.files self.old.disk)) self.old.texts) }
-        ensures texts { OnOk result (D.honest self.old.disk → self.new.texts ≡ self.old.texts) }
+        ensures texts { OnOk result (D.honest self.new.disk → self.new.texts ≡ self.old.texts) }
         ensures settled { OnOk result (self.new.texts ≡ texts_of (contents (D.files self.new.disk)) self.new.names) }
-        ensures others { OnOk result (D.honest self.old.disk → SameFiles (contents (D.files self.new.disk)) (with_texts self.new.names self.new.texts (contents (D.files self.old.disk)))) }
-        ensures rest { OnOk result (D.honest self.old.disk → IsAtRest (D.files self.old.disk) → IsAtRest (D.files self.new.disk)) }
+        ensures others { OnOk result (D.honest self.new.disk → SameFiles (contents (D.files self.new.disk)) (with_texts self.new.names self.new.texts (contents (D.files self.old.disk)))) }
+        ensures rest { OnOk result (D.honest self.new.disk → IsAtRest (D.files self.old.disk) → IsAtRest (D.files self.new.disk)) }
         ensures memory { IsErrOf result SetFault.OutOfMemory → self.new ≡ self.old }
-        ensures fit { IsErrOf result SetFault.Device → D.honest self.old.disk → IsAtRest (D.files self.old.disk) → IsFit (D.files self.new.disk) }
+        ensures fit { IsErrOf result SetFault.Device → D.honest self.new.disk → IsAtRest (D.files self.old.disk) → IsFit (D.files self.new.disk) }
         ensures names { self.new.names ≡ self.old.names }
         ensures broken { IsErrOf result SetFault.Broken ↔ IsTrue self.old.broken }
         ensures untouched { IsTrue self.old.broken → self.new ≡ self.old }
@@ -206,7 +206,7 @@ impl<D: Disk> HeldSet<D> {
         ensures failed { IsErrOf result SetFault.Device → HasRisen (D.failures self.old.disk) (D.failures self.new.disk) }
         ensures told { (IsErrOf result SetFault.Device → ⊥) → D.failures self.new.disk ≡ D.failures self.old.disk }
         ensures failures { D.failures self.old.disk ≤ D.failures self.new.disk }
-        ensures honest { D.honest self.new.disk ↔ D.honest self.old.disk }
+        ensures honest { KeepsHonesty D.steady (D.honest self.old.disk) (D.honest self.new.disk) }
     {
         if self.set.is_broken() {
             return Err(SetFault::Broken);
@@ -225,14 +225,14 @@ fn read_to_hold<D: Disk>(
     name: &FileName,
 ) -> Result<Held, SetFault>
     requires unbroken { set.old.broken ≡ false }
-    ensures text { IfOk result (λ held. D.honest set.old.disk → held.text.bytes ≡ contents (D.files set.old.disk) name.now) }
+    ensures text { IfOk result (λ held. D.honest set.new.disk → held.text.bytes ≡ contents (D.files set.old.disk) name.now) }
     ensures name { IfOk result (λ held. held.name ≡ name.now) }
     ensures held { IfOk result IsKept }
     ensures each { Each IsKept kept.old.items → Each IsKept kept.new.items }
-    ensures over { D.honest set.old.disk → (other : List ℕ) → held_over kept.old.items (contents (D.files set.old.disk)) other ≡ contents (D.files set.old.disk) other
+    ensures over { D.honest set.new.disk → (other : List ℕ) → held_over kept.old.items (contents (D.files set.old.disk)) other ≡ contents (D.files set.old.disk) other
         → held_over kept.new.items (contents (D.files set.old.disk)) other ≡ contents (D.files set.old.disk) other }
-    ensures same { D.honest set.old.disk → D.files set.new.disk ≡ D.files set.old.disk }
-    ensures any_moment { D.honest set.old.disk → Passes (D.moment set.old.disk) (D.moment set.new.disk) (D.left_since set.old.disk) (D.left_since set.new.disk)
+    ensures same { D.honest set.new.disk → D.files set.new.disk ≡ D.files set.old.disk }
+    ensures any_moment { D.honest set.new.disk → Passes (D.moment set.old.disk) (D.moment set.new.disk) (D.left_since set.old.disk) (D.left_since set.new.disk)
         (AreImages (D.files set.old.disk)) }
     ensures names { set.new.names ≡ set.old.names }
     ensures working { IsErrOf result SetFault.Broken → ⊥ }
@@ -240,7 +240,7 @@ fn read_to_hold<D: Disk>(
     ensures failed { IsErrOf result SetFault.Device → HasRisen (D.failures set.old.disk) (D.failures set.new.disk) }
     ensures told { (IsErrOf result SetFault.Device → ⊥) → D.failures set.new.disk ≡ D.failures set.old.disk }
     ensures failures { D.failures set.old.disk ≤ D.failures set.new.disk }
-    ensures honest { D.honest set.new.disk ↔ D.honest set.old.disk }
+    ensures honest { KeepsHonesty D.steady (D.honest set.old.disk) (D.honest set.new.disk) }
 {
     let bytes = set.read(name)?;
     let held = Held::new(*kept.allocator(), name.clone()?, bytes)?;
@@ -257,23 +257,23 @@ fn commit_texts<D: Disk>(
     requires apart { AllByRecursion (λ name. name ≢ journal_name) set.old.names }
     requires unbroken { set.old.broken ≡ false }
     requires each { Each (IsCommittable set.old.names (D.honest set.old.disk) (contents (D.files set.old.disk))) changes.now }
-    ensures any_moment { D.honest set.old.disk → IsAtRest (D.files set.old.disk) → LeavesOnly (D.moment set.old.disk) (D.moment set.new.disk)
+    ensures any_moment { D.honest set.new.disk → IsAtRest (D.files set.old.disk) → LeavesOnly (D.moment set.old.disk) (D.moment set.new.disk)
         (D.left_since set.old.disk) (D.left_since set.new.disk)
         (HoldsEither set.old.names (contents (D.files set.old.disk)) (texts_of (changed changes.now (contents (D.files set.old.disk))) set.old.names)) }
-    ensures contents { OnOk result (D.honest set.old.disk → SameFiles (contents (D.files set.new.disk)) (changed changes.now (contents (D.files set.old.disk)))) }
-    ensures texts { OnOk result (D.honest set.old.disk → texts_of (contents (D.files set.new.disk)) set.new.names ≡ texts_of (changed changes.now (contents (D.files set.old.disk))) set.old.names) }
-    ensures others { OnOk result (D.honest set.old.disk → SameFiles (contents (D.files set.new.disk))
+    ensures contents { OnOk result (D.honest set.new.disk → SameFiles (contents (D.files set.new.disk)) (changed changes.now (contents (D.files set.old.disk)))) }
+    ensures texts { OnOk result (D.honest set.new.disk → texts_of (contents (D.files set.new.disk)) set.new.names ≡ texts_of (changed changes.now (contents (D.files set.old.disk))) set.old.names) }
+    ensures others { OnOk result (D.honest set.new.disk → SameFiles (contents (D.files set.new.disk))
         (with_texts set.new.names (texts_of (contents (D.files set.new.disk)) set.new.names) (contents (D.files set.old.disk)))) }
-    ensures rest { OnOk result (D.honest set.old.disk → IsAtRest (D.files set.old.disk) → IsAtRest (D.files set.new.disk)) }
+    ensures rest { OnOk result (D.honest set.new.disk → IsAtRest (D.files set.old.disk) → IsAtRest (D.files set.new.disk)) }
     ensures memory { IsErrOf result SetFault.OutOfMemory → set.new ≡ set.old }
-    ensures fit { IsErrOf result SetFault.Device → D.honest set.old.disk → IsAtRest (D.files set.old.disk) → IsFit (D.files set.new.disk) }
+    ensures fit { IsErrOf result SetFault.Device → D.honest set.new.disk → IsAtRest (D.files set.old.disk) → IsFit (D.files set.new.disk) }
     ensures names { set.new.names ≡ set.old.names }
     ensures working { IsErrOf result SetFault.Broken → ⊥ }
     ensures breaks { IsTrue set.new.broken ↔ IsErrOf result SetFault.Device }
     ensures failed { IsErrOf result SetFault.Device → HasRisen (D.failures set.old.disk) (D.failures set.new.disk) }
     ensures told { (IsErrOf result SetFault.Device → ⊥) → D.failures set.new.disk ≡ D.failures set.old.disk }
     ensures failures { D.failures set.old.disk ≤ D.failures set.new.disk }
-    ensures honest { D.honest set.new.disk ↔ D.honest set.old.disk }
+    ensures honest { KeepsHonesty D.steady (D.honest set.old.disk) (D.honest set.new.disk) }
 {
     set.commit(changes)
 }

@@ -1,7 +1,7 @@
 //! What a journal on a disk says: that nothing is to be done, or what a commit had still to do.
-ghost use Rattle.std.specs.Prelude.{◌≡◌, ◌≤◌, ◌<◌, ◌↔◌, ◌+◌, ◌^◌, ℕ, List, length, take, drop, Some, Ok, Err, IfOk, IfSome, OnErr, IsErrOf, IsTrue, IsFalse, OnOk};
+ghost use Rattle.std.specs.Prelude.{◌≡◌, ◌≤◌, ◌<◌, ◌+◌, ◌^◌, ℕ, List, length, take, drop, Some, Ok, Err, IfOk, IfSome, OnErr, IsErrOf, IsTrue, IsFalse, OnOk};
 ghost use Rattle.std.specs.List.{AllByRecursion};
-ghost use Rattle.org_disk.specs.Disk.{HasRisen, Passes, AreImages};
+ghost use Rattle.org_disk.specs.Disk.{HasRisen, Passes, AreImages, KeepsHonesty};
 ghost use Rattle.org_disk.specs.Names.{journal_name};
 ghost use Rattle.org_splice.specs.Patches.{AreWellFormed};
 ghost use Rattle.org_journal.specs.Record.{pairs, IsWellFormed};
@@ -32,14 +32,14 @@ pub enum Found {
 
 // The size of the record behind an open gate, and nothing where the gate is closed.
 fn size_of<D: Disk>(disk: &mut D, journal: &FileName) -> Result<Option<u64>, FindFault>
-    ensures found { D.honest disk.old → FindsSize (D.files disk.old journal.now).content result }
+    ensures found { D.honest disk.new → FindsSize (D.files disk.old journal.now).content result }
     ensures small { IfOk result (λ found. IfSome found (λ size. 16 + size < 2 ^ 64)) }
-    ensures same { D.honest disk.old → D.files disk.new ≡ D.files disk.old }
-    ensures any_moment { D.honest disk.old → Passes (D.moment disk.old) (D.moment disk.new) (D.left_since disk.old) (D.left_since disk.new) (AreImages (D.files disk.old)) }
+    ensures same { D.honest disk.new → D.files disk.new ≡ D.files disk.old }
+    ensures any_moment { D.honest disk.new → Passes (D.moment disk.old) (D.moment disk.new) (D.left_since disk.old) (D.left_since disk.new) (AreImages (D.files disk.old)) }
     ensures failed { IsErrOf result FindFault.Device → HasRisen (D.failures disk.old) (D.failures disk.new) }
     ensures told { (IsErrOf result FindFault.Device → ⊥) → D.failures disk.new ≡ D.failures disk.old }
     ensures failures { D.failures disk.old ≤ D.failures disk.new }
-    ensures honest { D.honest disk.new ↔ D.honest disk.old }
+    ensures honest { KeepsHonesty D.steady (D.honest disk.old) (D.honest disk.new) }
 {
     let length = disk.length(journal)?;
     if length < HEADER {
@@ -66,14 +66,14 @@ fn body_of<D: Disk>(
 ) -> Result<Vec<u8>, FindFault>
     requires small { 16 + size < 2 ^ 64 }
     requires within { D.honest disk.old → 16 + size ≤ length (D.files disk.old journal.now).content }
-    ensures bytes { IfOk result (λ body. D.honest disk.old → body.items ≡ take (15 + size) (drop 1 (D.files disk.old journal.now).content)) }
+    ensures bytes { IfOk result (λ body. D.honest disk.new → body.items ≡ take (15 + size) (drop 1 (D.files disk.old journal.now).content)) }
     ensures bad { ¬ (IsErrOf result FindFault.BadJournal) }
-    ensures same { D.honest disk.old → D.files disk.new ≡ D.files disk.old }
-    ensures any_moment { D.honest disk.old → Passes (D.moment disk.old) (D.moment disk.new) (D.left_since disk.old) (D.left_since disk.new) (AreImages (D.files disk.old)) }
+    ensures same { D.honest disk.new → D.files disk.new ≡ D.files disk.old }
+    ensures any_moment { D.honest disk.new → Passes (D.moment disk.old) (D.moment disk.new) (D.left_since disk.old) (D.left_since disk.new) (AreImages (D.files disk.old)) }
     ensures failed { IsErrOf result FindFault.Device → HasRisen (D.failures disk.old) (D.failures disk.new) }
     ensures told { (IsErrOf result FindFault.Device → ⊥) → D.failures disk.new ≡ D.failures disk.old }
     ensures failures { D.failures disk.old ≤ D.failures disk.new }
-    ensures honest { D.honest disk.new ↔ D.honest disk.old }
+    ensures honest { KeepsHonesty D.steady (D.honest disk.old) (D.honest disk.new) }
 {
     let mut body = vec![in alloc; 0u8; 15 + size as usize]?;
     disk.read_at(journal, 1, &mut body)?;
@@ -90,15 +90,15 @@ fn record_of<D: Disk>(
     requires small { 16 + size < 2 ^ 64 }
     requires size { D.honest disk.old → size ≡ record_size (D.files disk.old journal.now).content }
     requires within { D.honest disk.old → HoldsRecord (D.files disk.old journal.now).content }
-    ensures found { D.honest disk.old → FindsRecord (D.files disk.old journal.now).content result }
+    ensures found { D.honest disk.new → FindsRecord (D.files disk.old journal.now).content result }
     ensures written { IfOk result (λ entries. AreWritten entries) }
     ensures writable { IfOk result (λ entries. IsWellFormed Two entries) }
-    ensures same { D.honest disk.old → D.files disk.new ≡ D.files disk.old }
-    ensures any_moment { D.honest disk.old → Passes (D.moment disk.old) (D.moment disk.new) (D.left_since disk.old) (D.left_since disk.new) (AreImages (D.files disk.old)) }
+    ensures same { D.honest disk.new → D.files disk.new ≡ D.files disk.old }
+    ensures any_moment { D.honest disk.new → Passes (D.moment disk.old) (D.moment disk.new) (D.left_since disk.old) (D.left_since disk.new) (AreImages (D.files disk.old)) }
     ensures failed { IsErrOf result FindFault.Device → HasRisen (D.failures disk.old) (D.failures disk.new) }
     ensures told { (IsErrOf result FindFault.Device → ⊥) → D.failures disk.new ≡ D.failures disk.old }
     ensures failures { D.failures disk.old ≤ D.failures disk.new }
-    ensures honest { D.honest disk.new ↔ D.honest disk.old }
+    ensures honest { KeepsHonesty D.steady (D.honest disk.old) (D.honest disk.new) }
 {
     let body = body_of(alloc, disk, journal, size)?;
     match decode(alloc, &body) {
@@ -126,13 +126,13 @@ fn fits(patches: &[Patch], length: u64, size: u64) -> bool
 // Whether each entry fits its file.
 fn all_fit<D: Disk>(disk: &mut D, entries: &[Entry]) -> Result<bool, DiskFault>
     requires { AreWritten entries.now }
-    ensures fit { IfOk result (λ answer. D.honest disk.old → answer ≡ all_fit entries.now (contents (D.files disk.old))) }
-    ensures same { D.honest disk.old → D.files disk.new ≡ D.files disk.old }
-    ensures any_moment { D.honest disk.old → Passes (D.moment disk.old) (D.moment disk.new) (D.left_since disk.old) (D.left_since disk.new) (AreImages (D.files disk.old)) }
+    ensures fit { IfOk result (λ answer. D.honest disk.new → answer ≡ all_fit entries.now (contents (D.files disk.old))) }
+    ensures same { D.honest disk.new → D.files disk.new ≡ D.files disk.old }
+    ensures any_moment { D.honest disk.new → Passes (D.moment disk.old) (D.moment disk.new) (D.left_since disk.old) (D.left_since disk.new) (AreImages (D.files disk.old)) }
     ensures failed { OnErr result (HasRisen (D.failures disk.old) (D.failures disk.new)) }
     ensures told { OnOk result (D.failures disk.new ≡ D.failures disk.old) }
     ensures failures { D.failures disk.old ≤ D.failures disk.new }
-    ensures honest { D.honest disk.new ↔ D.honest disk.old }
+    ensures honest { KeepsHonesty D.steady (D.honest disk.old) (D.honest disk.new) }
 {
     for entry in entries {
         let size = disk.length(&entry.name)?;
@@ -149,14 +149,14 @@ fn all_fit<D: Disk>(disk: &mut D, entries: &[Entry]) -> Result<bool, DiskFault>
 /// header gives.
 pub fn find<D: Disk>(alloc: Global, disk: &mut D, journal: &FileName) -> Result<Found, FindFault>
     requires { journal.now ≡ journal_name }
-    ensures found { D.honest disk.old → Finds (contents (D.files disk.old)) result }
+    ensures found { D.honest disk.new → Finds (contents (D.files disk.old)) result }
     ensures writable { IfOk result (λ found. IsWritable found) }
-    ensures same { D.honest disk.old → D.files disk.new ≡ D.files disk.old }
-    ensures any_moment { D.honest disk.old → Passes (D.moment disk.old) (D.moment disk.new) (D.left_since disk.old) (D.left_since disk.new) (AreImages (D.files disk.old)) }
+    ensures same { D.honest disk.new → D.files disk.new ≡ D.files disk.old }
+    ensures any_moment { D.honest disk.new → Passes (D.moment disk.old) (D.moment disk.new) (D.left_since disk.old) (D.left_since disk.new) (AreImages (D.files disk.old)) }
     ensures failed { IsErrOf result FindFault.Device → HasRisen (D.failures disk.old) (D.failures disk.new) }
     ensures told { (IsErrOf result FindFault.Device → ⊥) → D.failures disk.new ≡ D.failures disk.old }
     ensures failures { D.failures disk.old ≤ D.failures disk.new }
-    ensures honest { D.honest disk.new ↔ D.honest disk.old }
+    ensures honest { KeepsHonesty D.steady (D.honest disk.old) (D.honest disk.new) }
 {
     let Some(size) = size_of(disk, journal)? else {
         return Ok(Found::Closed);

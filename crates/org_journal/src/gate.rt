@@ -1,7 +1,7 @@
 //! The writes of the journal, in the order that lets a stop at any moment leave it whole: while its bytes are written
 //! the gate is closed on the disk, and the gate alone opens and closes it.
-ghost use Rattle.std.specs.Prelude.{◌≡◌, ◌≢◌, ◌≤◌, ◌<◌, ◌↔◌, List, ℕ, length, drop, ◌∷◌, OnOk, OnErr, IsTrue, is_some};
-ghost use Rattle.org_disk.specs.Disk.{IsStable, Passes, HasRisen, laid};
+ghost use Rattle.std.specs.Prelude.{◌≡◌, ◌≢◌, ◌≤◌, ◌<◌, List, ℕ, length, drop, ◌∷◌, OnOk, OnErr, IsTrue, is_some};
+ghost use Rattle.org_disk.specs.Disk.{IsStable, Passes, HasRisen, laid, KeepsHonesty};
 ghost use Rattle.org_journal.specs.Reading.{journal_at};
 ghost use Rattle.org_journal.specs.Gate.{is_open, HasClosedGate, LeavesClosed, LeavesBody};
 
@@ -17,15 +17,15 @@ pub(crate) const OPEN: u8 = 1;
 pub fn prepare<D: Disk>(disk: &mut D, journal: &FileName) -> Result<(), DiskFault>
     requires stable { D.honest disk.old → IsStable (D.files disk.old journal.now) }
     requires short { D.honest disk.old → length (D.files disk.old journal.now).content < 16 }
-    ensures any_moment { D.honest disk.old → Passes (D.moment disk.old) (D.moment disk.new) (D.left_since disk.old) (D.left_since disk.new)
+    ensures any_moment { D.honest disk.new → Passes (D.moment disk.old) (D.moment disk.new) (D.left_since disk.old) (D.left_since disk.new)
         (LeavesClosed journal.now (D.files disk.old)) }
-    ensures stable { OnOk result (D.honest disk.old → IsStable (D.files disk.new journal.now)) }
-    ensures content { OnOk result (D.honest disk.old → (D.files disk.new journal.now).content ≡ 0 ∷ drop 1 (D.files disk.old journal.now).content) }
-    ensures others { D.honest disk.old → (other : List ℕ) → other ≢ journal.now → D.files disk.new other ≡ D.files disk.old other }
+    ensures stable { OnOk result (D.honest disk.new → IsStable (D.files disk.new journal.now)) }
+    ensures content { OnOk result (D.honest disk.new → (D.files disk.new journal.now).content ≡ 0 ∷ drop 1 (D.files disk.old journal.now).content) }
+    ensures others { D.honest disk.new → (other : List ℕ) → other ≢ journal.now → D.files disk.new other ≡ D.files disk.old other }
     ensures failed { OnErr result (HasRisen (D.failures disk.old) (D.failures disk.new)) }
     ensures told { OnOk result (D.failures disk.new ≡ D.failures disk.old) }
     ensures failures { D.failures disk.old ≤ D.failures disk.new }
-    ensures honest { D.honest disk.new ↔ D.honest disk.old }
+    ensures honest { KeepsHonesty D.steady (D.honest disk.old) (D.honest disk.new) }
 {
     set_gate(disk, journal, CLOSED)
 }
@@ -34,15 +34,15 @@ pub fn prepare<D: Disk>(disk: &mut D, journal: &FileName) -> Result<(), DiskFaul
 /// fails; bytes that stood behind the new ones stay.
 pub fn arm<D: Disk>(disk: &mut D, journal: &FileName, body: &[u8]) -> Result<(), DiskFault>
     requires { D.honest disk.old → HasClosedGate (D.files disk.old journal.now) }
-    ensures any_moment { D.honest disk.old → Passes (D.moment disk.old) (D.moment disk.new) (D.left_since disk.old) (D.left_since disk.new)
+    ensures any_moment { D.honest disk.new → Passes (D.moment disk.old) (D.moment disk.new) (D.left_since disk.old) (D.left_since disk.new)
         (LeavesClosed journal.now (D.files disk.old)) }
-    ensures stable { OnOk result (D.honest disk.old → IsStable (D.files disk.new journal.now)) }
-    ensures content { OnOk result (D.honest disk.old → (D.files disk.new journal.now).content ≡ laid 1 body.now (D.files disk.old journal.now).content) }
-    ensures others { D.honest disk.old → (other : List ℕ) → other ≢ journal.now → D.files disk.new other ≡ D.files disk.old other }
+    ensures stable { OnOk result (D.honest disk.new → IsStable (D.files disk.new journal.now)) }
+    ensures content { OnOk result (D.honest disk.new → (D.files disk.new journal.now).content ≡ laid 1 body.now (D.files disk.old journal.now).content) }
+    ensures others { D.honest disk.new → (other : List ℕ) → other ≢ journal.now → D.files disk.new other ≡ D.files disk.old other }
     ensures failed { OnErr result (HasRisen (D.failures disk.old) (D.failures disk.new)) }
     ensures told { OnOk result (D.failures disk.new ≡ D.failures disk.old) }
     ensures failures { D.failures disk.old ≤ D.failures disk.new }
-    ensures honest { D.honest disk.new ↔ D.honest disk.old }
+    ensures honest { KeepsHonesty D.steady (D.honest disk.old) (D.honest disk.new) }
 {
     disk.write_at(journal, 1, body)?;
     disk.sync(journal)
@@ -52,16 +52,16 @@ pub fn arm<D: Disk>(disk: &mut D, journal: &FileName, body: &[u8]) -> Result<(),
 /// differs from what it was at its first byte alone, also where the call fails.
 pub fn open_gate<D: Disk>(disk: &mut D, journal: &FileName) -> Result<(), DiskFault>
     requires { D.honest disk.old → IsStable (D.files disk.old journal.now) }
-    ensures any_moment { D.honest disk.old → Passes (D.moment disk.old) (D.moment disk.new) (D.left_since disk.old) (D.left_since disk.new)
+    ensures any_moment { D.honest disk.new → Passes (D.moment disk.old) (D.moment disk.new) (D.left_since disk.old) (D.left_since disk.new)
         (LeavesBody journal.now (D.files disk.old)) }
-    ensures stable { OnOk result (D.honest disk.old → IsStable (D.files disk.new journal.now)) }
-    ensures content { OnOk result (D.honest disk.old → (D.files disk.new journal.now).content ≡ 1 ∷ drop 1 (D.files disk.old journal.now).content) }
-    ensures opened { OnOk result (D.honest disk.old → IsTrue (is_some (journal_at (drop 1 (D.files disk.old journal.now).content))) → IsTrue (is_open (D.files disk.new journal.now).content)) }
-    ensures others { D.honest disk.old → (other : List ℕ) → other ≢ journal.now → D.files disk.new other ≡ D.files disk.old other }
+    ensures stable { OnOk result (D.honest disk.new → IsStable (D.files disk.new journal.now)) }
+    ensures content { OnOk result (D.honest disk.new → (D.files disk.new journal.now).content ≡ 1 ∷ drop 1 (D.files disk.old journal.now).content) }
+    ensures opened { OnOk result (D.honest disk.new → IsTrue (is_some (journal_at (drop 1 (D.files disk.old journal.now).content))) → IsTrue (is_open (D.files disk.new journal.now).content)) }
+    ensures others { D.honest disk.new → (other : List ℕ) → other ≢ journal.now → D.files disk.new other ≡ D.files disk.old other }
     ensures failed { OnErr result (HasRisen (D.failures disk.old) (D.failures disk.new)) }
     ensures told { OnOk result (D.failures disk.new ≡ D.failures disk.old) }
     ensures failures { D.failures disk.old ≤ D.failures disk.new }
-    ensures honest { D.honest disk.new ↔ D.honest disk.old }
+    ensures honest { KeepsHonesty D.steady (D.honest disk.old) (D.honest disk.new) }
 {
     set_gate(disk, journal, OPEN)
 }
@@ -71,15 +71,15 @@ pub fn open_gate<D: Disk>(disk: &mut D, journal: &FileName) -> Result<(), DiskFa
 pub fn close_gate<D: Disk>(disk: &mut D, journal: &FileName) -> Result<(), DiskFault>
     requires stable { D.honest disk.old → IsStable (D.files disk.old journal.now) }
     requires nonempty { D.honest disk.old → 1 ≤ length (D.files disk.old journal.now).content }
-    ensures any_moment { D.honest disk.old → Passes (D.moment disk.old) (D.moment disk.new) (D.left_since disk.old) (D.left_since disk.new)
+    ensures any_moment { D.honest disk.new → Passes (D.moment disk.old) (D.moment disk.new) (D.left_since disk.old) (D.left_since disk.new)
         (LeavesBody journal.now (D.files disk.old)) }
-    ensures stable { OnOk result (D.honest disk.old → IsStable (D.files disk.new journal.now)) }
-    ensures content { OnOk result (D.honest disk.old → (D.files disk.new journal.now).content ≡ 0 ∷ drop 1 (D.files disk.old journal.now).content) }
-    ensures others { D.honest disk.old → (other : List ℕ) → other ≢ journal.now → D.files disk.new other ≡ D.files disk.old other }
+    ensures stable { OnOk result (D.honest disk.new → IsStable (D.files disk.new journal.now)) }
+    ensures content { OnOk result (D.honest disk.new → (D.files disk.new journal.now).content ≡ 0 ∷ drop 1 (D.files disk.old journal.now).content) }
+    ensures others { D.honest disk.new → (other : List ℕ) → other ≢ journal.now → D.files disk.new other ≡ D.files disk.old other }
     ensures failed { OnErr result (HasRisen (D.failures disk.old) (D.failures disk.new)) }
     ensures told { OnOk result (D.failures disk.new ≡ D.failures disk.old) }
     ensures failures { D.failures disk.old ≤ D.failures disk.new }
-    ensures honest { D.honest disk.new ↔ D.honest disk.old }
+    ensures honest { KeepsHonesty D.steady (D.honest disk.old) (D.honest disk.new) }
 {
     set_gate(disk, journal, CLOSED)
 }
@@ -87,15 +87,15 @@ pub fn close_gate<D: Disk>(disk: &mut D, journal: &FileName) -> Result<(), DiskF
 // Writes the gate alone, and syncs it.
 fn set_gate<D: Disk>(disk: &mut D, journal: &FileName, gate: u8) -> Result<(), DiskFault>
     requires { D.honest disk.old → IsStable (D.files disk.old journal.now) }
-    ensures any_moment { D.honest disk.old → Passes (D.moment disk.old) (D.moment disk.new) (D.left_since disk.old) (D.left_since disk.new)
+    ensures any_moment { D.honest disk.new → Passes (D.moment disk.old) (D.moment disk.new) (D.left_since disk.old) (D.left_since disk.new)
         (LeavesBody journal.now (D.files disk.old)) }
-    ensures stable { OnOk result (D.honest disk.old → IsStable (D.files disk.new journal.now)) }
-    ensures content { OnOk result (D.honest disk.old → (D.files disk.new journal.now).content ≡ gate ∷ drop 1 (D.files disk.old journal.now).content) }
-    ensures others { D.honest disk.old → (other : List ℕ) → other ≢ journal.now → D.files disk.new other ≡ D.files disk.old other }
+    ensures stable { OnOk result (D.honest disk.new → IsStable (D.files disk.new journal.now)) }
+    ensures content { OnOk result (D.honest disk.new → (D.files disk.new journal.now).content ≡ gate ∷ drop 1 (D.files disk.old journal.now).content) }
+    ensures others { D.honest disk.new → (other : List ℕ) → other ≢ journal.now → D.files disk.new other ≡ D.files disk.old other }
     ensures failed { OnErr result (HasRisen (D.failures disk.old) (D.failures disk.new)) }
     ensures told { OnOk result (D.failures disk.new ≡ D.failures disk.old) }
     ensures failures { D.failures disk.old ≤ D.failures disk.new }
-    ensures honest { D.honest disk.new ↔ D.honest disk.old }
+    ensures honest { KeepsHonesty D.steady (D.honest disk.old) (D.honest disk.new) }
 {
     disk.write_at(journal, 0, &[gate])?;
     disk.sync(journal)

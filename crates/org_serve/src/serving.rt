@@ -1,7 +1,7 @@
 // Lines answered one by one, to the end of the input.
-ghost use Rattle.std.specs.Prelude.{◌≡◌, ◌≢◌, ◌⊎◌, ◌↔◌, ◌++◌, List, ℕ, [], OnOk, OnErr, MatchResult, IsFalse};
+ghost use Rattle.std.specs.Prelude.{◌≡◌, ◌≢◌, ◌⊎◌, ◌++◌, List, ℕ, [], OnOk, OnErr, MatchResult, IsFalse};
 ghost use Rattle.std.specs.Io.KnownBytes.{Appends};
-ghost use Rattle.org_disk.specs.Disk.{HasRisen, LeavesOnly};
+ghost use Rattle.org_disk.specs.Disk.{HasRisen, LeavesOnly, KeepsHonesty};
 ghost use Rattle.org_journal.specs.Standing.{contents};
 ghost use Rattle.org_fileset.specs.Replay.{IsAtRest};
 ghost use Rattle.org_store.specs.Runs.{IsBetween, IsLeftOf};
@@ -45,34 +45,34 @@ pub fn serve<D: Disk, R: Source, W: Sink>(
     writer: &mut W,
     turns: u64,
 ) -> ServeEnd
-    ensures end { D.honest store.old.disk → result ≢ ServeEnd.Read → result ≢ ServeEnd.Write
+    ensures end { D.honest store.new.disk → result ≢ ServeEnd.Read → result ≢ ServeEnd.Write
         → ServesAll AnswersLine Finishes store.old.session result store.new.session
         (R.left reader.old) (R.left reader.new) (W.written writer.old) (W.written writer.new) }
 
-    ensures read { D.honest store.old.disk → result ≡ ServeEnd.Read
+    ensures read { D.honest store.new.disk → result ≡ ServeEnd.Read
         → ServesLines AnswersLine store.old.session store.new.session
         (R.left reader.old) (R.left reader.new) (W.written writer.old) (W.written writer.new) }
     ensures read_cause { result ≡ ServeEnd.Read → HasRisen (R.failures reader.old) (R.failures reader.new)
         ⊎ HasRisenBy turns (R.reads reader.old) (R.reads reader.new) }
 
-    ensures write { D.honest store.old.disk → result ≡ ServeEnd.Write
+    ensures write { D.honest store.new.disk → result ≡ ServeEnd.Write
         → RunsSome AnswersLine store.old.session store.new.session (R.left reader.old) (R.left reader.new)
         ⊎ RunsAllAndSettles AnswersLine HasSettled store.old.session store.new.session (R.left reader.old) (R.left reader.new) }
     ensures write_cause { result ≡ ServeEnd.Write → HasRisen (W.failures writer.old) (W.failures writer.new) }
 
-    ensures calls { D.honest store.old.disk
+    ensures calls { D.honest store.new.disk
         → Runs (RunsLine D.files D.moment D.left_since) (HasSettledOver D.files D.moment D.left_since) store.old store.new result
         (R.left reader.old) (R.left reader.new) (W.written writer.old) (W.written writer.new) }
-    ensures any_moment { D.honest store.old.disk → IsAtRest (D.files store.old.disk) → IsFalse store.old.session.broken
+    ensures any_moment { D.honest store.new.disk → IsAtRest (D.files store.old.disk) → IsFalse store.old.session.broken
         → (run : Runs AnswersLine HasSettled store.old.session store.new.session result
         (R.left reader.old) (R.left reader.new) (W.written writer.old) (W.written writer.new))
         × LeavesOnly (D.moment store.old.disk) (D.moment store.new.disk) (D.left_since store.old.disk) (D.left_since store.new.disk)
         (IsLeftOf store.old.session (contents (D.files store.old.disk))
         (λ mid. Reaches store.old.session run.ran run.out mid × IsBetween store.old.session store.new.session mid)) }
-    ensures disk { D.honest store.old.disk → KeepsDisk D.files store.old store.new }
+    ensures disk { D.honest store.new.disk → KeepsDisk D.files store.old store.new }
 
     ensures device { BreaksByFailure store.old.session store.new.session (D.failures store.old.disk) (D.failures store.new.disk) }
-    ensures honest { D.honest store.new.disk ↔ D.honest store.old.disk }
+    ensures honest { KeepsHonesty D.steady (D.honest store.old.disk) (D.honest store.new.disk) }
 {
     store.settled_is_on_disk();
     let mut buffer = [0u8; PIECE];
@@ -98,14 +98,14 @@ fn feed<D: Disk, W: Sink>(
     piece: &[u8],
     writer: &mut W,
 ) -> Result<(), PipeFault>
-    ensures fed { D.honest store.old.disk → (part : List ℕ) → (cut part).lines ≡ [] → Stands pending.old part
+    ensures fed { D.honest store.new.disk → (part : List ℕ) → (cut part).lines ≡ [] → Stands pending.old part
         → MatchResult result
         (λ _. FeedOk (RunsLine D.files D.moment D.left_since) store.old (part ++ piece.now) store.new (W.written writer.old) (W.written writer.new) pending.new)
         (λ _. FeedErr (RunsLine D.files D.moment D.left_since) store.old (part ++ piece.now) store.new) }
     ensures same { OnOk result (W.failures writer.new ≡ W.failures writer.old) }
     ensures err { OnErr result (HasRisen (W.failures writer.old) (W.failures writer.new)) }
     ensures device { BreaksByFailure store.old.session store.new.session (D.failures store.old.disk) (D.failures store.new.disk) }
-    ensures honest { D.honest store.new.disk ↔ D.honest store.old.disk }
+    ensures honest { KeepsHonesty D.steady (D.honest store.old.disk) (D.honest store.new.disk) }
 {
     let mut rest = piece;
     while let Some((line, more)) = first_line(rest) {
@@ -124,14 +124,14 @@ fn answer<D: Disk, W: Sink>(
     last: &[u8],
     writer: &mut W,
 ) -> Result<(), PipeFault>
-    ensures step { D.honest store.old.disk → (part : List ℕ) → Stands pending.old part
+    ensures step { D.honest store.new.disk → (part : List ℕ) → Stands pending.old part
         → (out : List ℕ) × RunsLine D.files D.moment D.left_since store.old (part ++ last.now) out store.new
         × OnOk result (Appends (W.written writer.old) (W.written writer.new) out) }
     ensures cleared { Stands pending.new [] }
     ensures same { OnOk result (W.failures writer.new ≡ W.failures writer.old) }
     ensures err { OnErr result (HasRisen (W.failures writer.old) (W.failures writer.new)) }
     ensures device { BreaksByFailure store.old.session store.new.session (D.failures store.old.disk) (D.failures store.new.disk) }
-    ensures honest { D.honest store.new.disk ↔ D.honest store.old.disk }
+    ensures honest { KeepsHonesty D.steady (D.honest store.old.disk) (D.honest store.new.disk) }
 {
     pending.add(last);
     let read = read_line(alloc, pending);
@@ -155,12 +155,12 @@ fn answer_read<D: Disk, W: Sink>(
     read: &Result<Command, LineFault>,
     writer: &mut W,
 ) -> Result<(), PipeFault>
-    ensures step { D.honest store.old.disk → (out : List ℕ) × RunsRead D.files D.moment D.left_since store.old read.now out store.new
+    ensures step { D.honest store.new.disk → (out : List ℕ) × RunsRead D.files D.moment D.left_since store.old read.now out store.new
         × OnOk result (Appends (W.written writer.old) (W.written writer.new) out) }
     ensures same { OnOk result (W.failures writer.new ≡ W.failures writer.old) }
     ensures err { OnErr result (HasRisen (W.failures writer.old) (W.failures writer.new)) }
     ensures device { BreaksByFailure store.old.session store.new.session (D.failures store.old.disk) (D.failures store.new.disk) }
-    ensures honest { D.honest store.new.disk ↔ D.honest store.old.disk }
+    ensures honest { KeepsHonesty D.steady (D.honest store.old.disk) (D.honest store.new.disk) }
 {
     match read {
         Ok(command) => {
@@ -174,14 +174,14 @@ fn answer_read<D: Disk, W: Sink>(
 
 // Ends serving at the end of the input.
 fn finish<D: Disk, W: Sink>(store: &mut Store<D>, pending: &Pending, writer: &mut W) -> ServeEnd
-    ensures told { D.honest store.old.disk → result ≢ ServeEnd.Write → (part : List ℕ) → Stands pending.now part
+    ensures told { D.honest store.new.disk → result ≢ ServeEnd.Write → (part : List ℕ) → Stands pending.now part
         → EndsWith (FinishesOver D.files D.moment D.left_since) part store.old result store.new (W.written writer.old) (W.written writer.new) }
     ensures never { result ≢ ServeEnd.Read }
-    ensures write { D.honest store.old.disk → result ≡ ServeEnd.Write
+    ensures write { D.honest store.new.disk → result ≡ ServeEnd.Write
         → (store.new ≡ store.old) ⊎ HasSettledOver D.files D.moment D.left_since store.old store.new }
     ensures write_cause { result ≡ ServeEnd.Write → HasRisen (W.failures writer.old) (W.failures writer.new) }
     ensures device { BreaksByFailure store.old.session store.new.session (D.failures store.old.disk) (D.failures store.new.disk) }
-    ensures honest { D.honest store.new.disk ↔ D.honest store.old.disk }
+    ensures honest { KeepsHonesty D.steady (D.honest store.old.disk) (D.honest store.new.disk) }
 {
     match answer_rest(pending, writer) {
         Err(PipeFault) => ServeEnd::Write,
@@ -204,14 +204,14 @@ fn answer_rest<W: Sink>(pending: &Pending, writer: &mut W) -> Result<(), PipeFau
 
 // Settles where accepted commands aren't settled yet.
 fn settle<D: Disk, W: Sink>(store: &mut Store<D>, writer: &mut W) -> ServeEnd
-    ensures told { D.honest store.old.disk → result ≢ ServeEnd.Write → (tail : List ℕ)
+    ensures told { D.honest store.new.disk → result ≢ ServeEnd.Write → (tail : List ℕ)
         × FinishesOver D.files D.moment D.left_since store.old result tail store.new
         × Appends (W.written writer.old) (W.written writer.new) tail }
     ensures never { result ≢ ServeEnd.Read }
-    ensures write { D.honest store.old.disk → result ≡ ServeEnd.Write → HasSettledOver D.files D.moment D.left_since store.old store.new }
+    ensures write { D.honest store.new.disk → result ≡ ServeEnd.Write → HasSettledOver D.files D.moment D.left_since store.old store.new }
     ensures write_cause { result ≡ ServeEnd.Write → HasRisen (W.failures writer.old) (W.failures writer.new) }
     ensures device { BreaksByFailure store.old.session store.new.session (D.failures store.old.disk) (D.failures store.new.disk) }
-    ensures honest { D.honest store.new.disk ↔ D.honest store.old.disk }
+    ensures honest { KeepsHonesty D.steady (D.honest store.old.disk) (D.honest store.new.disk) }
 {
     if store.is_broken() {
         return ServeEnd::Device;

@@ -1,6 +1,6 @@
 // A whole run over a disk, from the opening to the end of the input.
-ghost use Rattle.std.specs.Prelude.{◌≡◌, ◌⊎◌, ◌≤◌, ◌↔◌, Ok, All, IfOk, IfErr, MatchResult};
-ghost use Rattle.org_disk.specs.Disk.{HasRisen, LeavesOnly};
+ghost use Rattle.std.specs.Prelude.{◌≡◌, ◌⊎◌, ◌≤◌, Ok, All, IfOk, IfErr, MatchResult};
+ghost use Rattle.org_disk.specs.Disk.{HasRisen, LeavesOnly, KeepsHonesty};
 ghost use Rattle.org_journal.specs.Standing.{IsFit, contents};
 ghost use Rattle.org_fileset.specs.Names.{IsGiven};
 ghost use Rattle.org_fileset.specs.Opening.{IsReason};
@@ -55,22 +55,22 @@ pub fn serve_disk<D: Disk, R: Source, W: Sink>(
 ) -> Served<D>
     requires names { All IsGiven setup.names.items }
     requires group { IsGroup setup.group }
-    ensures served { D.honest disk → IfOk result.end (λ end.
+    ensures served { D.honest result.disk → IfOk result.end (λ end.
         ServesOver setup.states setup.group setup.names.items (contents (D.files disk)) end
         (R.left reader.old) (R.left reader.new) (W.written writer.old) (W.written writer.new)) }
-    ensures any_moment { D.honest disk → IsFit (D.files disk) → EachStands (D.files disk) → MatchResult result.end
+    ensures any_moment { D.honest result.disk → IsFit (D.files disk) → EachStands (D.files disk) → MatchResult result.end
         (λ end. (served : ServesOver setup.states setup.group setup.names.items (contents (D.files disk)) end
         (R.left reader.old) (R.left reader.new) (W.written writer.old) (W.written writer.new))
         × LeavesOnly (D.moment disk) (D.moment result.disk) (D.left_since disk) (D.left_since result.disk) (IsLeftServing (D.files disk) served))
         (λ fault. LeavesOnly (D.moment disk) (D.moment result.disk) (D.left_since disk) (D.left_since result.disk) (StandsAsBefore (D.files disk))) }
-    ensures fit { D.honest disk → IsFit (D.files disk) → EachStands (D.files disk) → IsFit (D.files result.disk) }
+    ensures fit { D.honest result.disk → IsFit (D.files disk) → EachStands (D.files disk) → IsFit (D.files result.disk) }
     ensures read_cause { result.end ≡ Ok ServeEnd.Read → HasRisen (R.failures reader.old) (R.failures reader.new)
         ⊎ HasRisenBy turns (R.reads reader.old) (R.reads reader.new) }
     ensures write_cause { result.end ≡ Ok ServeEnd.Write → HasRisen (W.failures writer.old) (W.failures writer.new) }
-    ensures refused { IfErr result.end (IsReason setup.names.items (D.honest disk) (contents (D.files disk)) (contents (D.files result.disk))) }
+    ensures refused { IfErr result.end (IsReason setup.names.items (D.honest result.disk) (contents (D.files disk)) (contents (D.files result.disk))) }
     ensures failed { IfErr result.end (λ fault. fault ≡ OpenFault.Device → HasRisen (D.failures disk) (D.failures result.disk)) }
     ensures told { IfErr result.end (λ fault. (fault ≡ OpenFault.Device → ⊥) → D.failures result.disk ≡ D.failures disk) }
-    ensures honest { D.honest result.disk ↔ D.honest disk }
+    ensures honest { KeepsHonesty D.steady (D.honest disk) (D.honest result.disk) }
 {
     let Setup {
         names,

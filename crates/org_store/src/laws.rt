@@ -83,8 +83,8 @@ pub fn texts_stay_small()
 /// an image, `Store::open` answers Ok, OutOfMemory, or Device with a counted failure, and nothing else.
 pub fn every_image_opens<D: Disk>()
     // what a refused opening of such an image tells
-    ensures faults { (given : List (List ℕ)) (disk now : D) (fault : OpenFault) → All IsGiven given → D.honest disk → IsOpenable given (contents (D.files disk))
-        → IsReason given (D.honest disk) (contents (D.files disk)) (contents (D.files now)) fault → (fault ≡ Device → HasRisen (D.failures disk) (D.failures now))
+    ensures faults { (given : List (List ℕ)) (disk now : D) (fault : OpenFault) → All IsGiven given → D.honest now → IsOpenable given (contents (D.files disk))
+        → IsReason given (D.honest now) (contents (D.files disk)) (contents (D.files now)) fault → (fault ≡ Device → HasRisen (D.failures disk) (D.failures now))
         → (fault ≡ OutOfMemory) ⊎ ((fault ≡ Device) × HasRisen (D.failures disk) (D.failures now)) }
     // what a stop left of a store's files is such an image, as long as no text of them was past the limit
     ensures held { (given : List (List ℕ)) (s : Session) (others image : Image) (texts : List (List ℕ)) → AreFew given → AreSorted (with_archives given) s.names

@@ -1,7 +1,7 @@
 // A store over a disk.
 ghost use Rattle.std.specs.Prelude.{◌≡◌, ◌≤◌, ◌<◌, ◌⊎◌, ◌↔◌, ◌+◌, ◌^◌, ◌-◌, true, false, List, ℕ, Err, length, is_some, IsSomeAnd, IfOk, IfErr, OnOk, IsErrOf, IsTrue, None, MatchResult};
 ghost use Rattle.std.specs.List.{All, Contains};
-ghost use Rattle.org_disk.specs.Disk.{HasRisen, LeavesOnly, Passes, AreImages};
+ghost use Rattle.org_disk.specs.Disk.{HasRisen, LeavesOnly, Passes, AreImages, KeepsHonesty};
 ghost use Rattle.org_journal.specs.Standing.{Image, SameFiles, IsFit, stands, contents};
 ghost use Rattle.org_fileset.specs.Names.{with_archives, AreSorted, AreFew, IsGiven, first_large};
 ghost use Rattle.org_fileset.specs.Opening.{IsReason};
@@ -88,19 +88,19 @@ impl<D: Disk> Store<D> {
         requires { All IsGiven names.items }
         ensures session { IfOk result (λ store. store.session ≡ opened states store.session.names (texts_of (contents (D.files store.disk)) store.session.names)) }
         ensures names { IfOk result (λ store. AreFew names.items × AreSorted (with_archives names.items) store.session.names) }
-        ensures contents { IfOk result (λ store. D.honest disk → IsSomeAnd (stands (contents (D.files disk))) (SameFiles (contents (D.files store.disk)))) }
-        ensures sizes { IfOk result (λ store. D.honest disk → first_large (contents (D.files store.disk)) store.session.names ≡ None) }
-        ensures refused { IfErr result (λ refused. IsReason names.items (D.honest disk) (contents (D.files disk)) (contents (D.files refused.disk)) refused.fault) }
-        ensures again { IfErr result (λ refused. D.honest disk → IsOpenable names.items (contents (D.files disk)) → (refused.fault ≡ OpenFault.OutOfMemory) ⊎ (refused.fault ≡ OpenFault.Device)) }
+        ensures contents { IfOk result (λ store. D.honest store.disk → IsSomeAnd (stands (contents (D.files disk))) (SameFiles (contents (D.files store.disk)))) }
+        ensures sizes { IfOk result (λ store. D.honest store.disk → first_large (contents (D.files store.disk)) store.session.names ≡ None) }
+        ensures refused { IfErr result (λ refused. IsReason names.items (D.honest refused.disk) (contents (D.files disk)) (contents (D.files refused.disk)) refused.fault) }
+        ensures again { IfErr result (λ refused. D.honest refused.disk → IsOpenable names.items (contents (D.files disk)) → (refused.fault ≡ OpenFault.OutOfMemory) ⊎ (refused.fault ≡ OpenFault.Device)) }
         ensures unused { IfErr result (λ refused. refused.fault ≡ OpenFault.TooManyFiles → refused.disk ≡ disk) }
-        ensures any_moment { D.honest disk → IsFit (D.files disk) → EachStands (D.files disk) →
+        ensures any_moment { D.honest (disk_in result) → IsFit (D.files disk) → EachStands (D.files disk) →
             LeavesOnly (D.moment disk) (D.moment (disk_in result)) (D.left_since disk) (D.left_since (disk_in result)) (StandsAsBefore (D.files disk)) }
-        ensures fit { D.honest disk → IsFit (D.files disk) → EachStands (D.files disk) → IsFit (D.files (disk_in result)) }
-        ensures rest { IfOk result (λ store. D.honest disk → IsFit (D.files disk) → EachStands (D.files disk) → IsAtRest (D.files store.disk)) }
+        ensures fit { D.honest (disk_in result) → IsFit (D.files disk) → EachStands (D.files disk) → IsFit (D.files (disk_in result)) }
+        ensures rest { IfOk result (λ store. D.honest store.disk → IsFit (D.files disk) → EachStands (D.files disk) → IsAtRest (D.files store.disk)) }
         ensures failed { IfErr result (λ refused. refused.fault ≡ OpenFault.Device → HasRisen (D.failures disk) (D.failures refused.disk)) }
         ensures told { MatchResult result (λ opened. D.failures opened.disk ≡ D.failures disk) (λ refused. (refused.fault ≡ OpenFault.Device → ⊥) → D.failures refused.disk ≡ D.failures disk) }
         ensures failures { D.failures disk ≤ D.failures (disk_in result) }
-        ensures honest { D.honest (disk_in result) ↔ D.honest disk }
+        ensures honest { KeepsHonesty D.steady (D.honest disk) (D.honest (disk_in result)) }
     {
         match HeldSet::open(alloc, disk, names) {
             Ok(files) => Ok(Store {
@@ -166,13 +166,13 @@ impl<D: Disk> Store<D> {
     /// `Device` comes only where the disk counted a failure in this call, and breaks the store; `Broken` comes exactly
     /// where it was broken before.
     pub fn settle(&mut self) -> Result<(), RunFault>
-        ensures step { D.honest self.old.disk → Settles self.old.session result self.new.session }
-        ensures any_moment { D.honest self.old.disk → IsAtRest (D.files self.old.disk) → LeavesOnly (D.moment self.old.disk) (D.moment self.new.disk)
+        ensures step { D.honest self.new.disk → Settles self.old.session result self.new.session }
+        ensures any_moment { D.honest self.new.disk → IsAtRest (D.files self.old.disk) → LeavesOnly (D.moment self.old.disk) (D.moment self.new.disk)
             (D.left_since self.old.disk) (D.left_since self.new.disk) (IsLeftSettling self.old.session (contents (D.files self.old.disk)) result) }
-        ensures others { (IsErrOf result RunFault.Device → ⊥) → D.honest self.old.disk →
+        ensures others { (IsErrOf result RunFault.Device → ⊥) → D.honest self.new.disk →
             SameFiles (contents (D.files self.new.disk)) (with_texts self.new.session.names self.new.session.settled (contents (D.files self.old.disk))) }
-        ensures rest { (IsErrOf result RunFault.Device → ⊥) → D.honest self.old.disk → IsAtRest (D.files self.old.disk) → IsAtRest (D.files self.new.disk) }
-        ensures fit { D.honest self.old.disk → IsAtRest (D.files self.old.disk) → IsFit (D.files self.new.disk) }
+        ensures rest { (IsErrOf result RunFault.Device → ⊥) → D.honest self.new.disk → IsAtRest (D.files self.old.disk) → IsAtRest (D.files self.new.disk) }
+        ensures fit { D.honest self.new.disk → IsAtRest (D.files self.old.disk) → IsFit (D.files self.new.disk) }
         ensures counts { SettledCounts self.old.session result self.new.session }
         ensures failed { IsErrOf result RunFault.Device → HasRisen (D.failures self.old.disk) (D.failures self.new.disk) }
         ensures told { (IsErrOf result RunFault.Device → ⊥) → D.failures self.new.disk ≡ D.failures self.old.disk }
@@ -180,7 +180,7 @@ impl<D: Disk> Store<D> {
         ensures untouched { IsErrOf result RunFault.Broken → self.new ≡ self.old }
         ensures breaks { IsTrue self.new.session.broken ↔ (IsTrue self.old.session.broken ⊎ IsErrOf result RunFault.Device) }
         ensures failures { D.failures self.old.disk ≤ D.failures self.new.disk }
-        ensures honest { D.honest self.new.disk ↔ D.honest self.old.disk }
+        ensures honest { KeepsHonesty D.steady (D.honest self.old.disk) (D.honest self.new.disk) }
     {
         self.files.settle()?;
         self.acknowledged = self.accepted;
@@ -194,20 +194,20 @@ impl<D: Disk> Store<D> {
         requires unbroken { self.old.session.broken ≡ false }
         requires drafts { Each (IsDraft self.old.session.names ((self.old.session.broken ≡ false) × D.honest self.old.disk) (contents (D.files self.old.disk))) (list_of drafts) }
         requires countable { self.old.session.accepted + 1 < 2 ^ 64 }
-        ensures keeps { D.honest self.old.disk → Keeps self.old.session (after self.old.session drafts) result self.new.session }
-        ensures any_moment { D.honest self.old.disk → IsAtRest (D.files self.old.disk) → LeavesOnly (D.moment self.old.disk) (D.moment self.new.disk)
+        ensures keeps { D.honest self.new.disk → Keeps self.old.session (after self.old.session drafts) result self.new.session }
+        ensures any_moment { D.honest self.new.disk → IsAtRest (D.files self.old.disk) → LeavesOnly (D.moment self.old.disk) (D.moment self.new.disk)
             (D.left_since self.old.disk) (D.left_since self.new.disk)
             (IsLeftKeeping self.old.session (contents (D.files self.old.disk)) (after self.old.session drafts) result) }
-        ensures others { (IsErrOf result RunFault.Device → ⊥) → D.honest self.old.disk →
+        ensures others { (IsErrOf result RunFault.Device → ⊥) → D.honest self.new.disk →
             SameFiles (contents (D.files self.new.disk)) (with_texts self.new.session.names self.new.session.settled (contents (D.files self.old.disk))) }
-        ensures rest { (IsErrOf result RunFault.Device → ⊥) → D.honest self.old.disk → IsAtRest (D.files self.old.disk) → IsAtRest (D.files self.new.disk) }
-        ensures fit { D.honest self.old.disk → IsAtRest (D.files self.old.disk) → IsFit (D.files self.new.disk) }
+        ensures rest { (IsErrOf result RunFault.Device → ⊥) → D.honest self.new.disk → IsAtRest (D.files self.old.disk) → IsAtRest (D.files self.new.disk) }
+        ensures fit { D.honest self.new.disk → IsAtRest (D.files self.old.disk) → IsFit (D.files self.new.disk) }
         ensures counts { KeepsCounts self.old.session result self.new.session }
         ensures failed { IsErrOf result RunFault.Device → HasRisen (D.failures self.old.disk) (D.failures self.new.disk) }
         ensures told { (IsErrOf result RunFault.Device → ⊥) → D.failures self.new.disk ≡ D.failures self.old.disk }
         ensures breaks { IsErrOf result RunFault.Device ↔ IsTrue self.new.session.broken }
         ensures failures { D.failures self.old.disk ≤ D.failures self.new.disk }
-        ensures honest { D.honest self.new.disk ↔ D.honest self.old.disk }
+        ensures honest { KeepsHonesty D.steady (D.honest self.old.disk) (D.honest self.new.disk) }
     {
         if self.accepted + 1 - self.acknowledged < u64::from(self.group) {
             return self.hold(drafts);
@@ -221,20 +221,20 @@ impl<D: Disk> Store<D> {
         requires drafts { Each (IsDraft self.old.session.names ((self.old.session.broken ≡ false) × D.honest self.old.disk) (contents (D.files self.old.disk))) (list_of drafts) }
         requires countable { self.old.session.accepted + 1 < 2 ^ 64 }
         requires part { fills self.old.session ≡ false }
-        ensures keeps { D.honest self.old.disk → Keeps self.old.session (after self.old.session drafts) result self.new.session }
-        ensures any_moment { D.honest self.old.disk → IsAtRest (D.files self.old.disk) → LeavesOnly (D.moment self.old.disk) (D.moment self.new.disk)
+        ensures keeps { D.honest self.new.disk → Keeps self.old.session (after self.old.session drafts) result self.new.session }
+        ensures any_moment { D.honest self.new.disk → IsAtRest (D.files self.old.disk) → LeavesOnly (D.moment self.old.disk) (D.moment self.new.disk)
             (D.left_since self.old.disk) (D.left_since self.new.disk)
             (IsLeftKeeping self.old.session (contents (D.files self.old.disk)) (after self.old.session drafts) result) }
-        ensures others { (IsErrOf result RunFault.Device → ⊥) → D.honest self.old.disk →
+        ensures others { (IsErrOf result RunFault.Device → ⊥) → D.honest self.new.disk →
             SameFiles (contents (D.files self.new.disk)) (with_texts self.new.session.names self.new.session.settled (contents (D.files self.old.disk))) }
-        ensures rest { (IsErrOf result RunFault.Device → ⊥) → D.honest self.old.disk → IsAtRest (D.files self.old.disk) → IsAtRest (D.files self.new.disk) }
-        ensures fit { D.honest self.old.disk → IsAtRest (D.files self.old.disk) → IsFit (D.files self.new.disk) }
+        ensures rest { (IsErrOf result RunFault.Device → ⊥) → D.honest self.new.disk → IsAtRest (D.files self.old.disk) → IsAtRest (D.files self.new.disk) }
+        ensures fit { D.honest self.new.disk → IsAtRest (D.files self.old.disk) → IsFit (D.files self.new.disk) }
         ensures counts { KeepsCounts self.old.session result self.new.session }
         ensures failed { IsErrOf result RunFault.Device → HasRisen (D.failures self.old.disk) (D.failures self.new.disk) }
         ensures told { (IsErrOf result RunFault.Device → ⊥) → D.failures self.new.disk ≡ D.failures self.old.disk }
         ensures breaks { IsErrOf result RunFault.Device ↔ IsTrue self.new.session.broken }
         ensures failures { D.failures self.old.disk ≤ D.failures self.new.disk }
-        ensures honest { D.honest self.new.disk ↔ D.honest self.old.disk }
+        ensures honest { KeepsHonesty D.steady (D.honest self.old.disk) (D.honest self.new.disk) }
     {
         self.files.put(drafts)?;
         self.accepted += 1;
@@ -247,20 +247,20 @@ impl<D: Disk> Store<D> {
         requires drafts { Each (IsDraft self.old.session.names ((self.old.session.broken ≡ false) × D.honest self.old.disk) (contents (D.files self.old.disk))) (list_of drafts) }
         requires countable { self.old.session.accepted + 1 < 2 ^ 64 }
         requires full { fills self.old.session ≡ true }
-        ensures keeps { D.honest self.old.disk → Keeps self.old.session (after self.old.session drafts) result self.new.session }
-        ensures any_moment { D.honest self.old.disk → IsAtRest (D.files self.old.disk) → LeavesOnly (D.moment self.old.disk) (D.moment self.new.disk)
+        ensures keeps { D.honest self.new.disk → Keeps self.old.session (after self.old.session drafts) result self.new.session }
+        ensures any_moment { D.honest self.new.disk → IsAtRest (D.files self.old.disk) → LeavesOnly (D.moment self.old.disk) (D.moment self.new.disk)
             (D.left_since self.old.disk) (D.left_since self.new.disk)
             (IsLeftKeeping self.old.session (contents (D.files self.old.disk)) (after self.old.session drafts) result) }
-        ensures others { (IsErrOf result RunFault.Device → ⊥) → D.honest self.old.disk →
+        ensures others { (IsErrOf result RunFault.Device → ⊥) → D.honest self.new.disk →
             SameFiles (contents (D.files self.new.disk)) (with_texts self.new.session.names self.new.session.settled (contents (D.files self.old.disk))) }
-        ensures rest { (IsErrOf result RunFault.Device → ⊥) → D.honest self.old.disk → IsAtRest (D.files self.old.disk) → IsAtRest (D.files self.new.disk) }
-        ensures fit { D.honest self.old.disk → IsAtRest (D.files self.old.disk) → IsFit (D.files self.new.disk) }
+        ensures rest { (IsErrOf result RunFault.Device → ⊥) → D.honest self.new.disk → IsAtRest (D.files self.old.disk) → IsAtRest (D.files self.new.disk) }
+        ensures fit { D.honest self.new.disk → IsAtRest (D.files self.old.disk) → IsFit (D.files self.new.disk) }
         ensures counts { KeepsCounts self.old.session result self.new.session }
         ensures failed { IsErrOf result RunFault.Device → HasRisen (D.failures self.old.disk) (D.failures self.new.disk) }
         ensures told { (IsErrOf result RunFault.Device → ⊥) → D.failures self.new.disk ≡ D.failures self.old.disk }
         ensures breaks { IsErrOf result RunFault.Device ↔ IsTrue self.new.session.broken }
         ensures failures { D.failures self.old.disk ≤ D.failures self.new.disk }
-        ensures honest { D.honest self.new.disk ↔ D.honest self.old.disk }
+        ensures honest { KeepsHonesty D.steady (D.honest self.old.disk) (D.honest self.new.disk) }
     {
         match self.files.commit(drafts) {
             Ok(()) => {
@@ -288,13 +288,13 @@ impl<D: Disk> Store<D> {
         requires unbroken { self.old.session.broken ≡ false }
         requires name { is_name self.old.session.names file.now ≡ true }
         requires there { is_some (text_at self.old.session.names self.old.session.files file.now) ≡ true }
-        ensures plans { D.honest self.old.disk → Plans self.old.session
+        ensures plans { D.honest self.new.disk → Plans self.old.session
             (capture self.old.session file.now target.now place template.now (text_at self.old.session.names self.old.session.files file.now)) result self.new.session }
         ensures drafts { IfOk result (λ drafts. Each (IsDraft self.new.session.names ((self.new.session.broken ≡ false) × D.honest self.new.disk) (contents (D.files self.new.disk))) (list_of drafts)) }
         ensures countable { IfOk result (λ drafts. self.new.session.accepted + 1 < 2 ^ 64) }
-        ensures any_moment { D.honest self.old.disk → Passes (D.moment self.old.disk) (D.moment self.new.disk)
+        ensures any_moment { D.honest self.new.disk → Passes (D.moment self.old.disk) (D.moment self.new.disk)
             (D.left_since self.old.disk) (D.left_since self.new.disk) (AreImages (D.files self.old.disk)) }
-        ensures same { D.honest self.old.disk → D.files self.new.disk ≡ D.files self.old.disk }
+        ensures same { D.honest self.new.disk → D.files self.new.disk ≡ D.files self.old.disk }
         ensures settled { self.new.session.settled ≡ texts_of (contents (D.files self.new.disk)) self.new.session.names }
         ensures counts { SameCounts self.old.session self.new.session }
         ensures failed { IsErrOf result RunFault.Device → HasRisen (D.failures self.old.disk) (D.failures self.new.disk) }
@@ -302,7 +302,7 @@ impl<D: Disk> Store<D> {
         ensures not_broken { IsErrOf result RunFault.Broken → ⊥ }
         ensures breaks { IsErrOf result RunFault.Device ↔ IsTrue self.new.session.broken }
         ensures failures { D.failures self.old.disk ≤ D.failures self.new.disk }
-        ensures honest { D.honest self.new.disk ↔ D.honest self.old.disk }
+        ensures honest { KeepsHonesty D.steady (D.honest self.old.disk) (D.honest self.new.disk) }
     {
         let alloc = self.alloc;
         let entry = entry_of(alloc, template, &self.states)?;
@@ -327,22 +327,22 @@ impl<D: Disk> Store<D> {
         template: &[u8],
     ) -> Result<Reply, RunFault>
         requires unbroken { self.old.session.broken ≡ false }
-        ensures does { D.honest self.old.disk → Does self.old.session
+        ensures does { D.honest self.new.disk → Does self.old.session
             (capture self.old.session file.now target.now place template.now (text_at self.old.session.names self.old.session.files file.now)) result self.new.session }
-        ensures any_moment { D.honest self.old.disk → IsAtRest (D.files self.old.disk) → LeavesOnly (D.moment self.old.disk) (D.moment self.new.disk)
+        ensures any_moment { D.honest self.new.disk → IsAtRest (D.files self.old.disk) → LeavesOnly (D.moment self.old.disk) (D.moment self.new.disk)
             (D.left_since self.old.disk) (D.left_since self.new.disk) (IsLeftBy self.old.session (contents (D.files self.old.disk))
             (capture self.old.session file.now target.now place template.now (text_at self.old.session.names self.old.session.files file.now)) result self.new.session.accepted) }
-        ensures others { (IsErrOf result RunFault.Device → ⊥) → D.honest self.old.disk →
+        ensures others { (IsErrOf result RunFault.Device → ⊥) → D.honest self.new.disk →
             SameFiles (contents (D.files self.new.disk)) (with_texts self.new.session.names self.new.session.settled (contents (D.files self.old.disk))) }
-        ensures rest { (IsErrOf result RunFault.Device → ⊥) → D.honest self.old.disk → IsAtRest (D.files self.old.disk) → IsAtRest (D.files self.new.disk) }
-        ensures fit { D.honest self.old.disk → IsAtRest (D.files self.old.disk) → IsFit (D.files self.new.disk) }
+        ensures rest { (IsErrOf result RunFault.Device → ⊥) → D.honest self.new.disk → IsAtRest (D.files self.old.disk) → IsAtRest (D.files self.new.disk) }
+        ensures fit { D.honest self.new.disk → IsAtRest (D.files self.old.disk) → IsFit (D.files self.new.disk) }
         ensures counts { Counts self.old.session result self.new.session }
         ensures failed { IsErrOf result RunFault.Device → HasRisen (D.failures self.old.disk) (D.failures self.new.disk) }
         ensures told { (IsErrOf result RunFault.Device → ⊥) → D.failures self.new.disk ≡ D.failures self.old.disk }
         ensures not_broken { IsErrOf result RunFault.Broken → ⊥ }
         ensures breaks { IsErrOf result RunFault.Device ↔ IsTrue self.new.session.broken }
         ensures failures { D.failures self.old.disk ≤ D.failures self.new.disk }
-        ensures honest { D.honest self.new.disk ↔ D.honest self.old.disk }
+        ensures honest { KeepsHonesty D.steady (D.honest self.old.disk) (D.honest self.new.disk) }
     {
         if !self.files.has(file) {
             return Err(RunFault::Refused(Refusal::NoSuchFile));
@@ -355,11 +355,11 @@ impl<D: Disk> Store<D> {
     // Answers the text of a file.
     fn show(&mut self, file: &FileName) -> Result<Reply, RunFault>
         requires unbroken { self.old.session.broken ≡ false }
-        ensures does { D.honest self.old.disk → Does self.old.session
+        ensures does { D.honest self.new.disk → Does self.old.session
             (show (text_at self.old.session.names self.old.session.files file.now)) result self.new.session }
-        ensures any_moment { D.honest self.old.disk → Passes (D.moment self.old.disk) (D.moment self.new.disk)
+        ensures any_moment { D.honest self.new.disk → Passes (D.moment self.old.disk) (D.moment self.new.disk)
             (D.left_since self.old.disk) (D.left_since self.new.disk) (AreImages (D.files self.old.disk)) }
-        ensures same { D.honest self.old.disk → D.files self.new.disk ≡ D.files self.old.disk }
+        ensures same { D.honest self.new.disk → D.files self.new.disk ≡ D.files self.old.disk }
         ensures settled { self.new.session.settled ≡ texts_of (contents (D.files self.new.disk)) self.new.session.names }
         ensures counts { Counts self.old.session result self.new.session }
         ensures failed { IsErrOf result RunFault.Device → HasRisen (D.failures self.old.disk) (D.failures self.new.disk) }
@@ -367,7 +367,7 @@ impl<D: Disk> Store<D> {
         ensures not_broken { IsErrOf result RunFault.Broken → ⊥ }
         ensures breaks { IsErrOf result RunFault.Device ↔ IsTrue self.new.session.broken }
         ensures failures { D.failures self.old.disk ≤ D.failures self.new.disk }
-        ensures honest { D.honest self.new.disk ↔ D.honest self.old.disk }
+        ensures honest { KeepsHonesty D.steady (D.honest self.old.disk) (D.honest self.new.disk) }
     {
         if !self.files.has(file) {
             return Err(RunFault::Refused(Refusal::NoSuchFile));
@@ -385,13 +385,13 @@ impl<D: Disk> Store<D> {
     /// is undone, and those before it stay pending. `Device` comes only where the disk counted a failure in this call,
     /// and breaks the store; `Broken` comes exactly where it was broken before.
     pub fn run(&mut self, command: &Command) -> Result<Reply, RunFault>
-        ensures step { D.honest self.old.disk → Step self.old.session command.now result self.new.session }
-        ensures any_moment { D.honest self.old.disk → IsAtRest (D.files self.old.disk) → LeavesOnly (D.moment self.old.disk) (D.moment self.new.disk)
+        ensures step { D.honest self.new.disk → Step self.old.session command.now result self.new.session }
+        ensures any_moment { D.honest self.new.disk → IsAtRest (D.files self.old.disk) → LeavesOnly (D.moment self.old.disk) (D.moment self.new.disk)
             (D.left_since self.old.disk) (D.left_since self.new.disk) (IsLeft self.old.session (contents (D.files self.old.disk)) command.now result self.new.session.accepted) }
-        ensures others { (IsErrOf result RunFault.Device → ⊥) → D.honest self.old.disk →
+        ensures others { (IsErrOf result RunFault.Device → ⊥) → D.honest self.new.disk →
             SameFiles (contents (D.files self.new.disk)) (with_texts self.new.session.names self.new.session.settled (contents (D.files self.old.disk))) }
-        ensures rest { (IsErrOf result RunFault.Device → ⊥) → D.honest self.old.disk → IsAtRest (D.files self.old.disk) → IsAtRest (D.files self.new.disk) }
-        ensures fit { D.honest self.old.disk → IsAtRest (D.files self.old.disk) → IsFit (D.files self.new.disk) }
+        ensures rest { (IsErrOf result RunFault.Device → ⊥) → D.honest self.new.disk → IsAtRest (D.files self.old.disk) → IsAtRest (D.files self.new.disk) }
+        ensures fit { D.honest self.new.disk → IsAtRest (D.files self.old.disk) → IsFit (D.files self.new.disk) }
         ensures counts { Counts self.old.session result self.new.session }
         ensures failed { IsErrOf result RunFault.Device → HasRisen (D.failures self.old.disk) (D.failures self.new.disk) }
         ensures told { (IsErrOf result RunFault.Device → ⊥) → D.failures self.new.disk ≡ D.failures self.old.disk }
@@ -399,7 +399,7 @@ impl<D: Disk> Store<D> {
         ensures untouched { IsErrOf result RunFault.Broken → self.new ≡ self.old }
         ensures breaks { IsTrue self.new.session.broken ↔ (IsTrue self.old.session.broken ⊎ IsErrOf result RunFault.Device) }
         ensures failures { D.failures self.old.disk ≤ D.failures self.new.disk }
-        ensures honest { D.honest self.new.disk ↔ D.honest self.old.disk }
+        ensures honest { KeepsHonesty D.steady (D.honest self.old.disk) (D.honest self.new.disk) }
     {
         if self.files.is_broken() {
             return Err(RunFault::Broken);

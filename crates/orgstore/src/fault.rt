@@ -1,4 +1,9 @@
 // Why the program doesn't run to the end of its input: what it says on standard error, and its exit status.
+ghost use Rattle.std.specs.Prelude.{◌≡◌};
+ghost use Rattle.org_fileset.specs.declared.open.OpenFault.TheVariants.{OutOfMemory};
+ghost use Rattle.orgstore.specs.Causes.{listing};
+ghost use Rattle.orgstore.specs.declared.fault.Fault.TheVariants.{Open};
+
 use org_folder::ListFault;
 use org_outline::StatesFault;
 use org_serve::ServeEnd;
@@ -46,18 +51,24 @@ fn write_open<W: fmt::Write>(f: &mut Formatter<W>, fault: &OpenFault) -> fmt::Re
 }
 
 impl From<AllocError> for Fault {
+    ghost from_gives = { λ _ fault. fault ≡ Open OutOfMemory };
+
     fn from(_: AllocError) -> Fault {
         Fault::Open(OpenFault::OutOfMemory)
     }
 }
 
 impl<T: Drop> From<AllocFailed<T>> for Fault {
+    ghost from_gives = { λ _ fault. fault ≡ Open OutOfMemory };
+
     fn from(_: AllocFailed<T>) -> Fault {
         Fault::Open(OpenFault::OutOfMemory)
     }
 }
 
 impl From<ListFault> for Fault {
+    ghost from_gives = { λ cause fault. fault ≡ listing cause };
+
     fn from(fault: ListFault) -> Fault {
         match fault {
             ListFault::Device => Fault::Open(OpenFault::Device),

@@ -5,6 +5,7 @@
 ghost use Rattle.std.specs.Prelude.{◌≡◌, ◌++◌, ℕ, List, map, string_bytes, IfOk, All};
 ghost use Rattle.org_fileset.specs.Names.{IsGiven};
 ghost use Rattle.org_serve.specs.Group.{IsGroup};
+ghost use Rattle.orgstore.specs.Causes.{told};
 
 mod arguments;
 mod fault;
@@ -17,7 +18,7 @@ use arguments::Arguments;
 use fault::Fault;
 use folder::serve_folder;
 use names::names;
-use org_folder::FolderDisk;
+use org_folder::{FolderDisk, Unknown};
 use org_outline::States;
 use org_serve::{Counted, ServeEnd, Served, Setup};
 use org_store::OpenFault;
@@ -38,11 +39,24 @@ fn main(rt: HostRuntime) -> ExitCode {
 fn run(rt: &HostRuntime) -> Result<(), Fault> {
     let arguments = arguments::read(rt)?;
     let setup = setup(rt, &arguments)?;
-    let disk = FolderDisk::new(rt.clone()?, rt.alloc(), &arguments.folder)?;
     let mut reader = Counted::new(rt.stdin());
     let mut writer = Counted::new(stdout(rt)?);
-    let served = serve_folder(rt.alloc(), disk, setup, &mut reader, &mut writer);
+    let served: Served<FolderDisk<HostRuntime, Unknown>> = serve_folder(
+        rt.clone()?,
+        rt.alloc(),
+        &arguments.folder,
+        setup,
+        &mut reader,
+        &mut writer,
+    )?;
     let Served { disk: _, end } = served;
+    told(end)
+}
+
+// What there is to tell of how serving ended.
+fn told(end: Result<ServeEnd, OpenFault>) -> Result<(), Fault>
+    ensures { result ≡ told end }
+{
     match end {
         Ok(ServeEnd::End) => Ok(()),
         Ok(end) => Err(Fault::Ended(end)),

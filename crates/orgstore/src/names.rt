@@ -1,6 +1,7 @@
 // The names that the store is opened with.
-ghost use Rattle.std.specs.Prelude.{◌≡◌, ◌++◌, ℕ, List, map, string_bytes, IfOk, All};
+ghost use Rattle.std.specs.Prelude.{◌≡◌, ◌++◌, ℕ, List, map, string_bytes, IfOk, IfErr, All};
 ghost use Rattle.org_folder.specs.OrgFiles.{IsOpenable};
+ghost use Rattle.orgstore.specs.Causes.{IsCause, IsCauseOf};
 
 use crate::fault::Fault;
 use org_disk::{FileName, NameFault};
@@ -11,6 +12,7 @@ use org_store::OpenFault;
 pub fn names(rt: &HostRuntime, folder: &str, new: &[String]) -> Result<Vec<FileName>, Fault>
     ensures openable { IfOk result (λ names. All IsOpenable names.items) }
     ensures new { IfOk result (λ names. (listed : List (List ℕ)) × (names.items ≡ map string_bytes new.now ++ listed)) }
+    ensures cause { IfErr result (IsCause (map string_bytes new.now)) }
 {
     let mut names = new_names(rt, new)?;
     names.append(&mut org_files(rt, folder)?)?;
@@ -20,6 +22,7 @@ pub fn names(rt: &HostRuntime, folder: &str, new: &[String]) -> Result<Vec<FileN
 fn new_names(rt: &HostRuntime, new: &[String]) -> Result<Vec<FileName>, Fault>
     ensures openable { IfOk result (λ names. All IsOpenable names.items) }
     ensures names { IfOk result (λ names. names.items ≡ map string_bytes new.now) }
+    ensures cause { IfErr result (IsCause (map string_bytes new.now)) }
 {
     let mut names = Vec::new(rt.alloc());
     for name in new {
@@ -31,6 +34,7 @@ fn new_names(rt: &HostRuntime, new: &[String]) -> Result<Vec<FileName>, Fault>
 fn new_name(rt: &HostRuntime, name: &str) -> Result<FileName, Fault>
     ensures openable { IfOk result IsOpenable }
     ensures name { IfOk result (λ one. one ≡ name.now) }
+    ensures cause { IfErr result (IsCauseOf name.now) }
 {
     match org_file(rt.alloc(), name) {
         Ok(name) => Ok(name),

@@ -171,33 +171,84 @@ fn stopped_in_a_group_of_three(rt: HostRuntime) -> Result<(), Fail> {
     Ok(())
 }
 
-// A failed call of the disk is told, then nothing is done any more; and what is left has a prefix.
-fn fail_at(rt: &(impl Abort + AllocGlobal), opening: u64, call: u64) -> Result<(), Fail> {
+// The two captures, and a show.
+const THREE: &[u8] = b"capture\ta.org\ttop\tlast\t2026-07-01 10:00\t* N\t\n\
+    capture\tb.org\ttop\tlast\t2026-07-01 10:00\t* K\t\nshow\ta.org\n";
+
+// One of the captures is told that the disk failed, and each later line that the store is broken.
+fn is_told(group: u32, written: &[u8]) -> bool {
+    match written {
+        b"fault Device\nfault Broken\nfault Broken\n" => true,
+        b"ok 1\nsafe 1\nfault Device\nfault Broken\n" => group == 1,
+        b"ok 1\nfault Device\nfault Broken\n" => group == 2,
+        _ => false,
+    }
+}
+
+// Where this call fails, the opening is refused and the files are as they were; or a line is told, and what is left has a
+// prefix.
+fn fail_at(rt: &(impl Abort + AllocGlobal), group: u32, opening: u64, call: u64) -> Result<(), Fail>
+    requires { IsGroup group }
+{
     let alloc = rt.alloc();
     let mut disk = files(alloc)?;
     disk.fail_at(call);
-    let Ended { written, end, disk } = run(alloc, disk, 1, CAPTURE)?;
+    let Ended { written, end, disk } = run(alloc, disk, group, THREE)?;
+    let prefix = prefix_in(alloc, disk)?;
     if call <= opening {
-        assert!(rt; matches!(end, Err(OpenFault::Device)) && written.is_empty());
-    } else {
-        assert!(rt; matches!(end, Ok(ServeEnd::Device)));
-        assert_eq!(rt;
-            written.as_slice(),
-            b"fault Device\nfault Broken\n".as_slice()
-        );
+        assert!(rt; matches!(end, Err(OpenFault::Device)) && written.is_empty() && prefix == 0);
+        return Ok(());
     }
-    assert!(rt; prefix_in(alloc, disk)? <= 1);
+    assert!(rt; matches!(end, Ok(ServeEnd::Device)));
+    assert!(rt; is_told(group, &written), "call {call}");
+    assert!(rt;
+        is_prefix(u64::from(group), &written, prefix),
+        "{prefix} after {call}"
+    );
+    Ok(())
+}
+
+fn fail_at_every_call(rt: &(impl Abort + AllocGlobal), group: u32, wanted: u64) -> Result<(), Fail>
+    requires { IsGroup group }
+{
+    let opening = calls(rt.alloc(), files(rt.alloc())?, group, b"")?;
+    let all = calls(rt.alloc(), files(rt.alloc())?, group, THREE)?;
+    assert_eq!(rt; all.saturating_sub(opening), wanted);
+    for call in 0..all {
+        fail_at(rt, group, opening, call + 1)?;
+    }
     Ok(())
 }
 
 #[test]
 fn each_failed_call(rt: HostRuntime) -> Result<(), Fail> {
-    let opening = calls(rt.alloc(), files(rt.alloc())?, 1, b"")?;
-    let all = calls(rt.alloc(), files(rt.alloc())?, 1, CAPTURE)?;
-    assert_eq!(rt; all.saturating_sub(opening), 11);
-    for call in 0..all {
-        fail_at(&rt, opening, call + 1)?;
-    }
+    fail_at_every_call(&rt, 1, 22)
+}
+
+#[test]
+fn each_failed_call_of_a_group(rt: HostRuntime) -> Result<(), Fail> {
+    fail_at_every_call(&rt, 2, 16)
+}
+
+// A show of a file that isn't held reads it.
+#[test]
+fn a_show_that_fails(rt: HostRuntime) -> Result<(), Fail> {
+    let alloc = rt.alloc();
+    let before = calls(alloc, files(alloc)?, 1, CAPTURE)?;
+    let mut disk = files(alloc)?;
+    disk.fail_at(before.saturating_add(1));
+    let ended = run(
+        alloc,
+        disk,
+        1,
+        b"capture\ta.org\ttop\tlast\t2026-07-01 10:00\t* N\t\nshow\tb.org\nshow\ta.org\nnothing\n",
+    )?;
+    assert!(rt; matches!(ended.end, Ok(ServeEnd::Device)));
+    assert_eq!(rt;
+        ended.written.as_slice(),
+        b"ok 1\nsafe 1\nfault Device\nfault Broken\nrefused 20 BadLine\n".as_slice()
+    );
+    assert_eq!(rt; prefix_in(alloc, ended.disk)?, 1);
     Ok(())
 }
 

@@ -1,13 +1,13 @@
 // A store over the files of a real folder, made for its test where the test runs.
 use org_disk::{FileName, Fuse};
-use org_folder::FolderDisk;
+use org_folder::{FolderDisk, Unknown};
 use org_outline::States;
 use org_serve::{Counted, ServeEnd, serve};
 use org_store::{OpenFault, Store};
 use std::fs;
 use std::test::Fail;
 
-type Folder = Fuse<FolderDisk<HostRuntime>>;
+type Folder = Fuse<FolderDisk<HostRuntime, Unknown>>;
 
 const CAPTURES: &[u8] = b"capture\ta.org\ttop\tlast\t2026-07-01 10:00\t* N\t\n\
     capture\tb.org\ttop\tlast\t2026-07-01 10:00\t* K\t\n";

@@ -11,7 +11,7 @@ use Rattle.org_fileset.proofs.lay.lay_all.Goals as goal
 
 pub loop-entry-init : goal.loop-entry-init
 loop-entry-init g c = record {
-  honest = (λ h. h, λ h. h);
+  honest = (λ h. h, λ steady h. h);
   failures = omega arith;
   told = refl;
   replays = λ honest stable texts takes. replays_none (g.D.Disk.moment c.args.disk.now) (g.D.Disk.left_since c.args.disk.now) (g.D.Disk.files c.args.disk.now) takes;
@@ -46,26 +46,28 @@ lay_entry-requires-clause-fits g c h =
     let is = slice_get_read c.args.entries.now (length c.args.entries.now) i entry refl c.loop-entry-test.true c.entry-item.is in
     let old = g.D.Disk.files c.args.disk.now in
     let lays = replayed-entry c.args.entries.now (contents old) i entry (c.requires.layable honest) (c.requires.fits honest) is in
-    subst (λ (f : FileState). Fit (pairs entry.patches) entry.length (length f.content)) (sym (sofar.untouched honest i entry (omega arith) is)) lays.fit
+    subst (λ (f : FileState). Fit (pairs entry.patches) entry.length (length f.content)) (sym (sofar.untouched h i entry (omega arith) is)) lays.fit
 
 pub returns-in_err-lay_entry-clause-replays : goal.returns-in_err-lay_entry-clause-replays
-returns-in_err-lay_entry-clause-replays g c honest stable texts takes =
+returns-in_err-lay_entry-clause-replays g c ended stable texts takes =
     let sofar = c.loop-entry.invariant in
-    let h = sofar.honest.1 honest in
+    let h = c.lay_entry.ensures.honest.0 ended in
+    let honest = sofar.honest.0 h in
     let i = c.loop-entry.entry-index in
     let entry = c.entry-item.result in
     let is = slice_get_read c.args.entries.now (length c.args.entries.now) i entry refl c.loop-entry-test.true c.entry-item.is in
-    let now = sofar.replays honest stable texts takes in
+    let now = sofar.replays h stable texts takes in
     replays_entry i entry (c.requires.layable honest) is stable now
-    (c.lay_entry.ensures.lays h (texts entry.name) (entry_takes c.args.entries.now texts (g.D.Disk.files c.loop-entry.disk) i entry (c.requires.layable honest) is now.takes))
+    (c.lay_entry.ensures.lays ended (texts entry.name) (entry_takes c.args.entries.now texts (g.D.Disk.files c.loop-entry.disk) i entry (c.requires.layable honest) is now.takes))
 
 pub returns-in_err-lay_entry-clause-others : goal.returns-in_err-lay_entry-clause-others
-returns-in_err-lay_entry-clause-others g c honest name none =
+returns-in_err-lay_entry-clause-others g c ended name none =
     let sofar = c.loop-entry.invariant in
+    let h = c.lay_entry.ensures.honest.0 ended in
     let i = c.loop-entry.entry-index in
     let entry = c.entry-item.result in
     let is = slice_get_read c.args.entries.now (length c.args.entries.now) i entry refl c.loop-entry-test.true c.entry-item.is in
-    c.lay_entry.ensures.others (sofar.honest.1 honest) name (named_apart c.args.entries.now i entry name none is) ∙ sofar.others honest name none
+    c.lay_entry.ensures.others ended name (named_apart c.args.entries.now i entry name none is) ∙ sofar.others h name none
 
 pub loop-entry-preserved : goal.loop-entry-preserved
 loop-entry-preserved g c =
@@ -75,30 +77,30 @@ loop-entry-preserved g c =
     let is = slice_get_read c.args.entries.now (length c.args.entries.now) i entry refl c.loop-entry-test.true c.entry-item.is in
     let old = g.D.Disk.files c.args.disk.now in
     let mid = g.D.Disk.files c.loop-entry.disk in
+    let back = c.lay_entry.ensures.honest.0 in
     record {
-      honest = (λ h. sofar.honest.0 (c.lay_entry.ensures.honest.0 h), λ h. c.lay_entry.ensures.honest.1 (sofar.honest.1 h));
+      honest = (λ h. sofar.honest.0 (c.lay_entry.ensures.honest.0 h), λ steady h. c.lay_entry.ensures.honest.1 steady (sofar.honest.1 steady h));
       failures = omega (arith, sofar.failures, c.lay_entry.ensures.failures);
       told = c.in_ok-lay_entry.ensures.told ∙ sofar.told;
-      replays = λ honest stable texts takes.
-          let h = sofar.honest.1 honest in
-          let now = sofar.replays honest stable texts takes in
-          replays_entry i entry (c.requires.layable honest) is stable now
-          (c.lay_entry.ensures.lays h (texts entry.name) (entry_takes c.args.entries.now texts mid i entry (c.requires.layable honest) is now.takes));
-      have = λ honest.
-          let h = sofar.honest.1 honest in
-          let lays = replayed-entry c.args.entries.now (contents old) i entry (c.requires.layable honest) (c.requires.fits honest) is in
+      replays = λ ended stable texts takes.
+          let now = sofar.replays (back ended) stable texts takes in
+          replays_entry i entry (c.requires.layable (sofar.honest.0 (back ended))) is stable now
+          (c.lay_entry.ensures.lays ended (texts entry.name) (entry_takes c.args.entries.now texts mid i entry (c.requires.layable (sofar.honest.0 (back ended))) is now.takes));
+      have = λ ended.
+          let lays = replayed-entry c.args.entries.now (contents old) i entry (c.requires.layable (sofar.honest.0 (back ended))) (c.requires.fits (sofar.honest.0 (back ended))) is in
           texts_more c.args.entries.now (replayed c.args.entries.now (contents old)) i entry mid (g.D.Disk.files c.lay_entry.new.disk) is
-          (c.in_ok-lay_entry.ensures.content h ∙ ap (λ (f : FileState). lay (pairs entry.patches) entry.length f.content) (sofar.untouched honest i entry (omega arith) is) ∙ lays.makes)
-          (c.lay_entry.ensures.others h) (sofar.have honest);
-      untouched = λ honest.
-          untouched_more c.args.entries.now i entry old mid (g.D.Disk.files c.lay_entry.new.disk) (c.requires.layable honest) is (c.lay_entry.ensures.others (sofar.honest.1 honest)) (sofar.untouched honest);
-      others = λ honest name none.
-          c.lay_entry.ensures.others (sofar.honest.1 honest) name (named_apart c.args.entries.now i entry name none is) ∙ sofar.others honest name none;
+          (c.in_ok-lay_entry.ensures.content ended ∙ ap (λ (f : FileState). lay (pairs entry.patches) entry.length f.content) (sofar.untouched (back ended) i entry (omega arith) is) ∙ lays.makes)
+          (c.lay_entry.ensures.others ended) (sofar.have (back ended));
+      untouched = λ ended.
+          untouched_more c.args.entries.now i entry old mid (g.D.Disk.files c.lay_entry.new.disk) (c.requires.layable (sofar.honest.0 (back ended))) is (c.lay_entry.ensures.others ended) (sofar.untouched (back ended));
+      others = λ ended name none.
+          c.lay_entry.ensures.others ended name (named_apart c.args.entries.now i entry name none is) ∙ sofar.others (back ended) name none;
     }
 
 pub returns-clause-contents : goal.returns-clause-contents
-returns-clause-contents g c honest name =
+returns-clause-contents g c ended name =
     let sofar = c.loop-entry.invariant in
+    let honest = sofar.honest.0 ended in
     let old = g.D.Disk.files c.args.disk.now in
-    all_texts c.args.entries.now (replayed c.args.entries.now (contents old)) c.loop-entry.entry-index old (g.D.Disk.files c.loop-entry.disk) name c.loop-entry-test.false (sofar.have honest)
-    (sofar.others honest) (λ none. replayed-other c.args.entries.now (contents old) name (c.requires.fits honest) none)
+    all_texts c.args.entries.now (replayed c.args.entries.now (contents old)) c.loop-entry.entry-index old (g.D.Disk.files c.loop-entry.disk) name c.loop-entry-test.false (sofar.have ended)
+    (sofar.others ended) (λ none. replayed-other c.args.entries.now (contents old) name (c.requires.fits honest) none)

@@ -1,6 +1,6 @@
-use Rattle.std.proofs.Common.{◌≡◌, ◌≤◌, ◌↔◌, List, ℕ}
+use Rattle.std.proofs.Common.{◌≡◌, ◌≤◌, List, ℕ}
 use Rattle.std.specs.Prelude.{IsFalse}
-use Rattle.org_disk.specs.Disk.{IsStable}
+use Rattle.org_disk.specs.Disk.{IsStable, KeepsHonesty}
 use Rattle.org_disk.specs.Names.{journal_name}
 use Rattle.org_journal.specs.Record.{is_named}
 use Rattle.org_journal.specs.Standing.{Image, contents, replayed}
@@ -13,12 +13,12 @@ abbrev pub invariant-loop-entry : goal.invariant-loop-entry
 invariant-loop-entry g l =
     let disk = g.D.Disk in
     record {
-      honest : disk.honest l.disk ↔ disk.honest l.fn.disk;
+      honest : KeepsHonesty disk.steady (disk.honest l.fn.disk) (disk.honest l.disk);
       failures : disk.failures l.fn.disk ≤ disk.failures l.disk;
       told : disk.failures l.disk ≡ disk.failures l.fn.disk;
-      replays : disk.honest l.fn.disk → IsStable (disk.files l.fn.disk journal_name) → (texts : Image) → EachTakes l.entries texts (disk.files l.fn.disk)
+      replays : disk.honest l.disk → IsStable (disk.files l.fn.disk journal_name) → (texts : Image) → EachTakes l.entries texts (disk.files l.fn.disk)
           → Replays l.entries texts (disk.moment l.fn.disk) (disk.moment l.disk) (disk.left_since l.fn.disk) (disk.left_since l.disk) (disk.files l.fn.disk) (disk.files l.disk);
-      have : disk.honest l.fn.disk → HaveTexts l.entries (replayed l.entries (contents (disk.files l.fn.disk))) l.entry-index (disk.files l.disk);
-      untouched : disk.honest l.fn.disk → AreUntouched l.entries l.entry-index (disk.files l.fn.disk) (disk.files l.disk);
-      others : disk.honest l.fn.disk → (name : List ℕ) → IsFalse (is_named name l.entries) → disk.files l.disk name ≡ disk.files l.fn.disk name;
+      have : disk.honest l.disk → HaveTexts l.entries (replayed l.entries (contents (disk.files l.fn.disk))) l.entry-index (disk.files l.disk);
+      untouched : disk.honest l.disk → AreUntouched l.entries l.entry-index (disk.files l.fn.disk) (disk.files l.disk);
+      others : disk.honest l.disk → (name : List ℕ) → IsFalse (is_named name l.entries) → disk.files l.disk name ≡ disk.files l.fn.disk name;
     }

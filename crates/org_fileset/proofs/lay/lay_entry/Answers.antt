@@ -7,7 +7,7 @@ use Rattle.org_fileset.proofs.lay.lay_entry.Goals as goal
 
 pub loop-patch-init : goal.loop-patch-init
 loop-patch-init g c = record {
-  honest = (λ h. h, λ h. h);
+  honest = (λ h. h, λ steady h. h);
   failures = omega arith;
   told = refl;
   content = λ honest. refl;
@@ -23,7 +23,7 @@ write_at-requires-clause-within g c h =
     let is = pair_at c.as_slice-patch-items.result.now c.args.entry.now.patches c.loop-patch.patch-index c.patch-item.result c.as_slice.result.now
     c.as_slice-patch-items.ensures c.loop-patch-test.true c.patch-item.is c.as_slice.ensures in
     next_within patches c.args.entry.now.length c.loop-patch.patch-index c.patch-item.result.from c.as_slice.result.now (g.D.Disk.files c.args.disk.now c.args.entry.now.name).content
-    (g.D.Disk.files c.loop-patch.disk c.args.entry.now.name).content (c.requires.formed honest) (c.requires.fits honest) is (sofar.content honest)
+    (g.D.Disk.files c.loop-patch.disk c.args.entry.now.name).content (c.requires.formed honest) (c.requires.fits honest) is (sofar.content h)
 
 pub write_at-requires-clause-fits : goal.write_at-requires-clause-fits
 write_at-requires-clause-fits g c h =
@@ -38,9 +38,10 @@ write_at-requires-clause-fits g c h =
     omega (arith, small, c.requires.small honest)
 
 pub returns-in_err-write_at-clause-lays : goal.returns-in_err-write_at-clause-lays
-returns-in_err-write_at-clause-lays g c honest to takes =
+returns-in_err-write_at-clause-lays g c ended to takes =
     let sofar = c.loop-patch.invariant in
-    let h = sofar.honest.1 honest in
+    let h = c.write_at.ensures.honest.0 ended in
+    let honest = sofar.honest.0 h in
     let patches = pairs c.args.entry.now.patches in
     let name = c.args.entry.now.name in
     let mid = g.D.Disk.files c.loop-patch.disk in
@@ -49,11 +50,11 @@ returns-in_err-write_at-clause-lays g c honest to takes =
     let is = pair_at c.as_slice-patch-items.result.now c.args.entry.now.patches c.loop-patch.patch-index c.patch-item.result bytes
     c.as_slice-patch-items.ensures c.loop-patch-test.true c.patch-item.is c.as_slice.ensures in
     let le = next_within patches c.args.entry.now.length c.loop-patch.patch-index from bytes (g.D.Disk.files c.args.disk.now name).content
-    (mid name).content (c.requires.formed honest) (c.requires.fits honest) is (sofar.content honest) in
-    let now = sofar.lays honest to takes in
+    (mid name).content (c.requires.formed honest) (c.requires.fits honest) is (sofar.content h) in
+    let now = sofar.lays h to takes in
     lays_call (write from bytes) c.write_at.result now
     (takes_write (mid name) c.loop-patch.patch-index from bytes (c.requires.formed honest) is le (g.met.D.Disk.content_is_image c.loop-patch.disk name h) now.takes)
-    (c.write_at.ensures.effect h) (c.write_at.ensures.time h)
+    (c.write_at.ensures.effect ended) (c.write_at.ensures.time ended)
 
 pub loop-patch-preserved : goal.loop-patch-preserved
 loop-patch-preserved g c =
@@ -65,103 +66,108 @@ loop-patch-preserved g c =
     let bytes = c.as_slice.result.now in
     let is = pair_at c.as_slice-patch-items.result.now c.args.entry.now.patches c.loop-patch.patch-index c.patch-item.result bytes
     c.as_slice-patch-items.ensures c.loop-patch-test.true c.patch-item.is c.as_slice.ensures in
+    let back = c.write_at.ensures.honest.0 in
     record {
-      honest = (λ h. sofar.honest.0 (c.write_at.ensures.honest.0 h), λ h. c.write_at.ensures.honest.1 (sofar.honest.1 h));
+      honest = (λ h. sofar.honest.0 (c.write_at.ensures.honest.0 h), λ steady h. c.write_at.ensures.honest.1 steady (sofar.honest.1 steady h));
       failures = omega (arith, sofar.failures, c.in_ok-write_at.ensures.count_ok);
       told = c.in_ok-write_at.ensures.count_ok ∙ sofar.told;
-      content = λ honest.
-          let done = (c.in_ok-write_at.ensures.effect (sofar.honest.1 honest)).ok in
+      content = λ ended.
+          let done = (c.in_ok-write_at.ensures.effect ended).ok in
           ap (λ (f : FileState). f.content) done
-          ∙ ap (λ (t : List ℕ). (write from bytes (record (mid name) { content = t })).content) (sofar.content honest)
+          ∙ ap (λ (t : List ℕ). (write from bytes (record (mid name) { content = t })).content) (sofar.content (back ended))
           ∙ sym (lay_each-more patches c.loop-patch.patch-index from bytes (g.D.Disk.files c.args.disk.now name).content is);
-      others = λ honest other apart. (c.write_at.ensures.effect (sofar.honest.1 honest)).others other apart ∙ sofar.others honest other apart;
-      lays = λ honest to takes.
-          let h = sofar.honest.1 honest in
+      others = λ ended other apart. (c.write_at.ensures.effect ended).others other apart ∙ sofar.others (back ended) other apart;
+      lays = λ ended to takes.
           let le = next_within patches c.args.entry.now.length c.loop-patch.patch-index from bytes (g.D.Disk.files c.args.disk.now name).content
-          (mid name).content (c.requires.formed honest) (c.requires.fits honest) is (sofar.content honest) in
-          let now = sofar.lays honest to takes in
+          (mid name).content (c.requires.formed (sofar.honest.0 (back ended))) (c.requires.fits (sofar.honest.0 (back ended))) is (sofar.content (back ended)) in
+          let now = sofar.lays (back ended) to takes in
           lays_call (write from bytes) c.write_at.result now
-          (takes_write (mid name) c.loop-patch.patch-index from bytes (c.requires.formed honest) is le (g.met.D.Disk.content_is_image c.loop-patch.disk name h) now.takes)
-          (c.write_at.ensures.effect h) (c.write_at.ensures.time h);
+          (takes_write (mid name) c.loop-patch.patch-index from bytes (c.requires.formed (sofar.honest.0 (back ended))) is le (g.met.D.Disk.content_is_image c.loop-patch.disk name (back ended)) now.takes)
+          (c.write_at.ensures.effect ended) (c.write_at.ensures.time ended);
     }
 
 pub returns-in_err-length-clause-lays : goal.returns-in_err-length-clause-lays
-returns-in_err-length-clause-lays g c honest to takes =
+returns-in_err-length-clause-lays g c ended to takes =
     let sofar = c.loop-patch.invariant in
-    let h = sofar.honest.1 honest in
-    lays_read (sofar.lays honest to takes) (c.length.ensures.same h) (c.length.ensures.time h)
+    let h = c.length.ensures.honest.0 ended in
+    lays_read (sofar.lays h to takes) (c.length.ensures.same ended) (c.length.ensures.time ended)
 
 pub returns-in_err-cut-clause-lays : goal.returns-in_err-cut-clause-lays
-returns-in_err-cut-clause-lays g c honest to takes =
+returns-in_err-cut-clause-lays g c ended to takes =
     let sofar = c.loop-patch.invariant in
-    let h = sofar.honest.1 honest in
-    let h1 = c.length.ensures.honest.1 h in
+    let h1 = c.cut.ensures.honest.0 ended in
+    let h = c.length.ensures.honest.0 h1 in
+    let honest = sofar.honest.0 h in
     let name = c.args.entry.now.name in
     let final = c.args.entry.now.length in
-    let read = lays_read (sofar.lays honest to takes) (c.length.ensures.same h) (c.length.ensures.time h) in
+    let read = lays_read (sofar.lays h to takes) (c.length.ensures.same h1) (c.length.ensures.time h1) in
     let mid = g.D.Disk.files c.length.new.self in
     let enough : final ≤ length (mid name).content =
     let long : final ≤ length (g.D.Disk.files c.loop-patch.disk name).content =
     long_enough c.as_slice-patch-items.result.now c.args.entry.now.patches c.loop-patch.patch-index final (g.D.Disk.files c.args.disk.now name).content
-    (g.D.Disk.files c.loop-patch.disk name).content (c.requires.formed honest) (c.requires.fits honest) c.as_slice-patch-items.ensures c.loop-patch-test.false (sofar.content honest) in
-    subst (λ (f : List ℕ → FileState). final ≤ length (f name).content) (sym (c.length.ensures.same h)) long in
+    (g.D.Disk.files c.loop-patch.disk name).content (c.requires.formed honest) (c.requires.fits honest) c.as_slice-patch-items.ensures c.loop-patch-test.false (sofar.content h) in
+    subst (λ (f : List ℕ → FileState). final ≤ length (f name).content) (sym (c.length.ensures.same h1)) long in
     lays_call (cut final) c.cut.result read
     (takes_cut (mid name) (c.requires.formed honest) enough (g.met.D.Disk.content_is_image c.length.new.self name h1) read.takes)
-    (c.cut.ensures.effect h1) (c.cut.ensures.time h1)
+    (c.cut.ensures.effect ended) (c.cut.ensures.time ended)
 
 pub returns-in_ok-cut-clause-lays : goal.returns-in_ok-cut-clause-lays
-returns-in_ok-cut-clause-lays g c honest to takes =
+returns-in_ok-cut-clause-lays g c ended to takes =
     let sofar = c.loop-patch.invariant in
-    let h = sofar.honest.1 honest in
-    let h1 = c.length.ensures.honest.1 h in
+    let h1 = c.cut.ensures.honest.0 ended in
+    let h = c.length.ensures.honest.0 h1 in
+    let honest = sofar.honest.0 h in
     let name = c.args.entry.now.name in
     let final = c.args.entry.now.length in
-    let read = lays_read (sofar.lays honest to takes) (c.length.ensures.same h) (c.length.ensures.time h) in
+    let read = lays_read (sofar.lays h to takes) (c.length.ensures.same h1) (c.length.ensures.time h1) in
     let mid = g.D.Disk.files c.length.new.self in
     let enough : final ≤ length (mid name).content =
     let long : final ≤ length (g.D.Disk.files c.loop-patch.disk name).content =
     long_enough c.as_slice-patch-items.result.now c.args.entry.now.patches c.loop-patch.patch-index final (g.D.Disk.files c.args.disk.now name).content
-    (g.D.Disk.files c.loop-patch.disk name).content (c.requires.formed honest) (c.requires.fits honest) c.as_slice-patch-items.ensures c.loop-patch-test.false (sofar.content honest) in
-    subst (λ (f : List ℕ → FileState). final ≤ length (f name).content) (sym (c.length.ensures.same h)) long in
+    (g.D.Disk.files c.loop-patch.disk name).content (c.requires.formed honest) (c.requires.fits honest) c.as_slice-patch-items.ensures c.loop-patch-test.false (sofar.content h) in
+    subst (λ (f : List ℕ → FileState). final ≤ length (f name).content) (sym (c.length.ensures.same h1)) long in
     lays_call (cut final) c.cut.result read
     (takes_cut (mid name) (c.requires.formed honest) enough (g.met.D.Disk.content_is_image c.length.new.self name h1) read.takes)
-    (c.cut.ensures.effect h1) (c.cut.ensures.time h1)
+    (c.cut.ensures.effect ended) (c.cut.ensures.time ended)
 
 pub returns-else-length-entry-clause-lays : goal.returns-else-length-entry-clause-lays
-returns-else-length-entry-clause-lays g c honest to takes =
+returns-else-length-entry-clause-lays g c ended to takes =
     let sofar = c.loop-patch.invariant in
-    let h = sofar.honest.1 honest in
-    lays_read (sofar.lays honest to takes) (c.length.ensures.same h) (c.length.ensures.time h)
+    let h = c.length.ensures.honest.0 ended in
+    lays_read (sofar.lays h to takes) (c.length.ensures.same ended) (c.length.ensures.time ended)
 
 pub returns-in_err-write_at-clause-others : goal.returns-in_err-write_at-clause-others
-returns-in_err-write_at-clause-others g c honest other apart =
+returns-in_err-write_at-clause-others g c ended other apart =
     let sofar = c.loop-patch.invariant in
-    (c.write_at.ensures.effect (sofar.honest.1 honest)).others other apart ∙ sofar.others honest other apart
+    let h = c.write_at.ensures.honest.0 ended in
+    (c.write_at.ensures.effect ended).others other apart ∙ sofar.others h other apart
 
 pub returns-in_err-length-clause-others : goal.returns-in_err-length-clause-others
-returns-in_err-length-clause-others g c honest other apart =
+returns-in_err-length-clause-others g c ended other apart =
     let sofar = c.loop-patch.invariant in
-    let h = sofar.honest.1 honest in
-    let same = ap (λ (f : List ℕ → FileState). f other) (c.length.ensures.same h) ∙ sofar.others honest other apart in
+    let h = c.length.ensures.honest.0 ended in
+    let same = ap (λ (f : List ℕ → FileState). f other) (c.length.ensures.same ended) ∙ sofar.others h other apart in
     same
 
 pub returns-in_err-cut-clause-others : goal.returns-in_err-cut-clause-others
-returns-in_err-cut-clause-others g c honest other apart =
+returns-in_err-cut-clause-others g c ended other apart =
     let sofar = c.loop-patch.invariant in
-    let h = sofar.honest.1 honest in
-    let same = ap (λ (f : List ℕ → FileState). f other) (c.length.ensures.same h) ∙ sofar.others honest other apart in
-    (c.cut.ensures.effect (c.length.ensures.honest.1 h)).others other apart ∙ same
+    let h1 = c.cut.ensures.honest.0 ended in
+    let h = c.length.ensures.honest.0 h1 in
+    let same = ap (λ (f : List ℕ → FileState). f other) (c.length.ensures.same h1) ∙ sofar.others h other apart in
+    (c.cut.ensures.effect ended).others other apart ∙ same
 
 pub returns-in_ok-cut-clause-others : goal.returns-in_ok-cut-clause-others
-returns-in_ok-cut-clause-others g c honest other apart =
+returns-in_ok-cut-clause-others g c ended other apart =
     let sofar = c.loop-patch.invariant in
-    let h = sofar.honest.1 honest in
-    let same = ap (λ (f : List ℕ → FileState). f other) (c.length.ensures.same h) ∙ sofar.others honest other apart in
-    (c.cut.ensures.effect (c.length.ensures.honest.1 h)).others other apart ∙ same
+    let h1 = c.cut.ensures.honest.0 ended in
+    let h = c.length.ensures.honest.0 h1 in
+    let same = ap (λ (f : List ℕ → FileState). f other) (c.length.ensures.same h1) ∙ sofar.others h other apart in
+    (c.cut.ensures.effect ended).others other apart ∙ same
 
 pub returns-else-length-entry-clause-others : goal.returns-else-length-entry-clause-others
-returns-else-length-entry-clause-others g c honest other apart =
+returns-else-length-entry-clause-others g c ended other apart =
     let sofar = c.loop-patch.invariant in
-    let h = sofar.honest.1 honest in
-    let same = ap (λ (f : List ℕ → FileState). f other) (c.length.ensures.same h) ∙ sofar.others honest other apart in
+    let h = c.length.ensures.honest.0 ended in
+    let same = ap (λ (f : List ℕ → FileState). f other) (c.length.ensures.same ended) ∙ sofar.others h other apart in
     same

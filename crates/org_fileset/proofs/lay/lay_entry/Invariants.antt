@@ -1,4 +1,5 @@
-use Rattle.std.proofs.Common.{◌≡◌, ◌≢◌, ◌≤◌, ◌↔◌, List, ℕ, take}
+use Rattle.std.proofs.Common.{◌≡◌, ◌≢◌, ◌≤◌, List, ℕ, take}
+use Rattle.org_disk.specs.Disk.{KeepsHonesty}
 use Rattle.org_splice.specs.Patches.{lay_each}
 use Rattle.org_journal.specs.Record.{pairs}
 use Rattle.org_fileset.specs.Replay.{EachLaysTo, Lays}
@@ -10,11 +11,11 @@ invariant-loop-patch g l =
     let disk = g.D.Disk in
     let patches = pairs l.entry.patches in
     record {
-      honest : disk.honest l.disk ↔ disk.honest l.fn.disk;
+      honest : KeepsHonesty disk.steady (disk.honest l.fn.disk) (disk.honest l.disk);
       failures : disk.failures l.fn.disk ≤ disk.failures l.disk;
       told : disk.failures l.disk ≡ disk.failures l.fn.disk;
-      content : disk.honest l.fn.disk → (disk.files l.disk l.entry.name).content ≡ lay_each (take l.patch-index patches) (disk.files l.fn.disk l.entry.name).content;
-      others : disk.honest l.fn.disk → (other : List ℕ) → other ≢ l.entry.name → disk.files l.disk other ≡ disk.files l.fn.disk other;
-      lays : disk.honest l.fn.disk → (to : List ℕ) → EachLaysTo patches l.entry.length to (disk.files l.fn.disk l.entry.name)
+      content : disk.honest l.disk → (disk.files l.disk l.entry.name).content ≡ lay_each (take l.patch-index patches) (disk.files l.fn.disk l.entry.name).content;
+      others : disk.honest l.disk → (other : List ℕ) → other ≢ l.entry.name → disk.files l.disk other ≡ disk.files l.fn.disk other;
+      lays : disk.honest l.disk → (to : List ℕ) → EachLaysTo patches l.entry.length to (disk.files l.fn.disk l.entry.name)
           → Lays patches l.entry.length l.entry.name to (disk.moment l.fn.disk) (disk.moment l.disk) (disk.left_since l.fn.disk) (disk.left_since l.disk) (disk.files l.fn.disk) (disk.files l.disk);
     }

@@ -8,7 +8,7 @@ use Rattle.org_fileset.proofs.lay.sync_all.Goals as goal
 
 pub loop-entry-init : goal.loop-entry-init
 loop-entry-init g c = record {
-  honest = (λ h. h, λ h. h);
+  honest = (λ h. h, λ steady h. h);
   failures = omega arith;
   told = refl;
   replays = λ honest stable texts takes. replays_none (g.D.Disk.moment c.args.disk.now) (g.D.Disk.left_since c.args.disk.now) (g.D.Disk.files c.args.disk.now) takes;
@@ -18,16 +18,17 @@ loop-entry-init g c = record {
 }
 
 pub returns-in_err-sync-clause-replays : goal.returns-in_err-sync-clause-replays
-returns-in_err-sync-clause-replays g c honest stable texts takes =
+returns-in_err-sync-clause-replays g c ended stable texts takes =
     let sofar = c.loop-entry.invariant in
-    let h = sofar.honest.1 honest in
+    let h = c.sync.ensures.honest.0 ended in
+    let honest = sofar.honest.0 h in
     let i = c.loop-entry.entry-index in
     let entry = c.entry-item.result in
     let is = slice_get_read c.args.entries.now (length c.args.entries.now) i entry refl c.loop-entry-test.true c.entry-item.is in
-    let now = sofar.replays honest stable texts takes in
+    let now = sofar.replays h stable texts takes in
     replays_entry i entry (c.requires honest) is stable now
     (lays_sync c.sync.result (entry_takes c.args.entries.now texts (g.D.Disk.files c.loop-entry.disk) i entry (c.requires honest) is now.takes)
-    (g.met.D.Disk.content_is_image c.loop-entry.disk entry.name h) (c.sync.ensures.effect h) (c.sync.ensures.time h))
+    (g.met.D.Disk.content_is_image c.loop-entry.disk entry.name h) (c.sync.ensures.effect ended) (c.sync.ensures.time ended))
 
 pub loop-entry-preserved : goal.loop-entry-preserved
 loop-entry-preserved g c =
@@ -36,40 +37,39 @@ loop-entry-preserved g c =
     let entry = c.entry-item.result in
     let is = slice_get_read c.args.entries.now (length c.args.entries.now) i entry refl c.loop-entry-test.true c.entry-item.is in
     let mid = g.D.Disk.files c.loop-entry.disk in
+    let back = c.sync.ensures.honest.0 in
     record {
-      honest = (λ h. sofar.honest.0 (c.sync.ensures.honest.0 h), λ h. c.sync.ensures.honest.1 (sofar.honest.1 h));
+      honest = (λ h. sofar.honest.0 (c.sync.ensures.honest.0 h), λ steady h. c.sync.ensures.honest.1 steady (sofar.honest.1 steady h));
       failures = omega (arith, sofar.failures, c.in_ok-sync.ensures.count_ok);
       told = c.in_ok-sync.ensures.count_ok ∙ sofar.told;
-      replays = λ honest stable texts takes.
-          let h = sofar.honest.1 honest in
-          let now = sofar.replays honest stable texts takes in
-          replays_entry i entry (c.requires honest) is stable now
-          (lays_sync c.sync.result (entry_takes c.args.entries.now texts mid i entry (c.requires honest) is now.takes)
-          (g.met.D.Disk.content_is_image c.loop-entry.disk entry.name h) (c.sync.ensures.effect h) (c.sync.ensures.time h));
-      contents = λ honest name.
-          let h = sofar.honest.1 honest in
+      replays = λ ended stable texts takes.
+          let now = sofar.replays (back ended) stable texts takes in
+          replays_entry i entry (c.requires (sofar.honest.0 (back ended))) is stable now
+          (lays_sync c.sync.result (entry_takes c.args.entries.now texts mid i entry (c.requires (sofar.honest.0 (back ended))) is now.takes)
+          (g.met.D.Disk.content_is_image c.loop-entry.disk entry.name (back ended)) (c.sync.ensures.effect ended) (c.sync.ensures.time ended));
+      contents = λ ended name.
           elim (name_cases name entry.name) [
-            | inl same ↦ ap (λ (x : List ℕ). (g.D.Disk.files c.sync.new.self x).content) same.0 ∙ ap (λ (f : FileState). f.content) (c.in_ok-sync.ensures.effect h).ok
-                ∙ ap (λ (x : List ℕ). (mid x).content) (sym same.0) ∙ sofar.contents honest name
-            | inr other ↦ ap (λ (f : FileState). f.content) ((c.sync.ensures.effect h).others name other.0) ∙ sofar.contents honest name
+            | inl same ↦ ap (λ (x : List ℕ). (g.D.Disk.files c.sync.new.self x).content) same.0 ∙ ap (λ (f : FileState). f.content) (c.in_ok-sync.ensures.effect ended).ok
+                ∙ ap (λ (x : List ℕ). (mid x).content) (sym same.0) ∙ sofar.contents (back ended) name
+            | inr other ↦ ap (λ (f : FileState). f.content) ((c.sync.ensures.effect ended).others name other.0) ∙ sofar.contents (back ended) name
           ];
-      others = λ honest name none. (c.sync.ensures.effect (sofar.honest.1 honest)).others name (named_apart c.args.entries.now i entry name none is) ∙ sofar.others honest name none;
-      stable = λ honest.
-          let h = sofar.honest.1 honest in
-          stable_more c.args.entries.now i entry mid (g.D.Disk.files c.sync.new.self) is (is_stable _ (mid entry.name).content (c.in_ok-sync.ensures.effect h).ok)
-          (c.sync.ensures.effect h).others (sofar.stable honest);
+      others = λ ended name none. (c.sync.ensures.effect ended).others name (named_apart c.args.entries.now i entry name none is) ∙ sofar.others (back ended) name none;
+      stable = λ ended.
+          stable_more c.args.entries.now i entry mid (g.D.Disk.files c.sync.new.self) is (is_stable _ (mid entry.name).content (c.in_ok-sync.ensures.effect ended).ok)
+          (c.sync.ensures.effect ended).others (sofar.stable (back ended));
     }
 
 pub returns-clause-stable : goal.returns-clause-stable
-returns-clause-stable g c honest name before =
+returns-clause-stable g c ended name before =
     let sofar = c.loop-entry.invariant in
     all_stable c.args.entries.now c.loop-entry.entry-index (g.D.Disk.files c.args.disk.now) (g.D.Disk.files c.loop-entry.disk) name c.loop-entry-test.false
-    (sofar.stable honest) (sofar.others honest) before
+    (sofar.stable ended) (sofar.others ended) before
 
 pub returns-in_err-sync-clause-others : goal.returns-in_err-sync-clause-others
-returns-in_err-sync-clause-others g c honest name none =
+returns-in_err-sync-clause-others g c ended name none =
     let sofar = c.loop-entry.invariant in
+    let h = c.sync.ensures.honest.0 ended in
     let i = c.loop-entry.entry-index in
     let entry = c.entry-item.result in
     let is = slice_get_read c.args.entries.now (length c.args.entries.now) i entry refl c.loop-entry-test.true c.entry-item.is in
-    (c.sync.ensures.effect (sofar.honest.1 honest)).others name (named_apart c.args.entries.now i entry name none is) ∙ sofar.others honest name none
+    (c.sync.ensures.effect ended).others name (named_apart c.args.entries.now i entry name none is) ∙ sofar.others h name none

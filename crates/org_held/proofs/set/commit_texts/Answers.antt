@@ -34,7 +34,7 @@ returns-clause-texts g c =
     let new = contents (g.D.Disk.files c.commit.new.self.disk) in
     let changes = c.args.changes.now in
     on_ok_weaker c.commit.result
-    (λ (same : g.D.Disk.honest c.args.set.now.disk → SameFiles new (changed changes old)) (honest : g.D.Disk.honest c.args.set.now.disk).
+    (λ (same : g.D.Disk.honest c.commit.new.self.disk → SameFiles new (changed changes old)) (honest : g.D.Disk.honest c.commit.new.self.disk).
     ap (texts_of new) c.commit.ensures.names ∙ texts_committed c.args.set.now.names changes old new c.requires.apart (same honest))
     c.commit.ensures.contents
 
@@ -45,7 +45,7 @@ returns-clause-others g c =
     let new = contents (g.D.Disk.files c.commit.new.self.disk) in
     let changes = c.args.changes.now in
     on_ok_weaker c.commit.result
-    (λ (same : g.D.Disk.honest c.args.set.now.disk → SameFiles new (changed changes old)) (honest : g.D.Disk.honest c.args.set.now.disk).
+    (λ (same : g.D.Disk.honest c.commit.new.self.disk → SameFiles new (changed changes old)) (honest : g.D.Disk.honest c.commit.new.self.disk).
     subst (λ (n : List (List ℕ)). SameFiles new (with_texts n (texts_of new n) old)) (sym c.commit.ensures.names)
     (others_committed names changes old new (λ change there. (c.requires.each change there).named) (same honest)))
     c.commit.ensures.contents

@@ -18,14 +18,14 @@ loop-entry-preserved g c =
     let image = contents (g.D.Disk.files c.args.disk.now) in
     record {
       written = (written_first entries i entry c.loop-entry-test.true c.entry-item.is so_far.written).1;
-      honest = (λ h. so_far.honest.0 (call.honest.0 h), λ h. call.honest.1 (so_far.honest.1 h));
+      honest = (λ h. so_far.honest.0 (call.honest.0 h), λ steady h. call.honest.1 steady (so_far.honest.1 steady h));
       failures = omega (arith, so_far.failures, c.in_ok-size.ensures.count_ok);
       told = c.in_ok-size.ensures.count_ok ∙ so_far.told;
-      same = λ honest. call.same (so_far.honest.1 honest) ∙ so_far.same honest;
-      any_moment = λ honest. passes_then (so_far.any_moment honest) (call.time (so_far.honest.1 honest)) (λ image left. subst (λ f. AreImages f image) (so_far.same honest) left);
+      same = λ honest. call.same honest ∙ so_far.same (call.honest.0 honest);
+      any_moment = λ honest. passes_then (so_far.any_moment (call.honest.0 honest)) (call.time honest) (λ image left. subst (λ f. AreImages f image) (so_far.same (call.honest.0 honest)) left);
       fit = λ honest.
-          let size : c.in_ok-size.size ≡ length (image entry.name) = c.in_ok-size.ensures.value (so_far.honest.1 honest) ∙ ap (λ (f : List ℕ → FileState). length (f entry.name).content) (so_far.same honest) in
+          let size : c.in_ok-size.size ≡ length (image entry.name) = c.in_ok-size.ensures.value honest ∙ ap (λ (f : List ℕ → FileState). length (f entry.name).content) (so_far.same (call.honest.0 honest)) in
           let test : fits (pairs entry.patches) entry.length (length (image entry.name)) ≡ true =
           ap (fits (pairs entry.patches) entry.length) (sym size) ∙ ap (λ (p : List Patch). fits (pairs p) entry.length c.in_ok-size.size) (sym c.as_slice.ensures) ∙ sym c.fits.ensures ∙ c.if-not-fits.false in
-          sym (all_first entries i entry image c.loop-entry-test.true c.entry-item.is ∙ ap (λ (b : Bool). b && all_fit (drop (i + 1) entries) image) test) ∙ so_far.fit honest;
+          sym (all_first entries i entry image c.loop-entry-test.true c.entry-item.is ∙ ap (λ (b : Bool). b && all_fit (drop (i + 1) entries) image) test) ∙ so_far.fit (call.honest.0 honest);
     }

@@ -4,11 +4,13 @@ use Rattle.org_journal.proofs.finding.record_of.Goals as goal
 
 pub returns-in-Ok-clause-found : goal.returns-in-Ok-clause-found
 returns-in-Ok-clause-found g c honest =
-    journal_of_body (g.D.Disk.files c.args.disk.now c.args.journal.now).content c.deref.result.now c.args.size (c.requires.size honest) (c.requires.within honest) (c.deref.ensures.value ∙ c.in_ok-body.ensures.bytes honest) ∙ c.in-Ok.ensures.exact
+    let before = c.body_of.ensures.honest.0 honest in
+    journal_of_body (g.D.Disk.files c.args.disk.now c.args.journal.now).content c.deref.result.now c.args.size (c.requires.size before) (c.requires.within before) (c.deref.ensures.value ∙ c.in_ok-body.ensures.bytes honest) ∙ c.in-Ok.ensures.exact
 
 pub returns-in-Ok-clause-written : goal.returns-in-Ok-clause-written
 returns-in-Ok-clause-written g c = begins_written c.deref.result.now c.in-Ok.record c.in-Ok.ensures.found
 
 pub returns-in-Err-Malformed-clause-found : goal.returns-in-Err-Malformed-clause-found
 returns-in-Err-Malformed-clause-found g c honest =
-    journal_of_body (g.D.Disk.files c.args.disk.now c.args.journal.now).content c.deref.result.now c.args.size (c.requires.size honest) (c.requires.within honest) (c.deref.ensures.value ∙ c.in_ok-body.ensures.bytes honest) ∙ (rw c.in-Err-Malformed.field-0-is at c.in-Err-Malformed.ensures.exact)
+    let before = c.body_of.ensures.honest.0 honest in
+    journal_of_body (g.D.Disk.files c.args.disk.now c.args.journal.now).content c.deref.result.now c.args.size (c.requires.size before) (c.requires.within before) (c.deref.ensures.value ∙ c.in_ok-body.ensures.bytes honest) ∙ (rw c.in-Err-Malformed.field-0-is at c.in-Err-Malformed.ensures.exact)

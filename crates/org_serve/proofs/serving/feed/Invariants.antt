@@ -1,4 +1,5 @@
-use Rattle.std.proofs.Common.{◌≡◌, ◌++◌, ◌↔◌, List, ℕ, [], length}
+use Rattle.std.proofs.Common.{◌≡◌, ◌++◌, List, ℕ, [], length}
+use Rattle.org_disk.specs.Disk.{KeepsHonesty}
 use Rattle.org_serve.specs.Lines.{cut}
 use Rattle.org_serve.specs.Pending.{Stands}
 use Rattle.org_serve.specs.Serving.{BreaksByFailure}
@@ -9,11 +10,11 @@ use Rattle.org_serve.proofs.serving.feed.Given as goal
 -- the lines so far are answered, and no write has failed
 abbrev pub invariant-loop-line : goal.invariant-loop-line
 invariant-loop-line g l =
-    (g.D.Disk.honest l.initial.store.disk → (part : List ℕ) → (cut part).lines ≡ [] → Stands l.initial.pending part
+    (g.D.Disk.honest l.store.disk → (part : List ℕ) → (cut part).lines ≡ [] → Stands l.initial.pending part
     → Fed (RunsLine g.D.Disk.files g.D.Disk.moment g.D.Disk.left_since) l.initial.store (part ++ l.piece) l.rest l.store
     (g.W.Sink.written l.initial.writer) (g.W.Sink.written l.writer) l.pending)
     × BreaksByFailure l.initial.store.session l.store.session (g.D.Disk.failures l.initial.store.disk) (g.D.Disk.failures l.store.disk)
-    × (g.D.Disk.honest l.store.disk ↔ g.D.Disk.honest l.initial.store.disk)
+    × KeepsHonesty g.D.Disk.steady (g.D.Disk.honest l.initial.store.disk) (g.D.Disk.honest l.store.disk)
     × (g.W.Sink.failures l.writer ≡ g.W.Sink.failures l.initial.writer)
 
 abbrev pub decreases-loop-line : goal.decreases-loop-line

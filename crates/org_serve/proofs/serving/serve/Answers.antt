@@ -12,8 +12,7 @@ use Rattle.org_serve.proofs.serving.serve.Goals as goal
 pub returns-in-Ok-eq0-clause-end : goal.returns-in-Ok-eq0-clause-end
 returns-in-Ok-eq0-clause-end g c = λ honest no_read no_write.
     let d = g.D.Disk in
-    let s = c.loop.invariant.0 honest in
-    let now = c.loop.invariant.2.1 honest in
+    let s = c.loop.invariant.0 (c.finish.ensures.honest.0 honest) in
     let zero : c.in-Ok-eq0.field-0 ≡ 0 = omega arith in
     let read = rw zero at c.in-Ok-eq0.ensures.bytes in
     let room : 0 < length c.read.new.into = omega (arith, c.read.auto.into) in
@@ -21,19 +20,18 @@ returns-in-Ok-eq0-clause-end g c = λ honest no_read no_write.
     Served-end Finishes (session_of_served d.files d.moment d.left_since s) c.finish.result c.finish.new.store.session
     (g.R.Source.left c.read.new.self) (g.W.Sink.written c.finish.new.writer) read.0 at_end
     (session_of_ends d.files d.moment d.left_since (cut s.input).rest c.loop.store c.finish.result c.finish.new.store (g.W.Sink.written c.loop.writer) (g.W.Sink.written c.finish.new.writer)
-    (c.finish.ensures.told now no_write (cut s.input).rest s.stands))
+    (c.finish.ensures.told honest no_write (cut s.input).rest s.stands))
 
 pub returns-in-Ok-eq0-clause-write : goal.returns-in-Ok-eq0-clause-write
 returns-in-Ok-eq0-clause-write g c = λ honest e.
     let d = g.D.Disk in
-    let s = c.loop.invariant.0 honest in
+    let s = c.loop.invariant.0 (c.finish.ensures.honest.0 honest) in
     let of = session_of_served d.files d.moment d.left_since s in
-    let now = c.loop.invariant.2.1 honest in
     let zero : c.in-Ok-eq0.field-0 ≡ 0 = omega arith in
     let read = rw zero at c.in-Ok-eq0.ensures.bytes in
     let room : 0 < length c.read.new.into = omega (arith, c.read.auto.into) in
     let at_end = c.in-Ok-eq0.ensures.bytes.1 zero room in
-    elim (c.finish.ensures.write now e) [
+    elim (c.finish.ensures.write honest e) [
       | inl same ↦ inl (rw same (Served-all_ran of (g.R.Source.left c.read.new.self) read.0))
       | inr h ↦ inr (Served-settled HasSettled of c.finish.new.store.session (g.R.Source.left c.read.new.self) read.0 at_end
           (session_of_settled d.files d.moment d.left_since c.loop.store c.finish.new.store h))
@@ -42,17 +40,16 @@ returns-in-Ok-eq0-clause-write g c = λ honest e.
 pub returns-in-Ok-eq0-clause-calls : goal.returns-in-Ok-eq0-clause-calls
 returns-in-Ok-eq0-clause-calls g c = λ honest.
     let d = g.D.Disk in
-    let s = c.loop.invariant.0 honest in
-    let now = c.loop.invariant.2.1 honest in
+    let s = c.loop.invariant.0 (c.finish.ensures.honest.0 honest) in
     let zero : c.in-Ok-eq0.field-0 ≡ 0 = omega arith in
     let read = rw zero at c.in-Ok-eq0.ensures.bytes in
     runs_finish d.files d.moment d.left_since s c.finish.new.store c.finish.result (g.R.Source.left c.read.new.self) (g.W.Sink.written c.finish.new.writer) read.0
-    (λ not. c.finish.ensures.told now not (cut s.input).rest s.stands) (c.finish.ensures.write now)
+    (λ not. c.finish.ensures.told honest not (cut s.input).rest s.stands) (c.finish.ensures.write honest)
 
 pub returns-in-Ok-eq0-clause-any_moment : goal.returns-in-Ok-eq0-clause-any_moment
 returns-in-Ok-eq0-clause-any_moment g c = λ honest.
     let d = g.D.Disk in
-    runs_leave d.files d.moment d.left_since (returns-in-Ok-eq0-clause-calls g c honest) (λ image left. g.met.D.Disk.only_now c.args.store.now.disk image honest left) c.settled_is_on_disk.ensures
+    runs_leave d.files d.moment d.left_since (returns-in-Ok-eq0-clause-calls g c honest) (λ image left. g.met.D.Disk.only_now c.args.store.now.disk image (c.loop.invariant.2.0 (c.finish.ensures.honest.0 honest)) left) c.settled_is_on_disk.ensures
 
 pub returns-in-Ok-eq0-clause-disk : goal.returns-in-Ok-eq0-clause-disk
 returns-in-Ok-eq0-clause-disk g c = λ honest.
@@ -62,23 +59,21 @@ returns-in-Ok-eq0-clause-disk g c = λ honest.
 pub returns-in-Err-feed-clause-write : goal.returns-in-Err-feed-clause-write
 returns-in-Err-feed-clause-write g c = λ honest e.
     let d = g.D.Disk in
-    let s = c.loop.invariant.0 honest in
-    let now = c.loop.invariant.2.1 honest in
+    let s = c.loop.invariant.0 (c.feed.ensures.honest.0 honest) in
     inl (Served-some (session_of_served d.files d.moment d.left_since s) (take c.in-Ok.n c.read.new.into) c.feed.new.store.session (g.R.Source.left c.read.new.self) c.in-Ok.ensures.bytes.0
-    (session_of_fed d.files d.moment d.left_since c.loop.store c.feed.new.store ((cut s.input).rest ++ take c.in-Ok.n c.read.new.into) (c.in-Err-feed.ensures.fed now (cut s.input).rest (rest-free s.input) s.stands)))
+    (session_of_fed d.files d.moment d.left_since c.loop.store c.feed.new.store ((cut s.input).rest ++ take c.in-Ok.n c.read.new.into) (c.in-Err-feed.ensures.fed honest (cut s.input).rest (rest-free s.input) s.stands)))
 
 pub returns-in-Err-feed-clause-calls : goal.returns-in-Err-feed-clause-calls
 returns-in-Err-feed-clause-calls g c = λ honest.
     let d = g.D.Disk in
-    let s = c.loop.invariant.0 honest in
-    let now = c.loop.invariant.2.1 honest in
+    let s = c.loop.invariant.0 (c.feed.ensures.honest.0 honest) in
     runs_some (HasSettledOver d.files d.moment d.left_since) s (take c.in-Ok.n c.read.new.into) c.feed.new.store (g.R.Source.left c.read.new.self) (g.W.Sink.written c.feed.new.writer)
-    c.in-Ok.ensures.bytes.0 (c.in-Err-feed.ensures.fed now (cut s.input).rest (rest-free s.input) s.stands)
+    c.in-Ok.ensures.bytes.0 (c.in-Err-feed.ensures.fed honest (cut s.input).rest (rest-free s.input) s.stands)
 
 pub returns-in-Err-feed-clause-any_moment : goal.returns-in-Err-feed-clause-any_moment
 returns-in-Err-feed-clause-any_moment g c = λ honest.
     let d = g.D.Disk in
-    runs_leave d.files d.moment d.left_since (returns-in-Err-feed-clause-calls g c honest) (λ image left. g.met.D.Disk.only_now c.args.store.now.disk image honest left) c.settled_is_on_disk.ensures
+    runs_leave d.files d.moment d.left_since (returns-in-Err-feed-clause-calls g c honest) (λ image left. g.met.D.Disk.only_now c.args.store.now.disk image (c.loop.invariant.2.0 (c.feed.ensures.honest.0 honest)) left) c.settled_is_on_disk.ensures
 
 pub returns-in-Err-feed-clause-disk : goal.returns-in-Err-feed-clause-disk
 returns-in-Err-feed-clause-disk g c = λ honest.
@@ -100,7 +95,7 @@ returns-in-Err-clause-calls g c = λ honest.
 pub returns-in-Err-clause-any_moment : goal.returns-in-Err-clause-any_moment
 returns-in-Err-clause-any_moment g c = λ honest.
     let d = g.D.Disk in
-    runs_leave d.files d.moment d.left_since (returns-in-Err-clause-calls g c honest) (λ image left. g.met.D.Disk.only_now c.args.store.now.disk image honest left) c.settled_is_on_disk.ensures
+    runs_leave d.files d.moment d.left_since (returns-in-Err-clause-calls g c honest) (λ image left. g.met.D.Disk.only_now c.args.store.now.disk image (c.loop.invariant.2.0 honest) left) c.settled_is_on_disk.ensures
 
 pub returns-in-Err-clause-disk : goal.returns-in-Err-clause-disk
 returns-in-Err-clause-disk g c = λ honest.
@@ -122,7 +117,7 @@ returns-clause-calls g c = λ honest.
 pub returns-clause-any_moment : goal.returns-clause-any_moment
 returns-clause-any_moment g c = λ honest.
     let d = g.D.Disk in
-    runs_leave d.files d.moment d.left_since (returns-clause-calls g c honest) (λ image left. g.met.D.Disk.only_now c.args.store.now.disk image honest left) c.settled_is_on_disk.ensures
+    runs_leave d.files d.moment d.left_since (returns-clause-calls g c honest) (λ image left. g.met.D.Disk.only_now c.args.store.now.disk image (c.loop.invariant.2.0 honest) left) c.settled_is_on_disk.ensures
 
 pub returns-clause-disk : goal.returns-clause-disk
 returns-clause-disk g c = λ honest.
@@ -132,12 +127,11 @@ returns-clause-disk g c = λ honest.
 pub loop-preserved : goal.loop-preserved
 loop-preserved g c = (
   λ honest.
-      let s = c.loop.invariant.0 honest in
-      let now = c.loop.invariant.2.1 honest in
+      let s = c.loop.invariant.0 (c.in-Ok-feed.ensures.honest.0 honest) in
       Served-more s (take c.in-Ok.n c.read.new.into) c.feed.new.store (g.R.Source.left c.read.new.self) (g.W.Sink.written c.feed.new.writer)
-      c.feed.new.pending c.in-Ok.ensures.bytes.0 (c.in-Ok-feed.ensures.fed now (cut s.input).rest (rest-free s.input) s.stands),
+      c.feed.new.pending c.in-Ok.ensures.bytes.0 (c.in-Ok-feed.ensures.fed honest (cut s.input).rest (rest-free s.input) s.stands),
   Breaks-then c.loop.invariant.1 c.in-Ok-feed.ensures.device,
-  (λ h. c.loop.invariant.2.0 (c.in-Ok-feed.ensures.honest.0 h), λ h. c.in-Ok-feed.ensures.honest.1 (c.loop.invariant.2.1 h)),
+  (λ h. c.loop.invariant.2.0 (c.in-Ok-feed.ensures.honest.0 h), λ steady h. c.in-Ok-feed.ensures.honest.1 steady (c.loop.invariant.2.1 steady h)),
   HasRisenBy-counted c.loop.counter _ _ _ c.loop.invariant.3 c.in-Ok.ensures.counted,
   c.in-Ok.ensures.ok ∙ c.loop.invariant.4,
   c.in-Ok-feed.ensures.same ∙ c.loop.invariant.5,

@@ -1,4 +1,5 @@
-use Rattle.std.proofs.Common.{◌≡◌, ◌↔◌}
+use Rattle.std.proofs.Common.{◌≡◌}
+use Rattle.org_disk.specs.Disk.{KeepsHonesty}
 use Rattle.org_serve.specs.Counts.{HasRisenBy}
 use Rattle.org_serve.specs.Serving.{BreaksByFailure}
 use Rattle.org_serve.specs.Stops.{RunsLine}
@@ -8,10 +9,10 @@ use Rattle.org_serve.proofs.serving.serve.Given as goal
 -- what was read so far is served, with so many reads, and no call of the reader or the writer has failed
 abbrev pub invariant-loop : goal.invariant-loop
 invariant-loop g l =
-    (g.D.Disk.honest l.initial.store.disk → Served (RunsLine g.D.Disk.files g.D.Disk.moment g.D.Disk.left_since) l.initial.store l.store
+    (g.D.Disk.honest l.store.disk → Served (RunsLine g.D.Disk.files g.D.Disk.moment g.D.Disk.left_since) l.initial.store l.store
     (g.R.Source.left l.initial.reader) (g.R.Source.left l.reader) (g.W.Sink.written l.initial.writer) (g.W.Sink.written l.writer) l.pending)
     × BreaksByFailure l.initial.store.session l.store.session (g.D.Disk.failures l.initial.store.disk) (g.D.Disk.failures l.store.disk)
-    × (g.D.Disk.honest l.store.disk ↔ g.D.Disk.honest l.initial.store.disk)
+    × KeepsHonesty g.D.Disk.steady (g.D.Disk.honest l.initial.store.disk) (g.D.Disk.honest l.store.disk)
     × HasRisenBy l.counter (g.R.Source.reads l.initial.reader) (g.R.Source.reads l.reader)
     × (g.R.Source.failures l.reader ≡ g.R.Source.failures l.initial.reader)
     × (g.W.Sink.failures l.writer ≡ g.W.Sink.failures l.initial.writer)

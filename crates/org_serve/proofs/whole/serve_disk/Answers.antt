@@ -10,8 +10,10 @@ returns-in-Ok-clause-served g c = λ honest.
     let begun = c.set_group.new.self in
     let setup = c.args.setup in
     let opens = c.in-Ok.ensures.session in
-    let now = of_disk d.files setup.states setup.group setup.names.items c.args.disk store begun c.set_group.ensures opens d.honest (c.in-Ok.ensures.honest.1 honest) in
-    serves d.files setup.states setup.group setup.names.items c.args.disk store begun c.set_group.ensures opens c.in-Ok.ensures.names.1 (c.in-Ok.ensures.contents honest)
+    let now : d.honest c.serve-end.new.store.disk = rw (← c.close.ensures) honest in
+    let then = of_disk d.files setup.states setup.group setup.names.items c.args.disk store begun c.set_group.ensures opens (λ k. d.honest k → d.honest store.disk) (λ h. h)
+    (c.serve-end.ensures.honest.0 now) in
+    serves d.files setup.states setup.group setup.names.items c.args.disk store begun c.set_group.ensures opens c.in-Ok.ensures.names.1 (c.in-Ok.ensures.contents then)
     c.serve-end.new.store.session (session_of_runs d.files d.moment d.left_since (c.serve-end.ensures.calls now)) (c.serve-end.ensures.end now)
 
 pub returns-in-Ok-clause-any_moment : goal.returns-in-Ok-clause-any_moment
@@ -22,12 +24,13 @@ returns-in-Ok-clause-any_moment g c = λ honest fit each.
     let setup = c.args.setup in
     let opens = c.in-Ok.ensures.session in
     let here = of_disk d.files setup.states setup.group setup.names.items c.args.disk store begun c.set_group.ensures opens in
-    let now = here d.honest (c.in-Ok.ensures.honest.1 honest) in
-    let rest = here (λ k. IsAtRest (d.files k)) (c.in-Ok.ensures.rest honest fit each) in
+    let now : d.honest c.serve-end.new.store.disk = rw (← c.close.ensures) honest in
+    let then = here (λ k. d.honest k → d.honest store.disk) (λ h. h) (c.serve-end.ensures.honest.0 now) in
+    let rest = here (λ k. IsAtRest (d.files k)) (c.in-Ok.ensures.rest then fit each) in
     let sound = is_sound d.files setup.states setup.group setup.names.items c.args.disk store begun c.set_group.ensures opens in
     let run = c.serve-end.ensures.any_moment now rest sound in
     leaves d.files setup.states setup.group setup.names.items c.args.disk store begun c.set_group.ensures opens d.moment d.left_since c.in-Ok.ensures.names.1
-    (c.in-Ok.ensures.contents honest) (c.in-Ok.ensures.any_moment honest fit each) c.serve-end.new.store.session c.close.result c.serve-end.new.store.disk c.close.ensures
+    (c.in-Ok.ensures.contents then) (c.in-Ok.ensures.any_moment then fit each) c.serve-end.new.store.session c.close.result c.serve-end.new.store.disk c.close.ensures
     (c.serve-end.ensures.end now) run.0 run.1
 
 pub returns-in-Ok-clause-fit : goal.returns-in-Ok-clause-fit
@@ -38,6 +41,7 @@ returns-in-Ok-clause-fit g c = λ honest fit each.
     let setup = c.args.setup in
     let opens = c.in-Ok.ensures.session in
     let here = of_disk d.files setup.states setup.group setup.names.items c.args.disk store begun c.set_group.ensures opens in
-    let now = here d.honest (c.in-Ok.ensures.honest.1 honest) in
-    let rest = here (λ k. IsAtRest (d.files k)) (c.in-Ok.ensures.rest honest fit each) in
+    let now : d.honest c.serve-end.new.store.disk = rw (← c.close.ensures) honest in
+    let then = here (λ k. d.honest k → d.honest store.disk) (λ h. h) (c.serve-end.ensures.honest.0 now) in
+    let rest = here (λ k. IsAtRest (d.files k)) (c.in-Ok.ensures.rest then fit each) in
     rw c.close.ensures ((c.serve-end.ensures.disk now).fit rest)

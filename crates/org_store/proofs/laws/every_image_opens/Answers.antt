@@ -6,7 +6,7 @@ use Rattle.org_store.proofs.laws.every_image_opens.Goals as goal
 pub returns : goal.returns
 returns g c = record {
   faults = λ given disk now fault all honest.
-      counted_faults given (g.D.Disk.honest disk) (HasRisen (g.D.Disk.failures disk) (g.D.Disk.failures now)) (contents (g.D.Disk.files disk)) (contents (g.D.Disk.files now)) fault all honest;
+      counted_faults given (g.D.Disk.honest now) (HasRisen (g.D.Disk.failures disk) (g.D.Disk.failures now)) (contents (g.D.Disk.files disk)) (contents (g.D.Disk.files now)) fault all honest;
   held = held_opens;
   left = left_opens;
   run = run_opens;

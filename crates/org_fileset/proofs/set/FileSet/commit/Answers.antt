@@ -39,7 +39,8 @@ returns-in_err-body-clause-any_moment g c = rw (← c.self.view_is) (λ honest r
     (λ image left. g.met.D.Disk.only_now disk image honest left))
 
 pub returns-in-Ok-clause-any_moment : goal.returns-in-Ok-clause-any_moment
-returns-in-Ok-clause-any_moment g c = rw (← c.self.view_is) (λ honest rest.
+returns-in-Ok-clause-any_moment g c = rw (← c.self.view_is) (λ ended rest.
+    let honest = c.commit_entries.ensures.honest.0 ended in
     let edits = rw (← c.self.view_is) at c.requires.edits in
     let disk = c.self.inside.disk in
     let after = c.commit_entries.new.disk in
@@ -48,20 +49,22 @@ returns-in-Ok-clause-any_moment g c = rw (← c.self.view_is) (λ honest rest.
     changes_left c.args.changes.now c.in_ok-entries_of.field-0.items files (g.D.Disk.moment disk) (g.D.Disk.moment after) (g.D.Disk.left_since disk) (g.D.Disk.left_since after)
     c.in_ok-entries_of.ensures.entries (all_edits files c.args.changes.now (edits c.if-self.false honest))
     (subst (λ (l : List Entry). LeavesOnly (g.D.Disk.moment disk) (g.D.Disk.moment after) (g.D.Disk.left_since disk) (g.D.Disk.left_since after) (IsBeforeOrAfter l files)) same
-    (c.commit_entries.ensures.any_moment honest rest)))
+    (c.commit_entries.ensures.any_moment ended rest)))
 
 pub returns-in-Ok-clause-contents : goal.returns-in-Ok-clause-contents
-returns-in-Ok-clause-contents g c = rw (← c.self.view_is) (λ honest.
+returns-in-Ok-clause-contents g c = rw (← c.self.view_is) (λ ended.
+    let honest = c.commit_entries.ensures.honest.0 ended in
     let edits = rw (← c.self.view_is) at c.requires.edits in
     let files = contents (g.D.Disk.files c.self.inside.disk) in
     let same = c.entries.ensures ∙ c.new-record.ensures in
     let done : SameFiles (contents (g.D.Disk.files c.commit_entries.new.disk)) (replayed c.in_ok-entries_of.field-0.items files) =
-    subst (λ (l : List Entry). SameFiles (contents (g.D.Disk.files c.commit_entries.new.disk)) (replayed l files)) same (c.in-Ok.ensures.contents honest) in
+    subst (λ (l : List Entry). SameFiles (contents (g.D.Disk.files c.commit_entries.new.disk)) (replayed l files)) same (c.in-Ok.ensures.contents ended) in
     λ name not. done name not ∙ changes_made c.args.changes.now c.in_ok-entries_of.field-0.items files name c.in_ok-entries_of.ensures.entries
     (all_edits files c.args.changes.now (edits c.if-self.false honest)))
 
 pub returns-clause-any_moment : goal.returns-clause-any_moment
-returns-clause-any_moment g c = rw (← c.self.view_is) (λ honest rest.
+returns-clause-any_moment g c = rw (← c.self.view_is) (λ ended rest.
+    let honest = c.commit_entries.ensures.honest.0 ended in
     let edits = rw (← c.self.view_is) at c.requires.edits in
     let disk = c.self.inside.disk in
     let after = c.commit_entries.new.disk in
@@ -70,4 +73,4 @@ returns-clause-any_moment g c = rw (← c.self.view_is) (λ honest rest.
     changes_left c.args.changes.now c.in_ok-entries_of.field-0.items files (g.D.Disk.moment disk) (g.D.Disk.moment after) (g.D.Disk.left_since disk) (g.D.Disk.left_since after)
     c.in_ok-entries_of.ensures.entries (all_edits files c.args.changes.now (edits c.if-self.false honest))
     (subst (λ (l : List Entry). LeavesOnly (g.D.Disk.moment disk) (g.D.Disk.moment after) (g.D.Disk.left_since disk) (g.D.Disk.left_since after) (IsBeforeOrAfter l files)) same
-    (c.commit_entries.ensures.any_moment honest rest)))
+    (c.commit_entries.ensures.any_moment ended rest)))

@@ -3,8 +3,8 @@ use Rattle.org_folder.proofs.Told.{does_sync}
 use Rattle.org_folder.proofs.folder.Folder.sync.Goals as goal
 use Rattle.org_folder.proofs.folder.Folder.sync.Goals.{then-not-opened+in_ok-sync_entry, else-not-opened}
 
-pub returns : goal.returns
-returns g c = λ honest.
+pub returns-clause-effect : goal.returns-clause-effect
+returns-clause-effect g c = λ right.
     let same : g.C.Calls.history c.find.new.self.calls ≡ g.C.Calls.history c.args.self.now.calls = search rules in
     let named : c.index_mut-opened.result.now.name ≡ c.args.name.now = search rules in
     let kept : c.if-not-opened.opened.name ≡ c.index_mut-opened.result.now.name = elim c.if-not-opened.branch [
@@ -12,8 +12,8 @@ returns g c = λ honest.
       | else-not-opened w ↦ ap (λ o. o.name) w.opened-is
     ] in
     let still : g.C.Calls.history c.if-not-opened.self.1.0 ≡ g.C.Calls.history c.find.new.self.calls = elim c.if-not-opened.branch [
-      | then-not-opened+in_ok-sync_entry w ↦ ap (λ s. g.C.Calls.history s.1.0) w.self-is ∙ w.sync_entry.ensures.same honest
+      | then-not-opened+in_ok-sync_entry w ↦ ap (λ s. g.C.Calls.history s.1.0) w.self-is ∙ w.sync_entry.ensures.same
       | else-not-opened w ↦ ap (λ s. g.C.Calls.history s.1.0) w.self-is
     ] in
     does_sync g.C.Calls.world c.if-not-opened.opened.name c.args.name.now (g.C.Calls.history c.args.self.now.calls) (g.C.Calls.history c.if-not-opened.self.1.0) (g.C.Calls.history c.sync.new.self)
-    c.sync.result (g.met.C.Calls.right c.sync.new.self honest) (kept ∙ named) (still ∙ same) (c.sync.ensures honest)
+    c.sync.result right (kept ∙ named) (still ∙ same) c.sync.ensures

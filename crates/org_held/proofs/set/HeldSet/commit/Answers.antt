@@ -31,7 +31,7 @@ returns-in_err-changes-clause-any_moment g c =
     let names = inside.set.names in
     let before = texts_of (held_over inside.pending.items (contents files)) names in
     let after = with_all names before (list_of c.args.drafts) in
-    moments_told c.args.self.now disk names inside.set.broken before c.self.view_is g.D.Disk.honest g.D.Disk.moment g.D.Disk.left_since g.D.Disk.files disk (list_of c.args.drafts) after refl
+    moments_told c.args.self.now disk names inside.set.broken before c.self.view_is (g.D.Disk.honest disk) g.D.Disk.moment g.D.Disk.left_since g.D.Disk.files disk (list_of c.args.drafts) after refl
     (λ honest rest.
     leaves_only (passes_none (g.D.Disk.moment disk) (g.D.Disk.left_since disk) (HoldsEither names (contents files) after))
     (λ image left. left_at_rest names after files rest image (g.met.D.Disk.only_now disk image honest left)))
@@ -66,7 +66,7 @@ returns-in_err-commit_texts-clause-any_moment g c =
     let names = inside.set.names in
     let drafts = list_of c.args.drafts in
     let after = texts_of (changed c.in_ok-changes.changes files) names in
-    moments_told c.args.self.now inside.set.disk names inside.set.broken (texts_of (held_over inside.pending.items files) names) c.self.view_is g.D.Disk.honest g.D.Disk.moment g.D.Disk.left_since g.D.Disk.files
+    moments_told c.args.self.now inside.set.disk names inside.set.broken (texts_of (held_over inside.pending.items files) names) c.self.view_is (g.D.Disk.honest c.commit_texts.new.set.disk) g.D.Disk.moment g.D.Disk.left_since g.D.Disk.files
     c.commit_texts.new.set.disk drafts after (texts_more names drafts c.in_ok-changes.changes inside.pending.items files c.in_ok-changes.ensures.over) c.commit_texts.ensures.any_moment
 
 pub returns-in_err-commit_texts-clause-fit : goal.returns-in_err-commit_texts-clause-fit
@@ -95,7 +95,7 @@ invariant_of-self-2 g c =
     sound_committed inside.set.names commit.new.set.names ((inside.set.broken ≡ false) × g.D.Disk.honest inside.set.disk) ((commit.new.set.broken ≡ false) × g.D.Disk.honest commit.new.set.disk)
     (contents (g.D.Disk.files inside.set.disk)) (contents (g.D.Disk.files commit.new.set.disk)) inside.kept.items c.keep_all.new.kept.items c.put_drafts.new.texts.items c.keep_all.new.pending.items
     inside.pending.items c.in_ok-changes.changes c.self.invariant commit.ensures.names agree
-    (λ n. let honest = commit.ensures.honest.0 n.1 in ((unbroken, honest), c.in_ok-commit_texts.ensures.contents honest))
+    (λ n. ((unbroken, commit.ensures.honest.0 n.1), c.in_ok-commit_texts.ensures.contents n.1))
     c.keep_all.ensures.each c.keep_all.ensures.over c.keep_all.ensures.none
 
 pub returns-clause-any_moment : goal.returns-clause-any_moment
@@ -105,7 +105,7 @@ returns-clause-any_moment g c =
     let names = inside.set.names in
     let drafts = list_of c.args.drafts in
     let after = texts_of (changed c.in_ok-changes.changes files) names in
-    moments_told c.args.self.now inside.set.disk names inside.set.broken (texts_of (held_over inside.pending.items files) names) c.self.view_is g.D.Disk.honest g.D.Disk.moment g.D.Disk.left_since g.D.Disk.files
+    moments_told c.args.self.now inside.set.disk names inside.set.broken (texts_of (held_over inside.pending.items files) names) c.self.view_is (g.D.Disk.honest c.commit_texts.new.set.disk) g.D.Disk.moment g.D.Disk.left_since g.D.Disk.files
     c.commit_texts.new.set.disk drafts after (texts_more names drafts c.in_ok-changes.changes inside.pending.items files c.in_ok-changes.ensures.over) c.commit_texts.ensures.any_moment
 
 pub returns-clause-texts : goal.returns-clause-texts
@@ -116,7 +116,7 @@ returns-clause-texts g c =
     let drafts = list_of c.args.drafts in
     let new = contents (g.D.Disk.files c.commit_texts.new.set.disk) in
     let own : texts_of (held_over c.keep_all.new.pending.items new) c.commit_texts.new.set.names ≡ texts_of new c.commit_texts.new.set.names = ap (λ (l : List Held). texts_of (held_over l new) c.commit_texts.new.set.names) c.keep_all.ensures.none in
-    texts_told c.args.self.now inside.set.disk names inside.set.broken (texts_of (held_over inside.pending.items files) names) c.self.view_is g.D.Disk.honest drafts
+    texts_told c.args.self.now inside.set.disk names inside.set.broken (texts_of (held_over inside.pending.items files) names) c.self.view_is (g.D.Disk.honest c.commit_texts.new.set.disk) drafts
     (texts_of (held_over c.keep_all.new.pending.items new) c.commit_texts.new.set.names)
     (λ honest. own ∙ c.in_ok-commit_texts.ensures.texts honest ∙ texts_more names drafts c.in_ok-changes.changes inside.pending.items files c.in_ok-changes.ensures.over)
 

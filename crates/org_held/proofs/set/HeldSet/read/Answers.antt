@@ -48,8 +48,8 @@ invariant_of-self g c =
     let unbroken : inside.set.broken ≡ false = search rules in
     sound_still inside.set.names read.new.set.names ((inside.set.broken ≡ false) × g.D.Disk.honest inside.set.disk) ((read.new.set.broken ≡ false) × g.D.Disk.honest read.new.set.disk)
     old (contents (g.D.Disk.files read.new.set.disk)) inside.kept.items read.new.kept.items inside.pending.items c.self.invariant read.ensures.names
-    (λ n. ((unbroken, read.ensures.honest.0 n.1), ap contents (read.ensures.same (read.ensures.honest.0 n.1))))
-    read.ensures.each (λ live. read.ensures.over live.1)
+    (λ n. ((unbroken, read.ensures.honest.0 n.1), ap contents (read.ensures.same n.1)))
+    read.ensures.each (λ n. read.ensures.over n.1)
 
 pub returns-clause-text : goal.returns-clause-text
 returns-clause-text g c =
@@ -59,6 +59,6 @@ returns-clause-text g c =
     let there : is_name inside.set.names name ≡ true = rw (← c.self.view_is) at c.requires.name in
     let none : held_over inside.pending.items files name ≡ files name = search rules in
     rw (← c.self.view_is) (if_ok_weaker c.read_to_hold.result
-    (λ (held : Held) (text : g.D.Disk.honest inside.set.disk → held.text.bytes ≡ files name) (honest : g.D.Disk.honest inside.set.disk).
+    (λ (held : Held) (text : g.D.Disk.honest c.read_to_hold.new.set.disk → held.text.bytes ≡ files name) (honest : g.D.Disk.honest c.read_to_hold.new.set.disk).
     some_at (held_over inside.pending.items files) inside.set.names name there ∙ ap Some (none ∙ sym (text honest)))
     c.read_to_hold.ensures.text)

@@ -1,4 +1,4 @@
-use Rattle.std.proofs.Common.{◌≡◌, ap, true, Err, refl, rules}
+use Rattle.std.proofs.Common.{◌≡◌, ap, true, Err, refl, subst, rules}
 use Rattle.org_journal.specs.Standing.{contents}
 use Rattle.org_fileset.specs.declared.fault.SetFault.TheVariants as set
 use Rattle.org_held.specs.InOrder.{texts_of}
@@ -27,7 +27,7 @@ returns-in-Err-OutOfMemory-clause-any_moment g c honest rest =
     let own : s.settled ≡ texts_of (contents files) s.names = rw (← c.self.view_is) refl in
     let same : c.commit.new.self.disk ≡ disk = search rules in
     leaves_unwritten g.D.Disk.moment g.D.Disk.left_since disk c.commit.new.self.disk (IsLeftKeeping s (contents files) (after s c.args.drafts) (Err OutOfMemory)) same
-    (λ image left. left_at_rest s files own rest image (g.met.D.Disk.only_now disk image honest left))
+    (λ image left. left_at_rest s files own rest image (g.met.D.Disk.only_now disk image (subst g.D.Disk.honest same honest) left))
 
 pub returns-in-Err-OutOfMemory-clause-others : goal.returns-in-Err-OutOfMemory-clause-others
 returns-in-Err-OutOfMemory-clause-others g c fault honest =

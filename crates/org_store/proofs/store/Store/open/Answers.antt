@@ -5,5 +5,5 @@ use Rattle.org_store.proofs.store.Store.open.Goals as goal
 pub returns-in-Err-clause-again : goal.returns-in-Err-clause-again
 returns-in-Err-clause-again g c = λ honest can.
     let refused = c.in-Err.refused in
-    only_faults c.args.names.items (g.D.Disk.honest c.args.disk) (contents (g.D.Disk.files c.args.disk)) (contents (g.D.Disk.files refused.disk)) refused.fault c.requires honest can
+    only_faults c.args.names.items (g.D.Disk.honest refused.disk) (contents (g.D.Disk.files c.args.disk)) (contents (g.D.Disk.files refused.disk)) refused.fault c.requires honest can
     c.in-Err.ensures.refused

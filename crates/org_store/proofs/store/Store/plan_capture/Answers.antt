@@ -1,10 +1,9 @@
-use Rattle.std.proofs.Common.{◌≡◌, ◌∙◌, ◌⊎◌, inl, inr, ap, true, false, ◌-◌, ◌^◌, ◌==◌, nat_lt, length, sym, subst, Some, refl, rules}
+use Rattle.std.proofs.Common.{◌≡◌, ◌∙◌, ◌⊎◌, inl, inr, ap, true, false, ◌-◌, ◌^◌, ◌==◌, nat_lt, length, Some, refl, rules}
 use Rattle.org_splice.specs.Lines.{closed}
 use Rattle.org_journal.specs.Standing.{contents}
 use Rattle.org_fileset.specs.Names.{limit}
 use Rattle.org_held.specs.InOrder.{text_at}
 use Rattle.org_store.specs.Capture.{captured}
-use Rattle.org_store.specs.Session.{Kept}
 use Rattle.org_store.proofs.Keeping.{accepts_entry, refuses_large}
 use Rattle.org_store.proofs.Sessions.{session_over, session_still}
 use Rattle.org_store.proofs.store.Store.plan_capture.Goals as goal
@@ -26,9 +25,8 @@ returns-then-bytes-gt-LIMIT-clause-plans g c = λ honest.
       | then-bytes-gt-LIMIT-via-else-bytes-gt-LIMIT+then-self w ↦ inr (search rules)
     ] in
     let still : read.new.self.broken ≡ inside.files.broken = search rules in
-    let held : g.D.Disk.honest inside.files.disk = subst (λ (k : Kept g.row.D.Denot). g.D.Disk.honest k.disk) (sym c.self.view_is) honest in
-    let same = session_still (λ disk. contents (g.D.Disk.files disk)) inside.states inside.files read.new.self inside.accepted inside.acknowledged inside.group read.ensures.names (read.ensures.texts held)
-    (ap contents (read.ensures.same held)) still in
+    let same = session_still (λ disk. contents (g.D.Disk.files disk)) inside.states inside.files read.new.self inside.accepted inside.acknowledged inside.group read.ensures.names (read.ensures.texts honest)
+    (ap contents (read.ensures.same honest)) still in
     let own : session_over (λ disk. contents (g.D.Disk.files disk)) inside.states inside.files inside.accepted inside.acknowledged inside.group ≡ s = rw (← c.self.view_is) refl in
     (c.requires.unbroken, refuses_large s c.args.file.now c.args.target.now c.args.place c.args.template.now c.in_ok-held.held.text.bytes made.0 text there made.1 bytes large, same ∙ own)
 
@@ -47,8 +45,7 @@ returns-clause-plans g c = λ honest.
     let small : nat_lt limit (length draft.text.bytes) ≡ false = search rules in
     let countable : (s.accepted == 2 ^ 64 - 1) ≡ false = search rules in
     let still : read.new.self.broken ≡ inside.files.broken = search rules in
-    let held : g.D.Disk.honest inside.files.disk = subst (λ (k : Kept g.row.D.Denot). g.D.Disk.honest k.disk) (sym c.self.view_is) honest in
-    let same = session_still (λ disk. contents (g.D.Disk.files disk)) inside.states inside.files read.new.self inside.accepted inside.acknowledged inside.group read.ensures.names (read.ensures.texts held)
-    (ap contents (read.ensures.same held)) still in
+    let same = session_still (λ disk. contents (g.D.Disk.files disk)) inside.states inside.files read.new.self inside.accepted inside.acknowledged inside.group read.ensures.names (read.ensures.texts honest)
+    (ap contents (read.ensures.same honest)) still in
     let own : session_over (λ disk. contents (g.D.Disk.files disk)) inside.states inside.files inside.accepted inside.acknowledged inside.group ≡ s = rw (← c.self.view_is) refl in
     (accepts_entry s c.args.file.now c.args.target.now c.args.place c.args.template.now c.in_ok-held.held.text.bytes made.0 draft there made.1 bytes named small countable, same ∙ own)

@@ -26,14 +26,15 @@ returns-then-is_broken-clause-others g c fault honest =
     others_unwritten s.names s.settled files files own refl
 
 pub returns-in-Show-clause-any_moment : goal.returns-in-Show-clause-any_moment
-returns-in-Show-clause-any_moment g c honest rest =
+returns-in-Show-clause-any_moment g c ended rest =
+    let honest = c.show.ensures.honest.0 ended in
     let s = c.args.self.now.session in
     let disk = c.args.self.now.disk in
     let files = g.D.Disk.files disk in
     let own : s.settled ≡ texts_of (contents files) s.names = rw (← c.self.view_is) refl in
     let quiet = λ (image : Image) (left : AreImages files image).
     left_quiet s (contents files) (outcome s c.args.command.now) c.show.result c.show.new.self.session.accepted image (left_at_rest s files own rest image left) in
-    leaves_only (passes_as (c.show.ensures.any_moment honest) quiet) (λ image left. quiet image (g.met.D.Disk.only_now disk image honest left))
+    leaves_only (passes_as (c.show.ensures.any_moment ended) quiet) (λ image left. quiet image (g.met.D.Disk.only_now disk image honest left))
 
 pub returns-in-Show-clause-others : goal.returns-in-Show-clause-others
 returns-in-Show-clause-others g c fault honest = others_unwritten c.show.new.self.session.names c.show.new.self.session.settled (g.D.Disk.files c.args.self.now.disk) (g.D.Disk.files c.show.new.self.disk) c.show.ensures.settled (c.show.ensures.same honest)

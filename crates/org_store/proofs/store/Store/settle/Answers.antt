@@ -27,9 +27,10 @@ returns-in_err-settle-clause-any_moment g c =
     let given : c.from_residual.result ≡ Err (fault_of_set fault) = search rules in
     let disk = inside.files.disk in
     let s = session_over (λ disk. contents (g.D.Disk.files disk)) inside.states inside.files inside.accepted inside.acknowledged inside.group in
-    rw (← c.self.view_is, given) (λ honest rest.
+    rw (← c.self.view_is, given) (λ ended rest.
+    let honest = c.settle.ensures.honest.0 ended in
     settling_left g.D.Disk.moment g.D.Disk.left_since g.D.Disk.files s inside.files c.settle.new.self c.settle.result fault fails
-    (λ image left. at_rest_holds s (g.D.Disk.files disk) rest image (g.met.D.Disk.only_now disk image honest left)) (λ image either. either) (made.any_moment honest rest))
+    (λ image left. at_rest_holds s (g.D.Disk.files disk) rest image (g.met.D.Disk.only_now disk image honest left)) (λ image either. either) (made.any_moment ended rest))
 
 pub returns-in_err-settle-clause-others : goal.returns-in_err-settle-clause-others
 returns-in_err-settle-clause-others g c =

@@ -1,0 +1,9 @@
+-- The record of the calls that a folder's disk has made.
+use Rattle.std.specs.Prelude.{List}
+use Rattle.org_folder.specs.Calls.{Event}
+use Rattle.org_folder.specs.declared.disk.CallsDisk.{CallsDisk}
+use Rattle.org_folder.specs.declared.system.SystemCalls.{SystemCalls}
+
+-- The newest call is first. The disk is honest where the answers in this record were right.
+abbrev pub record_of : {R S A B F : Type 0} → CallsDisk (SystemCalls R S A B) F → List Event
+record_of disk = disk.folder.calls.log.events

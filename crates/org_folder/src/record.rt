@@ -1,0 +1,44 @@
+// The record of the calls, which stands in proofs alone and takes no memory. Its two functions are proved by hand, since
+// no code can set it.
+ghost use Rattle.std.specs.Prelude.{◌≡◌, List, [], ◌∷◌};
+ghost use Rattle.std.specs.Borrow.{ftrue};
+ghost use Rattle.org_folder.specs.Calls.{Event};
+ghost use Rattle.org_folder.specs.Note.{event_of};
+
+use std::marker::{Model, PhantomData};
+
+/// A call with its answer, but for the file's name and the bytes. A write, a cut and a sync say whether they succeeded.
+#[derive(Clone, Copy)]
+pub enum Call {
+    Absent,
+    Length(u64),
+    Read(u64),
+    Write(u64, bool),
+    Cut(u64, bool),
+    Sync(bool),
+}
+
+#[derive(Drop)]
+pub struct Record {
+    marker: PhantomData<u8>,
+    pub ghost events: { List Event },
+}
+
+impl Model for Record {
+    ghost also_owns = { λ _. ftrue };
+}
+
+impl Record {
+    pub(crate) fn new() -> Record
+        ensures { result.events ≡ [] }
+    {
+        Record {
+            marker: PhantomData,
+        }
+    }
+
+    // Notes a call on the file of this name, which read or wrote these bytes.
+    pub(crate) fn note(&mut self, _call: Call, _name: &[u8], _bytes: &[u8])
+        ensures { self.new.events ≡ event_of _call _name.now _bytes.now ∷ self.old.events }
+    {}
+}
