@@ -13,8 +13,9 @@ pub struct DiskFault;
 /// A disk that holds files by name; an absent file and an empty one are the same.
 ///
 /// What a call asks of contents, lengths and images is asked of an honest disk alone, and what is said of them is said
-/// where the disk is honest after the call. A call that fails adds one to the failures, whose greatest number is
-/// 2^64 - 1.
+/// where the disk is honest after the call. After a failed `write_at`, `cut` or `sync` the file reads as what a stop
+/// within the call may leave, and from then on a stop leaves nothing else of it. A call that fails adds one to the
+/// failures, whose greatest number is 2^64 - 1.
 pub trait Disk {
     /// The disk has been as it says: each read gave the content, and each call had its effect. A wrong answer ends this
     /// for good.
@@ -62,7 +63,8 @@ pub trait Disk {
         ensures honest { KeepsHonesty steady (honest self.old) (honest self.new) };
 
     /// Writes bytes over a file from `from` on, which is at most its length; the file grows where they reach past its
-    /// end. Until the next sync a stop may leave any bytes in that range, and any length that the file had.
+    /// end. Until the next sync a stop may leave any bytes in that range, and any length from the least to the greatest
+    /// that the file had since the last sync.
     fn write_at(&mut self, name: &FileName, from: u64, bytes: &[u8]) -> Result<(), DiskFault>
         requires within { honest self.old → from ≤ length (files self.old name.now).content }
         requires fits { honest self.old → from + length bytes.now < 2 ^ 64 }
@@ -75,8 +77,8 @@ pub trait Disk {
         ensures count_err { OnErr result (IsCounted (failures self.old) (failures self.new)) }
         ensures honest { KeepsHonesty steady (honest self.old) (honest self.new) };
 
-    /// Takes away the bytes of a file from `to` on, which is at most its length. Until the next sync a stop may leave
-    /// any length that the file had.
+    /// Takes away the bytes of a file from `to` on, which is at most its length. Until the next sync a stop may leave any
+    /// length from the least to the greatest that the file had since the last sync, and any bytes from `to` on.
     fn cut(&mut self, name: &FileName, to: u64) -> Result<(), DiskFault>
         requires { honest self.old → to ≤ length (files self.old name.now).content }
         ensures effect { honest self.new →

@@ -14,7 +14,7 @@ use std::alloc::{AllocError, Global};
 pub enum Outcome {
     /// Every write and cut so far took place, the stopped one too.
     All,
-    /// The file is as after its last successful sync.
+    /// The file is as after its last successful sync or `set`; without one it is empty.
     None,
     /// As `All`, but only the first bytes of a stopped write went out, at most as many as the number says; another
     /// stopped call had no effect.
@@ -61,7 +61,7 @@ pub(crate) enum Stop {
     Came(Outcome),
 }
 
-/// Files in memory, with a record of all calls. It is honest.
+/// Files in memory, with a record of all calls. It is honest, and steady: no answer of it is wrong.
 #[derive(Drop)]
 pub struct MemoryDisk {
     alloc: Global,
@@ -525,7 +525,7 @@ fn piece_of(
     }
 }
 
-// The same after a cut.
+// Makes of what a stop leaves of a file before a cut what it leaves after it.
 fn leave_cut(
     outcome: Outcome,
     stopped: bool,

@@ -55,7 +55,7 @@ IsAnswer before now names (Err Device) = Unit {0}
 IsAnswer before now names (Err OutOfMemory) = Unit {0}
 
 -- A set over files of the given names isn't opened for this reason. What lies in the files of a disk counts where the
--- disk is honest: what lay in them when the call began, and what lies in them as it ends.
+-- disk is honest as the call ends: what lay in them when it began, and what lies in them then.
 abbrev pub IsReason : List (List ℕ) → Type 0 → Image → Image → OpenFault → Type 0
 IsReason given honest before now TooManyFiles = AreTooMany given
 IsReason given honest before now BadJournal = AreFew given × (honest → (stands before ≡ None) × (now ≡ before))

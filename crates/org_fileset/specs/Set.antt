@@ -15,8 +15,8 @@ pub record Opened (D : Type 0) : Type 0 where
   pub names : List (List ℕ)
   pub broken : Bool
 
--- What always holds of one: no name is the journal's, they are no more than a record can have, and unless a call failed
--- the journal's gate is closed on the disk.
+-- What always holds of one: no name is the journal's, they are no more than a record can have, and where no call
+-- failed and the disk is honest the journal's gate is closed on it.
 pub record IsSound (journal : List ℕ) (names : List (List ℕ)) (broken : Bool) (honest : Type 0) (files : List ℕ → FileState) : Type 0 where
   pub journal_is : journal ≡ journal_name
   pub each : AllByRecursion (λ name. name ≢ journal_name) names

@@ -1,4 +1,4 @@
-//! What an opening does before it reads anything: it brings to an end what a stop cut short.
+//! What an opening does first: it brings to an end what a stop cut short.
 ghost use Rattle.std.specs.Prelude.{◌≡◌, ◌≤◌, None, IsSomeAnd, OnOk, OnErr, IsErrOf};
 ghost use Rattle.org_disk.specs.Disk.{HasRisen, LeavesOnly, KeepsHonesty};
 ghost use Rattle.org_disk.specs.Names.{journal_name};

@@ -94,7 +94,7 @@ impl<D: Disk> FileSet<D> {
         &self.names
     }
 
-    /// Whether a call of the disk has failed.
+    /// Whether a call of the disk has failed since the set was opened.
     pub fn is_broken(&self) -> bool
         ensures { result ≡ self.now.broken }
     {
@@ -114,7 +114,8 @@ impl<D: Disk> FileSet<D> {
         disk
     }
 
-    /// The bytes of a file.
+    /// The bytes of a file, one of the set's or not. `Device` breaks the set; after `OutOfMemory` the file can be read
+    /// again; a broken set answers `Broken`.
     pub fn read(&mut self, name: &FileName) -> Result<Vec<u8>, SetFault>
         ensures text { IfOk result (λ bytes. D.honest self.new.disk → bytes.items ≡ contents (D.files self.old.disk) name.now) }
         ensures same { D.honest self.new.disk → D.files self.new.disk ≡ D.files self.old.disk }
@@ -127,6 +128,7 @@ impl<D: Disk> FileSet<D> {
         ensures told { (IsErrOf result SetFault.Device → ⊥) → D.failures self.new.disk ≡ D.failures self.old.disk }
         ensures failures { D.failures self.old.disk ≤ D.failures self.new.disk }
         ensures honest { KeepsHonesty D.steady (D.honest self.old.disk) (D.honest self.new.disk) }
+        ensures untouched { IsTrue self.old.broken → self.new ≡ self.old }
     {
         if self.broken {
             return Err(SetFault::Broken);
@@ -147,7 +149,7 @@ impl<D: Disk> FileSet<D> {
     ///
     /// Where all is on the disk when the call begins, then at every moment since what a stop leaves stands for all files
     /// as they were, or for all files with the changed texts; after Ok all is on the disk again, and after `Device` it
-    /// can be opened anew. All memory is taken before the first call of the disk that writes.
+    /// can be opened anew. All memory is taken before the first call of the disk.
     pub fn commit(&mut self, changes: &ChangeSet<FileName>) -> Result<(), SetFault>
         requires named { All (λ change. Contains self.old.names change.0) changes.now }
         requires small { All (λ change. length change.1.bytes ≤ LIMIT) changes.now }

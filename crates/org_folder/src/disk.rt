@@ -29,7 +29,7 @@ pub struct CallsDisk<C: Calls> {
 /// call that a signal interrupted is made again.
 ///
 /// That each answer in its record was right is a premise: no contract says what a real file gives. The record stands in
-/// proofs alone and takes no memory. `S` says what the files held as they were first reached, which no code can read.
+/// proofs alone and takes no memory. `S` says what the files held at first, which no code can read.
 pub type FolderDisk<R, S> = CallsDisk<SystemCalls<R, S>>;
 
 impl<C: Calls + Drop> CallsDisk<C>

@@ -2,10 +2,10 @@ ghost use Rattle.std.specs.Prelude.{[]};
 ghost use Rattle.org_disk.specs.Disk.{stable};
 ghost use Rattle.org_folder.specs.Calls.{World};
 
-/// What is supposed of the files of a folder: what they held as they were first reached, and what calls that failed left
+/// What is supposed of the files of a folder: what they held at first, and what calls that failed left
 /// of them. No code can read it, so a function over `S: Start` is proved for every folder.
 pub trait Start: Drop {
-    /// The files as they were first reached, and what each call that failed left.
+    /// The files as they were at first, and what each call that failed left.
     ghost world: { World };
 }
 

@@ -1,5 +1,6 @@
-// The calls of the operating system. Each method makes the call that the trait names, again where a signal interrupts it,
-// and what it takes to reach the file, and then notes it with its answer.
+// The calls of the operating system. Each method makes the call that the trait names, again where a signal interrupts
+// it, and what it takes to reach the file, and then notes what the trait's clauses say. `write_nothing` alone makes no
+// call.
 ghost use Rattle.std.specs.Prelude.{◌≡◌, [], ◌∷◌, IfOk};
 ghost use Rattle.org_folder.specs.Note.{event_of};
 
@@ -15,7 +16,7 @@ use std::os::unix::fs::FileExt;
 use std::path::{Path, PathBuf};
 use std::{fs, io};
 
-/// The files of a folder of the operating system, which held what `S` says as they were first reached.
+/// The files of a folder of the operating system, which held what `S` says at first.
 ///
 /// Their record takes no memory. No contract says what a real file gives, so that each answer in it was right can only
 /// be supposed. Nor does one say which call of the system a method makes: what it notes has to be read against that.

@@ -20,7 +20,8 @@ pub record Holding (D : Type 0) : Type 0 where
   pub texts : List (List ℕ)
   pub broken : Bool
 
--- A text that waits to be committed, over files that are the disk's while `live`.
+-- A text that waits to be committed, over files that are the disk's while `live` (it is honest, and no
+-- call of it failed).
 pub record IsPending (names : List (List ℕ)) (live : Type 0) (files : Image) (held : Held) : Type 0 where
   pub named : is_name names held.name ≡ true
   pub small : length held.text.bytes ≤ limit
@@ -41,7 +42,8 @@ pub record IsCommittable (names : List (List ℕ)) (honest : Type 0) (files : Im
   pub small : length change.1.bytes ≤ limit
   pub edit : honest → IsEditOf (files change.0) change.1
 
--- What always holds: no name is the journal's, what is pending can be committed, and what is kept is what the disk has.
+-- What always holds: no name is the journal's, what is pending can be committed, and what is kept is what the
+-- disk has while `live`.
 pub record IsSound (names : List (List ℕ)) (live : Type 0) (files : Image) (kept pending : List Held) : Type 0 where
   pub apart : AllByRecursion (λ name. name ≢ journal_name) names
   pub pending_are : Each (IsPending names live files) pending

@@ -98,7 +98,7 @@ impl<D: Disk> HeldSet<D> {
         self.set.names().contains(name)
     }
 
-    /// Whether a call of the disk has failed.
+    /// Whether a call of the disk has failed since the set was opened.
     pub fn is_broken(&self) -> bool
         ensures { result ≡ self.now.broken }
     {
@@ -114,7 +114,8 @@ impl<D: Disk> HeldSet<D> {
     }
 
     /// The text of one of the files, with all that was put, to work on. It is read from the disk where it isn't held;
-    /// where there is no memory to hold it, it is read again the next time.
+    /// where there is no memory to hold it, it is read again the next time. The faults are those of `FileSet::read`;
+    /// `OutOfMemory` comes also where there is no memory for the copy.
     pub fn read(&mut self, name: &FileName) -> Result<Held, SetFault>
         requires name { is_name self.old.names name.now ≡ true }
         ensures text { IfOk result (λ held. D.honest self.new.disk → text_at self.old.names self.old.texts name.now ≡ Some held.text.bytes) }
@@ -132,6 +133,7 @@ impl<D: Disk> HeldSet<D> {
         ensures told { (IsErrOf result SetFault.Device → ⊥) → D.failures self.new.disk ≡ D.failures self.old.disk }
         ensures failures { D.failures self.old.disk ≤ D.failures self.new.disk }
         ensures honest { KeepsHonesty D.steady (D.honest self.old.disk) (D.honest self.new.disk) }
+        ensures untouched { IsTrue self.old.broken → self.new ≡ self.old }
     {
         if self.set.is_broken() {
             return Err(SetFault::Broken);
@@ -157,7 +159,7 @@ impl<D: Disk> HeldSet<D> {
     }
 
     /// Puts the texts of drafts in the place of the files', and commits all that was put: see `FileSet::commit`.
-    /// `OutOfMemory` leaves all as it was, and comes before the first call of the disk that writes.
+    /// `OutOfMemory` leaves all as it was, and comes before the first call of the disk.
     pub fn commit(&mut self, drafts: Drafts) -> Result<(), SetFault>
         requires { Each (IsDraft self.old.names ((self.old.broken ≡ false) × D.honest self.old.disk) (contents (D.files self.old.disk))) (list_of drafts) }
         ensures any_moment { D.honest self.new.disk → IsAtRest (D.files self.old.disk) → LeavesOnly (D.moment self.old.disk) (D.moment self.new.disk)

@@ -68,6 +68,6 @@ pub record IsArmed (files : List ℕ → FileState) : Type 0 where
 abbrev pub OthersStable : (List ℕ → FileState) → Type 0
 OthersStable files = (name : List ℕ) → name ≢ journal_name → IsStable (files name)
 
--- Opening makes of the disk what one and the same files were, whatever a stop leaves of it now.
+-- Fit to be opened: all files but the journal are on the disk, or a record is being laid over them under an open gate.
 abbrev pub IsFit : (List ℕ → FileState) → Type 0
 IsFit files = OthersStable files ⊎ IsArmed files

@@ -145,7 +145,8 @@ fn all_fit<D: Disk>(disk: &mut D, entries: &[Entry]) -> Result<bool, DiskFault>
 
 /// Looks at the journal, and changes nothing. `Armed` comes exactly where the gate is open and a well-formed record
 /// that fits its files stands behind it, with that record; `Closed` exactly where the gate is closed; else
-/// `BadJournal`. Memory is taken only where the gate is open and the journal is long enough for the size that its
+/// `BadJournal`. In their place `Device` comes where a call of the disk failed, and `OutOfMemory` where memory was
+/// refused. Memory is taken only where the gate is open and the journal is long enough for the size that its
 /// header gives.
 pub fn find<D: Disk>(alloc: Global, disk: &mut D, journal: &FileName) -> Result<Found, FindFault>
     requires { journal.now ≡ journal_name }

@@ -1,4 +1,4 @@
--- The states that a TODO keyword may name (Org manual, "Workflow States"): active ones, and done ones.
+-- The states that a TODO keyword may name (Org manual, "TODO keywords as workflow states"): active ones, and done ones.
 use Rattle.std.specs.Borrow.{Bor}
 use Rattle.std.specs.Prelude.{ℕ, Bool, true, ◌&&◌, ◌||◌, not, ◌==◌, nat_le, ◌+◌, map, List, [], ◌∷◌, ◌++◌, length}
 use Rattle.std.specs.List.{list_any, list_all}

@@ -10,7 +10,7 @@ use std::marker::Model;
 use thiserror::Error;
 
 /// The states that TODO keywords may name, in two kinds: active ones and done ones (Org manual,
-/// "Workflow States"). A clause sees the two lists of words.
+/// "TODO keywords as workflow states"). A clause sees the two lists of words.
 #[derive(Drop)]
 pub struct States {
     active: Vec<String>,

@@ -74,8 +74,8 @@ Reaches old [] out new = new ≡ old
 Reaches old (line ∷ lines) out new =
     (new ≡ old) ⊎ ((mid : Session) × (first : List ℕ) × (later : List ℕ) × GoesOnLine old line first mid × (out ≡ first ++ later) × Reaches mid lines later new)
 
--- What serving makes of an honest disk: it is left as fit to be opened; where the store isn't broken then, all is on the
--- disk again, and the files that aren't the store's are as they were. A store that was broken leaves it as it is.
+-- What serving makes of a disk that is honest at the end: one that was at rest is left fit to be opened, and at rest again
+-- where the store isn't broken then; the files that aren't the store's are as they were in that case. A store that was broken leaves it as it is.
 pub record KeepsDisk {D : Type 0} (files : D → List ℕ → FileState) (old new : Kept D) : Type 0 where
   pub fit : IsAtRest (files old.disk) → IsFit (files new.disk)
   pub rest : IsFalse new.session.broken → IsAtRest (files old.disk) → IsAtRest (files new.disk)

@@ -4,7 +4,7 @@ ghost use Rattle.org_disk.specs.Disk.{IsCounted};
 use crate::pipes::{PipeFault, Sink, Source};
 use std::io::{ErrorKind, Read, Write};
 
-/// How often a read that a signal interrupted is made again.
+/// How often a read is tried while signals interrupt it.
 const ATTEMPTS: usize = 100;
 
 /// A `Source` of a std reader, and a `Sink` of a std writer: it has the bytes of what it wraps, and counts.

@@ -6,7 +6,7 @@ use std::alloc::{AllocError, AllocFailed};
 /// Why a line is not run.
 #[derive(Clone, Copy, Debug, PartialEq, Eq)]
 pub enum LineFault {
-    /// It is no command line, or longer than `LIMIT`, or its newline is missing.
+    /// It is no command line, or longer than 1,048,576 bytes, or its newline is missing.
     BadLine,
     /// Memory for it was refused.
     OutOfMemory,

@@ -2,7 +2,6 @@
 mod add;
 
 use crate::fault::LineFault;
-pub use add::LIMIT;
 
 /// The bytes of a line so far, or why they aren't kept.
 #[derive(Drop)]

@@ -30,14 +30,15 @@ const PIECE: usize = 4096;
 /// Answers the lines of a reader by a store, in at most this many reads; at the end of the input it settles what isn't
 /// settled yet. A line is answered as soon as its newline was read, whatever pieces the bytes come in.
 ///
-/// Where it ends with `End`, `Unsettled` or `Device`, the input was read to its end, and what was written is its
-/// transcript. It ends with `Read` only where a read failed or the turns are used up: the lines that were read whole
-/// are answered then. It ends with `Write` only where a write or a flush failed: of the lines some, from the first on,
-/// were run then.
+/// Where it ends with `End`, `Unsettled` or `Device`, and the disk is honest then, the input was read to its end, and
+/// what was written is its transcript. It ends with `Read` only where a read failed or the turns are used up: the lines
+/// that were read whole are answered then. It ends with `Write` only where a write or a flush failed: of the lines
+/// some, from the first on, were run then.
 ///
-/// At every moment since the call began, what a stop leaves stands for the files after the commands that were
-/// acknowledged then, or for those after some of the lines that are run, from the first on; a command in which the disk
-/// failed may be the last of them. The store is changed by calls of `run` and `settle` alone.
+/// Where the disk is honest at the end, and was at rest under a store that wasn't broken, at every moment since the
+/// call began what a stop leaves stands for the files after the commands that were acknowledged then, or for those
+/// after some of the lines that are run, from the first on; a command in which the disk failed may be the last of them.
+/// The store is changed by calls of `run` and `settle` alone.
 pub fn serve<D: Disk, R: Source, W: Sink>(
     alloc: Global,
     store: &mut Store<D>,

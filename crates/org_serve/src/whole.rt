@@ -38,11 +38,13 @@ pub struct Served<D> {
     pub end: Result<ServeEnd, OpenFault>,
 }
 
-/// Opens a store over the files of a disk, answers the lines of a reader by it as `serve` does, and gives the disk back.
+/// Opens a store over the files of a disk, answers the lines of a reader by it as `serve` does, and gives the disk
+/// back.
 ///
-/// On a disk that is fit, of which each image stands for files, every image at every moment since the call began stands
-/// for what an image at the start stood for, or for the files as the store was opened over them, or for those after some
-/// of the lines that are run, from the first on. The disk is as fit at the end, so that all this may be done again.
+/// On a disk that is fit, and honest at the end, of which each image stands for files, every image at every moment
+/// since the call began stands for what an image at the start stood for, or for the files as the store was opened over
+/// them, or for those after some of the lines that are run, from the first on. The disk is as fit at the end, so that
+/// all this may be done again.
 ///
 /// The faults are those of `Store::open`; the ends, and when each comes, those of `serve`.
 pub fn serve_disk<D: Disk, R: Source, W: Sink>(

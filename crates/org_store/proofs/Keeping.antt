@@ -130,9 +130,9 @@ pub same_fault : (fault other : RunFault) → ◌≡◌ {A = Result (Unit {0}) R
 same_fault fault other same = let one : fault ≡ other = cc in ap (λ (f : RunFault). Err f) one
 
 -- the counts after a plan that left them and an accepted command
-pub counts_done : (old mid new : Session) (n : ℕ) → SameCounts old mid → n ≡ new.accepted → (new.accepted ≡ mid.accepted + 1) × (new.acknowledged ≡ (if fills mid then mid.accepted + 1 else mid.acknowledged))
-    → (n ≡ old.accepted + 1) × (new.accepted ≡ n) × (new.acknowledged ≡ (if fills old then n else old.acknowledged))
+pub counts_done : (old mid new : Session) (n : ℕ) → SameCounts old mid → n ≡ new.accepted → (new.accepted ≡ mid.accepted + 1) × (new.acknowledged ≡ (if fills mid then mid.accepted + 1 else mid.acknowledged)) × (new.group ≡ mid.group)
+    → (n ≡ old.accepted + 1) × (new.accepted ≡ n) × (new.acknowledged ≡ (if fills old then n else old.acknowledged)) × (new.group ≡ old.group)
 counts_done old mid new n same is made =
     let more : n ≡ old.accepted + 1 = is ∙ made.0 ∙ ap (λ (k : ℕ). k + 1) same.accepted in
     let settled : (if fills mid then mid.accepted + 1 else mid.acknowledged) ≡ (if fills old then old.accepted + 1 else old.acknowledged) = rw (same.accepted, same.acknowledged, same.group) refl in
-    (more, sym is, made.1 ∙ settled ∙ ap (λ (k : ℕ). if fills old then k else old.acknowledged) (sym more))
+    (more, sym is, made.1 ∙ settled ∙ ap (λ (k : ℕ). if fills old then k else old.acknowledged) (sym more), made.2 ∙ same.group)

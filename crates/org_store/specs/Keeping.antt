@@ -40,9 +40,9 @@ IsLeftKeeping old others files (Err (Refused why)) image = ⊥
 
 -- what becomes of the counts
 abbrev pub KeepsCounts : Session → Result (Unit {0}) RunFault → Session → Type 0
-KeepsCounts old (Ok _) new = (new.accepted ≡ old.accepted + 1) × (new.acknowledged ≡ (if fills old then old.accepted + 1 else old.acknowledged))
+KeepsCounts old (Ok _) new = (new.accepted ≡ old.accepted + 1) × (new.acknowledged ≡ (if fills old then old.accepted + 1 else old.acknowledged)) × (new.group ≡ old.group)
 KeepsCounts old (Err OutOfMemory) new = SameCounts old new
-KeepsCounts old (Err Device) new = (new.accepted ≡ old.accepted + 1) × (new.acknowledged ≡ old.acknowledged)
+KeepsCounts old (Err Device) new = (new.accepted ≡ old.accepted + 1) × (new.acknowledged ≡ old.acknowledged) × (new.group ≡ old.group)
 KeepsCounts old (Err Broken) new = ⊥
 KeepsCounts old (Err (Refused why)) new = ⊥
 

@@ -13,7 +13,7 @@ use Rattle.org_store.specs.Outcome.{Outcome, Accepts, outcome}
 use Rattle.org_store.specs.Step.{Does, Step, Settles, fills, done}
 use Rattle.org_store.specs.Left.{IsLeft, IsLeftSettling}
 
--- A command was run over an honest disk of the type D: the store was `old`, this was answered, and the store is `new`.
+-- A command was run over a disk of the type D that is honest after it: the store was `old`, this was answered, and the store is `new`.
 -- `files`, `moment` and `left_since` are what is seen of a disk. These are the clauses of `Store::run`.
 pub record RunsOver {D : Type 0} (files : D → List ℕ → FileState) (moment : D → ℕ) (left_since : D → ℕ → Image → Type 0) (old : Kept D) (command : Command) (answer : Result Reply RunFault) (new : Kept D) : Type 0 where
   pub step : Step old.session command answer new.session

@@ -47,10 +47,11 @@ pub fn runs_join()
         → Run old commands answers mid → Run mid later more new → Run old (commands ++ later) (answers ++ more) new }
 {}
 
-/// Since a run of commands began, on an honest disk at rest, a stop leaves the files as they were after the commands that
-/// were acknowledged then, or after some of the commands of the run, from the first on: no fewer are accepted then than
-/// when it began, and no more than at its end. That what is settled is on the disk is true of every store
-/// (`Store::settled_is_on_disk`).
+/// Since a run of commands began, on a disk that was at rest and honest then, under a store that wasn't broken, a stop
+/// leaves the files as they were after the commands that were acknowledged then, or after some of the commands of the
+/// run, from the first on: no fewer are accepted then than when it began, and no more than at its end. That what is
+/// settled is on the disk is true of every store (`Store::settled_is_on_disk`); `RunsAllOver` is what `run` promises of
+/// each call where the disk is honest after it.
 pub fn stops_leave_a_prefix<D: Disk>()
     ensures any_moment { (old new : Kept D) (commands : List Command) (answers : List (Result Reply RunFault)) → D.honest old.disk → IsAtRest (D.files old.disk)
         → IsOnDisk old.session (contents (D.files old.disk)) → IsFalse old.session.broken → RunsAllOver D.files D.moment D.left_since old commands answers new
@@ -79,8 +80,8 @@ pub fn texts_stay_small()
     ensures accepted { (s : Session) (command : Command) (files : List (List ℕ)) → AreSmall s.names s.files → outcome s command ≡ Accepts files → AreSmall s.names files }
 {}
 
-/// Every image of a store's disk opens again, with the names that the store was opened with: over a disk that holds such
-/// an image, `Store::open` answers Ok, OutOfMemory, or Device with a counted failure, and nothing else.
+/// Every image of a store's disk opens again, with the names that the store was opened with: over a disk that holds
+/// such an image, `Store::open` answers Ok, OutOfMemory, or Device with a counted failure, and nothing else.
 pub fn every_image_opens<D: Disk>()
     // what a refused opening of such an image tells
     ensures faults { (given : List (List ℕ)) (disk now : D) (fault : OpenFault) → All IsGiven given → D.honest now → IsOpenable given (contents (D.files disk))

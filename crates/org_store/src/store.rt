@@ -32,8 +32,9 @@ use std::marker::Model;
 
 /// Org files on a disk, and what was done to them since the store was opened.
 ///
-/// A clause sees its disk and its session (specs/Session.antt). A store that is broken does nothing any more: open its
-/// files anew.
+/// A clause sees its disk and its session (specs/Session.antt). What is said of files and of stops is said where the
+/// disk is honest after the call; of stops in `run` and `settle` also only where it was at rest, as an opening of a fit
+/// disk and each call without a failure leave it. A store that is broken does nothing any more: open its files anew.
 #[derive(Drop)]
 pub struct Store<D: Disk> {
     alloc: Global,
@@ -74,11 +75,12 @@ impl<D: Disk> Store<D> {
     /// name is an archive file's or the journal's; a repeated one counts once. What a stop cut short is brought to an
     /// end first.
     ///
-    /// On a disk that is fit, of which each image stands for files, every image at every moment since the call began
-    /// stands for what an image at the start stood for, whatever is answered; so it may be stopped, and called again.
+    /// On a disk that is fit, and honest after the call, of which each image stands for files, every image at every
+    /// moment since the call began stands for what an image at the start stood for, whatever is answered; so it may be
+    /// stopped, and called again.
     ///
-    /// The faults come in the order of `OpenFault`; `Device` and `OutOfMemory` as they are met, and they alone on a disk
-    /// that stands for files of these names, none past the limit. A refused call hands the disk back.
+    /// The faults come in the order of `OpenFault`; `Device` and `OutOfMemory` as they are met, and they alone on a
+    /// disk that stands for files of these names, none past the limit. A refused call hands the disk back.
     pub fn open(
         alloc: Global,
         disk: D,
@@ -129,7 +131,7 @@ impl<D: Disk> Store<D> {
         self.acknowledged
     }
 
-    /// Whether a call of the disk failed.
+    /// Whether the store is broken: a call of its disk failed since it was opened.
     pub fn is_broken(&self) -> bool
         ensures { result ≡ self.now.session.broken }
     {

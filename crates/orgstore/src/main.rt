@@ -2,7 +2,7 @@
 //! and writes their replies to standard output. A fault is a line on standard error and the exit status.
 #![tactic(auto)]
 
-ghost use Rattle.std.specs.Prelude.{◌≡◌, ◌++◌, ℕ, List, map, string_bytes, IfOk, All};
+ghost use Rattle.std.specs.Prelude.{◌≡◌, [], ◌∷◌, ◌++◌, ℕ, List, map, string_bytes, codes, IfOk, All};
 ghost use Rattle.org_fileset.specs.Names.{IsGiven};
 ghost use Rattle.org_serve.specs.Group.{IsGroup};
 ghost use Rattle.orgstore.specs.Causes.{told};
@@ -68,6 +68,7 @@ fn setup(rt: &HostRuntime, arguments: &Arguments) -> Result<Setup, Fault>
     requires { IsGroup arguments.now.group }
     ensures names { IfOk result (λ setup. All IsGiven setup.names.items) }
     ensures new { IfOk result (λ setup. (listed : List (List ℕ)) × (setup.names.items ≡ map string_bytes arguments.now.new.items ++ listed)) }
+    ensures states { IfOk result (λ setup. setup.states ≡ record { active = codes "TODO" ∷ []; done = codes "DONE" ∷ [] }) }
     ensures group { IfOk result (λ setup. setup.group ≡ arguments.now.group) }
 {
     Ok(Setup {

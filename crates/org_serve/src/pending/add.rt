@@ -6,7 +6,7 @@ use crate::fault::LineFault;
 use std::alloc::Global;
 
 /// The most bytes that a command line may have, without its newline.
-pub const LIMIT: usize = 1_048_576;
+const LIMIT: usize = 1_048_576;
 
 impl Pending {
     /// Nothing of a line.
