@@ -1,13 +1,11 @@
 -- Dates as they are read are days of the calendar.
-use Rattle.std.proofs.Common.{◌≡◌, ℕ, ◌≤◌, ◌==◌, inl, inr, Bool, true, ◌&&◌, IsTrue, Option, None, Some, List, length, slice_index, take, drop, nat_le, arith, pos}
+use Rattle.std.proofs.Common.{◌≡◌, ℕ, ◌≤◌, ◌==◌, inl, inr, true, ◌&&◌, Option, None, Some, List, length, slice_index, take, drop, nat_le, arith, pos}
 use Rattle.std.proofs.lemmas.Bool.Decides.{nat_tests}
 use Rattle.jiff_core.specs.Calendar.{days_in_month}
 use Rattle.org_stamp.specs.Calendar.{CivilDay, civil_day, IsDay}
 use Rattle.org_stamp.specs.Parts.{◌>>=◌, number_of, date_of, day_if_any}
+use Rattle.org_stamp.proofs.Cut.{both}
 use Rattle.org_stamp.proofs.Found.{bind_ok, chosen, same_some}
-
-both : (a b : Bool) → IsTrue (a && b) → (a ≡ true) × IsTrue b
-both a b h = grind arith
 
 le_of : (a b : ℕ) → nat_le a b ≡ true → a ≤ b
 le_of a b e = grind (arith, nat_tests)

@@ -1,25 +1,20 @@
 -- What is read is a timestamp, and every timestamp is read.
-use Rattle.std.proofs.Common.{◌≡◌, ◌≢◌, ℕ, suc, ◌+◌, ◌-◌, ◌*◌, ◌<◌, ◌≤◌, ◌==◌, inl, inr, Bool, true, false, not, ◌&&◌, ◌||◌, cond, IsTrue, Option, None, Some, List, [], ◌∷◌, ◌++◌, length, filter, count_by, map, position, slice_index, get_or, fold, take, drop, nat_lt, nat_le, append-nil, append_assoc, refl, sym, ap, ◌∙◌, subst, arith}
+use Rattle.std.proofs.Common.{◌≡◌, ◌≢◌, ℕ, suc, ◌+◌, ◌-◌, ◌*◌, ◌<◌, ◌≤◌, ◌==◌, inl, inr, Bool, true, false, not, ◌&&◌, ◌||◌, cond, IsTrue, Option, None, Some, List, [], ◌∷◌, ◌++◌, length, map, position, slice_index, get_or, fold, take, drop, nat_lt, nat_le, append_assoc, refl, sym, ap, ◌∙◌, subst, arith}
 use Rattle.std.specs.Char.{is_ascii_digit}
-use Rattle.std.specs.List.{slice_split, list_all, filter_map, position_or_len}
-use Rattle.std.specs.Option.{option_to_list}
+use Rattle.std.specs.List.{slice_split, list_all, position_or_len}
 use Rattle.std.proofs.lemmas.Bool.Decides.{nat_tests}
 use Rattle.std.proofs.lemmas.List.{take-append-drop, drop-drop, drop_more, length-append, take_at, drop_at, take_more}
 use Rattle.std.proofs.lemmas.Option.{some_pair_parts}
 use Rattle.std.proofs.Math.Seq.{get_or-append_seam, take-append_seam}
 use Rattle.org_stamp.specs.Calendar.{CivilDay}
-use Rattle.org_stamp.specs.declared.kind.Times.{Times}
-use Rattle.org_stamp.specs.declared.kind.Kind.{Kind}
-use Rattle.org_stamp.specs.declared.kind.Kind.TheVariants.{Name, Clock, Repeat, Delay}
 use Rattle.org_stamp.specs.Parts.{◌>>=◌, is_blank, is_closing, number_of, date_of, day_if_any}
-use Rattle.org_stamp.specs.Stamp.{StampValue, IsStampText, opening, closing, Part, is_name, times_in, is_cookie, AreApart, IsBlanks, IsRun, HasParts, Says}
-use Rattle.org_stamp.specs.Reading.{Gathered, nothing, inside_of, active_of, closed_of, stamp_at, value_of, tail_of, cookies_with, found_with, pieces_with}
-use Rattle.org_stamp.proofs.Runs.{is_plain}
-use Rattle.org_stamp.proofs.Cut.{HasRuns, IsWord, EndsPlain, pieces_are}
-use Rattle.org_stamp.proofs.Found.{IsOpen, open_parts, open_until, tail_found, adds, bind_ok, bind_same, chosen, same_some, runs_with, parts_with, one_if, adds_one, skip, cons_option-append, filter-append, count-cons}
-
-both : (a b : Bool) → IsTrue (a && b) → (a ≡ true) × IsTrue b
-both a b h = grind arith
+use Rattle.org_stamp.specs.Stamp.{StampValue, IsStampText, opening, closing, Part, IsRun, HasParts, Says}
+use Rattle.org_stamp.specs.Front.{inside_of, active_of, closed_of, stamp_at}
+use Rattle.org_stamp.specs.Reading.{Gathered, nothing, value_of, tail_of, found_with, pieces_with}
+use Rattle.org_stamp.proofs.Runs.{is_plain, not_true}
+use Rattle.org_stamp.proofs.Cut.{HasRuns, IsWord, EndsPlain, both, first_blank, pieces_are}
+use Rattle.org_stamp.proofs.Found.{IsOpen, open_parts, open_until, tail_found, adds, bind_ok, bind_same, chosen, same_some, runs_with, parts_with, skip}
+use Rattle.org_stamp.proofs.Said.{gives, inside_said}
 
 apart : (a b c : Bool) → IsTrue (not (a || b) && c) → (a ≡ false) × (b ≡ false) × IsTrue c
 apart a b c k = grind arith
@@ -49,76 +44,6 @@ pieces_of_parts : (bytes : List ℕ) (ps : List Part) (g : Gathered) → HasPart
 pieces_of_parts bytes ps g h =
     skip g (slice_split is_blank bytes) ∙ ap (runs_with g) (pieces_are bytes (map (λ p. p.run) ps) (has_runs bytes ps h)) ∙ runs_are bytes ps g h
 
--- ---- at most one part of each kind is gathered
-
-cookies_some : (cs : List Part) (p : Part) (more : List Part) → AreApart (cs ++ (p ∷ more)) → (ds : List Part) × (cookies_with cs p ≡ Some ds)
-cookies_some [] p more h = (p ∷ [], refl)
-cookies_some (a ∷ []) p [] h = (a ∷ p ∷ [], rw h refl)
-cookies_some (a ∷ []) p (m ∷ ms) h = absurd h
-cookies_some (a ∷ b ∷ []) p more h = absurd h
-cookies_some (a ∷ b ∷ c ∷ cs) p more h = absurd h
-
-first_name : (g : Gathered) (run : List ℕ) (b : Bool) → g.named ≡ b → (m : ℕ) → one_if b + (1 + m) ≤ 1 → (g₁ : Gathered) × (found_with g run Name ≡ Some g₁)
-first_name g run true e m h = absurd (omega arith)
-first_name g run false e m h = (record g { named = true }, rw e refl)
-
-first_time : (g : Gathered) (run : List ℕ) (t : Times) (o : Option Times) → g.time ≡ o → (more : List Times) (u : Option Times) → option_to_list o ++ (t ∷ more) ≡ option_to_list u → (g₁ : Gathered) × (found_with g run (Clock t) ≡ Some g₁)
-first_time g run t None e more u h = (record g { time = Some t }, rw e refl)
-first_time g run t (Some v) e more None h = absurd (cc)
-first_time g run t (Some v) e more (Some u) h = absurd (cc)
-
-first_cookie : (g : Gathered) (run : List ℕ) (k : Kind) (p : Part) (more : List Part) → AreApart (g.cookies ++ (p ∷ more)) → (g₁ : Gathered) × ((cookies_with g.cookies p >>= λ cs. Some (record g { cookies = cs })) ≡ Some g₁)
-first_cookie g run k p more h =
-    let with = cookies_some g.cookies p more h in
-    (record g { cookies = with.0 }, rw with.1 refl)
-
--- one more fits
-fits : (g : Gathered) (run : List ℕ) (k : Kind) (m : ℕ) (times : List Times) (u : Option Times) (cookies : List Part) →
-    one_if g.named + (one_if (is_name k) + m) ≤ 1 →
-    option_to_list g.time ++ (option_to_list (times_in k) ++ times) ≡ option_to_list u →
-    AreApart (g.cookies ++ (filter (λ q. is_cookie q.kind) (record { run = run; kind = k } ∷ []) ++ cookies)) →
-    (g₁ : Gathered) × (found_with g run k ≡ Some g₁)
-fits g run Name m times u cookies name time clear = first_name g run g.named refl m name
-fits g run (Clock t) m times u cookies name time clear = first_time g run t g.time refl times u time
-fits g run (Repeat r) m times u cookies name time clear = first_cookie g run (Repeat r) (record { run = run; kind = Repeat r }) cookies clear
-fits g run Delay m times u cookies name time clear = first_cookie g run Delay (record { run = run; kind = Delay }) cookies clear
-
-same_option : (o u : Option Times) → option_to_list o ≡ option_to_list u → o ≡ u
-same_option None None e = refl
-same_option None (Some u) e = absurd (cc)
-same_option (Some o) None e = absurd (cc)
-same_option (Some o) (Some u) e = let same : o ≡ u = cc in ap (λ x. Some x) same
-
-same_gathered : (g : Gathered) (t : Option Times) (cs : List Part) → g.time ≡ t → g.cookies ≡ cs → g ≡ record { named = g.named; time = t; cookies = cs }
-same_gathered g t cs e f = rw (← e, ← f) refl
-
-moved : {A : Type 0} (a g o r w : List A) → a ≡ g ++ o → g ++ (o ++ r) ≡ w → a ++ r ≡ w
-moved a g o r w e h = ap (λ l. l ++ r) e ∙ append_assoc g o r ∙ h
-
-pub gives : (ps : List Part) (g : Gathered) (t : Option Times) (cs : List Part) →
-    one_if g.named + count_by (λ p. is_name p.kind) ps ≤ 1 →
-    option_to_list g.time ++ filter_map (λ p. times_in p.kind) ps ≡ option_to_list t →
-    g.cookies ++ filter (λ p. is_cookie p.kind) ps ≡ cs →
-    AreApart cs →
-    (n : Bool) × (parts_with g ps ≡ Some (record { named = n; time = t; cookies = cs }))
-gives [] g t cs name time cookies clear =
-    (g.named, ap (λ k. Some k) (same_gathered g t cs (same_option g.time t (sym (append-nil _) ∙ time)) (sym (append-nil _) ∙ cookies)))
-gives (p ∷ ps) g t cs name time cookies clear =
-    let times_more = cons_option-append (λ q. times_in q.kind) p ps in
-    let cookies_more = filter-append p ps in
-    let name_next : one_if g.named + (one_if (is_name p.kind) + count_by (λ q. is_name q.kind) ps) ≤ 1 = omega (arith, name, count-cons p ps) in
-    let time_next = sym (ap (λ l. option_to_list g.time ++ l) times_more) ∙ time in
-    let cookies_next = sym (ap (λ l. g.cookies ++ l) cookies_more) ∙ cookies in
-    let clear_next = subst AreApart (sym cookies_next) clear in
-    let step = fits g p.run p.kind _ (filter_map (λ q. times_in q.kind) ps) t (filter (λ q. is_cookie q.kind) ps) name_next time_next clear_next in
-    let one = adds_one g p.run p.kind step.0 step.1 in
-    let more = gives ps step.0 t cs
-    (omega (arith, one.name, name_next))
-    (moved (option_to_list (step.0).time) (option_to_list g.time) (option_to_list (times_in p.kind)) (filter_map (λ q. times_in q.kind) ps) (option_to_list t) one.time time_next)
-    (moved (step.0).cookies g.cookies (filter (λ q. is_cookie q.kind) (p ∷ [])) (filter (λ q. is_cookie q.kind) ps) cs one.cookies cookies_next)
-    clear in
-    (more.0, rw step.1 more.1)
-
 -- ---- the bytes behind a date
 
 ends_both : (xs ys : List ℕ) → EndsPlain xs → EndsPlain ys → EndsPlain (xs ++ ys)
@@ -132,9 +57,6 @@ ends_after [] ys some k = k
 ends_after (x ∷ []) [] some k = absurd (some refl)
 ends_after (x ∷ []) (y ∷ ys) some k = k
 ends_after (x ∷ z ∷ xs) ys some k = ends_after (z ∷ xs) ys some k
-
-not_true : (a b : Bool) → IsTrue (not a && b) → (a ≡ false) × IsTrue b
-not_true a b h = grind arith
 
 ends_run : (xs : List ℕ) → IsTrue (list_all is_plain xs) → EndsPlain xs
 ends_run [] h = tt
@@ -158,10 +80,6 @@ last_plain x (y ∷ ys) h =
     let k : length (x ∷ y ∷ ys) - 1 ≡ suc (length (y ∷ ys) - 1) = omega arith in
     rw k (last_plain y ys h)
 
-first_of_blanks : (blanks more : List ℕ) → IsBlanks blanks → (b : ℕ) × (after : List ℕ) × (blanks ++ more ≡ b ∷ after) × (is_blank b ≡ true)
-first_of_blanks [] more h = absurd (h.some refl)
-first_of_blanks (b ∷ bs) more h = (b, bs ++ more, refl, (both (is_blank b) (list_all is_blank bs) h.blank).0)
-
 tail_of_parts : (b : ℕ) (after : List ℕ) → is_blank b ≡ true → EndsPlain (b ∷ after) → (h : Gathered) → pieces_with nothing (slice_split is_blank (b ∷ after)) ≡ Some h → tail_of (b ∷ after) ≡ Some h
 tail_of_parts b after e ends h found =
     let some : (length (b ∷ after) == 0) ≡ false = grind arith in
@@ -172,7 +90,7 @@ tail_of_parts b after e ends h found =
 pub tail_complete : (tail : List ℕ) (ps : List Part) (h : Gathered) → HasParts tail ps → parts_with nothing ps ≡ Some h → tail_of tail ≡ Some h
 tail_complete tail [] h has e = ap tail_of has ∙ e
 tail_complete tail (p ∷ ps) h has e =
-    let first = first_of_blanks has.0 (p.run ++ has.1) has.3 in
+    let first = first_blank has.0 (p.run ++ has.1) has.3 in
     let is : tail ≡ first.0 ∷ first.1 = has.2 ∙ first.2 in
     let ends = subst EndsPlain is (parts_end tail (p ∷ ps) has) in
     let found = subst (λ (l : List ℕ). pieces_with nothing (slice_split is_blank l) ≡ Some h) is (pieces_of_parts tail (p ∷ ps) nothing has ∙ e) in
@@ -280,12 +198,11 @@ position_at xs c ys h e =
 inside_complete : (active : Bool) (date tail : List ℕ) (s : StampValue) (parts : List Part) → s.active ≡ active → date_of date ≡ Some s.day → HasParts tail parts → Says parts s → inside_of active (date ++ tail) ≡ Some s
 inside_complete active date tail s parts same day has says =
     let size = (date_open date s.day day).0 in
-    let long : nat_lt (length (date ++ tail)) 10 ≡ false = grind (arith, nat_tests, length-append date tail) in
     let front : take 10 (date ++ tail) ≡ date = take_at date tail 10 size in
     let back : drop 10 (date ++ tail) ≡ tail = drop_at date tail 10 size in
     let found = gives parts nothing s.time s.cookies (omega (arith, says.name)) says.time says.cookies says.apart in
     let all = tail_complete tail parts _ has found.1 in
-    rw (long, front, back, day, all, ← same) refl
+    sym (inside_said active (date ++ tail)) ∙ rw (front, back, day, all, ← same) refl
 
 -- every timestamp is read, whatever follows it
 pub stamp_complete : (text rest : List ℕ) (s : StampValue) → IsStampText text s → stamp_at (text ++ rest) ≡ Some (s, length text)
@@ -318,27 +235,22 @@ record Inside (active : Bool) (inside : List ℕ) (s : StampValue) : Type 0 wher
 
 inside_sound : (active : Bool) (inside : List ℕ) (s : StampValue) → IsOpen inside → inside_of active inside ≡ Some s → Inside active inside s
 inside_sound active inside s clear e =
-    let read : Option StampValue = date_of (take 10 inside) >>= λ day. tail_of (drop 10 inside) >>= λ g. Some (value_of active day g) in
-    elim (chosen (nat_lt (length inside) 10) None read (Some s) e) [
-      | inl h ↦ absurd (cc)
-      | inr h ↦
-          let day = bind_ok (date_of (take 10 inside)) (λ day. tail_of (drop 10 inside) >>= λ g. Some (value_of active day g)) s h.1 in
-          let behind = bind_ok (tail_of (drop 10 inside)) (λ g. Some (value_of active day.0 g)) s day.2 in
-          let halves = open_parts (take 10 inside) (drop 10 inside) (subst IsOpen (sym (take-append-drop 10 inside)) clear) in
-          let found = tail_found (drop 10 inside) behind.0 halves.1 behind.1 in
-          let a = adds found.parts nothing behind.0 found.all in
-          let is = same_some _ _ behind.2 in
-          rw (← is) (record {
-            date = take 10 inside;
-            tail = drop 10 inside;
-            parts = found.parts;
-            same = refl;
-            split = sym (take-append-drop 10 inside);
-            day = day.1;
-            has_parts = found.has_parts;
-            says = record { name = omega (arith, a.name); time = sym a.time; cookies = sym a.cookies; apart = a.apart tt };
-          })
-    ]
+    let day = bind_ok (date_of (take 10 inside)) (λ day. tail_of (drop 10 inside) >>= λ g. Some (value_of active day g)) s (inside_said active inside ∙ e) in
+    let behind = bind_ok (tail_of (drop 10 inside)) (λ g. Some (value_of active day.0 g)) s day.2 in
+    let halves = open_parts (take 10 inside) (drop 10 inside) (subst IsOpen (sym (take-append-drop 10 inside)) clear) in
+    let found = tail_found (drop 10 inside) behind.0 halves.1 behind.1 in
+    let a = adds found.parts nothing behind.0 found.all in
+    let is = same_some _ _ behind.2 in
+    rw (← is) (record {
+      date = take 10 inside;
+      tail = drop 10 inside;
+      parts = found.parts;
+      same = refl;
+      split = sym (take-append-drop 10 inside);
+      day = day.1;
+      has_parts = found.has_parts;
+      says = record { name = omega (arith, a.name); time = sym a.time; cookies = sym a.cookies; apart = a.apart tt };
+    })
 
 position_within : (p : ℕ → Bool) (xs : List ℕ) (i : ℕ) → position p xs ≡ Some i → i < length xs
 position_within p xs i e =

@@ -10,9 +10,10 @@ use Rattle.org_stamp.specs.declared.kind.Kind.{Kind}
 use Rattle.org_stamp.specs.declared.kind.Kind.TheVariants.{Name, Clock, Repeat, Delay}
 use Rattle.org_stamp.specs.Parts.{◌>>=◌, is_blank, is_closing, kind_of, times_of, times_cut, clock_of, minute_if_any, number_of, delay_of, repeater_of, is_name_byte}
 use Rattle.org_stamp.specs.Stamp.{Part, is_name, times_in, is_cookie, are_apart, AreApart, IsRun, HasParts, IsTime, IsCookie, IsWritable}
+use Rattle.org_stamp.specs.Front.{has_bytes}
 use Rattle.org_stamp.specs.Reading.{Gathered, nothing, tail_of, cookies_with, found_with, pieces_with}
 use Rattle.org_stamp.proofs.Runs.{is_plain}
-use Rattle.org_stamp.proofs.Cut.{HasRuns, is_some_run, runs_of, ends_plain}
+use Rattle.org_stamp.proofs.Cut.{HasRuns, both, runs_of, ends_plain}
 
 pub bind_ok : {A B : Type 0} (o : Option A) (f : A → Option B) (y : B) → (o >>= f) ≡ Some y → (x : A) × (o ≡ Some x) × (f x ≡ Some y)
 bind_ok None f y e = absurd (cc)
@@ -32,9 +33,6 @@ same_some x y e = cc
 -- no closing bracket among the bytes
 abbrev pub IsOpen : List ℕ → Type 0
 IsOpen bytes = IsTrue (list_all (λ b. not (is_closing b)) bytes)
-
-both : (a b : Bool) → IsTrue (a && b) → (a ≡ true) × IsTrue b
-both a b h = grind arith
 
 pub open_parts : (xs ys : List ℕ) → IsOpen (xs ++ ys) → IsOpen xs × IsOpen ys
 open_parts [] ys h = (refl, h)
@@ -57,12 +55,12 @@ runs_with g [] = Some g
 runs_with g (run ∷ runs) = (kind_of run >>= λ k. found_with g run k) >>= λ h. runs_with h runs
 
 -- pieces with no bytes are passed over
-pub skip : (g : Gathered) (pieces : List (List ℕ)) → pieces_with g pieces ≡ runs_with g (filter is_some_run pieces)
+pub skip : (g : Gathered) (pieces : List (List ℕ)) → pieces_with g pieces ≡ runs_with g (filter has_bytes pieces)
 skip g [] = refl
 skip g ([] ∷ ps) = skip g ps
 skip g ((x ∷ xs) ∷ ps) =
     let some : (length (x ∷ xs) == 0) ≡ false = grind arith in
-    rw some (bind_same (kind_of (x ∷ xs) >>= λ k. found_with g (x ∷ xs) k) (λ h. pieces_with h ps) (λ h. runs_with h (filter is_some_run ps)) (λ h. skip h ps))
+    rw some (bind_same (kind_of (x ∷ xs) >>= λ k. found_with g (x ∷ xs) k) (λ h. pieces_with h ps) (λ h. runs_with h (filter has_bytes ps)) (λ h. skip h ps))
 
 abbrev pub parts_with : Gathered → List Part → Option Gathered
 parts_with g [] = Some g
@@ -291,7 +289,7 @@ tail_found (x ∷ xs) h clear e =
           let ends = both (is_blank x) (not (is_blank (slice_index (x ∷ xs) (length (x ∷ xs) - 1)))) k.0 in
           let last : is_blank (slice_index (x ∷ xs) (length (x ∷ xs) - 1)) ≡ false = grind (arith, ends.1) in
           let has = runs_of x xs ends.0 (ends_plain (x ∷ xs) last) in
-          parts_of_runs (x ∷ xs) (filter is_some_run (slice_split is_blank (x ∷ xs))) nothing h clear has (sym (skip nothing (slice_split is_blank (x ∷ xs))) ∙ k.1)
+          parts_of_runs (x ∷ xs) (filter has_bytes (slice_split is_blank (x ∷ xs))) nothing h clear has (sym (skip nothing (slice_split is_blank (x ∷ xs))) ∙ k.1)
       | inr k ↦ absurd (cc)
     ]
 

@@ -1,6 +1,7 @@
 pub mod Runs
 pub mod Cut
 pub mod Found
+pub mod Said
 pub mod Exact
 pub mod Days
 pub mod Later

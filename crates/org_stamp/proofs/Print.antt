@@ -1,5 +1,5 @@
 -- What is printed of a value is a timestamp with that value.
-use Rattle.std.proofs.Common.{◌≡◌, ℕ, ◌+◌, ◌-◌, ◌*◌, ◌/◌, ◌%◌, ◌<◌, ◌==◌, Bool, true, false, not, ◌||◌, cond, IsTrue, Option, None, Some, List, [], ◌∷◌, ◌++◌, filter, count_by, position, take, drop, nat_lt, nat_le, append_assoc, refl, sym, ap, ◌∙◌, arith, pos}
+use Rattle.std.proofs.Common.{◌≡◌, ℕ, ◌+◌, ◌*◌, ◌/◌, ◌%◌, ◌<◌, ◌==◌, Bool, true, false, not, ◌||◌, cond, IsTrue, Option, None, Some, List, [], ◌∷◌, ◌++◌, filter, count_by, position, take, drop, nat_lt, nat_le, append_assoc, refl, sym, ap, ◌∙◌, arith, pos}
 use Rattle.std.specs.Char.{is_ascii_digit}
 use Rattle.std.specs.List.{list_all, filter_map, AllByRecursion}
 use Rattle.std.specs.Option.{option_to_list}
@@ -18,9 +18,6 @@ use Rattle.org_stamp.specs.Stamp.{StampValue, Part, IsStamp, IsStampText, IsTime
 -- a digit's byte, and what it is not
 pub digit_is : (n : ℕ) → is_ascii_digit (48 + n % 10) ≡ true
 digit_is n = grind (arith, nat_tests)
-
-digit_value : (n : ℕ) → 48 + n % 10 - 48 ≡ n % 10
-digit_value n = omega arith
 
 pub number_two : (n : ℕ) → n < 100 → number_of (two_digits n) ≡ Some n
 number_two n h =

@@ -6,7 +6,7 @@ use Rattle.org_stamp.specs.declared.kind.Kind.TheVariants.{Repeat, Delay}
 use Rattle.org_stamp.specs.Calendar.{civil_day, months_after, next_day}
 use Rattle.org_stamp.specs.Parts.{kind_of, date_of, clock_of}
 use Rattle.org_stamp.specs.Stamp.{date_text, clock_text}
-use Rattle.org_stamp.specs.Reading.{stamp_at}
+use Rattle.org_stamp.specs.Front.{stamp_at}
 
 plain : stamp_at (codes "<2026-07-01 Wed>x") ≡ Some (record { active = true; day = civil_day 2026 7 1; time = None; cookies = [] }, 16)
 plain = refl

@@ -10,21 +10,21 @@ use Rattle.org_stamp.specs.Reading.{Gathered, piece_with, pieces_with}
 abbrev pub is_plain : ℕ → Bool
 is_plain b = not (is_blank b)
 
-both : (a b : Bool) → IsTrue (not a && b) → (a ≡ false) × IsTrue b
-both a b h = grind arith
+pub not_true : (a b : Bool) → IsTrue (not a && b) → (a ≡ false) × IsTrue b
+not_true a b h = grind arith
 
 -- the first blank ends the first run
 pub split_here : (xs : List ℕ) (y : ℕ) (ys : List ℕ) → IsTrue (list_all is_plain xs) → is_blank y ≡ true → slice_split is_blank (xs ++ (y ∷ ys)) ≡ xs ∷ slice_split is_blank ys
 split_here [] y ys h e = slice_split-cons_yes is_blank y ys e
 split_here (x ∷ xs) y ys h e =
-    let parts = both (is_blank x) (list_all is_plain xs) h in
+    let parts = not_true (is_blank x) (list_all is_plain xs) h in
     slice_split-cons_no is_blank x (xs ++ (y ∷ ys)) parts.0 ∙ ap (onto_first x) (split_here xs y ys parts.1 e)
 
 -- where there is none, all is one run
 pub split_none : (xs : List ℕ) → IsTrue (list_all is_plain xs) → slice_split is_blank xs ≡ xs ∷ []
 split_none [] h = refl
 split_none (x ∷ xs) h =
-    let parts = both (is_blank x) (list_all is_plain xs) h in
+    let parts = not_true (is_blank x) (list_all is_plain xs) h in
     slice_split-cons_no is_blank x xs parts.0 ∙ ap (onto_first x) (split_none xs parts.1)
 
 pub seam : (tail : List ℕ) (start at : ℕ) → start ≤ at → at < length tail → drop start tail ≡ take (at - start) (drop start tail) ++ (get_or tail at 0 ∷ drop (at + 1) tail)

@@ -1,6 +1,6 @@
--- What the reader of timestamps gathers, run by run.
-use Rattle.std.specs.Prelude.{ℕ, ◌+◌, ◌-◌, ◌==◌, nat_lt, Bool, true, false, not, ◌&&◌, if◌then◌else◌, Option, None, Some, is_some, List, [], ◌∷◌, length, slice_index, take, drop}
-use Rattle.std.specs.List.{slice_split, position}
+-- What the reader of timestamps gathers, run by run. What it comes to is `stamp_at`.
+use Rattle.std.specs.Prelude.{ℕ, ◌-◌, ◌==◌, Bool, true, false, not, ◌&&◌, if◌then◌else◌, Option, None, Some, is_some, List, [], ◌∷◌, length, slice_index}
+use Rattle.std.specs.List.{slice_split}
 use Rattle.org_stamp.specs.Calendar.{CivilDay}
 use Rattle.org_stamp.specs.declared.kind.Times.{Times}
 use Rattle.org_stamp.specs.declared.kind.Kind.{Kind}
@@ -9,8 +9,8 @@ use Rattle.org_stamp.specs.declared.inside.Cookie.{Cookie}
 use Rattle.org_stamp.specs.declared.inside.Cookies.{Cookies}
 use Rattle.org_stamp.specs.declared.inside.Cookies.TheVariants.{Empty, One, Two}
 use Rattle.org_stamp.specs.declared.inside.Found.{Found}
-use Rattle.org_stamp.specs.Parts.{◌>>=◌, date_of, kind_of, is_blank, is_closing}
-use Rattle.org_stamp.specs.Stamp.{Part, StampValue, are_apart, closing}
+use Rattle.org_stamp.specs.Parts.{◌>>=◌, kind_of, is_blank}
+use Rattle.org_stamp.specs.Stamp.{Part, StampValue, are_apart}
 
 -- what was found so far: whether a day name, the time, and the cookies
 pub record Gathered : Type 0 where
@@ -60,25 +60,6 @@ tail_of tail =
     else (if is_blank (slice_index tail 0) && not (is_blank (slice_index tail (length tail - 1)))
     then pieces_with nothing (slice_split is_blank tail) else None)
 
+-- the timestamp of what was gathered
 abbrev pub value_of : Bool → CivilDay → Gathered → StampValue
 value_of active day g = record { active = active; day = day; time = g.time; cookies = g.cookies }
-
--- what stands between the brackets: a date of ten bytes, and what is behind it
-abbrev pub inside_of : Bool → List ℕ → Option StampValue
-inside_of active inside =
-    if nat_lt (length inside) 10 then None
-    else (date_of (take 10 inside) >>= λ day. tail_of (drop 10 inside) >>= λ g. Some (value_of active day g))
-
-abbrev pub active_of : ℕ → Option Bool
-active_of b = if b == 60 then Some true else (if b == 91 then Some false else None)
-
--- what stands behind the opening bracket, up to the first closing one, which is of the same kind
-abbrev pub closed_of : Bool → List ℕ → Option ℕ → Option (StampValue × ℕ)
-closed_of active rest None = None
-closed_of active rest (Some at) =
-    if slice_index rest at == closing active then (inside_of active (take at rest) >>= λ s. Some (s, at + 2)) else None
-
--- the timestamp at the front of the bytes and its length, if there is one
-abbrev pub stamp_at : List ℕ → Option (StampValue × ℕ)
-stamp_at text =
-    active_of (slice_index text 0) >>= λ active. closed_of active (drop 1 text) (position is_closing (drop 1 text))

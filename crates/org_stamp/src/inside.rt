@@ -12,7 +12,9 @@ use crate::part::{is_blank, read_kind};
 /// A repeater or a delay, with its bytes.
 #[derive(Clone, Copy, Debug)]
 pub struct Cookie<'a> {
+    /// The bytes that were read, which are printed again.
     pub run: &'a [u8],
+    /// A repeater or a delay.
     pub kind: Kind,
 }
 
@@ -21,27 +23,31 @@ pub struct Cookie<'a> {
 pub enum Cookies<'a> {
     Empty,
     One(Cookie<'a>),
+    /// A repeater and a delay, in either order.
     Two(Cookie<'a>, Cookie<'a>),
 }
 
 /// What was found so far.
 #[derive(Clone, Copy, Debug)]
 pub struct Found<'a> {
+    /// Whether a day name stood there.
     pub named: bool,
     pub time: Option<Times>,
     pub cookies: Cookies<'a>,
 }
 
+// Whether the two are a repeater and a delay, in either order.
 fn are_apart(first: Kind, second: Kind) -> bool
     ensures { result ≡ are_apart first second }
 {
-    match (first, second) {
-        (Kind::Repeat(_), Kind::Delay) | (Kind::Delay, Kind::Repeat(_)) => true,
-        _ => false,
-    }
+    matches!(
+        (first, second),
+        (Kind::Repeat(_), Kind::Delay) | (Kind::Delay, Kind::Repeat(_))
+    )
 }
 
 impl<'a> Cookies<'a> {
+    // A first cookie, or a second of the other kind.
     fn with(self, cookie: Cookie<'a>) -> Option<Cookies<'a>>
         ensures { option_map parts_of result ≡ cookies_with (parts_of self.entry) (part_of cookie.entry) }
     {
@@ -56,6 +62,7 @@ impl<'a> Cookies<'a> {
 }
 
 impl<'a> Found<'a> {
+    // One part more, if none of its kind was found.
     fn with(self, run: &'a [u8], kind: Kind) -> Option<Found<'a>>
         ensures { option_map gathered result ≡ found_with (gathered self.entry) run.now kind }
     {

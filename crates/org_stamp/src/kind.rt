@@ -3,10 +3,15 @@
 /// What a repeater counts (Org manual, "Repeated tasks").
 #[derive(Clone, Copy, Debug, PartialEq, Eq)]
 pub enum Unit {
+    /// `h`
     Hour,
+    /// `d`
     Day,
+    /// `w`
     Week,
+    /// `m`
     Month,
+    /// `y`
     Year,
 }
 
@@ -24,13 +29,16 @@ pub enum Mark {
 /// The minutes of the day at which a timestamp starts and, for a range, ends.
 #[derive(Clone, Copy, Debug, PartialEq, Eq)]
 pub struct Times {
+    /// From 0 for 0:00 to 1439 for 23:59.
     pub start: u16,
+    /// The same, where there is a range; it may lie before the start.
     pub end: Option<u16>,
 }
 
 /// A number of units, as `2w`.
 #[derive(Clone, Copy, Debug, PartialEq, Eq)]
 pub struct Interval {
+    /// From 0 to 9999.
     pub value: u16,
     pub unit: Unit,
 }
@@ -45,8 +53,11 @@ pub struct Repeater {
 /// What a part says.
 #[derive(Clone, Copy, Debug, PartialEq, Eq)]
 pub enum Kind {
+    /// The day's name, in any language; it says nothing.
     Name,
+    /// A time, or a range of two.
     Clock(Times),
     Repeat(Repeater),
+    /// A delay of a warning, as `-2d` (Org manual, "Deadlines and Scheduling"); it is only kept.
     Delay,
 }

@@ -1,7 +1,7 @@
 //! What holds of the texts and values of timestamps.
 ghost use Rattle.std.specs.Prelude.{◌≡◌, ◌++◌, ℕ, List, length};
 ghost use Rattle.org_stamp.specs.Stamp.{StampValue, IsStamp, IsStampText, stamp_text};
-ghost use Rattle.org_stamp.specs.Reading.{stamp_at};
+ghost use Rattle.org_stamp.specs.Front.{stamp_at};
 
 /// No timestamp begins another, and none has two values.
 pub fn one_value()

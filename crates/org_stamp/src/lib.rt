@@ -2,8 +2,8 @@
 #![tactic(auto)]
 
 mod calendar;
+mod durations;
 mod fault;
-mod hours;
 mod inside;
 mod kind;
 pub mod laws;
@@ -13,8 +13,8 @@ mod stamp;
 mod steps;
 mod text;
 
+pub use durations::duration;
 pub use fault::RepeatFault;
-pub use hours::duration;
 pub use moment::Moment;
 pub use stamp::Stamp;
 

@@ -6,7 +6,7 @@ ghost use Rattle.org_stamp.specs.Stamp.{StampValue, IsStamp, IsStampText, IsTime
 ghost use Rattle.jiff_core.specs.Calendar.{IsBetween};
 ghost use Rattle.org_stamp.specs.Calendar.{IsDay, day_number};
 ghost use Rattle.org_stamp.specs.Repeat.{IsLater, IsRepeated, dated, in_range, is_hour, moved, restarted, shifted, target_of};
-ghost use Rattle.org_stamp.specs.Reading.{active_of, closed_of, inside_of, stamp_at};
+ghost use Rattle.org_stamp.specs.Front.{active_of, closed_of, inside_of, stamp_at};
 
 use crate::calendar::Day;
 use crate::fault::RepeatFault;
@@ -82,10 +82,7 @@ fn repeater_in(kind: Kind) -> Option<Repeater>
 fn is_hour(unit: Unit) -> bool
     ensures { result ≡ is_hour unit }
 {
-    match unit {
-        Unit::Hour => true,
-        _ => false,
-    }
+    matches!(unit, Unit::Hour)
 }
 
 impl<'a> Stamp<'a> {
@@ -149,7 +146,7 @@ impl<'a> Stamp<'a> {
         // A timestamp at the front is found, and no two stand there.
         ensures only { (n : ℕ) (s : StampValue) → n ≤ length text.now
             → IsStampText (take n text.now) s → result ≡ Some (s, n) }
-        // The same as a function.
+        // The same as a function of the text's parts.
         ensures exact { result ≡ stamp_at text.now }
     {
         Stamp::scan(text)
@@ -187,10 +184,7 @@ impl<'a> Stamp<'a> {
     pub fn has_cookies(&self) -> bool
         ensures { result ≡ has_cookies self.now }
     {
-        match self.cookies {
-            Cookies::Empty => false,
-            _ => true,
-        }
+        !matches!(self.cookies, Cookies::Empty)
     }
 
     /// Whether it has a repeater of a value other than 0.

@@ -52,83 +52,6 @@ fn stamp(text: &[u8]) -> Result<Stamp<'_>, Fail> {
     Ok(stamp)
 }
 
-fn repeats_to(
-    rt: &impl Abort,
-    alloc: Global,
-    from: &[u8],
-    now: Moment,
-    to: &[u8],
-) -> Result<(), Fail> {
-    let repeated = stamp(from)?.repeat(now)?;
-    let printed = repeated.print(alloc)?;
-    assert_eq!(rt; printed.as_slice(), to);
-    Ok(())
-}
-
-#[test]
-fn repeats_of_the_manual(rt: HostRuntime) -> Result<(), Fail> {
-    let alloc = rt.alloc();
-    let now = moment(2026, 7, 1, 10, 0)?;
-    repeats_to(
-        &rt,
-        alloc,
-        b"<2005-10-01 Sat +1m>",
-        moment(2005, 10, 3, 9, 5)?,
-        b"<2005-11-01 Tue +1m>",
-    )?;
-    repeats_to(
-        &rt,
-        alloc,
-        b"<2008-02-08 Fri 20:00 ++1d>",
-        moment(2008, 2, 10, 19, 59)?,
-        b"<2008-02-10 Sun 20:00 ++1d>",
-    )?;
-    repeats_to(
-        &rt,
-        alloc,
-        b"<2008-02-08 Fri 20:00 ++1d>",
-        moment(2008, 2, 10, 20, 0)?,
-        b"<2008-02-11 Mon 20:00 ++1d>",
-    )?;
-    repeats_to(
-        &rt,
-        alloc,
-        b"<2026-01-31 Sat ++1m>",
-        moment(2026, 4, 1, 10, 0)?,
-        b"<2026-04-30 Thu ++1m>",
-    )?;
-    repeats_to(
-        &rt,
-        alloc,
-        b"<2026-01-05 Mon .+1w>",
-        now,
-        b"<2026-07-08 Wed .+1w>",
-    )?;
-    repeats_to(
-        &rt,
-        alloc,
-        b"<2019-04-05 08:00 Fri .+1h>",
-        moment(2026, 7, 1, 23, 30)?,
-        b"<2026-07-02 Thu 00:30 .+1h>",
-    )?;
-    repeats_to(
-        &rt,
-        alloc,
-        b"<2026-07-01 Wed +1d>",
-        now,
-        b"<2026-07-02 Thu +1d>",
-    )?;
-    repeats_to(
-        &rt,
-        alloc,
-        b"<2026-07-01 +0h>",
-        now,
-        b"<2026-07-01 Wed +0h>",
-    )?;
-    repeats_to(&rt, alloc, b"<2026-07-01 Wed>", now, b"<2026-07-01 Wed>")?;
-    Ok(())
-}
-
 #[test]
 fn refused_repeats(rt: HostRuntime) -> Result<(), Fail> {
     let now = moment(2026, 7, 1, 10, 0)?;
@@ -192,6 +115,11 @@ fn timestamps(rt: HostRuntime) -> Result<(), Fail> {
     )?;
     prints_as(&rt, alloc, b"<0001-01-01 0:00>", b"<0001-01-01 Mon 00:00>")?;
     prints_as(&rt, alloc, b"[9999-12-31]", b"[9999-12-31 Fri]")?;
+    Ok(())
+}
+
+#[test]
+fn front_of_a_range(rt: HostRuntime) -> Result<(), Fail> {
     let (front, length) = Stamp::read(b"[2026-07-01 Wed 10:00]--[2026-07-01 Wed 11:30]").ok_or(
         "no timestamp",
     )?;
@@ -203,6 +131,11 @@ fn timestamps(rt: HostRuntime) -> Result<(), Fail> {
         front.moment().minutes(),
         moment(2026, 7, 1, 10, 0)?.minutes()
     );
+    Ok(())
+}
+
+#[test]
+fn what_timestamps_have(rt: HostRuntime) -> Result<(), Fail> {
     assert!(rt; stamp(b"<2026-07-01 -3d>")?.has_cookies());
     assert!(rt; !stamp(b"<2026-07-01 -3d>")?.repeats());
     assert!(rt; !stamp(b"<2026-07-01 ++0y>")?.repeats());
@@ -278,99 +211,39 @@ fn no_timestamps(rt: HostRuntime) {
     assert!(rt; Stamp::read(b"<2026-7-01>").is_none());
 }
 
-#[test]
-fn ends_of_months_and_years(rt: HostRuntime) -> Result<(), Fail> {
-    let alloc = rt.alloc();
-    let now = moment(2026, 7, 1, 10, 0)?;
-    repeats_to(
-        &rt,
-        alloc,
-        b"<2024-02-29 +1y>",
-        now,
-        b"<2025-02-28 Fri +1y>",
-    )?;
-    repeats_to(
-        &rt,
-        alloc,
-        b"<2024-02-29 ++1y>",
-        now,
-        b"<2027-02-28 Sun ++1y>",
-    )?;
-    repeats_to(
-        &rt,
-        alloc,
-        b"<2024-02-29 ++4y>",
-        now,
-        b"<2028-02-29 Tue ++4y>",
-    )?;
-    repeats_to(
-        &rt,
-        alloc,
-        b"<2023-12-31 +1d>",
-        now,
-        b"<2024-01-01 Mon +1d>",
-    )?;
-    repeats_to(
-        &rt,
-        alloc,
-        b"<2024-02-22 +1w>",
-        now,
-        b"<2024-02-29 Thu +1w>",
-    )?;
-    repeats_to(
-        &rt,
-        alloc,
-        b"<2026-01-31 .+1m>",
-        moment(2026, 1, 31, 0, 0)?,
-        b"<2026-02-28 Sat .+1m>",
-    )?;
-    repeats_to(
-        &rt,
-        alloc,
-        b"<2026-01-30 10:00-11:00 .+2d>",
-        now,
-        b"<2026-07-03 Fri 10:00-11:00 .+2d>",
-    )?;
-    repeats_to(
-        &rt,
-        alloc,
-        b"<0001-01-01 0:00 ++1h>",
-        moment(9999, 12, 31, 22, 59)?,
-        b"<9999-12-31 Fri 23:00 ++1h>",
-    )?;
-    repeats_to(
-        &rt,
-        alloc,
-        b"<0001-01-01 ++1d>",
-        moment(9999, 12, 30, 0, 0)?,
-        b"<9999-12-31 Fri ++1d>",
-    )?;
-    repeats_to(
-        &rt,
-        alloc,
-        b"<2027-01-01 ++1m>",
-        now,
-        b"<2027-02-01 Mon ++1m>",
-    )?;
-    assert_eq!(rt;
-        stamp(b"<9999-12-31 .+1d>")?
-            .repeat(moment(9999, 12, 31, 0, 0)?)
-            .err(),
-        Some(RepeatFault::DateRange)
-    );
-    assert_eq!(rt;
-        stamp(b"<9999-12-31 +1w>")?.repeat(now).err(),
-        Some(RepeatFault::DateRange)
-    );
-    assert_eq!(rt;
-        stamp(b"<9999-12-31 ++1m>")?.repeat(now).err(),
-        Some(RepeatFault::DateRange)
-    );
-    Ok(())
-}
+// Each row of these tables: a timestamp, the moment at which it is repeated, and what it becomes by the proleptic
+// Gregorian calendar, where a day that a month lacks is its last.
 
-// Each row: a timestamp, the moment at which it is repeated, and what it becomes by the proleptic Gregorian calendar,
-// where a day that a month lacks is its last. For each unit and kind of repeater: from 0001-01-01, to the last date that
+// Each kind of repeater as the manual has it ("Repeated tasks"), one of value 0, and none.
+const OF_THE_MANUAL: &str = "\
+<2005-10-01 Sat +1m> at [2005-10-03 09:05]: <2005-11-01 Tue +1m>
+<2008-02-08 Fri 20:00 ++1d> at [2008-02-10 19:59]: <2008-02-10 Sun 20:00 ++1d>
+<2008-02-08 Fri 20:00 ++1d> at [2008-02-10 20:00]: <2008-02-11 Mon 20:00 ++1d>
+<2026-01-31 Sat ++1m> at [2026-04-01 10:00]: <2026-04-30 Thu ++1m>
+<2026-01-05 Mon .+1w> at [2026-07-01 10:00]: <2026-07-08 Wed .+1w>
+<2019-04-05 08:00 Fri .+1h> at [2026-07-01 23:30]: <2026-07-02 Thu 00:30 .+1h>
+<2026-07-01 Wed +1d> at [2026-07-01 10:00]: <2026-07-02 Thu +1d>
+<2026-07-01 +0h> at [2026-07-01 10:00]: <2026-07-01 Wed +0h>
+<2026-07-01 Wed> at [2026-07-01 10:00]: <2026-07-01 Wed>
+";
+
+const OF_MONTHS_AND_YEARS: &str = "\
+<2024-02-29 +1y> at [2026-07-01 10:00]: <2025-02-28 Fri +1y>
+<2024-02-29 ++1y> at [2026-07-01 10:00]: <2027-02-28 Sun ++1y>
+<2024-02-29 ++4y> at [2026-07-01 10:00]: <2028-02-29 Tue ++4y>
+<2023-12-31 +1d> at [2026-07-01 10:00]: <2024-01-01 Mon +1d>
+<2024-02-22 +1w> at [2026-07-01 10:00]: <2024-02-29 Thu +1w>
+<2026-01-31 .+1m> at [2026-01-31 00:00]: <2026-02-28 Sat .+1m>
+<2026-01-30 10:00-11:00 .+2d> at [2026-07-01 10:00]: <2026-07-03 Fri 10:00-11:00 .+2d>
+<0001-01-01 0:00 ++1h> at [9999-12-31 22:59]: <9999-12-31 Fri 23:00 ++1h>
+<0001-01-01 ++1d> at [9999-12-30 00:00]: <9999-12-31 Fri ++1d>
+<2027-01-01 ++1m> at [2026-07-01 10:00]: <2027-02-01 Mon ++1m>
+<9999-12-31 .+1d> at [9999-12-31 00:00]: DateRange
+<9999-12-31 +1w> at [2026-07-01 10:00]: DateRange
+<9999-12-31 ++1m> at [2026-07-01 10:00]: DateRange
+";
+
+// For each unit and kind of repeater: from 0001-01-01, to the last date that
 // is reached and past it, from a leap day to a leap year and to none, and from a month's end to shorter months (years
 // keep the month). Hours with `+` and `.+` are at most 9999, short of the next leap year, so they come to the leap day
 // from the day before.
@@ -497,16 +370,29 @@ fn repeated(alloc: Global, from: &str, now: &str) -> Result<Vec<u8>, Fail> {
     }
 }
 
-#[test]
-fn repeats_at_the_ends(rt: HostRuntime) -> Result<(), Fail> {
-    let alloc = rt.alloc();
-    for row in AT_THE_ENDS.lines() {
+fn assert_repeats(rt: &impl Abort, alloc: Global, rows: &str) -> Result<(), Fail> {
+    for row in rows.lines() {
         let (from, rest) = row.split_once(" at ").ok_or("no moment")?;
         let (now, to) = rest.split_once(": ").ok_or("no outcome")?;
         let found = repeated(alloc, from, now)?;
         assert_eq!(rt; found.as_slice(), to.as_bytes(), "{row}");
     }
     Ok(())
+}
+
+#[test]
+fn repeats_of_the_manual(rt: HostRuntime) -> Result<(), Fail> {
+    assert_repeats(&rt, rt.alloc(), OF_THE_MANUAL)
+}
+
+#[test]
+fn ends_of_months_and_years(rt: HostRuntime) -> Result<(), Fail> {
+    assert_repeats(&rt, rt.alloc(), OF_MONTHS_AND_YEARS)
+}
+
+#[test]
+fn repeats_at_the_ends(rt: HostRuntime) -> Result<(), Fail> {
+    assert_repeats(&rt, rt.alloc(), AT_THE_ENDS)
 }
 
 #[test]

@@ -2,7 +2,7 @@ use Rattle.std.proofs.Common.{◌≡◌, ℕ, List, ◌++◌, length, take, sym,
 use Rattle.std.proofs.lemmas.Option.{some_pair_parts}
 use Rattle.std.proofs.Math.Seq.{take-append_seam}
 use Rattle.org_stamp.specs.Stamp.{StampValue, IsStampText}
-use Rattle.org_stamp.specs.Reading.{stamp_at}
+use Rattle.org_stamp.specs.Front.{stamp_at}
 use Rattle.org_stamp.proofs.Exact.{stamp_complete}
 use Rattle.org_stamp.proofs.laws.one_value.Goals as goal
 

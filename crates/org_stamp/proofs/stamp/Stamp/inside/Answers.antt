@@ -3,6 +3,7 @@ use Rattle.std.proofs.lemmas.Grind.{common_steps}
 use Rattle.std.proofs.lemmas.List.{take-append-drop, take_rest}
 use Rattle.org_stamp.specs.Reading.{gathered, tail_of}
 use Rattle.org_stamp.proofs.Found.{IsOpen, open_parts, tail_found, writable}
+use Rattle.org_stamp.proofs.Said.{inside_said}
 use Rattle.org_stamp.proofs.Days.{read_day}
 use Rattle.org_stamp.proofs.stamp.Stamp.inside.Goals as goal
 
@@ -13,5 +14,12 @@ invariant_of-result c =
     let h = gathered c.in_ok-found.found in
     record { day = read_day (take 10 inside) c.in_ok-day.day (sym c.in_ok-day.ensures); behind = writable (drop 10 inside) h (tail_found (drop 10 inside) h halves.1 (ap tail_of (sym (take_rest inside 10)) ∙ sym c.in_ok-found.ensures)) }
 
+pub returns-in_err-found : goal.returns-in_err-found
+returns-in_err-found c =
+    let said = inside_said c.args.active c.args.inside.now in
+    grind (arith, common_steps, said)
+
 pub returns : goal.returns
-returns c = grind (arith, common_steps)
+returns c =
+    let said = inside_said c.args.active c.args.inside.now in
+    grind (arith, common_steps, said)

@@ -2,7 +2,7 @@ use Rattle.std.proofs.Common.{◌≡◌, ◌≤◌, ℕ, Option, None, Some, Lis
 use Rattle.std.specs.Option.{IfSome}
 use Rattle.std.proofs.lemmas.List.{take-append-drop, length-take}
 use Rattle.org_stamp.specs.Stamp.{StampValue, IsStampText}
-use Rattle.org_stamp.specs.Reading.{stamp_at}
+use Rattle.org_stamp.specs.Front.{stamp_at}
 use Rattle.org_stamp.proofs.Exact.{stamp_complete, stamp_sound}
 use Rattle.org_stamp.proofs.stamp.Stamp.read.Goals as goal
 

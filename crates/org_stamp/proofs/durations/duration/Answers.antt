@@ -2,8 +2,8 @@ use Rattle.std.proofs.Common.{◌≡◌, ℕ, ◌-◌, ◌/◌, ◌^◌, ◌<◌
 use Rattle.std.specs.Fmt.{decimal}
 use Rattle.std.proofs.lemmas.Grind.{common_steps}
 use Rattle.std.proofs.lemmas.Fmt.{decimal_nonempty}
-use Rattle.org_stamp.proofs.hours.duration.Goals as goal
-use Rattle.org_stamp.proofs.hours.duration.Goals.{then-len-width+in_ok-push, else-len-width}
+use Rattle.org_stamp.proofs.durations.duration.Goals as goal
+use Rattle.org_stamp.proofs.durations.duration.Goals.{then-len-width+in_ok-push, else-len-width}
 
 one_blank : (n width : ℕ) (out : List ℕ) → 0 < n → n < width → width ≤ 2 → out ≡ 32 ∷ [] → out ≡ replicate (width - n) 32
 one_blank n width out some short most e = let one : width - n ≡ 1 = omega arith in e ∙ rw one refl
