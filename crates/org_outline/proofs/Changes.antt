@@ -7,8 +7,8 @@ use Rattle.std.proofs.lemmas.Bool.Decides.{nat_tests}
 use Rattle.std.proofs.lemmas.List.{append-nil, get_or_append_left, get_or-append_right}
 use Rattle.org_splice.specs.Lines.{print_lines, IsLine}
 use Rattle.org_outline.specs.Text.{heading_line, begins_with_space}
-use Rattle.org_outline.specs.Tree.{Forest, Empty, Tree, Node, Placed, total, Document, print, lines, own_lines, print_node, AllRoots, IsPlain, IsHeading, IsForest, IsValid, nodes_from, no_node}
-use Rattle.org_outline.specs.Moves.{IsNode, shift_node, from_node, later_trees, take, put_before, insert_before, with_own, with_own_lines, heading_alone, heading_behind, append_heading, nth_node, count_nodes, Inserts, Replaces}
+use Rattle.org_outline.specs.Tree.{Forest, Empty, Tree, Node, Placed, total, Document, print, lines, own_lines, print_node, AllRoots, IsPlain, IsHeading, IsForest, IsValid, nodes_from, node_at, node_count, no_node}
+use Rattle.org_outline.specs.Moves.{IsNode, shift_node, from_node, later_trees, take, put_before, insert_before, with_own, with_own_lines, heading_alone, heading_behind, append_heading, Inserts, Replaces}
 use Rattle.org_outline.proofs.Nodes.{print_lines-append, size, size-append, node_of}
 use Rattle.org_outline.proofs.Placing.{total-nodes, node_lines}
 use Rattle.org_outline.proofs.Valid.{IsNode-shift_node}
@@ -102,12 +102,12 @@ changed_at change x y h at (suc i) (Tree m r s kids later) lt =
 
 -- the same in the print of a document
 pub changed : (change : Forest → Forest) (x y : Node → List (List ℕ)) → ((m : ℕ) (r : List ℕ) (s : List (List ℕ)) (kids later : Forest) → Changes change x y (Tree m r s kids later) (node_of m r s kids))
-    → (i : ℕ) (d : Document) → i < count_nodes d
-    → Replaces (print d) (print_lines (d.preamble ++ lines (from_node change i d.forest))) (nth_node d i).at (print_lines (x (nth_node d i).node)) (print_lines (y (nth_node d i).node))
+    → (i : ℕ) (d : Document) → i < node_count d
+    → Replaces (print d) (print_lines (d.preamble ++ lines (from_node change i d.forest))) (node_at d i).at (print_lines (x (node_at d i).node)) (print_lines (y (node_at d i).node))
 changed change x y h i d lt =
     let start = size d.preamble in
     let c = changed_at change x y h start i d.forest (omega (arith, lt, total-nodes start d.forest)) in
-    let n = (nth_node d i).node in
+    let n = (node_at d i).node in
     let f = lines d.forest in
     let g = lines (from_node change i d.forest) in
     let s : Swaps (d.preamble ++ (f ++ [])) (d.preamble ++ (g ++ [])) (start + c.k) (x n) (y n) = swaps_in d.preamble [] f g c.k (x n) (y n) c.swaps in
@@ -117,13 +117,13 @@ changed change x y h i d lt =
 
 -- ---- taking out, putting before, other own lines
 
-pub take_local : (i : ℕ) (d : Document) → i < count_nodes d → Inserts (print (take i d)) (print d) (nth_node d i).at (print_node (nth_node d i).node)
+pub take_local : (i : ℕ) (d : Document) → i < node_count d → Inserts (print (take i d)) (print d) (node_at d i).at (print_node (node_at d i).node)
 take_local i d lt =
     let r = changed later_trees node_lines (λ n. []) (λ m r s kids later. record { rest = lines later; was = sym (append_assoc (heading_line m r ∷ s) (lines kids) (lines later)); is = refl }) i d lt in
     record { front = r.front; back = r.back; at = r.at; was = r.is; is = r.was }
 
-pub insert_before_local : (i : ℕ) (node : Node) (d : Document) → i < count_nodes d
-    → Inserts (print d) (print (insert_before i node d)) (nth_node d i).at (print_node (shift_node (nth_node d i).node.level node))
+pub insert_before_local : (i : ℕ) (node : Node) (d : Document) → i < node_count d
+    → Inserts (print d) (print (insert_before i node d)) (node_at d i).at (print_node (shift_node (node_at d i).node.level node))
 insert_before_local i node d lt =
     let r = changed (put_before node) (λ n. []) (λ n. node_lines (shift_node n.level node))
     (λ m r s kids later. record {
@@ -133,8 +133,8 @@ insert_before_local i node d lt =
     }) i d lt in
     record { front = r.front; back = r.back; at = r.at; was = r.was; is = r.is }
 
-pub own_lines_local : (i : ℕ) (rest : List ℕ) (section : List (List ℕ)) (d : Document) → i < count_nodes d
-    → Replaces (print d) (print (with_own_lines i rest section d)) (nth_node d i).at (print_lines (own_lines (nth_node d i).node)) (print_lines (heading_line (nth_node d i).node.level rest ∷ section))
+pub own_lines_local : (i : ℕ) (rest : List ℕ) (section : List (List ℕ)) (d : Document) → i < node_count d
+    → Replaces (print d) (print (with_own_lines i rest section d)) (node_at d i).at (print_lines (own_lines (node_at d i).node)) (print_lines (heading_line (node_at d i).node.level rest ∷ section))
 own_lines_local i rest section d lt =
     changed (with_own rest section) own_lines (λ n. heading_line n.level rest ∷ section)
     (λ m r s kids later. record { rest = lines kids ++ lines later; was = refl; is = refl }) i d lt

@@ -1,22 +1,22 @@
 -- The headings of an edited text: those before the lines that the edit touches, those of these lines, and those behind them, moved.
-use Rattle.std.proofs.Common.{◌≡◌, ℕ, zero, suc, ◌+◌, ◌-◌, ◌<◌, ◌≤◌, ◌^◌, Bool, true, false, eqb, ltb, List, [], ◌∷◌, ◌++◌, length, drop, take, get_or, set, Option, Some, None, refl, sym, ap, subst, ◌∙◌, append_assoc, arith, add-one, add-zero, cond, inl, inr}
+use Rattle.std.proofs.Common.{◌≡◌, ℕ, zero, suc, ◌+◌, ◌-◌, ◌<◌, ◌≤◌, ◌^◌, Bool, true, false, eqb, ltb, List, [], ◌∷◌, ◌++◌, length, drop, take, get_or, set, Option, Some, None, refl, sym, ap, subst, ◌∙◌, append_assoc, arith, add-one, add-zero, cond, eq-eqb, inl, inr}
 use Rattle.std.specs.Prelude.{map, ◌⊎◌}
 use Rattle.std.specs.List.{AllByRecursion, prefix_len}
 use Rattle.std.proofs.lemmas.Bool.{cases_Bool, eqb-true}
 use Rattle.std.proofs.lemmas.Bool.Decides.{nat_tests}
-use Rattle.std.proofs.lemmas.List.{length-append, length-drop, length-take, length-take-le, take-append-drop, take_rest, take_more, take_at, drop_at, drop-drop, get_or-take, length-map, take_all}
+use Rattle.std.proofs.lemmas.List.{length-append, length-drop, length-take, length-take-le, take-append-drop, take_rest, take_more, take_at, drop_at, drop-drop, get_or-take, get_or-drop, length-map, take_all}
 use Rattle.std.specs.declared.vec.IntoIter.{IntoIter}
 use Rattle.std.specs.Vec.Iter.{into_iter_items, into_iter_len, into_iter_steps}
 use Rattle.std.specs.Iterator.{Drains}
 use Rattle.std.proofs.lemmas.Iterator.{items_from_drains}
 use Rattle.std.proofs.lemmas.Iterator.Adapters.{YieldsList-from_vec}
-use Rattle.memchr.specs.Find.{IsFirstByte, IsLastByte, is_byte}
+use Rattle.memchr.specs.Find.{IsFirstByte, IsLastByte, Nowhere, Passes, is_byte}
 use Rattle.org_outline.specs.declared.heads.Heading.{Heading}
-use Rattle.org_splice.specs.Lines.{closed}
+use Rattle.org_splice.specs.Lines.{closed, IsLine}
 use Rattle.org_outline.specs.Text.{stars, level_of}
 use Rattle.org_outline.specs.Outline.{headings_of, heads_from, ends_line, with_heading, moved, CanMove, IsEdit}
 use Rattle.org_outline.proofs.Lines.{AllByRecursion-append}
-use Rattle.org_outline.proofs.LineWalk.{tail_is}
+use Rattle.org_outline.proofs.LineWalk.{line_of, tail_is}
 use Rattle.org_outline.proofs.HeadsFrom.{ends_line-append, take-plus, heads_from-text, level_of-append}
 
 -- ---- line starts and line ends that the code finds
@@ -31,6 +31,14 @@ line_begins t at e r h is =
     let ten : get_or t e 0 ≡ 10 = sym (get_or-take at t e 0 less) ∙ eqb-true (get_or (take at t) e 0) 10 here in
     let room : e < length t = omega (arith, within, length-take at t) in
     ap (ends_line true) (take_more t e 0 room ∙ ap (λ b. take e t ++ b ∷ []) ten) ∙ ends_line-append true (take e t) (10 ∷ [])
+
+pub line_behind : (t : List ℕ) (at from : ℕ) → at ≤ length t → Nowhere (Passes (is_byte 10) (take at t)) from (length (take at t)) → IsLine (take (at - from) (drop from t))
+line_behind t at from within none =
+    let long = length-take-le at t within in
+    line_of (at - from) (drop from t) (λ k lt ten.
+    let less : from + k < at = omega arith in
+    let same : get_or (take at t) (from + k) 0 ≡ 10 = get_or-take at t (from + k) 0 less ∙ sym (get_or-drop from t k 0) ∙ ten in
+    none (from + k) (omega arith) (omega (arith, long, less)) (eq-eqb (get_or (take at t) (from + k) 0) 10 same))
 
 pub line_ends : (t : List ℕ) (start e : ℕ) (r : Option ℕ) → IsFirstByte (is_byte 10) (take (length t - start) (drop start t)) r → r ≡ Some e
     → (before : Bool) → ends_line before (take (start + e + 1 - start) (drop start t)) ≡ true
@@ -172,9 +180,6 @@ take-shorter zero n l le = refl
 take-shorter (suc m) zero l le = absurd (omega (arith, le))
 take-shorter (suc m) (suc n) [] le = refl
 take-shorter (suc m) (suc n) (x ∷ l) le = ap (λ l. x ∷ l) (take-shorter m n l (omega (arith, le)))
-
-none_behind : (n : ℕ) (l : List ℕ) → drop n l ≡ [] → length l ≤ n
-none_behind n l e = omega (arith, ap length e, length-drop n l)
 
 -- a line ends at `to`, and so at `was`
 ends_at : (b c : List ℕ) (q r n : ℕ) → closed b ≡ b → drop q c ≡ drop r b → (q + n ≡ length c) ⊎ ((f : Bool) → ends_line f (take n (drop q c)) ≡ true) → n ≤ length (drop q c)

@@ -176,9 +176,6 @@ pub record Scanned (text : List ℕ) (base from : ℕ) (found : List Heading) : 
   pub within : from ≤ length text
   pub all : found ++ heads_from (base + from) (ends_line true (take from text)) (drop from text) ≡ heads_from base true text
 
-pub scanned_none : (text : List ℕ) (base : ℕ) → Scanned text base 0 []
-scanned_none text base = record { within = omega arith; all = ap (λ k. heads_from k true text) (add-zero base) }
-
 -- a run of n stars at `start`, and whether a heading begins there
 pub record Passes (text : List ℕ) (base start n from : ℕ) (found : List Heading) : Type 0 where
   pub within : from ≤ length text

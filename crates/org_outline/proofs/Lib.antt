@@ -11,6 +11,7 @@ pub mod HeadsFrom
 pub mod Rests
 pub mod PathWalk
 pub mod TitleLists
+pub mod Words
 pub mod Edits
 pub mod Changes
 pub mod Rows

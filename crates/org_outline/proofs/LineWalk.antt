@@ -9,10 +9,16 @@ use Rattle.org_splice.specs.Lines.{closed, IsLine, lines_of}
 use Rattle.org_outline.specs.Text.{level_of}
 use Rattle.org_outline.proofs.Lines.{lines_of-append}
 
+-- bytes with no newline among them are a line
+pub line_of : (n : ℕ) (l : List ℕ) → ((k : ℕ) → k < n → get_or l k 0 ≢ 10) → IsLine (take n l)
+line_of zero l none = tt
+line_of (suc n) [] none = tt
+line_of (suc n) (b ∷ l) none = (none 0 (omega arith), line_of n l (λ k lt. none (suc k) (omega arith)))
+
 -- the first line, without its newline, and what follows it
-record Cuts (t : List ℕ) (e : ℕ) : Type 0 where
-  line : IsLine (take e t)
-  parts : t ≡ take e t ++ 10 ∷ drop (suc e) t
+pub record Cuts (t : List ℕ) (e : ℕ) : Type 0 where
+  pub line : IsLine (take e t)
+  pub parts : t ≡ take e t ++ 10 ∷ drop (suc e) t
 
 cut : (t : List ℕ) (e : ℕ) → e < length t → ((k : ℕ) → k < e → get_or t k 0 ≢ 10) → get_or t e 0 ≡ 10 → Cuts t e
 cut [] e lt before here = absurd (omega arith)
@@ -21,7 +27,7 @@ cut (b ∷ bs) (suc e) lt before here =
     let more = cut bs e (omega arith) (λ k h. before (suc k) (omega arith)) here in
     record { line = (before 0 (omega arith), more.line); parts = ap (λ (bs : List ℕ). b ∷ bs) more.parts }
 
-cut_found : (t : List ℕ) (e : ℕ) → IsFirstByte (is_byte 10) t (Some e) → Cuts t e
+pub cut_found : (t : List ℕ) (e : ℕ) → IsFirstByte (is_byte 10) t (Some e) → Cuts t e
 cut_found t e h =
     let is : eqb (get_or t e 0) 10 ≡ true = h.1 in
     cut t e h.0.high (λ k lt same. h.0.before k (omega arith) lt (eq-eqb (get_or t k 0) 10 same)) (grind (arith, nat_tests))

@@ -22,10 +22,6 @@ pub AllByRecursion-replicate : {X : Type 0} (P : X → Type 0) (n : ℕ) (x : X)
 AllByRecursion-replicate P zero x p = tt
 AllByRecursion-replicate P (suc n) x p = (p, AllByRecursion-replicate P n x p)
 
--- a byte put at the front of lines, of which there are some, is printed first
-print-with_byte : (b : ℕ) (l : List ℕ) (ls : List (List ℕ)) → print_lines (with_byte b (l ∷ ls)) ≡ b ∷ print_lines (l ∷ ls)
-print-with_byte b l ls = refl
-
 -- the lines of a text that has bytes
 some_line : (b : ℕ) (bs : List ℕ) → (l : List ℕ) × (ls : List (List ℕ)) × (lines_of (b ∷ bs) ≡ l ∷ ls)
 some_line b bs =

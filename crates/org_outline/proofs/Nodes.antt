@@ -322,12 +322,12 @@ places-of t c =
     subst B (nodes_at-start t) (subst A total (places-nodes 0 (lines_of t) (lines_of-lines t)))
 
 -- where a section ends
-pub own_end : (t : List ℕ) (i : ℕ) → closed t ≡ t → i < node_count t → start_or (drop (suc i) (headings_of t)) (length t) ≡ (node_at t i).at + size (own_lines (node_at t i).node)
+pub own_end : (t : List ℕ) (i : ℕ) → closed t ≡ t → i < node_count (tree t) → start_or (drop (suc i) (headings_of t)) (length t) ≡ (node_at (tree t) i).at + size (own_lines (node_at (tree t) i).node)
 own_end t i c lt = PlacesWell-start (length t) (nodes_of t) i no_node (places-of t c) lt
 
 -- where something goes below the node at a number
-pub place_is : (t : List ℕ) (i k : ℕ) → closed t ≡ t → i < node_count t → (node_at t i).node.level ≤ k
-    → next_at k (drop (suc i) (headings_of t)) (length t) ≡ (node_at t i).at + size (own_lines (node_at t i).node) + size (lines (deeper k (node_at t i).node.children))
+pub place_is : (t : List ℕ) (i k : ℕ) → closed t ≡ t → i < node_count (tree t) → (node_at (tree t) i).node.level ≤ k
+    → next_at k (drop (suc i) (headings_of t)) (length t) ≡ (node_at (tree t) i).at + size (own_lines (node_at (tree t) i).node) + size (lines (deeper k (node_at (tree t) i).node.children))
 place_is t i k c lt le = PlacesWell-at (length t) (nodes_of t) i no_node (places-of t c) lt k le
 
 -- where something goes at top level
@@ -340,10 +340,10 @@ place_is-top t k c =
 
 -- what the code answers for the node at a number: where its heading begins, and where the next one does that is not deeper
 pub subtree_is : (t : List ℕ) (i : ℕ) (h : Heading) → closed t ≡ t → i < length (nodes_of t) → h ≡ get_or (headings_of t) i h
-    → IsSubtree t (node_at t i) (record { start = h.start; end = next_at h.level (drop (suc i) (headings_of t)) (length t) })
+    → IsSubtree t (node_at (tree t) i) (record { start = h.start; end = next_at h.level (drop (suc i) (headings_of t)) (length t) })
 subtree_is t i h c lt e =
     let ps = nodes_of t in
-    let p = node_at t i in
+    let p = node_at (tree t) i in
     let whole : print_lines (lines_of t) ≡ t = print_lines-lines_of t ∙ c in
     let is : h ≡ heading_of p = get_or_read (headings_of t) i h (omega (arith, length-map ps heading_of)) e (heading_of no_node) ∙ get_or-map heading_of ps i no_node (heading_of no_node) lt in
     let total : 0 + size (lines_of t) ≡ length t = omega (arith, ap length whole) in
@@ -362,13 +362,13 @@ subtree_is t i h c lt e =
     record { start = start; end = end; bytes = ap (λ k. take k (drop h.start t)) long ∙ ap (λ k. take (length (print_node p.node)) (drop k t)) start ∙ bytes }
 
 -- the heading that the code reads at a number
-pub heading_read : (t : List ℕ) (i j : ℕ) (hs : List Heading) (d : Heading) → j ≡ i → hs ≡ headings_of t → i < node_count t → get_or hs j d ≡ get_or (headings_of t) i (get_or hs j d)
+pub heading_read : (t : List ℕ) (i j : ℕ) (hs : List Heading) (d : Heading) → j ≡ i → hs ≡ headings_of t → i < node_count (tree t) → get_or hs j d ≡ get_or (headings_of t) i (get_or hs j d)
 heading_read t i j hs d je he lt =
     let within : i < length (headings_of t) = omega (arith, length-map (nodes_of t) heading_of) in
     let here : get_or hs j d ≡ get_or (headings_of t) i d = ap (λ hs. get_or hs j d) he ∙ ap (λ k. get_or (headings_of t) k d) je in
     here ∙ get_or_default (headings_of t) i d (get_or hs j d) within
 
-pub heading_is : (t : List ℕ) (i : ℕ) (h : Heading) → i < node_count t → h ≡ get_or (headings_of t) i h → h ≡ heading_of (node_at t i)
+pub heading_is : (t : List ℕ) (i : ℕ) (h : Heading) → i < node_count (tree t) → h ≡ get_or (headings_of t) i h → h ≡ heading_of (node_at (tree t) i)
 heading_is t i h lt e =
     get_or_read (headings_of t) i h (omega (arith, length-map (nodes_of t) heading_of)) e (heading_of no_node) ∙ get_or-map heading_of (nodes_of t) i no_node (heading_of no_node) lt
 
@@ -377,22 +377,22 @@ pub later_headings : (t : List ℕ) (i j : ℕ) (hs : List Heading) → j ≡ i 
 later_headings t i j hs je he = take_rest hs (j + 1) ∙ ap (λ k. drop k hs) (add-one j) ∙ ap (λ k. drop (suc k) hs) je ∙ ap (drop (suc i)) he
 
 -- the same as the code says it: u is the text that it has, j the number, and hs the headings
-pub subtree_at : (t u : List ℕ) (i j : ℕ) (hs : List Heading) (d : Heading) (end : ℕ) → u ≡ t → closed t ≡ t → j ≡ i → hs ≡ headings_of t → i < node_count t
+pub subtree_at : (t u : List ℕ) (i j : ℕ) (hs : List Heading) (d : Heading) (end : ℕ) → u ≡ t → closed t ≡ t → j ≡ i → hs ≡ headings_of t → i < node_count (tree t)
     → end ≡ next_at (get_or hs j d).level (take (length hs - (j + 1)) (drop (j + 1) hs)) (length u)
-    → IsSubtree t (node_at t i) (record { start = (get_or hs j d).start; end = end })
+    → IsSubtree t (node_at (tree t) i) (record { start = (get_or hs j d).start; end = end })
 subtree_at t u i j hs d end ue c je he lt ee =
     let h = get_or hs j d in
     let ends : next_at h.level (drop (suc i) (headings_of t)) (length t) ≡ end =
     sym (ee ∙ ap (λ xs. next_at h.level xs (length u)) (later_headings t i j hs je he) ∙ ap (λ u. next_at h.level (drop (suc i) (headings_of t)) (length u)) ue) in
-    let E : ℕ → Type 0 = λ end. IsSubtree t (node_at t i) (record { start = h.start; end = end }) in
+    let E : ℕ → Type 0 = λ end. IsSubtree t (node_at (tree t) i) (record { start = h.start; end = end }) in
     subst E ends (subtree_is t i h c lt (heading_read t i j hs d je he lt))
 
 -- a level is at most the length of the text, which has its stars
-pub level_room : (t : List ℕ) (i j : ℕ) (hs : List Heading) (d : Heading) → closed t ≡ t → j ≡ i → hs ≡ headings_of t → i < node_count t → (get_or hs j d).level ≤ length t
+pub level_room : (t : List ℕ) (i j : ℕ) (hs : List Heading) (d : Heading) → closed t ≡ t → j ≡ i → hs ≡ headings_of t → i < node_count (tree t) → (get_or hs j d).level ≤ length t
 level_room t i j hs d c je he lt =
     let h = get_or hs j d in
     let read = heading_read t i j hs d je he lt in
-    let p = node_at t i in
+    let p = node_at (tree t) i in
     let is : h ≡ heading_of p = heading_is t i h lt read in
     let s = subtree_is t i h c lt read in
     let n = p.node.level in

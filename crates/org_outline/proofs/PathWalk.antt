@@ -33,25 +33,25 @@ one_more_or_none (Some i) (j ∷ more) = Err NotUnique
 
 pub record Heading_walk (states : Keywords) (t title : List ℕ) (index : ℕ) (found : Option ℕ) : Type 0 where
   pub answer : one_more_or_none found (titled_nodes states title index (drop index (nodes_of t))) ≡ find_headed states t title
-  pub within : IfSome found (λ i. i < node_count t)
+  pub within : IfSome found (λ i. i < node_count (tree t))
 
 first_found : (i : ℕ) (more : List ℕ) → one_or_none (i ∷ more) ≡ one_more_or_none (Some i) more
 first_found i [] = refl
 first_found i (j ∷ more) = refl
 
-titled_next : (states : Keywords) (t title : List ℕ) (index : ℕ) → index < node_count t
+titled_next : (states : Keywords) (t title : List ℕ) (index : ℕ) → index < node_count (tree t)
     → titled_nodes states title index (drop index (nodes_of t))
-    ≡ cond (bytes_eq (title_of states (node_at t index).node.rest) title) (index ∷ titled_nodes states title (index + 1) (drop (index + 1) (nodes_of t))) (titled_nodes states title (index + 1) (drop (index + 1) (nodes_of t)))
+    ≡ cond (bytes_eq (title_of states (node_at (tree t) index).node.rest) title) (index ∷ titled_nodes states title (index + 1) (drop (index + 1) (nodes_of t))) (titled_nodes states title (index + 1) (drop (index + 1) (nodes_of t)))
 titled_next states t title index lt =
     ap (titled_nodes states title index) (drop_more (nodes_of t) index no_node lt)
-    ∙ ap (λ k. cond (bytes_eq (title_of states (node_at t index).node.rest) title) (index ∷ titled_nodes states title k (drop (index + 1) (nodes_of t))) (titled_nodes states title k (drop (index + 1) (nodes_of t)))) (sym (add-one index))
+    ∙ ap (λ k. cond (bytes_eq (title_of states (node_at (tree t) index).node.rest) title) (index ∷ titled_nodes states title k (drop (index + 1) (nodes_of t))) (titled_nodes states title k (drop (index + 1) (nodes_of t)))) (sym (add-one index))
 
 -- a heading that the code tests: u is its title, and n the count of the headings
 pub record Tests (states : Keywords) (t title : List ℕ) (index : ℕ) (b : Bool) : Type 0 where
-  pub within : index < node_count t
-  pub is : bytes_eq (title_of states (node_at t index).node.rest) title ≡ b
+  pub within : index < node_count (tree t)
+  pub is : bytes_eq (title_of states (node_at (tree t) index).node.rest) title ≡ b
 
-pub tests : (states : Keywords) (t title u : List ℕ) (index n : ℕ) (r b : Bool) → index < n → n ≡ node_count t → u ≡ title_of states (node_at t index).node.rest
+pub tests : (states : Keywords) (t title u : List ℕ) (index n : ℕ) (r b : Bool) → index < n → n ≡ node_count (tree t) → u ≡ title_of states (node_at (tree t) index).node.rest
     → r ≡ bytes_eq u title → r ≡ b → Tests states t title index b
 tests states t title u index n r b lt many ue re is =
     record { within = omega (arith, lt, many); is = ap (λ u. bytes_eq u title) (sym ue) ∙ sym re ∙ is }
@@ -89,7 +89,7 @@ none_left : (found : Option ℕ) → one_more_or_none found [] ≡ Ok found
 none_left None = refl
 none_left (Some i) = refl
 
-pub headed_end : (states : Keywords) (t title : List ℕ) (index n : ℕ) (found : Option ℕ) → n ≤ index → n ≡ node_count t → Heading_walk states t title index found → Ok found ≡ find_headed states t title
+pub headed_end : (states : Keywords) (t title : List ℕ) (index n : ℕ) (found : Option ℕ) → n ≤ index → n ≡ node_count (tree t) → Heading_walk states t title index found → Ok found ≡ find_headed states t title
 headed_end states t title index n found le many w =
     let none : drop index (nodes_of t) ≡ [] = drop_all index (nodes_of t) (omega (arith, le, many)) in
     sym (none_left found) ∙ ap (λ ps. one_more_or_none found (titled_nodes states title index ps)) (sym none) ∙ w.answer
@@ -181,9 +181,9 @@ pub record Child_walk (states : Keywords) (t title : List ℕ) (up : Option ℕ)
   pub low : IsLow level tail
   pub valid : IsForest rest
   pub answer : one_more found (titled_roots states title index rest) ≡ the_one (titled_children states t up title)
-  pub within : IfSome found (λ i. i < node_count t)
+  pub within : IfSome found (λ i. i < node_count (tree t))
 
-pub child_start : (states : Keywords) (t title : List ℕ) (up : Option ℕ) (first : ℕ × ℕ) → ForSome up (λ i. i < node_count t) → first ≡ first_below t up
+pub child_start : (states : Keywords) (t title : List ℕ) (up : Option ℕ) (first : ℕ × ℕ) → ForSome up (λ i. i < node_count (tree t)) → first ≡ first_below t up
     → Child_walk states t title up first.1 first.0 None
 child_start states t title None first lt e =
     let d = tree t in
@@ -203,15 +203,15 @@ child_start states t title None first lt e =
 child_start states t title (Some i) first lt e =
     let d = tree t in
     let v = (valid-tree_of_lines (lines_of t) (lines_of-lines t)).forest in
-    let within : i < node_count t = lt i refl in
+    let within : i < node_count (tree t) = lt i refl in
     let B : List Placed → Type 0 = λ ps. Below ps i in
     let b : Below (nodes_of t) i = subst B (append-nil (nodes_of t))
     (below (size d.preamble) d.forest [] i v (AllRoots-mono (λ m. 0 < m) (λ m. IsLow m []) d.forest (λ m pos. tt) (roots-positive d.forest v)) (omega (arith, within, total-nodes (size d.preamble) d.forest))) in
     let W : ℕ × ℕ → Type 0 = λ f. Child_walk states t title (Some i) f.1 f.0 None in
-    let K : ℕ → Type 0 = λ k. Child_walk states t title (Some i) (node_at t i).node.level k None in
+    let K : ℕ → Type 0 = λ k. Child_walk states t title (Some i) (node_at (tree t) i).node.level k None in
     subst W (sym e) (subst K (sym (add-one i)) (record {
       at = b.at;
-      rest = (node_at t i).node.children;
+      rest = (node_at (tree t) i).node.children;
       tail = b.tail;
       split = b.split;
       deep = b.deep;
@@ -249,24 +249,24 @@ none_deeper n [] low = refl
 none_deeper n (p ∷ ps) low = let le : p.node.level ≤ n = low in let no : ltb n p.node.level ≡ false = grind (arith, nat_tests) in rw no refl
 
 -- the node at `index` is the next root
-front_of : (t : List ℕ) (index : ℕ) (p : Placed) (ps : List Placed) → drop index (nodes_of t) ≡ p ∷ ps → node_at t index ≡ p
+front_of : (t : List ℕ) (index : ℕ) (p : Placed) (ps : List Placed) → drop index (nodes_of t) ≡ p ∷ ps → node_at (tree t) index ≡ p
 front_of t index p ps e =
     let here : index + 0 ≡ index = omega arith in
     sym (get_or-drop index (nodes_of t) 0 no_node ∙ ap (λ k. get_or (nodes_of t) k no_node) here) ∙ ap (λ ps. get_or ps 0 no_node) e
 
-no_root : (t : List ℕ) (level index : ℕ) (tail : List Placed) → drop index (nodes_of t) ≡ tail → IsLow level tail → index < node_count t → level < (node_at t index).node.level → ⊥
+no_root : (t : List ℕ) (level index : ℕ) (tail : List Placed) → drop index (nodes_of t) ≡ tail → IsLow level tail → index < node_count (tree t) → level < (node_at (tree t) index).node.level → ⊥
 no_root t level index [] e low lt deep = omega (arith, length-drop index (nodes_of t), ap length e)
 no_root t level index (p ∷ ps) e low lt deep =
     let le : p.node.level ≤ level = low in
-    let is : (node_at t index).node.level ≡ p.node.level = ap (λ (p : Placed). p.node.level) (front_of t index p ps e) in
+    let is : (node_at (tree t) index).node.level ≡ p.node.level = ap (λ (p : Placed). p.node.level) (front_of t index p ps e) in
     omega (arith, le, is, deep)
 
 next_of : (states : Keywords) (t title : List ℕ) (up : Option ℕ) (level index : ℕ) (found found2 : Option ℕ) (b : Bool) (n at : ℕ) (rest : Forest) (tail : List Placed)
     → drop index (nodes_of t) ≡ nodes_from at rest ++ tail → AllRoots (λ m. level < m) rest → IsLow level tail → IsForest rest
     → one_more found (titled_roots states title index rest) ≡ the_one (titled_children states t up title)
-    → Tests states t title index b → level < (node_at t index).node.level
-    → n ≡ prefix_len (λ (h : Heading). ltb (node_at t index).node.level h.level) (drop (suc index) (headings_of t))
-    → IfSome found2 (λ i. i < node_count t) → ((more : List ℕ) → one_more found2 more ≡ one_more found (cond b (index ∷ more) more))
+    → Tests states t title index b → level < (node_at (tree t) index).node.level
+    → n ≡ prefix_len (λ (h : Heading). ltb (node_at (tree t) index).node.level h.level) (drop (suc index) (headings_of t))
+    → IfSome found2 (λ i. i < node_count (tree t)) → ((more : List ℕ) → one_more found2 more ≡ one_more found (cond b (index ∷ more) more))
     → Child_walk states t title up level (index + (1 + n)) found2
 next_of states t title up level index found found2 b n at Empty tail split deep low valid answer g lt en within goes = absurd (no_root t level index tail split low g.within lt)
 next_of states t title up level index found found2 b n at (Tree m r s kids later) tail split deep low valid answer g lt en within goes =
@@ -274,7 +274,7 @@ next_of states t title up level index found found2 b n at (Tree m r s kids later
     let k = nodes_from (at + size (own_lines node)) kids in
     let l = nodes_from (at + length (print_node node)) later in
     let all : drop index (nodes_of t) ≡ placed_at at node ∷ (k ++ (l ++ tail)) = split ∙ ap (λ ps. placed_at at node ∷ ps) (append_assoc k l tail) in
-    let here : node_at t index ≡ placed_at at node = front_of t index (placed_at at node) (k ++ (l ++ tail)) all in
+    let here : node_at (tree t) index ≡ placed_at at node = front_of t index (placed_at at node) (k ++ (l ++ tail)) all in
     let less : level < m = deep.0 in
     let one : suc index ≡ index + 1 = omega arith in
     let after : drop (suc index) (nodes_of t) ≡ k ++ (l ++ tail) = ap (λ j. drop j (nodes_of t)) one ∙ sym (drop-drop 1 index (nodes_of t)) ∙ ap (drop 1) all in
@@ -305,14 +305,14 @@ next_of states t title up level index found found2 b n at (Tree m r s kids later
 second_of : (states : Keywords) (t title : List ℕ) (up : Option ℕ) (level index i at : ℕ) (rest : Forest) (tail : List Placed)
     → drop index (nodes_of t) ≡ nodes_from at rest ++ tail → IsLow level tail
     → one_more (Some i) (titled_roots states title index rest) ≡ the_one (titled_children states t up title)
-    → Tests states t title index true → level < (node_at t index).node.level
+    → Tests states t title index true → level < (node_at (tree t) index).node.level
     → Err NotUnique ≡ the_one (titled_children states t up title)
 second_of states t title up level index i at Empty tail split low answer g lt = absurd (no_root t level index tail split low g.within lt)
 second_of states t title up level index i at (Tree m r s kids later) tail split low answer g lt =
     let node = node_of m r s kids in
     let k = nodes_from (at + size (own_lines node)) kids in
     let l = nodes_from (at + length (print_node node)) later in
-    let here : node_at t index ≡ placed_at at node = front_of t index (placed_at at node) ((k ++ l) ++ tail) split in
+    let here : node_at (tree t) index ≡ placed_at at node = front_of t index (placed_at at node) ((k ++ l) ++ tail) split in
     let more = titled_roots states title (suc index + total kids) later in
     let title_is : bytes_eq (title_of states r) title ≡ true = ap (λ (p : Placed). bytes_eq (title_of states p.node.rest) title) (sym here) ∙ g.is in
     ap (λ c. one_more (Some i) (cond c (index ∷ more) more)) (sym title_is) ∙ answer
@@ -320,7 +320,7 @@ second_of states t title up level index i at (Tree m r s kids later) tail split 
 end_of : (states : Keywords) (t title : List ℕ) (up : Option ℕ) (level index at : ℕ) (found : Option ℕ) (rest : Forest) (tail : List Placed)
     → drop index (nodes_of t) ≡ nodes_from at rest ++ tail → AllRoots (λ m. level < m) rest
     → one_more found (titled_roots states title index rest) ≡ the_one (titled_children states t up title)
-    → (index < node_count t → (node_at t index).node.level ≤ level)
+    → (index < node_count (tree t) → (node_at (tree t) index).node.level ≤ level)
     → ok_or found NotFound ≡ the_one (titled_children states t up title)
 end_of states t title up level index at None Empty tail split deep answer stop = answer
 end_of states t title up level index at (Some i) Empty tail split deep answer stop = answer
@@ -328,10 +328,10 @@ end_of states t title up level index at found (Tree m r s kids later) tail split
     let node = node_of m r s kids in
     let k = nodes_from (at + size (own_lines node)) kids in
     let l = nodes_from (at + length (print_node node)) later in
-    let here : node_at t index ≡ placed_at at node = front_of t index (placed_at at node) ((k ++ l) ++ tail) split in
-    let is : (node_at t index).node.level ≡ m = ap (λ (p : Placed). p.node.level) here in
+    let here : node_at (tree t) index ≡ placed_at at node = front_of t index (placed_at at node) ((k ++ l) ++ tail) split in
+    let is : (node_at (tree t) index).node.level ≡ m = ap (λ (p : Placed). p.node.level) here in
     let less : level < m = deep.0 in
-    let some : index < node_count t = omega (arith, ap length split, length-drop index (nodes_of t)) in
+    let some : index < node_count (tree t) = omega (arith, ap length split, length-drop index (nodes_of t)) in
     let le = stop some in
     absurd (omega (arith, le, is, less))
 
@@ -340,15 +340,15 @@ end_of states t title up level index at found (Tree m r s kids later) tail split
 abbrev pub level_at : List Heading → ℕ → Heading → ℕ
 level_at hs index d = (get_or hs index d).level
 
-level_is : (t : List ℕ) (hs : List Heading) (d : Heading) (index : ℕ) → hs ≡ headings_of t → index < node_count t → level_at hs index d ≡ (node_at t index).node.level
+level_is : (t : List ℕ) (hs : List Heading) (d : Heading) (index : ℕ) → hs ≡ headings_of t → index < node_count (tree t) → level_at hs index d ≡ (node_at (tree t) index).node.level
 level_is t hs d index he lt = ap (λ (h : Heading). h.level) (heading_is t index (get_or hs index d) lt (heading_read t index index hs d refl he lt))
 
-in_count : (t : List ℕ) (hs : List Heading) (index : ℕ) → hs ≡ headings_of t → index < length hs → index < node_count t
+in_count : (t : List ℕ) (hs : List Heading) (index : ℕ) → hs ≡ headings_of t → index < length hs → index < node_count (tree t)
 in_count t hs index he lt = omega (arith, lt, ap length he, length-map (nodes_of t) heading_of)
 
-pub child_tests : (states : Keywords) (t title u : List ℕ) (hs : List Heading) (index : ℕ) (r b : Bool) → hs ≡ headings_of t → index < length hs → u ≡ title_of states (node_at t index).node.rest
+pub child_tests : (states : Keywords) (t title u : List ℕ) (hs : List Heading) (index : ℕ) (r b : Bool) → hs ≡ headings_of t → index < length hs → u ≡ title_of states (node_at (tree t) index).node.rest
     → r ≡ bytes_eq u title → r ≡ b → Tests states t title index b
-child_tests states t title u hs index r b he lt ue re is = tests states t title u index (node_count t) r b (in_count t hs index he lt) refl ue re is
+child_tests states t title u hs index r b he lt ue re is = tests states t title u index (node_count (tree t)) r b (in_count t hs index he lt) refl ue re is
 
 pub child_second : (states : Keywords) (t title : List ℕ) (up : Option ℕ) (level index : ℕ) (found : Option ℕ) (hs : List Heading) (d : Heading) (r : Bool) → Child_walk states t title up level index found
     → Tests states t title index true → hs ≡ headings_of t → level < level_at hs index d → r ≡ is_some found → r ≡ true → Err NotUnique ≡ the_one (titled_children states t up title)
@@ -359,11 +359,11 @@ child_second states t title up level index (Some i) hs d r w g he lt re some =
 child_next : (states : Keywords) (t title : List ℕ) (up : Option ℕ) (level index n : ℕ) (found found2 : Option ℕ) (hs : List Heading) (d : Heading) (b : Bool) → Child_walk states t title up level index found
     → Tests states t title index b → hs ≡ headings_of t → level < level_at hs index d
     → n ≡ prefix_len (λ (h : Heading). ltb (level_at hs index d) h.level) (take (length hs - (index + 1)) (drop (index + 1) hs))
-    → IfSome found2 (λ i. i < node_count t) → ((more : List ℕ) → one_more found2 more ≡ one_more found (cond b (index ∷ more) more))
+    → IfSome found2 (λ i. i < node_count (tree t)) → ((more : List ℕ) → one_more found2 more ≡ one_more found (cond b (index ∷ more) more))
     → Child_walk states t title up level (index + (1 + n)) found2
 child_next states t title up level index n found found2 hs d b w g he lt en within goes =
     let is = level_is t hs d index he g.within in
-    let count : n ≡ prefix_len (λ (h : Heading). ltb (node_at t index).node.level h.level) (drop (suc index) (headings_of t)) =
+    let count : n ≡ prefix_len (λ (h : Heading). ltb (node_at (tree t) index).node.level h.level) (drop (suc index) (headings_of t)) =
     en ∙ ap (λ xs. prefix_len (λ (h : Heading). ltb (level_at hs index d) h.level) xs) (later_headings t index index hs refl he)
     ∙ ap (λ k. prefix_len (λ (h : Heading). ltb k h.level) (drop (suc index) (headings_of t))) is in
     next_of states t title up level index found found2 b n w.at w.rest w.tail w.split w.deep w.low w.valid w.answer g (omega (arith, lt, is)) count within goes
@@ -401,7 +401,7 @@ child_stop states t title up level index found hs d r w he le re =
 -- a walk down a path that has come behind `index` titles, to `found`
 pub record Path_walk (states : Keywords) (t : List ℕ) (path : List (Vec ℕ Global)) (index : ℕ) (found : Option ℕ) : Type 0 where
   pub answer : find_below states t (drop index (titles_of path)) found ≡ find_path states t (titles_of path)
-  pub within : ForSome found (λ i. i < node_count t)
+  pub within : ForSome found (λ i. i < node_count (tree t))
 
 pub path_start : (states : Keywords) (t : List ℕ) (path : List (Vec ℕ Global)) → Path_walk states t path 0 None
 path_start states t path = record { answer = refl; within = λ i e. absurd cc }
@@ -417,7 +417,7 @@ path_next states t path index found v u w lt ve ue =
     ∙ ap (λ ps. find_below states t ps found) (sym all) ∙ w.answer
 
 pub path_found : (states : Keywords) (t : List ℕ) (path : List (Vec ℕ Global)) (index : ℕ) (found : Option ℕ) (v : Vec ℕ Global) (u : List ℕ) (r : Result ℕ PathFault) (i : ℕ) → Path_walk states t path index found
-    → index < length path → v ≡ get_or path index v → u ≡ v.items → r ≡ the_one (titled_children states t found u) → r ≡ Ok i → i < node_count t
+    → index < length path → v ≡ get_or path index v → u ≡ v.items → r ≡ the_one (titled_children states t found u) → r ≡ Ok i → i < node_count (tree t)
     → Path_walk states t path (index + 1) (Some i)
 path_found states t path index found v u r i w lt ve ue re is within =
     record {
@@ -442,6 +442,6 @@ path_end states t path index found r w le re =
     re ∙ sym (no_title states t found) ∙ ap (λ ps. find_below states t ps found) (sym none) ∙ w.answer
 
 pub path_within : (states : Keywords) (t : List ℕ) (path : List (Vec ℕ Global)) (index : ℕ) (found : Option ℕ) (r : Result ℕ PathFault) → Path_walk states t path index found
-    → r ≡ ok_or found NotFound → IfOk r (λ i. i < node_count t)
+    → r ≡ ok_or found NotFound → IfOk r (λ i. i < node_count (tree t))
 path_within states t path index None r w re = rw re tt
 path_within states t path index (Some i) r w re = rw re (w.within i refl)

@@ -11,7 +11,7 @@ use Rattle.org_splice.specs.Lines.{closed, print_lines, lines_of}
 use Rattle.org_outline.specs.Text.{heading_line}
 use Rattle.org_outline.specs.Tree.{Forest, Empty, Tree, Node, Document, total, Placed, lines, own_lines, print, print_node, AllRoots, IsForest, IsValid, deeper, others, tree, nodes, nodes_from, node_at, node_count, no_node}
 use Rattle.org_outline.specs.Outline.{headings_of, next_at}
-use Rattle.org_outline.specs.Moves.{IsNode, shift_node, joined, then_trees, put_first, put, put_below, insert, level_below, first_below, nth_node, count_nodes, before, insert_at, insert_level, Inserts, InsertsAt}
+use Rattle.org_outline.specs.Moves.{IsNode, shift_node, joined, then_trees, put_first, put, put_below, insert, level_below, first_below, before, insert_at, Inserts, InsertsAt}
 use Rattle.org_outline.proofs.Lines.{lines_of-lines, print_lines-lines_of}
 use Rattle.org_outline.proofs.Trees.{lines-deeper, joined-empty, deeper-joined, others-joined, valid-tree_of_lines, lines-tree_of_lines}
 use Rattle.org_outline.proofs.Nodes.{print_lines-append, size, size-append, node_of, AllByRecursion-at, place_is, place_is-top}
@@ -188,8 +188,8 @@ before-is : (place : Place) (n : ℕ) (f : Forest) → AllRoots (λ m. n < m) f 
 before-is First n f p = refl
 before-is Last n f p = deeper-all n f p
 
-pub insert_local : (parent : Option ℕ) (place : Place) (node : Node) (d : Document) → ForSome parent (λ i. i < count_nodes d) → IsValid d
-    → Inserts (print d) (print (insert parent place node d)) (insert_at parent place d) (print_node (shift_node (insert_level parent d) node))
+pub insert_local : (parent : Option ℕ) (place : Place) (node : Node) (d : Document) → ForSome parent (λ i. i < node_count d) → IsValid d
+    → Inserts (print d) (print (insert parent place node d)) (insert_at parent place d) (print_node (shift_node (level_below parent d) node))
 insert_local None place node d lt v =
     let new = shift_node 1 node in
     let roots = roots-positive d.forest v.forest in
@@ -199,7 +199,7 @@ insert_local None place node d lt v =
     inserts_same _ _ _ _ _ _ _ refl refl there
     (inserts_forest d.preamble d.forest (put place new d.forest) (size cut) (print_node new) (inserts-put place 0 new d.forest (omega arith) roots))
 insert_local (Some i) place node d lt v =
-    let p = nth_node d i in
+    let p = node_at d i in
     let many : i < total d.forest = omega (arith, lt i refl, total-nodes (size d.preamble) d.forest) in
     let one = put_at place node (size d.preamble) i d.forest v.forest many in
     let deep = (AllByRecursion-at (λ (p : Placed). IsNode p.node) (nodes d) i no_node (nodes-valid (size d.preamble) d.forest v.forest) (lt i refl)).deep in
@@ -212,20 +212,20 @@ insert_local (Some i) place node d lt v =
 
 -- ---- in a text
 
-pub insert_below_is : (t : List ℕ) (i : ℕ) (place : Place) (node : Node) → closed t ≡ t → i < node_count t
-    → InsertsAt t (insert (Some i) place node (tree t)) (next_at (cut_level place (node_at t i).node.level) (drop (suc i) (headings_of t)) (length t)) (shift_node (level_below t (Some i)) node)
+pub insert_below_is : (t : List ℕ) (i : ℕ) (place : Place) (node : Node) → closed t ≡ t → i < node_count (tree t)
+    → InsertsAt t (insert (Some i) place node (tree t)) (next_at (cut_level place (node_at (tree t) i).node.level) (drop (suc i) (headings_of t)) (length t)) (shift_node (level_below (Some i) (tree t)) node)
 insert_below_is t i place node c lt =
     let d = tree t in
     let v = valid-tree_of_lines (lines_of t) (lines_of-lines t) in
     let many : i < total d.forest = omega (arith, total-nodes (size d.preamble) d.forest) in
     let one = put_at place node (size d.preamble) i d.forest v.forest many in
     let whole : print_lines (d.preamble ++ lines d.forest) ≡ t = ap print_lines (lines-tree_of_lines (lines_of t)) ∙ print_lines-lines_of t ∙ c in
-    let low : (q : Place) → (node_at t i).node.level ≤ cut_level q (node_at t i).node.level = λ q. elim q as (λ q. (node_at t i).node.level ≤ cut_level q (node_at t i).node.level) [ First ↦ omega arith | Last ↦ omega arith ] in
-    let there = place_is t i (cut_level place (node_at t i).node.level) c lt (low place) in
+    let low : (q : Place) → (node_at (tree t) i).node.level ≤ cut_level q (node_at (tree t) i).node.level = λ q. elim q as (λ q. (node_at (tree t) i).node.level ≤ cut_level q (node_at (tree t) i).node.level) [ First ↦ omega arith | Last ↦ omega arith ] in
+    let there = place_is t i (cut_level place (node_at (tree t) i).node.level) c lt (low place) in
     inserts_same _ _ _ _ _ _ _ whole refl (one.there ∙ sym there) (inserts_forest d.preamble d.forest (put_below i place node d.forest) one.k _ one.inserts)
 
 pub insert_top_is : (t : List ℕ) (place : Place) (node : Node) → closed t ≡ t
-    → InsertsAt t (insert None place node (tree t)) (next_at (cut_level place 0) (headings_of t) (length t)) (shift_node (level_below t None) node)
+    → InsertsAt t (insert None place node (tree t)) (next_at (cut_level place 0) (headings_of t) (length t)) (shift_node (level_below None (tree t)) node)
 insert_top_is t place node c =
     let d = tree t in
     let v = valid-tree_of_lines (lines_of t) (lines_of-lines t) in
@@ -236,15 +236,15 @@ insert_top_is t place node c =
 
 -- the same as the code says it
 pub place_found : (t u : List ℕ) (parent : Option ℕ) (place : Place) (first : ℕ × ℕ) (hs : List Heading) (at : ℕ) → u ≡ t → closed t ≡ t → hs ≡ headings_of t
-    → ForSome parent (λ i. i < node_count t) → first ≡ first_below t parent → at ≡ next_at (cut_level place first.1) (take (length hs - first.0) (drop first.0 hs)) (length u)
-    → (node : Node) → InsertsAt t (insert parent place node (tree t)) at (shift_node (level_below t parent) node)
+    → ForSome parent (λ i. i < node_count (tree t)) → first ≡ first_below t parent → at ≡ next_at (cut_level place first.1) (take (length hs - first.0) (drop first.0 hs)) (length u)
+    → (node : Node) → InsertsAt t (insert parent place node (tree t)) at (shift_node (level_below parent (tree t)) node)
 place_found t u None place first hs at ue c he lt fe e node =
     let there : next_at (cut_level place 0) (headings_of t) (length t) ≡ at =
     sym (e ∙ ap (λ (f : ℕ × ℕ). next_at (cut_level place f.1) (take (length hs - f.0) (drop f.0 hs)) (length u)) fe
     ∙ ap (λ hs. next_at (cut_level place 0) hs (length u)) (take_rest hs 0 ∙ he) ∙ ap (λ u. next_at (cut_level place 0) (headings_of t) (length u)) ue) in
     inserts_same _ _ _ _ _ _ _ refl refl there (insert_top_is t place node c)
 place_found t u (Some i) place first hs at ue c he lt fe e node =
-    let level = (node_at t i).node.level in
+    let level = (node_at (tree t) i).node.level in
     let there : next_at (cut_level place level) (drop (suc i) (headings_of t)) (length t) ≡ at =
     sym (e ∙ ap (λ (f : ℕ × ℕ). next_at (cut_level place f.1) (take (length hs - f.0) (drop f.0 hs)) (length u)) fe
     ∙ ap (λ hs. next_at (cut_level place level) hs (length u)) (take_rest hs (i + 1) ∙ ap (λ k. drop k hs) (add-one i) ∙ ap (drop (suc i)) he) ∙ ap (λ u. next_at (cut_level place level) (drop (suc i) (headings_of t)) (length u)) ue) in

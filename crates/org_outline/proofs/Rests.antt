@@ -2,13 +2,14 @@
 use Rattle.std.proofs.Common.{◌≡◌, ℕ, suc, ◌+◌, ◌<◌, ◌≤◌, List, ◌∷◌, ◌++◌, length, drop, take, get_or, Option, Some, None, sym, ap, subst, ◌∙◌, append_assoc, arith, eq-eqb, refl}
 use Rattle.std.specs.Prelude.{replicate}
 use Rattle.std.proofs.lemmas.Bool.{eqb-true}
-use Rattle.std.proofs.lemmas.List.{length-append, length-drop, length-replicate, take_at, drop_at, drop-drop, get_or_at}
+use Rattle.std.proofs.lemmas.List.{length-append, length-drop, length-replicate, take_at, drop_at, drop-drop, get_or_at, take_all}
 use Rattle.memchr.specs.Find.{IsFirstByte, is_byte}
 use Rattle.org_outline.specs.declared.heads.Heading.{Heading}
 use Rattle.org_splice.specs.Lines.{closed, print_lines, IsLine}
 use Rattle.org_outline.specs.Text.{heading_line}
-use Rattle.org_outline.specs.Tree.{lines, node_at, node_count}
+use Rattle.org_outline.specs.Tree.{lines, tree, node_at, node_count}
 use Rattle.org_outline.specs.Outline.{headings_of}
+use Rattle.org_outline.proofs.LineWalk.{line_of, cut_found}
 use Rattle.org_outline.proofs.Nodes.{heading_read, heading_is}
 use Rattle.org_outline.proofs.Sections.{node-valid, first_newline, from_node}
 
@@ -38,18 +39,32 @@ rest_none t u start level r ue h is rest more p split =
     let g = subst Q (ue ∙ behind t start level rest more split) (subst P is h.first) in
     g (length rest) (omega arith) (omega (arith, length-append rest (10 ∷ more))) (eq-eqb (get_or (rest ++ 10 ∷ more) (length rest) 0) 10 (get_or_at rest 10 more 0 (length rest) refl))
 
+-- what was found is the line up to its newline
+pub line_found : (u s : List ℕ) (e : ℕ) (r : Option ℕ) → Looked u r → r ≡ Some e → s ≡ take e u → IsLine s × ((more : List ℕ) × (u ≡ s ++ 10 ∷ more))
+line_found u s e r h is se =
+    let P : Option ℕ → Type 0 = λ r. IsFirstByte (is_byte 10) u r in
+    let c = cut_found u e (subst P is h.first) in
+    (subst IsLine (sym se) c.line, (drop (suc e) u, c.parts ∙ ap (λ l. l ++ 10 ∷ drop (suc e) u) (sym se)))
+
+-- and where there is none, all
+pub line_whole : (u : List ℕ) (r : Option ℕ) → Looked u r → r ≡ None → IsLine u
+line_whole u r h is =
+    let P : Option ℕ → Type 0 = λ r. IsFirstByte (is_byte 10) u r in
+    let g = subst P is h.first in
+    subst IsLine (take_all (length u) u (omega arith)) (line_of (length u) u (λ k lt ten. g k (omega arith) lt (eq-eqb (get_or u k 0) 10 ten)))
+
 -- the same as the code says it
 record Stands (t : List ℕ) (i : ℕ) (h : Heading) : Type 0 where
   more : List ℕ
-  split : drop h.start t ≡ heading_line h.level (node_at t i).node.rest ++ 10 ∷ more
+  split : drop h.start t ≡ heading_line h.level (node_at (tree t) i).node.rest ++ 10 ∷ more
   room : h.start + h.level ≤ length t
 
-stands : (t : List ℕ) (i j : ℕ) (hs : List Heading) (d : Heading) → closed t ≡ t → j ≡ i → hs ≡ headings_of t → i < node_count t → Stands t i (get_or hs j d)
+stands : (t : List ℕ) (i j : ℕ) (hs : List Heading) (d : Heading) → closed t ≡ t → j ≡ i → hs ≡ headings_of t → i < node_count (tree t) → Stands t i (get_or hs j d)
 stands t i j hs d c je he lt =
     let h = get_or hs j d in
     let read = heading_read t i j hs d je he lt in
-    let level : h.level ≡ (node_at t i).node.level = ap (λ (g : Heading). g.level) (heading_is t i h lt read) in
-    let n = (node_at t i).node in
+    let level : h.level ≡ (node_at (tree t) i).node.level = ap (λ (g : Heading). g.level) (heading_is t i h lt read) in
+    let n = (node_at (tree t) i).node in
     let m = from_node t i h c lt read in
     let below = print_lines (n.section ++ lines n.children) in
     let l = heading_line h.level n.rest in
@@ -59,12 +74,12 @@ stands t i j hs d c je he lt =
     let stars : length l ≡ h.level + length n.rest = length-append (replicate h.level 42) n.rest ∙ ap (λ k. k + length n.rest) (length-replicate h.level 42) in
     record { more = below ++ m.0; split = split; room = omega (arith, long, stars, length-drop h.start t) }
 
-pub rest_room : (t u : List ℕ) (i j : ℕ) (hs : List Heading) (d : Heading) → u ≡ t → closed t ≡ t → j ≡ i → hs ≡ headings_of t → i < node_count t → (get_or hs j d).start + (get_or hs j d).level ≤ length u
+pub rest_room : (t u : List ℕ) (i j : ℕ) (hs : List Heading) (d : Heading) → u ≡ t → closed t ≡ t → j ≡ i → hs ≡ headings_of t → i < node_count (tree t) → (get_or hs j d).start + (get_or hs j d).level ≤ length u
 rest_room t u i j hs d ue c je he lt = let s = stands t i j hs d c je he lt in let room = s.room in omega (arith, room, ap length ue)
 
-pub rest_at : (t u s : List ℕ) (i j : ℕ) (hs : List Heading) (d : Heading) → u ≡ t → closed t ≡ t → j ≡ i → hs ≡ headings_of t → i < node_count t
+pub rest_at : (t u s : List ℕ) (i j : ℕ) (hs : List Heading) (d : Heading) → u ≡ t → closed t ≡ t → j ≡ i → hs ≡ headings_of t → i < node_count (tree t)
     → ((rest more : List ℕ) → IsLine rest → drop (get_or hs j d).start u ≡ heading_line (get_or hs j d).level rest ++ 10 ∷ more → s ≡ rest)
-    → s ≡ (node_at t i).node.rest
+    → s ≡ (node_at (tree t) i).node.rest
 rest_at t u s i j hs d ue c je he lt found =
     let st = stands t i j hs d c je he lt in
-    found (node_at t i).node.rest st.more (node-valid t i lt).heading.rest (ap (drop (get_or hs j d).start) ue ∙ st.split)
+    found (node_at (tree t) i).node.rest st.more (node-valid t i lt).heading.rest (ap (drop (get_or hs j d).start) ue ∙ st.split)

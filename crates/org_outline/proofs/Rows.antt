@@ -79,7 +79,7 @@ unfolding new
 shifted = refl
 
 -- a difference of levels is kept
-shifted_skipping : print_node (shift_node 2 (node_at deep 0).node) ≡ line (codes "** A") ++ line (codes "**** X")
+shifted_skipping : print_node (shift_node 2 (node_at (tree deep) 0).node) ≡ line (codes "** A") ++ line (codes "**** X")
 unfolding deep
 shifted_skipping = refl
 

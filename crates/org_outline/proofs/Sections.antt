@@ -25,7 +25,7 @@ nodes-valid at (Tree n r s kids later) v =
           (nodes-valid (at + size (own_lines node)) kids v.2) (nodes-valid (at + length (print_node node)) later v.4),
     )
 
-pub node-valid : (t : List ℕ) (i : ℕ) → i < node_count t → IsNode (node_at t i).node
+pub node-valid : (t : List ℕ) (i : ℕ) → i < node_count (tree t) → IsNode (node_at (tree t) i).node
 node-valid t i lt =
     let d = tree t in
     AllByRecursion-at (λ (p : Placed). IsNode p.node) (nodes_of t) i no_node (nodes-valid (size d.preamble) d.forest (valid-tree_of_lines (lines_of t) (lines_of-lines t)).forest) lt
@@ -56,18 +56,18 @@ line_none t start r h is l more p split =
     g (length l) (omega arith) (omega (arith, length-append l (10 ∷ more))) (eq-eqb (get_or (l ++ 10 ∷ more) (length l) 0) 10 (get_or_at l 10 more 0 (length l) refl))
 
 -- the text from a node on
-pub from_node : (t : List ℕ) (i : ℕ) (h : Heading) → closed t ≡ t → i < node_count t → h ≡ get_or (headings_of t) i h → (more : List ℕ) × (drop h.start t ≡ print_node (node_at t i).node ++ more)
+pub from_node : (t : List ℕ) (i : ℕ) (h : Heading) → closed t ≡ t → i < node_count (tree t) → h ≡ get_or (headings_of t) i h → (more : List ℕ) × (drop h.start t ≡ print_node (node_at (tree t) i).node ++ more)
 from_node t i h c lt e =
     let s = subtree_is t i h c lt e in
     let k = next_at h.level (drop (suc i) (headings_of t)) (length t) - h.start in
     (drop k (drop h.start t), sym (take-append-drop k (drop h.start t)) ∙ ap (λ x. x ++ drop k (drop h.start t)) s.bytes)
 
 -- what the code answers
-pub section_is : (t : List ℕ) (i : ℕ) (h : Heading) (from : ℕ) → closed t ≡ t → i < node_count t → h ≡ get_or (headings_of t) i h
+pub section_is : (t : List ℕ) (i : ℕ) (h : Heading) (from : ℕ) → closed t ≡ t → i < node_count (tree t) → h ≡ get_or (headings_of t) i h
     → ((l more : List ℕ) → IsLine l → drop h.start t ≡ l ++ 10 ∷ more → from ≡ h.start + length l + 1)
-    → IsSection t (node_at t i) (record { start = from; end = start_or (drop (suc i) (headings_of t)) (length t) })
+    → IsSection t (node_at (tree t) i) (record { start = from; end = start_or (drop (suc i) (headings_of t)) (length t) })
 section_is t i h from c lt e found =
-    let p = node_at t i in
+    let p = node_at (tree t) i in
     let n = p.node in
     let v = (node-valid t i lt).heading in
     let l = heading_line n.level n.rest in
@@ -93,22 +93,22 @@ section_is t i h from c lt e found =
     }
 
 -- the same as the code says it
-pub section_at : (t u : List ℕ) (i j : ℕ) (hs : List Heading) (d : Heading) (from end : ℕ) → u ≡ t → closed t ≡ t → j ≡ i → hs ≡ headings_of t → i < node_count t
+pub section_at : (t u : List ℕ) (i j : ℕ) (hs : List Heading) (d : Heading) (from end : ℕ) → u ≡ t → closed t ≡ t → j ≡ i → hs ≡ headings_of t → i < node_count (tree t)
     → ((l more : List ℕ) → IsLine l → drop (get_or hs j d).start u ≡ l ++ 10 ∷ more → from ≡ (get_or hs j d).start + length l + 1)
     → end ≡ start_or (take (length hs - (j + 1)) (drop (j + 1) hs)) (length u)
-    → IsSection t (node_at t i) (record { start = from; end = end })
+    → IsSection t (node_at (tree t) i) (record { start = from; end = end })
 section_at t u i j hs d from end ue c je he lt found ee =
     let h = get_or hs j d in
     let ends : start_or (drop (suc i) (headings_of t)) (length t) ≡ end =
     sym (ee ∙ ap (λ xs. start_or xs (length u)) (later_headings t i j hs je he) ∙ ap (λ u. start_or (drop (suc i) (headings_of t)) (length u)) ue) in
-    let E : ℕ → Type 0 = λ end. IsSection t (node_at t i) (record { start = from; end = end }) in
+    let E : ℕ → Type 0 = λ end. IsSection t (node_at (tree t) i) (record { start = from; end = end }) in
     let line : (l more : List ℕ) → IsLine l → drop h.start t ≡ l ++ 10 ∷ more → from ≡ h.start + length l + 1 = λ l more p split. found l more p (ap (drop h.start) ue ∙ split) in
     subst E ends (section_is t i h from c lt (heading_read t i j hs d je he lt) line)
 
-pub start_room : (t u : List ℕ) (i j : ℕ) (hs : List Heading) (d : Heading) → u ≡ t → closed t ≡ t → j ≡ i → hs ≡ headings_of t → i < node_count t → (get_or hs j d).start ≤ length u
+pub start_room : (t u : List ℕ) (i j : ℕ) (hs : List Heading) (d : Heading) → u ≡ t → closed t ≡ t → j ≡ i → hs ≡ headings_of t → i < node_count (tree t) → (get_or hs j d).start ≤ length u
 start_room t u i j hs d ue c je he lt =
     let h = get_or hs j d in
     let m = from_node t i h c lt (heading_read t i j hs d je he lt) in
-    let n = (node_at t i).node in
+    let n = (node_at (tree t) i).node in
     let some : 0 < length (print_node n ++ m.0) = omega (arith, length-append (print_node n) m.0, size-cons (heading_line n.level n.rest) (n.section ++ lines n.children)) in
     omega (arith, some, ap length m.1, length-drop h.start t, ap length ue)

@@ -5,7 +5,7 @@ use Rattle.std.specs.List.{AllByRecursion}
 use Rattle.std.proofs.lemmas.List.{append-nil, map-append, take_rest}
 use Rattle.org_splice.specs.Lines.{closed, print_lines, IsLine, lines_of}
 use Rattle.org_outline.specs.Text.{stars, begins_with_space, level_of, heading_line}
-use Rattle.org_outline.specs.Tree.{Forest, Empty, Tree, Node, lines, own_lines, print_node, IsPlain, IsForest, node_at}
+use Rattle.org_outline.specs.Tree.{Forest, Empty, Tree, Node, lines, own_lines, print_node, IsPlain, IsForest, tree, node_at}
 use Rattle.org_outline.specs.Moves.{IsNode, IsPrinted, shifted, shift_node}
 use Rattle.org_outline.proofs.Lines.{AllByRecursion-append, lines_of-print_lines, level_of-heading, drop-heading, stars-heading}
 use Rattle.org_outline.proofs.Trees.{lines-are, IsPlain-lines, IsLine-heading}
@@ -73,7 +73,7 @@ pub record Shifting (bytes : List ℕ) (root level start : ℕ) (out : List ℕ)
 pub shifting_none : (bytes : List ℕ) (root level : ℕ) → IsPrinted bytes → Shifting bytes root level 0 []
 shifting_none bytes root level p =
     let P : List ℕ → Type 0 = λ t. closed t ≡ t in
-    let n = (node_at bytes 0).node in
+    let n = (node_at (tree bytes) 0).node in
     record { within = omega arith; rest = subst P p.1 (closed-print_lines (own_lines n ++ lines n.children)); all = refl }
 
 shifting_more : (bytes : List ℕ) (root level start e : ℕ) (out : List ℕ) → Shifting bytes root level start out → Steps bytes start e
@@ -126,10 +126,10 @@ shifting_heading bytes root level start e m r o out out1 out2 out3 s h is ol on 
     subst P (sym total) (shifting_more bytes root level start e out s st)
 
 pub shifting_all : (bytes : List ℕ) (root level start : ℕ) (r : Option ℕ) (out : List ℕ) → Shifting bytes root level start out → Found bytes start r → r ≡ None
-    → root ≡ stars bytes → IsPrinted bytes → out ≡ print_node (shift_node level (node_at bytes 0).node)
+    → root ≡ stars bytes → IsPrinted bytes → out ≡ print_node (shift_node level (node_at (tree bytes) 0).node)
 shifting_all bytes root level start r out s h is re p =
     let none = found_in bytes start r None h is in
     let t = drop start bytes in
     let empty : t ≡ [] = no_line t (λ k lt same. none k (omega arith) lt (eq-eqb (get_or t k 0) 10 same)) s.rest in
     sym (append-nil out) ∙ ap (λ t. out ++ print_lines (map (shift_line root level) (lines_of t))) (sym empty) ∙ s.all
-    ∙ ap (λ root. print_lines (map (shift_line root level) (lines_of bytes))) re ∙ shift_is bytes level (node_at bytes 0).node (node-valid bytes 0 p.0) (sym p.1)
+    ∙ ap (λ root. print_lines (map (shift_line root level) (lines_of bytes))) re ∙ shift_is bytes level (node_at (tree bytes) 0).node (node-valid bytes 0 p.0) (sym p.1)

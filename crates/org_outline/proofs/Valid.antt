@@ -110,13 +110,13 @@ tree-print d v =
     sym (one_tree (print d) d is)
 
 -- the one node of its print
-pub node-print : (node : Node) → IsNode node → ((node_at (print_node node) 0).node ≡ node) × IsPrinted (print_node node)
+pub node-print : (node : Node) → IsNode node → ((node_at (tree (print_node node)) 0).node ≡ node) × IsPrinted (print_node node)
 node-print node v =
     let d : Document = record { preamble = []; forest = then_trees node Empty } in
     let valid : IsValid d = record { preamble = tt; forest = (v.heading, v.deep, v.children, tt, tt) } in
     let same : print d ≡ print_node node = ap (λ ls. print_lines (heading_line node.level node.rest ∷ node.section ++ ls)) (append-nil (lines node.children)) in
     let is : tree (print_node node) ≡ d = ap tree (sym same) ∙ tree-print d valid in
-    let one : (node_at (print_node node) 0).node ≡ node = ap (λ (d : Document). (get_or (nodes d) 0 no_node).node) is in
+    let one : (node_at (tree (print_node node)) 0).node ≡ node = ap (λ (d : Document). (get_or (nodes d) 0 no_node).node) is in
     let pos : 0 < length (nodes d) = omega arith in
-    let some : node_count (print_node node) ≡ length (nodes d) = ap (λ (d : Document). length (nodes d)) is in
+    let some : node_count (tree (print_node node)) ≡ length (nodes d) = ap (λ (d : Document). length (nodes d)) is in
     (one, (subst (λ (k : ℕ). 0 < k) (sym some) pos, ap print_node one))

@@ -1,9 +1,9 @@
 -- A subtree moved to another level, and put into a document (Org manual, "Structure Editing" and "Refile and Copy").
-use Rattle.std.specs.Prelude.{◌≡◌, ℕ, zero, suc, ◌+◌, ◌-◌, ◌<◌, ◌==◌, nat_lt, List, [], ◌++◌, length, Option, None, Some, slice_index_or, if◌then◌else◌}
+use Rattle.std.specs.Prelude.{◌≡◌, ℕ, zero, suc, ◌+◌, ◌-◌, ◌<◌, ◌==◌, nat_lt, List, [], ◌++◌, length, Option, None, Some, if◌then◌else◌}
 use Rattle.org_outline.specs.declared.moves.Place.{Place}
 use Rattle.org_outline.specs.declared.moves.Place.TheVariants.{First, Last}
 use Rattle.org_splice.specs.Lines.{print_lines}
-use Rattle.org_outline.specs.Tree.{Forest, Empty, Tree, Node, Document, AllRoots, IsHeading, IsForest, Placed, lines, own_lines, print_node, print, deeper, nodes, no_node, node_at, node_count, total}
+use Rattle.org_outline.specs.Tree.{Forest, Empty, Tree, Node, Document, AllRoots, IsHeading, IsForest, Placed, lines, own_lines, print_node, print, deeper, tree, node_at, node_count, total}
 
 -- a valid tree
 pub record IsNode (node : Node) : Type 0 where
@@ -13,7 +13,7 @@ pub record IsNode (node : Node) : Type 0 where
 
 -- the text is the print of its first node, and has one
 abbrev pub IsPrinted : List ℕ → Type 0
-IsPrinted t = (0 < node_count t) × (print_node (node_at t 0).node ≡ t)
+IsPrinted t = (0 < node_count (tree t)) × (print_node (node_at (tree t) 0).node ≡ t)
 
 -- every level moved as n is moved to `level`
 abbrev pub shifted : ℕ → ℕ → Forest → Forest
@@ -57,14 +57,14 @@ insert None place node d = record { preamble = d.preamble; forest = put place (s
 insert (Some i) place node d = record { preamble = d.preamble; forest = put_below i place node d.forest }
 
 -- the level of what is put below a node, or at top level
-abbrev pub level_below : List ℕ → Option ℕ → ℕ
-level_below t None = 1
-level_below t (Some i) = (node_at t i).node.level + 1
+abbrev pub level_below : Option ℕ → Document → ℕ
+level_below None d = 1
+level_below (Some i) d = (node_at d i).node.level + 1
 
 -- the number of the first node after a parent, and the parent's level
 abbrev pub first_below : List ℕ → Option ℕ → ℕ × ℕ
 first_below t None = (0, 0)
-first_below t (Some i) = (i + 1, (node_at t i).node.level)
+first_below t (Some i) = (i + 1, (node_at (tree t) i).node.level)
 
 -- new is old with these bytes put in at k
 pub record Inserts (old new : List ℕ) (k : ℕ) (added : List ℕ) : Type 0 where
@@ -130,13 +130,6 @@ heading_behind n rest (Tree m r s kids (Tree m2 r2 s2 kids2 later)) = Tree m r s
 abbrev pub append_heading : ℕ → List ℕ → Document → Document
 append_heading level rest d = record { preamble = d.preamble; forest = heading_behind level rest d.forest }
 
--- the node of a document at a number, and how many there are
-abbrev pub nth_node : Document → ℕ → Placed
-nth_node d i = slice_index_or (nodes d) i no_node
-
-abbrev pub count_nodes : Document → ℕ
-count_nodes d = length (nodes d)
-
 -- the trees that stay before a tree put among them, one level below n
 abbrev pub before : Place → ℕ → Forest → Forest
 before First n f = deeper (n + 1) f
@@ -146,13 +139,8 @@ before Last n f = f
 abbrev pub insert_at : Option ℕ → Place → Document → ℕ
 insert_at None place d = length (print_lines (d.preamble ++ lines (before place 0 d.forest)))
 insert_at (Some i) place d =
-    let p : Placed = nth_node d i in
+    let p : Placed = node_at d i in
     p.at + length (print_lines (own_lines p.node ++ lines (before place p.node.level p.node.children)))
-
--- the level of what is put there
-abbrev pub insert_level : Option ℕ → Document → ℕ
-insert_level None d = 1
-insert_level (Some i) d = (nth_node d i).node.level + 1
 
 -- new is old with these bytes at k replaced by others
 pub record Replaces (old new : List ℕ) (k : ℕ) (removed added : List ℕ) : Type 0 where

@@ -38,9 +38,9 @@ start_or [] end = end
 start_or (h ∷ hs) end = h.start
 
 -- the number of the last of these headings whose level is less than n; i is the number of the first, and `best` what was found before
-abbrev pub last_below : ℕ → ℕ → Option ℕ → List Heading → Option ℕ
-last_below n i best [] = best
-last_below n i best (h ∷ hs) = last_below n (suc i) (if nat_lt h.level n then Some i else best) hs
+abbrev pub last_above : ℕ → ℕ → Option ℕ → List Heading → Option ℕ
+last_above n i best [] = best
+last_above n i best (h ∷ hs) = last_above n (suc i) (if nat_lt h.level n then Some i else best) hs
 
 -- ---- the headings of a part of a text
 

@@ -1,5 +1,6 @@
 -- The parts of a heading line: "STARS KEYWORD PRIORITY TITLE TAGS" (Org Syntax, "Headings").
 use Rattle.std.specs.Prelude.{◌≡◌, ℕ, ◌-◌, Bool, true, false, ◌&&◌, ◌||◌, not, ◌==◌, nat_lt, nat_le, List, [], ◌∷◌, length, take, drop, if◌then◌else◌}
+use Rattle.std.specs.Char.{is_ascii_alphanumeric}
 use Rattle.std.specs.List.{prefix_len, suffix_len}
 use Rattle.org_outline.specs.declared.parts.HeadParts.{HeadParts}
 use Rattle.org_outline.specs.States.{Keywords, has_word}
@@ -41,18 +42,14 @@ end_of test l = drop (length l - suffix_len test l) l
 abbrev pub keyword_of : Keywords → List ℕ → List ℕ
 keyword_of states l = if has_word states.active (front is_solid l) || has_word states.done (front is_solid l) then front is_solid l else []
 
--- an ASCII letter or digit
-abbrev pub is_letter : ℕ → Bool
-is_letter b = nat_le 48 b && nat_le b 57 || nat_le 65 b && nat_le b 90 || nat_le 97 b && nat_le b 122
-
--- `[#X]` in front, X a letter or a digit
+-- `[#X]` in front, X an ASCII letter or digit
 abbrev pub priority_of : List ℕ → List ℕ
-priority_of (a ∷ b ∷ x ∷ c ∷ l) = if a == 91 && b == 35 && is_letter x && c == 93 then a ∷ b ∷ x ∷ c ∷ [] else []
+priority_of (a ∷ b ∷ x ∷ c ∷ l) = if a == 91 && b == 35 && is_ascii_alphanumeric x && c == 93 then a ∷ b ∷ x ∷ c ∷ [] else []
 priority_of l = []
 
--- a byte of a tag: a letter, a digit, one of `_@#%`, or one of a letter beyond ASCII
+-- a byte of a tag: an ASCII letter or digit, one of `_@#%`, or one of a letter beyond ASCII
 abbrev pub is_tag_byte : ℕ → Bool
-is_tag_byte b = is_letter b || b == 95 || b == 64 || b == 35 || b == 37 || nat_le 128 b
+is_tag_byte b = is_ascii_alphanumeric b || b == 95 || b == 64 || b == 35 || b == 37 || nat_le 128 b
 
 -- nonempty tags, each with a colon behind it; `inside` says whether a tag has begun
 abbrev pub are_closed_tags : Bool → List ℕ → Bool

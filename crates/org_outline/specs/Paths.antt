@@ -27,7 +27,7 @@ titled_roots states title i (Tree n r s kids later) =
 -- the numbers of the children of a node, or of the roots, with a title, whatever their level
 abbrev pub titled_children : Keywords → List ℕ → Option ℕ → List ℕ → List ℕ
 titled_children states t None title = titled_roots states title 0 (tree t).forest
-titled_children states t (Some i) title = titled_roots states title (suc i) (node_at t i).node.children
+titled_children states t (Some i) title = titled_roots states title (suc i) (node_at (tree t) i).node.children
 
 -- the one of them
 abbrev pub the_one : List ℕ → Result ℕ PathFault

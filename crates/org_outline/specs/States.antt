@@ -1,6 +1,7 @@
 -- The states that a TODO keyword may name (Org manual, "TODO keywords as workflow states"): active ones, and done ones.
 use Rattle.std.specs.Borrow.{Bor}
 use Rattle.std.specs.Prelude.{ℕ, Bool, true, ◌&&◌, ◌||◌, not, ◌==◌, nat_le, ◌+◌, map, List, [], ◌∷◌, ◌++◌, length}
+use Rattle.std.specs.Char.{is_ascii_alphanumeric}
 use Rattle.std.specs.List.{list_any, list_all}
 use Rattle.std.specs.Str.{bytes_eq}
 
@@ -10,7 +11,7 @@ pub record Keywords : Type 0 where
 
 -- an ASCII letter or digit, an underscore or a hyphen
 abbrev pub is_state_byte : ℕ → Bool
-is_state_byte b = nat_le 48 b && nat_le b 57 || nat_le 65 b && nat_le b 90 || nat_le 97 b && nat_le b 122 || b == 95 || b == 45
+is_state_byte b = is_ascii_alphanumeric b || b == 95 || b == 45
 
 -- 1 to 24 of these bytes
 abbrev pub is_state_word : List ℕ → Bool

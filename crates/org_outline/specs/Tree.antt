@@ -113,15 +113,16 @@ no_node =
     let node : Node = record { level = 0; rest = []; section = []; children = Empty } in
     record { at = 0; node = node }
 
--- the nodes of a text, the node at a number in document order, and how many there are
+-- the node of a document at a number in document order, and how many there are
+abbrev pub node_at : Document → ℕ → Placed
+node_at d i = slice_index_or (nodes d) i no_node
+
+abbrev pub node_count : Document → ℕ
+node_count d = length (nodes d)
+
+-- the nodes of a text
 abbrev pub nodes_of : List ℕ → List Placed
 nodes_of t = nodes (tree t)
-
-abbrev pub node_at : List ℕ → ℕ → Placed
-node_at t i = slice_index_or (nodes_of t) i no_node
-
-abbrev pub node_count : List ℕ → ℕ
-node_count t = length (nodes_of t)
 
 -- how many nodes there are
 abbrev pub total : Forest → ℕ

@@ -2,7 +2,7 @@
 ghost use Rattle.std.specs.Prelude.{◌≡◌, ◌+◌, ◌++◌, ◌<◌, ◌≤◌, ◌^◌, take, drop, vec_len, IfOk, OnOk, OnErr, None, length, map, true, nat_lt};
 ghost use Rattle.std.specs.List.{prefix_len, AllByRecursion};
 ghost use Rattle.org_splice.specs.Lines.{closed};
-ghost use Rattle.org_outline.specs.Outline.{headings_of, heads_from, next_at, last_below, start_or, IsEdit, CanMove, moved};
+ghost use Rattle.org_outline.specs.Outline.{headings_of, heads_from, next_at, last_above, start_or, IsEdit, CanMove, moved};
 
 use crate::text::{has_space, is_line_start, line_end, line_start, star_count};
 use memchr::memchr;
@@ -12,7 +12,9 @@ use std::marker::Model;
 /// Where a heading line begins in a text, and its level.
 #[derive(Clone, Copy, Debug, PartialEq, Eq)]
 pub(crate) struct Heading {
+    /// The byte at which the line begins.
     pub(crate) start: usize,
+    /// The count of its stars, from 1 on.
     pub(crate) level: usize,
 }
 
@@ -36,6 +38,7 @@ pub(crate) fn scan(alloc: Global, text: &[u8], base: usize) -> Result<Vec<Headin
     }
     Ok(headings)
 }
+
 /// The places and levels of the headings of a closed text, kept apart from it. A clause sees their
 /// list.
 #[derive(Drop)]
@@ -53,7 +56,7 @@ impl Model for Heads {
 }
 
 impl Heads {
-    /// The headings of a closed text, in one pass.
+    /// The headings of a closed text, in one pass. An error where memory ran out.
     pub fn read(alloc: Global, text: &[u8]) -> Result<Heads, AllocError>
         requires { closed text.now ≡ text.now }
         ensures { IfOk result (λ heads. heads ≡ headings_of text.now) }
@@ -62,7 +65,7 @@ impl Heads {
         Ok(Heads { headings })
     }
 
-    /// The same headings again.
+    /// The same headings again. An error where memory ran out.
     pub fn copy(&self) -> Result<Heads, AllocError>
         ensures { IfOk result (λ heads. heads ≡ self.now) }
     {
@@ -99,6 +102,7 @@ impl Heads {
         Ok(())
     }
 
+    /// The headings, in document order.
     pub(crate) fn as_slice(&self) -> &[Heading]
         ensures { result.now ≡ self.now }
     {
@@ -130,7 +134,7 @@ pub(crate) fn first_start(headings: &[Heading], end: usize) -> usize
 
 /// The number of the last of the headings that has a lower level.
 pub(crate) fn last_above(headings: &[Heading], level: usize) -> Option<usize>
-    ensures { result ≡ last_below level 0 None headings.now }
+    ensures { result ≡ last_above level 0 None headings.now }
 {
     for index in (0..headings.len()).rev() {
         if headings[index].level < level {

@@ -38,12 +38,12 @@ fn moved_level(own: usize, root: usize, level: usize) -> usize
 }
 
 /// The print of a node with its root at another level, from 1 to 2^63 - 1, and its descendants moved
-/// by the same amount.
+/// by the same amount (Org manual, "Structure Editing"). An error where memory ran out.
 pub fn shift(alloc: Global, bytes: &[u8], level: usize) -> Result<Vec<u8>, AllocError>
     requires node { IsPrinted bytes.now }
     requires low { 1 ≤ level }
     requires high { level < 2 ^ 63 }
-    ensures { IfOk result (λ shifted. shifted.items ≡ print_node (shift_node level (node_at bytes.now 0).node)) }
+    ensures { IfOk result (λ shifted. shifted.items ≡ print_node (shift_node level (node_at (tree bytes.now) 0).node)) }
 {
     let root = star_count(bytes);
     let mut shifted = Vec::new(alloc);
@@ -66,9 +66,9 @@ pub fn shift(alloc: Global, bytes: &[u8], level: usize) -> Result<Vec<u8>, Alloc
 impl<'a> Outline<'a> {
     /// The number of the first heading after a parent, and the parent's level; 0 and 0 at top level.
     pub(crate) fn below(&self, parent: Option<Node>) -> (usize, usize)
-        requires { ForSome parent (λ node. node < node_count self.now.text) }
+        requires { ForSome parent (λ node. node < node_count (tree self.now.text)) }
         ensures first { result ≡ first_below self.now.text parent }
-        ensures within { result.0 ≤ node_count self.now.text }
+        ensures within { result.0 ≤ node_count (tree self.now.text) }
         ensures level { result.1 ≤ length self.now.text }
     {
         match parent {
@@ -80,10 +80,11 @@ impl<'a> Outline<'a> {
         }
     }
 
-    /// Where a subtree goes that is put below a heading, or at top level.
+    /// The byte of the text at which a subtree goes in that is put below a heading, one level deeper, or
+    /// at top level (Org manual, "Refile and Copy"). Where it is the text's length, it goes to the end.
     pub fn place(&self, parent: Option<Node>, place: Place) -> usize
-        requires { ForSome parent (λ node. node < node_count self.now.text) }
-        ensures { (node : NodeOf) → InsertsAt self.now.text (insert parent place node (tree self.now.text)) result (shift_node (level_below self.now.text parent) node) }
+        requires { ForSome parent (λ node. node < node_count (tree self.now.text)) }
+        ensures { (node : NodeOf) → InsertsAt self.now.text (insert parent place node (tree self.now.text)) result (shift_node (level_below parent (tree self.now.text)) node) }
     {
         let end = self.text().len();
         let (first, level) = self.below(parent);

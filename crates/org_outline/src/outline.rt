@@ -1,7 +1,7 @@
 // The headings of a text, numbered in document order.
 ghost use Rattle.std.specs.Prelude.{◌≡◌, ◌<◌, ℕ, IfOk};
 ghost use Rattle.org_splice.specs.Lines.{closed};
-ghost use Rattle.org_outline.specs.Tree.{node_count, node_at, parent_of};
+ghost use Rattle.org_outline.specs.Tree.{node_count, node_at, parent_of, tree};
 ghost use Rattle.org_outline.specs.Outline.{headings_of, IsSubtree, IsSection};
 
 use crate::heads::{Heading, Heads, first_start, last_above, next_start};
@@ -57,7 +57,7 @@ impl<'a> Model for Outline<'a> {
 }
 
 impl<'a> Outline<'a> {
-    /// Reads the headings of a closed text.
+    /// Reads the headings of a closed text, in one pass. An error where memory ran out.
     pub fn read(
         alloc: Global,
         text: &'a [u8],
@@ -102,6 +102,7 @@ impl<'a> Outline<'a> {
         self.states
     }
 
+    /// The headings, in document order.
     pub(crate) fn headings(&self) -> &[Heading]
         ensures value { result.now ≡ headings_of self.now.text }
         ensures closed { closed self.now.text ≡ self.now.text }
@@ -114,31 +115,31 @@ impl<'a> Outline<'a> {
 
     /// How many headings there are.
     pub fn count(&self) -> usize
-        ensures { result ≡ node_count self.now.text }
+        ensures { result ≡ node_count (tree self.now.text) }
     {
         self.headings().len()
     }
 
-    /// The heading with this number in document order.
+    /// The heading with this number in document order, from 0 to one less than [`count`](Outline::count).
     pub fn node(&self, index: usize) -> Node
-        requires { index < node_count self.now.text }
+        requires { index < node_count (tree self.now.text) }
         ensures { result ≡ index }
     {
         Node { index }
     }
 
-    /// The count of the heading's stars.
+    /// The count of the heading's stars, from 1 on.
     pub fn level(&self, node: Node) -> usize
-        requires { node < node_count self.now.text }
-        ensures { result ≡ (node_at self.now.text node).node.level }
+        requires { node < node_count (tree self.now.text) }
+        ensures { result ≡ (node_at (tree self.now.text) node).node.level }
     {
         self.headings()[node.index].level
     }
 
     /// What stands behind the stars in the heading line.
     pub(crate) fn rest(&self, node: Node) -> &'a [u8]
-        requires { node < node_count self.now.text }
-        ensures { result.now ≡ (node_at self.now.text node).node.rest }
+        requires { node < node_count (tree self.now.text) }
+        ensures { result.now ≡ (node_at (tree self.now.text) node).node.rest }
     {
         let headings = self.headings();
         let heading = headings[node.index];
@@ -147,8 +148,8 @@ impl<'a> Outline<'a> {
 
     /// The lines of the heading and of its descendants.
     pub fn subtree(&self, node: Node) -> Span
-        requires { node < node_count self.now.text }
-        ensures { IsSubtree self.now.text (node_at self.now.text node) result }
+        requires { node < node_count (tree self.now.text) }
+        ensures { IsSubtree self.now.text (node_at (tree self.now.text) node) result }
     {
         let headings = self.headings();
         let heading = headings[node.index];
@@ -161,8 +162,8 @@ impl<'a> Outline<'a> {
 
     /// The lines between the heading line and the next one (Org Syntax, "Headings": the section).
     pub fn section(&self, node: Node) -> Span
-        requires { node < node_count self.now.text }
-        ensures { IsSection self.now.text (node_at self.now.text node) result }
+        requires { node < node_count (tree self.now.text) }
+        ensures { IsSection self.now.text (node_at (tree self.now.text) node) result }
     {
         let headings = self.headings();
         let heading = headings[node.index];
@@ -176,7 +177,7 @@ impl<'a> Outline<'a> {
 
     /// The heading that this one is a child of; none at top level.
     pub fn parent(&self, node: Node) -> Option<Node>
-        requires { node < node_count self.now.text }
+        requires { node < node_count (tree self.now.text) }
         ensures { result ≡ parent_of self.now.text node }
     {
         let headings = self.headings();

@@ -1,8 +1,8 @@
 // The parts of a heading line.
 ghost use Rattle.std.specs.Prelude.{◌≡◌, ◌<◌, ◌≤◌, length, false};
 ghost use Rattle.std.specs.List.{prefix_len, suffix_len};
-ghost use Rattle.org_outline.specs.Tree.{node_at, node_count};
-ghost use Rattle.org_outline.specs.Parts.{is_blank as is_blank_byte, is_trailing, is_solid, is_tag_byte, is_letter, behind, without_end, keyword_of, priority_of, are_closed_tags, tags_of, parts_of, AreParts};
+ghost use Rattle.org_outline.specs.Tree.{node_at, node_count, tree};
+ghost use Rattle.org_outline.specs.Parts.{is_blank as is_blank_byte, is_trailing, is_solid, is_tag_byte, behind, without_end, keyword_of, priority_of, are_closed_tags, tags_of, parts_of, AreParts};
 
 use crate::outline::{Node, Outline};
 use crate::states::States;
@@ -27,12 +27,6 @@ fn is_blank(byte: u8) -> bool
     ensures { result ≡ is_blank_byte byte }
 {
     byte == b' ' || byte == b'\t'
-}
-
-fn is_letter_or_digit(byte: u8) -> bool
-    ensures { result ≡ is_letter byte }
-{
-    byte.is_ascii_alphanumeric()
 }
 
 /// How many blanks the line begins with.
@@ -117,7 +111,7 @@ fn priority(line: &[u8]) -> &[u8]
     ensures within { length result.now ≤ length line.now }
 {
     match line {
-        [b'[', b'#', letter, b']', ..] if is_letter_or_digit(*letter) => line.split_at(4).0,
+        [b'[', b'#', value, b']', ..] if value.is_ascii_alphanumeric() => line.split_at(4).0,
         _ => &[],
     }
 }
@@ -125,7 +119,7 @@ fn priority(line: &[u8]) -> &[u8]
 fn is_tag_letter(byte: u8) -> bool
     ensures { result ≡ is_tag_byte byte }
 {
-    is_letter_or_digit(byte) || matches!(byte, b'_' | b'@' | b'#' | b'%') || byte >= 0x80
+    byte.is_ascii_alphanumeric() || matches!(byte, b'_' | b'@' | b'#' | b'%') || byte >= 0x80
 }
 
 /// Whether each colon closes a tag, and each tag has its colon.
@@ -184,8 +178,8 @@ pub(crate) fn split<'a>(states: &States, rest: &'a [u8]) -> HeadParts<'a>
 impl<'a> Outline<'a> {
     /// The parts of the heading's line.
     pub fn parts(&self, node: Node) -> HeadParts<'a>
-        requires { node < node_count self.now.text }
-        ensures { AreParts result (parts_of self.now.states (node_at self.now.text node).node.rest) }
+        requires { node < node_count (tree self.now.text) }
+        ensures { AreParts result (parts_of self.now.states (node_at (tree self.now.text) node).node.rest) }
     {
         split(self.states(), self.rest(node))
     }

@@ -50,18 +50,13 @@ impl From<AllocError> for StatesFault {
 fn is_state_letter(byte: u8) -> bool
     ensures { result ≡ is_state_byte byte }
 {
-    matches!(byte, b'0'..=b'9' | b'A'..=b'Z' | b'a'..=b'z' | b'_' | b'-')
+    byte.is_ascii_alphanumeric() || byte == b'_' || byte == b'-'
 }
 
 fn all_state_letters(bytes: &[u8]) -> bool
     ensures { result ≡ list_all is_state_byte bytes.now }
 {
-    for byte in bytes {
-        if !is_state_letter(*byte) {
-            return false;
-        }
-    }
-    true
+    bytes.iter().all(|byte| is_state_letter(*byte))
 }
 
 /// Whether a word may name a state.
@@ -74,24 +69,14 @@ fn is_state(word: &str) -> bool
 fn all_states(words: &[&str]) -> bool
     ensures { result ≡ list_all is_state_word (words_of words.now) }
 {
-    for word in words {
-        if !is_state(*word) {
-            return false;
-        }
-    }
-    true
+    words.iter().all(|word| is_state(*word))
 }
 
 /// Whether a word is one of these.
 fn has(words: &[&str], word: &str) -> bool
     ensures { result ≡ has_word (words_of words.now) word.now }
 {
-    for other in words {
-        if word == *other {
-            return true;
-        }
-    }
-    false
+    words.iter().any(|other| word == *other)
 }
 
 /// Whether no word equals a later one, where `more` follows.
@@ -176,10 +161,5 @@ impl States {
 fn names(words: &[String], word: &[u8]) -> bool
     ensures { result ≡ has_word (map string_bytes words.now) word.now }
 {
-    for other in words {
-        if word == other.as_bytes() {
-            return true;
-        }
-    }
-    false
+    words.iter().any(|other| word == other.as_bytes())
 }

@@ -29,109 +29,103 @@ fn assert_parts(
 }
 
 #[test]
-fn heading_parts(rt: HostRuntime) -> Result<(), Fail> {
-    assert_parts(&rt, rt.alloc(), b"* A\n", [b" ", b"", b"", b"A", b""])?;
+fn heading_keywords(rt: HostRuntime) -> Result<(), Fail> {
+    let alloc = rt.alloc();
+    assert_parts(&rt, alloc, b"* A\n", [b" ", b"", b"", b"A", b""])?;
+    assert_parts(&rt, alloc, b"* DONE\n", [b" ", b"DONE", b"", b"", b""])?;
     assert_parts(
         &rt,
-        rt.alloc(),
-        b"** TODO [#A] Call Ann :x:y:\n",
-        [b" ", b"TODO", b"[#A]", b"Call Ann", b":x:y:"],
-    )?;
-    assert_parts(&rt, rt.alloc(), b"* DONE\n", [b" ", b"DONE", b"", b"", b""])?;
-    assert_parts(
-        &rt,
-        rt.alloc(),
+        alloc,
         b"* TODO[#A] x\n",
         [b" ", b"", b"", b"TODO[#A] x", b""],
     )?;
+    assert_parts(&rt, alloc, b"* todo x\n", [b" ", b"", b"", b"todo x", b""])?;
     assert_parts(
         &rt,
-        rt.alloc(),
-        b"* todo x\n",
-        [b" ", b"", b"", b"todo x", b""],
+        alloc,
+        b"* COMMENT A\n",
+        [b" ", b"", b"", b"COMMENT A", b""],
     )?;
+    Ok(())
+}
+
+#[test]
+fn heading_priorities(rt: HostRuntime) -> Result<(), Fail> {
+    let alloc = rt.alloc();
     assert_parts(
         &rt,
-        rt.alloc(),
-        b"* TODO :x:\n",
-        [b" ", b"TODO", b"", b"", b":x:"],
+        alloc,
+        b"** TODO [#A] Call Ann :x:y:\n",
+        [b" ", b"TODO", b"[#A]", b"Call Ann", b":x:y:"],
     )?;
+    assert_parts(&rt, alloc, b"* [#a]x\n", [b" ", b"", b"[#a]", b"x", b""])?;
+    assert_parts(&rt, alloc, b"* [#1] x\n", [b" ", b"", b"[#1]", b"x", b""])?;
     assert_parts(
         &rt,
-        rt.alloc(),
-        b"* [#a]x\n",
-        [b" ", b"", b"[#a]", b"x", b""],
-    )?;
-    assert_parts(
-        &rt,
-        rt.alloc(),
-        b"* [#1] x\n",
-        [b" ", b"", b"[#1]", b"x", b""],
-    )?;
-    assert_parts(
-        &rt,
-        rt.alloc(),
+        alloc,
         b"* [#AB] x\n",
         [b" ", b"", b"", b"[#AB] x", b""],
     )?;
-    assert_parts(&rt, rt.alloc(), b"* :x:\n", [b" ", b"", b"", b"", b":x:"])?;
     assert_parts(
         &rt,
-        rt.alloc(),
+        alloc,
         b"* [#A]:x:\n",
         [b" ", b"", b"[#A]", b":x:", b""],
     )?;
+    Ok(())
+}
+
+#[test]
+fn heading_tags(rt: HostRuntime) -> Result<(), Fail> {
+    let alloc = rt.alloc();
     assert_parts(
         &rt,
-        rt.alloc(),
+        alloc,
+        b"* TODO :x:\n",
+        [b" ", b"TODO", b"", b"", b":x:"],
+    )?;
+    assert_parts(&rt, alloc, b"* :x:\n", [b" ", b"", b"", b"", b":x:"])?;
+    assert_parts(
+        &rt,
+        alloc,
         b"* A :a::b:\n",
         [b" ", b"", b"", b"A :a::b:", b""],
     )?;
     assert_parts(
         &rt,
-        rt.alloc(),
+        alloc,
         b"* A :a_@#%1:\n",
         [b" ", b"", b"", b"A", b":a_@#%1:"],
     )?;
     assert_parts(
         &rt,
-        rt.alloc(),
+        alloc,
         b"* A :a-b:\n",
         [b" ", b"", b"", b"A :a-b:", b""],
     )?;
     assert_parts(
         &rt,
-        rt.alloc(),
-        b"* TODO A\r\n",
-        [b" ", b"TODO", b"", b"A", b""],
-    )?;
-    assert_parts(&rt, rt.alloc(), b"* A\r \n", [b" ", b"", b"", b"A", b""])?;
-    assert_parts(
-        &rt,
-        rt.alloc(),
-        b"* A\r :x:\n",
-        [b" ", b"", b"", b"A\r", b":x:"],
-    )?;
-    assert_parts(
-        &rt,
-        rt.alloc(),
-        b"* \tTODO\t[#B]\tA\t:x:\t\n",
-        [b" \t", b"TODO", b"[#B]", b"A", b":x:"],
-    )?;
-    assert_parts(&rt, rt.alloc(), b"* \n", [b" ", b"", b"", b"", b""])?;
-    assert_parts(&rt, rt.alloc(), b"*   \t\n", [b"   \t", b"", b"", b"", b""])?;
-    assert_parts(
-        &rt,
-        rt.alloc(),
-        b"* COMMENT A\n",
-        [b" ", b"", b"", b"COMMENT A", b""],
-    )?;
-    assert_parts(
-        &rt,
-        rt.alloc(),
+        alloc,
         b"* \xc3\x84 :\xc3\xa9:\n",
         [b" ", b"", b"", b"\xc3\x84", b":\xc3\xa9:"],
     )?;
+    Ok(())
+}
+
+#[test]
+fn blanks_of_headings(rt: HostRuntime) -> Result<(), Fail> {
+    let alloc = rt.alloc();
+    assert_parts(&rt, alloc, b"* TODO A\r\n", [b" ", b"TODO", b"", b"A", b""])?;
+    assert_parts(&rt, alloc, b"* A\r \n", [b" ", b"", b"", b"A", b""])?;
+    assert_parts(&rt, alloc, b"* A\r :x:\n", [b" ", b"", b"", b"A\r", b":x:"])?;
+    assert_parts(
+        &rt,
+        alloc,
+        b"* \tTODO\t[#B]\tA\t:x:\t\n",
+        [b" \t", b"TODO", b"[#B]", b"A", b":x:"],
+    )?;
+    assert_parts(&rt, alloc, b"* \n", [b" ", b"", b"", b"", b""])?;
+    assert_parts(&rt, alloc, b"*   \t\n", [b"   \t", b"", b"", b"", b""])?;
     Ok(())
 }
 
@@ -225,36 +219,6 @@ fn headings_in_blocks(rt: HostRuntime) -> Result<(), Fail> {
 fn accepted_states(rt: HostRuntime) -> Result<(), Fail> {
     let longest = "abcdefghijklmnopqrstuvwx";
     assert!(rt; States::new(rt.alloc(), &[longest], &["D-1", "_"]).is_ok());
-    let too_long = "abcdefghijklmnopqrstuvwxy";
-    let refused = StatesFault::BadStates;
-    assert_eq!(rt;
-        States::new(rt.alloc(), &[too_long], &["DONE"]).err(),
-        Some(refused)
-    );
-    assert_eq!(rt;
-        States::new(rt.alloc(), &[], &["DONE"]).err(),
-        Some(StatesFault::BadStates)
-    );
-    assert_eq!(rt;
-        States::new(rt.alloc(), &["TODO"], &[]).err(),
-        Some(StatesFault::BadStates)
-    );
-    assert_eq!(rt;
-        States::new(rt.alloc(), &["TODO"], &["TODO"]).err(),
-        Some(StatesFault::BadStates)
-    );
-    assert_eq!(rt;
-        States::new(rt.alloc(), &["A", "B", "A"], &["D"]).err(),
-        Some(StatesFault::BadStates)
-    );
-    assert_eq!(rt;
-        States::new(rt.alloc(), &[""], &["D"]).err(),
-        Some(StatesFault::BadStates)
-    );
-    assert_eq!(rt;
-        States::new(rt.alloc(), &["A B"], &["D"]).err(),
-        Some(StatesFault::BadStates)
-    );
     let words = [
         "a", "b", "c", "d", "e", "f", "g", "h", "i", "j", "k", "l", "m", "n", "o", "p",
     ];
@@ -265,11 +229,26 @@ fn accepted_states(rt: HostRuntime) -> Result<(), Fail> {
     let more = [
         "A", "B", "C", "D", "E", "F", "G", "H", "I", "J", "K", "L", "M", "N", "O", "P", "Q",
     ];
-    assert_eq!(rt;
-        States::new(rt.alloc(), &words, &more).err(),
-        Some(StatesFault::BadStates)
-    );
+    assert_refused(&rt, rt.alloc(), &words, &more);
     Ok(())
+}
+
+fn assert_refused(rt: &impl Abort, alloc: Global, active: &[&str], done: &[&str]) {
+    let refused = States::new(alloc, active, done).err();
+    assert_eq!(rt; refused, Some(StatesFault::BadStates));
+}
+
+#[test]
+fn refused_states(rt: HostRuntime) {
+    let alloc = rt.alloc();
+    let too_long = "abcdefghijklmnopqrstuvwxy";
+    assert_refused(&rt, alloc, &[too_long], &["DONE"]);
+    assert_refused(&rt, alloc, &[], &["DONE"]);
+    assert_refused(&rt, alloc, &["TODO"], &[]);
+    assert_refused(&rt, alloc, &["TODO"], &["TODO"]);
+    assert_refused(&rt, alloc, &["A", "B", "A"], &["D"]);
+    assert_refused(&rt, alloc, &[""], &["D"]);
+    assert_refused(&rt, alloc, &["A B"], &["D"]);
 }
 
 /// A text with some bytes replaced.

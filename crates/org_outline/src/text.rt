@@ -53,6 +53,7 @@ pub(crate) fn line_start(text: &[u8], at: usize) -> usize
     requires { at ≤ length text.now }
     ensures within { result ≤ at }
     ensures begins { ends_line true (take result text.now) ≡ true }
+    ensures line { IsLine (slice_range text.now result at) }
 {
     match memrchr(b'\n', &text[..at]) {
         Some(newline) => newline + 1,
@@ -76,7 +77,9 @@ pub(crate) fn line_end(text: &[u8], start: usize) -> usize
 /// The heading line that begins at `start`, behind its stars and without its newline.
 pub(crate) fn behind_stars(text: &[u8], start: usize, level: usize) -> &[u8]
     requires { start + level ≤ length text.now }
-    ensures { (rest more : List ℕ) → IsLine rest → drop start text.now ≡ heading_line level rest ++ 10 ∷ more → result.now ≡ rest }
+    ensures rest { (rest more : List ℕ) → IsLine rest → drop start text.now ≡ heading_line level rest ++ 10 ∷ more → result.now ≡ rest }
+    ensures line { IsLine result.now }
+    ensures front { (drop (start + level) text.now ≡ result.now) ⊎ ((more : List ℕ) × (drop (start + level) text.now ≡ result.now ++ 10 ∷ more)) }
 {
     let line = text.split_at(start + level).1;
     match memchr(b'\n', line) {

@@ -58,7 +58,7 @@ no_entry : (o : Option Node) → ((node : Node) → o ≡ Some node → ⊥) →
 no_entry None none = refl
 no_entry (Some node) none = absurd (none node refl)
 
-pub printed_entry : (t : List ℕ) → closed t ≡ t → IsPrinted t → entry_in (only_root (tree t).preamble (tree t).forest) ≡ Ok (node_at t 0).node
+pub printed_entry : (t : List ℕ) → closed t ≡ t → IsPrinted t → entry_in (only_root (tree t).preamble (tree t).forest) ≡ Ok (node_at (tree t) 0).node
 printed_entry t ends printed =
     printed_root (tree t).preamble (tree t).forest (length (print_lines (tree t).preamble)) printed.0 (printed.1 ∙ sym ((tree-is t).prints ∙ ends))
 
@@ -84,7 +84,7 @@ within old new k added at = omega (arith, at.at, ap length at.was, length-append
 entry_shut : (template text : List ℕ) → has_percent template ≡ false → text ≡ closed template → entry_of template ≡ entry_in (only_root (tree text).preamble (tree text).forest)
 entry_shut template text plain is = rw plain (ap (λ (d : Document). entry_in (only_root d.preamble d.forest)) (sym (ap tree is ∙ tree-closed template)))
 
-pub entry_is : (template text : List ℕ) → has_percent template ≡ false → text ≡ closed template → closed text ≡ text → IsPrinted text → entry_of template ≡ Ok (node_at text 0).node
+pub entry_is : (template text : List ℕ) → has_percent template ≡ false → text ≡ closed template → closed text ≡ text → IsPrinted text → entry_of template ≡ Ok (node_at (tree text) 0).node
 entry_is template text plain is ends printed = entry_shut template text plain is ∙ printed_entry text ends printed
 
 pub entry_bad : (template text : List ℕ) → has_percent template ≡ false → text ≡ closed template → closed text ≡ text → (test : Bool) → (IsTrue test ↔ IsPrinted text) → test ≡ false

@@ -1,7 +1,7 @@
 use Rattle.std.proofs.Common.{◌≡◌, ◌∙◌, sym, ap, false, rules}
 use Rattle.org_splice.specs.Lines.{closed}
 use Rattle.org_splice.specs.Texts.{EditedText}
-use Rattle.org_outline.specs.Tree.{node_at, print_node}
+use Rattle.org_outline.specs.Tree.{tree, node_at, print_node}
 use Rattle.org_outline.specs.Moves.{shift_node}
 use Rattle.org_store.specs.Capture.{has_percent}
 use Rattle.org_store.proofs.Closed.{closed_twice}
@@ -34,7 +34,7 @@ returns c =
     let text = c.in_ok-outline.outline.text in
     let same : text ≡ c.close_line.new.self.bytes = c.in_ok-outline.ensures.0 ∙ c.bytes.ensures in
     let shut : text ≡ closed template = same ∙ c.in_ok-close_line.ensures.ok ∙ ap (λ (t : EditedText). closed t.bytes) c.new-text.ensures.settled ∙ ap closed (sym copied) in (
-      (node_at text 0).node,
+      (node_at (tree text) 0).node,
       entry_is template text plain shut (ap closed shut ∙ closed_twice template ∙ sym shut) (c.is_entry.ensures.0 c.if-not-is_entry.false),
-      c.in_ok-shift.ensures ∙ ap (λ t. print_node (shift_node 1 (node_at t 0).node)) (c.bytes-3.ensures ∙ sym same),
+      c.in_ok-shift.ensures ∙ ap (λ t. print_node (shift_node 1 (node_at (tree t) 0).node)) (c.bytes-3.ensures ∙ sym same),
     )

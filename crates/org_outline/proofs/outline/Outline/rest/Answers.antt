@@ -5,4 +5,4 @@ pub behind_stars-requires : goal.behind_stars-requires
 behind_stars-requires c = rest_room _ _ _ _ _ _ c.text.ensures.value c.text.ensures.closed c.node.view_is c.headings-headings.ensures.value c.requires
 
 pub returns : goal.returns
-returns c = rest_at _ _ _ _ _ _ _ c.text.ensures.value c.text.ensures.closed c.node.view_is c.headings-headings.ensures.value c.requires c.behind_stars.ensures
+returns c = rest_at _ _ _ _ _ _ _ c.text.ensures.value c.text.ensures.closed c.node.view_is c.headings-headings.ensures.value c.requires c.behind_stars.ensures.rest
