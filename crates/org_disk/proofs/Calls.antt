@@ -1,7 +1,7 @@
 -- What a call in the record of a disk in memory did to its files and its past.
 use Rattle.std.proofs.Common.{◌≡◌, ◌≢◌, ◌⊎◌, ℕ, ◌+◌, ◌≤◌, List, [], ◌∷◌, ◌++◌, length, take, Bool, true, false, Result, Ok, Err, OnOk, OnErr, IsNone, Option, None, Some, Vec, refl, sym, ◌∙◌, ap, subst, inl, inr, ⊎_elim, arith, length-append, count_by, cond}
 use Rattle.std.proofs.lemmas.List.Sums.{sum_by_push}
-use Rattle.std.proofs.lemmas.Bool.{cond-true, cond-false, cases_lt, false≢true, true≢false}
+use Rattle.std.proofs.lemmas.Bool.{cases_Bool, cond-true, cond-false, cases_lt, false≢true, true≢false}
 use Rattle.std.proofs.lemmas.List.{take_all, take-append-le}
 use Rattle.std.proofs.lemmas.Slice.Eq.{bytes_eq-Decides}
 use Rattle.std.specs.Option.{option_map_or}
@@ -15,7 +15,7 @@ use Rattle.org_disk.specs.declared.memory.Effect.{Effect}
 use Rattle.org_disk.specs.declared.memory.Effect.TheVariants.{Set, Nothing}
 use Rattle.org_disk.specs.declared.memory.Call.{Call}
 use Rattle.org_disk.specs.Record.{effect_of, step, state_after, files_after, is_call, is_call_effect, LeftSince, IsTried, call_of, Contents, content_in, items_or, Keeps}
-use Rattle.org_disk.specs.RecordLaws.{bool_cases, own_image}
+use Rattle.org_disk.specs.RecordLaws.{own_image}
 use Rattle.org_disk.specs.Memory.{HasNoEffect}
 use Rattle.org_disk.specs.declared.memory.MemoryDisk.{MemoryDisk}
 use Rattle.org_disk.proofs.Moments.{Image, passes_none}
@@ -29,7 +29,7 @@ failed fault = Err fault
 -- a call on another file
 pub step_other : (call : Call) (name : List ℕ) (file : FileState) → name ≢ call.name → step call name file ≡ file
 step_other call name file apart = cond-false (bytes_eq call.name name) (effect_of call.effect file) file
-    (⊎_elim (λ t. absurd (apart (sym ((bytes_eq-Decides call.name name).0 t)))) (λ f. f) (bool_cases (bytes_eq call.name name)))
+    (⊎_elim (λ t. absurd (apart (sym ((bytes_eq-Decides call.name name).0 t)))) (λ f. f) (cases_Bool (bytes_eq call.name name)))
 
 -- a call on this file
 pub step_same : (call : Call) (file : FileState) → step call call.name file ≡ effect_of call.effect file
@@ -37,7 +37,7 @@ step_same call file = cond-true (bytes_eq call.name call.name) (effect_of call.e
 
 -- a call without effect
 step_nothing : (name other : List ℕ) (stopped : Bool) (file : FileState) → step (call_of name Nothing stopped) other file ≡ file
-step_nothing name other stopped file = ⊎_elim (cond-true (bytes_eq name other) file file) (cond-false (bytes_eq name other) file file) (bool_cases (bytes_eq name other))
+step_nothing name other stopped file = ⊎_elim (cond-true (bytes_eq name other) file file) (cond-false (bytes_eq name other) file file) (cases_Bool (bytes_eq name other))
 
 state_after-push : (calls : List Call) (call : Call) (name : List ℕ) (file : FileState) → state_after (calls ++ call ∷ []) name file ≡ step call name (state_after calls name file)
 state_after-push [] call name file = refl
@@ -202,14 +202,14 @@ module _ (calls later : List Call) (call : Call) (is : later ≡ calls ++ call �
       (keeps.here (files_after calls call.name) (tied call.name) ∙ sym (ap (λ (f : FileState). f.content) (here calls later call is))))
       (λ f. ap (λ (o : Option (Vec ℕ Global)). option_map_or (λ content. content.items) o []) (keeps.others name (other_name name f)) ∙ tied name
       ∙ sym (ap (λ (f : FileState). f.content) (elsewhere calls later call is name (other_name name f))))
-      (bool_cases (bytes_eq call.name name))
+      (cases_Bool (bytes_eq call.name name))
 
   pub absent_made : ((name : List ℕ) → IsNone (get bytes_eq old name) → (files_after calls name).least ≡ 0) → (name : List ℕ) → IsNone (get bytes_eq new name) → (files_after later name).least ≡ 0
   absent_made absent name none = ⊎_elim
       (λ t. subst (λ (n : List ℕ). (files_after later n).least ≡ 0) (this_name name t) (at_call (subst (λ (n : List ℕ). IsNone (get bytes_eq new n)) (sym (this_name name t)) none)))
       (λ f. ap (λ (f : FileState). f.least) (elsewhere calls later call is name (other_name name f))
       ∙ absent name (subst (λ (o : Option (Vec ℕ Global)). IsNone o) (keeps.others name (other_name name f)) none))
-      (bool_cases (bytes_eq call.name name))
+      (cases_Bool (bytes_eq call.name name))
     where
       at_call : IsNone (get bytes_eq new call.name) → (files_after later call.name).least ≡ 0
       at_call gone =
@@ -223,7 +223,7 @@ module _ (calls : List Call) (name : List ℕ) (old new : Contents) (keeps : Kee
   tied_kept q = ⊎_elim
       (λ t. subst (λ (n : List ℕ). content_in new n ≡ (files_after calls n).content) ((bytes_eq-Decides name q).0 t) (keeps.here (files_after calls name) (tied name)))
       (λ f. ap (λ (o : Option (Vec ℕ Global)). items_or o []) (keeps.others q (apart q f)) ∙ tied q)
-      (bool_cases (bytes_eq name q))
+      (cases_Bool (bytes_eq name q))
     where
       apart : (q : List ℕ) → bytes_eq name q ≡ false → q ≢ name
       apart q f e = false≢true (sym f ∙ (bytes_eq-Decides name q).1 (sym e))
@@ -233,7 +233,7 @@ module _ (calls : List Call) (name : List ℕ) (old new : Contents) (keeps : Kee
       (λ t. absent q (subst (λ (n : List ℕ). IsNone (get bytes_eq old n)) ((bytes_eq-Decides name q).0 t)
       (keeps.absent (subst (λ (n : List ℕ). IsNone (get bytes_eq new n)) (sym ((bytes_eq-Decides name q).0 t)) none)).0))
       (λ f. absent q (subst (λ (o : Option (Vec ℕ Global)). IsNone o) (keeps.others q (apart q f)) none))
-      (bool_cases (bytes_eq name q))
+      (cases_Bool (bytes_eq name q))
     where
       apart : (q : List ℕ) → bytes_eq name q ≡ false → q ≢ name
       apart q f e = false≢true (sym f ∙ (bytes_eq-Decides name q).1 (sym e))

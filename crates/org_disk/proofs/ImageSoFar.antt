@@ -1,6 +1,6 @@
 -- An image of a disk in memory that is made file by file.
 use Rattle.std.proofs.Common.{◌≡◌, ◌≢◌, ⊎_elim, ℕ, ◌+◌, ◌≤◌, ◌++◌, List, [], ◌∷◌, length, take, Bool, true, false, cond, Vec, Option, Some, None, IsSome, IsNone, is_some, refl, sym, ◌∙◌, ap, subst, arith}
-use Rattle.std.proofs.lemmas.Bool.{cond-false, false≢true, true≢false}
+use Rattle.std.proofs.lemmas.Bool.{cases_Bool, cond-false, false≢true, true≢false}
 use Rattle.std.proofs.lemmas.List.{take_all}
 use Rattle.std.proofs.lemmas.Slice.Eq.{bytes_eq-Decides}
 use Rattle.std.specs.declared.alloc.Global.{Global}
@@ -9,7 +9,6 @@ use Rattle.std.specs.Str.{bytes_eq}
 use Rattle.indexmap.specs.IndexMap.{get}
 use Rattle.org_disk.specs.Disk.{FileState, stable}
 use Rattle.org_disk.specs.Record.{Contents}
-use Rattle.org_disk.specs.RecordLaws.{bool_cases}
 use Rattle.org_disk.specs.Memory.{IsLeft, memory_files}
 use Rattle.org_disk.specs.declared.memory.MemoryDisk.{MemoryDisk}
 use Rattle.org_disk.proofs.Calls.{nothing_kept}
@@ -42,20 +41,20 @@ module _ (contents : Contents) (P : List ℕ → List ℕ → Type 0) (i : ℕ) 
   stays_stable q = ⊎_elim
       (λ t. subst (λ (n : List ℕ). new n ≡ stable (new n).content) (sym (same_name q name t)) (here ∙ ap stable (sym content_here)))
       (λ f. subst (λ (s : FileState). s ≡ stable s.content) (sym (others q (apart q name f))) (so_far.stable q))
-      (bool_cases (bytes_eq q name))
+      (cases_Bool (bytes_eq q name))
 
   holds : (q : List ℕ) → IsSome (lookup (bytes_eq q) (take (i + 1) contents.entries)) → P q (new q).content
   holds q some = ⊎_elim
       (λ t. subst (λ (n : List ℕ). P n (new n).content) (sym (same_name q name t)) (subst (λ (b : List ℕ). P name b) (sym content_here) is_left))
       (λ f. subst (λ (s : FileState). P q s.content) (sym (others q (apart q name f)))
       (so_far.held q (subst (λ (o : Option (Vec ℕ Global)). IsSome o) (ap (λ (es : List (List ℕ × Vec ℕ Global)). lookup (bytes_eq q) es) more ∙ lookup_push (bytes_eq q) (take i contents.entries) (name, content) f) some)))
-      (bool_cases (bytes_eq q name))
+      (cases_Bool (bytes_eq q name))
 
   stays_absent : (q : List ℕ) → IsNone (get bytes_eq contents q) → (new q).content ≡ []
   stays_absent q none = ⊎_elim
       (λ t. absurd (true≢false (sym (ap is_some has) ∙ subst (λ (n : List ℕ). IsNone (get bytes_eq contents n)) (same_name q name t) none)))
       (λ f. ap (λ (s : FileState). s.content) (others q (apart q name f)) ∙ so_far.absent q none)
-      (bool_cases (bytes_eq q name))
+      (cases_Bool (bytes_eq q name))
 
   pub one_more : IsImageSoFar contents P (i + 1) new
   one_more = record { stable = stays_stable; held = holds; absent = stays_absent }

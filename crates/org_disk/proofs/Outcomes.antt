@@ -1,7 +1,7 @@
 -- What an outcome leaves of a file stays an image, call by call.
-use Rattle.std.proofs.Common.{◌≡◌, ◌⊎◌, inl, inr, ℕ, ◌+◌, ◌-◌, ◌<◌, ◌≤◌, ◌++◌, max, min, List, length, get_or, take, drop, sym, ◌∙◌, ap, arith, length-append, length-drop, length-take}
+use Rattle.std.proofs.Common.{◌≡◌, ◌⊎◌, inl, inr, ℕ, ◌+◌, ◌-◌, ◌<◌, ◌≤◌, ◌++◌, max, List, length, get_or, take, drop, sym, ◌∙◌, ap, arith, length-append, length-drop, length-take}
 use Rattle.std.proofs.lemmas.List.{get_or-drop, get_or-take, get_or_append_left, get_or-append_right}
-use Rattle.org_disk.specs.Disk.{FileState, IsImage, laid, write, cut}
+use Rattle.org_disk.specs.Disk.{FileState, IsImage, laid, write}
 
 -- laid bytes change nothing outside their range of what was there
 pub laid_beside : (from : ℕ) (bytes text : List ℕ) (i : ℕ) → i < length text → (i < from) ⊎ (from + length bytes ≤ i) → get_or (laid from bytes text) i 0 ≡ get_or text i 0
@@ -15,8 +15,8 @@ laid_beside from bytes text i inside (inr after) =
     ∙ ap (λ (k : ℕ). get_or text k 0) (omega (arith, after))
 
 -- at least as long as the text, and no longer than the text or the end of the bytes
-length_laid : (from : ℕ) (bytes text : List ℕ) → (length text ≤ length (laid from bytes text)) × (length (laid from bytes text) ≤ max (length text) (from + length bytes))
-length_laid from bytes text =
+laid_bounds : (from : ℕ) (bytes text : List ℕ) → (length text ≤ length (laid from bytes text)) × (length (laid from bytes text) ≤ max (length text) (from + length bytes))
+laid_bounds from bytes text =
     let long = length-append (take from text ++ bytes) (drop (from + length bytes) text) in
     let front = length-append (take from text) bytes in
     let start = length-take from text in
@@ -35,7 +35,7 @@ module _ (from : ℕ) (bytes : List ℕ) (file : FileState) (left : List ℕ) (o
   -- no more bytes went out than were written
   pub write_piece : (piece : List ℕ) → length piece ≤ length bytes → IsImage (write from bytes file) (laid from piece left)
   write_piece piece short =
-      let long = length_laid from piece left in
+      let long = laid_bounds from piece left in
       record {
         no_shorter = omega (arith, image.no_shorter, long.0);
         no_longer = omega (arith, image.no_longer, long.1, short);
@@ -46,13 +46,3 @@ module _ (from : ℕ) (bytes : List ℕ) (file : FileState) (left : List ℕ) (o
       nearer : (i : ℕ) → (i < from) ⊎ (from + length bytes ≤ i) → (i < from) ⊎ (from + length piece ≤ i)
       nearer i (inl before) = inl before
       nearer i (inr after) = inr (omega (arith, after, short))
-
--- a cut leaves any length from n on, with the first n bytes as they were
-pub cut_image : (n : ℕ) (file : FileState) (left next : List ℕ) → IsImage file left → min n (length left) ≤ length next → length next ≤ length left
-    → ((i : ℕ) → i < n → i < length left → get_or next i 0 ≡ get_or left i 0) → IsImage (cut n file) next
-cut_image n file left next image least most same = record {
-  no_shorter = omega (arith, least, image.no_shorter);
-  no_longer = omega (arith, most, image.no_longer);
-  fixed = λ i fixed. same i (omega (arith, fixed.0)) (omega (arith, fixed.0, image.no_shorter)) ∙ image.fixed i (omega (arith, fixed.0), fixed.1)
-      ∙ sym (get_or-take n file.content i 0 (omega (arith, fixed.0)));
-}

@@ -1,5 +1,5 @@
 -- The names of the files of a store: Org files, their archive files, and the journal.
-use Rattle.std.specs.Prelude.{◌≡◌, ◌⊎◌, ℕ, ◌-◌, Bool, not, ◌&&◌, ◌==◌, nat_eq, nat_le, List, ◌++◌, length, take, codes, if◌then◌else◌, IsTrue}
+use Rattle.std.specs.Prelude.{◌≡◌, ◌≢◌, ◌⊎◌, ℕ, ◌-◌, Bool, not, ◌&&◌, ◌==◌, nat_eq, nat_le, List, ◌++◌, length, take, codes, if◌then◌else◌, IsTrue, IsFalse}
 use Rattle.std.specs.List.{starts_with, ends_with, list_all}
 
 abbrev pub archive_suffix : List ℕ
@@ -34,3 +34,7 @@ is_file_name name = is_org_name (base_name name)
 -- the name of a file that a store has on its disk
 abbrev pub IsDiskName : List ℕ → Type 0
 IsDiskName name = IsTrue (is_file_name name) ⊎ (name ≡ journal_name)
+
+-- of such names, an Org file's: neither an archive file's nor the journal's
+abbrev pub IsOrgFile : List ℕ → Type 0
+IsOrgFile name = IsFalse (is_archive_name name) × (name ≢ journal_name)

@@ -3,7 +3,7 @@
 //! The trait `Disk` says what each call does to the content of a file, and to its images: what a stop at that moment,
 //! or within the call, may leave of it. `MemoryDisk` meets it, and can be told to fail or to stop; `Fuse` fails from
 //! some call on. Lemmas for callers are public in `proofs/`: `Moments` (one run after another), `Images` and `Back`
-//! (what a write, a cut and a sync leave), `Laid` (bytes laid over a text).
+//! (what a call leaves), `Laid` (bytes laid over a text), `Names`.
 #![tactic(auto)]
 
 mod disk;

@@ -6,13 +6,14 @@ use Rattle.org_disk.specs.Disk.{FileState, IsImage, IsStable}
 use Rattle.org_disk.specs.Names.{journal_name}
 use Rattle.org_disk.proofs.Images.{only_image}
 use Rattle.org_disk.proofs.Moments.{passes_then}
+use Rattle.org_disk.proofs.Names.{name_cases}
 use Rattle.org_journal.specs.declared.record.Entry.{Entry}
-use Rattle.org_journal.specs.Gate.{is_open, HasClosedGate, LeavesBody}
+use Rattle.org_journal.specs.Gate.{front_size, is_open, HasClosedGate, LeavesBody}
 use Rattle.org_journal.specs.Reading.{journal_at}
 use Rattle.org_journal.specs.Record.{is_named}
 use Rattle.org_journal.specs.Standing.{Image, SameFiles, StandsFor, IsArmed, contents}
 use Rattle.org_fileset.specs.Replay.{TakesTo, AreLayable, EachTakes, LeavesTaking, Replays, IsOpenOver, IsReplayable, IsAtRest}
-use Rattle.org_fileset.proofs.Takes.{name_cases, journal_unnamed}
+use Rattle.org_fileset.proofs.Takes.{journal_unnamed}
 use Rattle.org_fileset.proofs.Stands.{stands_open, stands_closed}
 
 -- one run of calls after another
@@ -111,8 +112,8 @@ rest_after old new rest only is others stable = record {
   ];
 }
 
-pub open_long : (journal : List ℕ) → is_open journal ≡ true → 16 ≤ length journal
-open_long journal opened = leb-true 16 (length journal) (and_parts (nat_le 16 (length journal)) (slice_index journal 0 == 1) opened).0
+pub open_long : (journal : List ℕ) → is_open journal ≡ true → front_size ≤ length journal
+open_long journal opened = leb-true front_size (length journal) (and_parts (nat_le front_size (length journal)) (slice_index journal 0 == 1) opened).0
 
 -- what holds anyway
 pub on_err_always : {T E P : Type 0} (r : Result T E) → P → OnErr r P

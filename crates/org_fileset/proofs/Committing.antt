@@ -1,6 +1,5 @@
 -- What a set's commit needs of its changes, from what is asked of them.
-use Rattle.std.proofs.Common.{◌≡◌, ◌≢◌, inl, inr, ◌≤◌, ℕ, zero, suc, List, [], ◌∷◌, length, map, true, Option, Some, None, refl, ◌∙◌, subst, arith}
-use Rattle.std.specs.Prelude.{IsSomeAnd}
+use Rattle.std.proofs.Common.{◌≡◌, ◌≢◌, inl, inr, ◌≤◌, ℕ, zero, suc, List, [], ◌∷◌, length, map, true, refl, subst, arith}
 use Rattle.std.specs.List.{All, AllByRecursion, Contains, IsDistinct}
 use Rattle.std.specs.Map.{keys_of}
 use Rattle.std.specs.Set.{is_member}
@@ -18,12 +17,13 @@ use Rattle.org_splice.specs.Texts.{EditedText, IsEditOf}
 use Rattle.org_journal.specs.declared.record.Entry.{Entry}
 use Rattle.org_journal.specs.declared.record.Patch.{Patch}
 use Rattle.org_journal.specs.declared.record.Version.TheVariants.{Two}
-use Rattle.org_journal.specs.Record.{IsEntry, IsWellFormed, greatest_length}
-use Rattle.org_journal.specs.Standing.{Image, SameFiles, contents, replayed, stands}
+use Rattle.org_journal.specs.Record.{IsEntry, IsWellFormed, greatest_length, most_entries}
+use Rattle.org_journal.specs.Standing.{Image, contents, replayed}
 use Rattle.org_fileset.specs.Entries.{AreEntriesOf, changed}
 use Rattle.org_fileset.specs.Replay.{IsAtRest, IsBeforeOrAfter}
 use Rattle.org_fileset.specs.Set.{IsWithOrWithout}
 use Rattle.org_fileset.proofs.Commits.{at_rest_stands}
+use Rattle.org_fileset.proofs.Stands.{stands_as}
 use Rattle.org_fileset.proofs.Recorded.{IsCommittable, file_named, changes_layable, changes_made}
 
 abbrev Change : Type 0
@@ -58,7 +58,7 @@ key_named names changes named q member = (is_member-Decides bytes_eq-Decides nam
     found (change ∷ changes) named (zero, within, is) = subst (λ (n : List ℕ). Contains names n) is named.0
     found (change ∷ changes) named (suc k, within, is) = found changes named.1 (k, omega arith, is)
 
-few_changes : (names : List (List ℕ)) (changes : List Change) → IsDistinct bytes_eq (keys_of changes) → length names ≤ 512 → AllByRecursion (λ (change : Change). Contains names change.0) changes → length changes ≤ 512
+few_changes : (names : List (List ℕ)) (changes : List Change) → IsDistinct bytes_eq (keys_of changes) → length names ≤ most_entries → AllByRecursion (λ (change : Change). Contains names change.0) changes → length changes ≤ most_entries
 few_changes names changes distinct few named =
     let fewer = length-le_from_is_member nat_list_eq_equiv (keys_of changes) names distinct (key_named names changes named) in
     omega (arith, fewer, few, length-keys_of changes)
@@ -87,7 +87,7 @@ each_entry [] (entry ∷ entries) are can = absurd are
 each_entry (change ∷ changes) [] are can = absurd are
 
 pub changes_formed : (names : List (List ℕ)) (changes : List Change) (entries : List Entry) → AreEntriesOf changes entries → IsDistinct bytes_eq (keys_of changes) → (changes ≡ [] → ⊥)
-    → AllByRecursion (λ name. name ≢ journal_name) names → length names ≤ 512 → All (λ (change : Change). Contains names change.0) changes
+    → AllByRecursion (λ name. name ≢ journal_name) names → length names ≤ most_entries → All (λ (change : Change). Contains names change.0) changes
     → All (λ (change : Change). length change.1.bytes ≤ greatest_length Two) changes → IsWellFormed Two entries
 changes_formed names changes entries are distinct some each few named small =
     let can = committable names changes each named small in
@@ -103,15 +103,11 @@ changes_formed names changes entries are distinct some each few named small =
     nonempty [] some = absurd (some refl)
     nonempty (change ∷ changes) some = omega arith
 
-stands_same : (o : Option Image) (one other : Image) → ((name : List ℕ) → one name ≡ other name) → IsSomeAnd o (λ found. SameFiles found one) → IsSomeAnd o (λ found. SameFiles found other)
-stands_same None one other same stand = absurd stand
-stands_same (Some found) one other same stand = λ name not. stand name not ∙ same name
-
 -- the record's files are the changed ones
 pub with_or_without : (changes : List Change) (entries : List Entry) (files : Image) → AreEntriesOf changes entries → AllByRecursion (λ (change : Change). IsEditOf (files change.0) change.1) changes
     → (image : Image) → IsBeforeOrAfter entries files image → IsWithOrWithout changes files image
 with_or_without changes entries files are edits image (inl before) = inl before
-with_or_without changes entries files are edits image (inr after) = inr (stands_same (stands image) (replayed entries files) (changed changes files) (λ name. changes_made changes entries files name are edits) after)
+with_or_without changes entries files are edits image (inr after) = inr (stands_as (replayed entries files) (changed changes files) image (λ name not. changes_made changes entries files name are edits) after)
 
 -- no call of the disk
 pub only_before : (changes : List Change) (files : List ℕ → FileState) (m : ℕ) (since : ℕ → Image → Type 0) → IsAtRest files → ((image : Image) → since m image → AreImages files image)

@@ -8,6 +8,7 @@ use Rattle.org_disk.specs.Disk.{FileState, IsStable, AreImages, AreLeftBy, Chang
 use Rattle.org_disk.specs.Names.{journal_name}
 use Rattle.org_disk.specs.declared.disk.DiskFault.{DiskFault}
 use Rattle.org_disk.proofs.Images.{only_image, stable_is, left_after}
+use Rattle.org_disk.proofs.Names.{name_cases}
 use Rattle.org_splice.specs.Patches.{AreWellFormed, Fit, LayTo, IsPartlyLaid, lay}
 use Rattle.org_splice.specs.Texts.{EditedText}
 use Rattle.org_splice.proofs.Again.{LayTo-twice, LayTo-partly}
@@ -22,7 +23,7 @@ use Rattle.org_fileset.specs.Replay.{EachLaysTo, TakesTo, AreLayable, EachTakes,
 use Rattle.org_fileset.specs.Set.{IsWithOrWithout}
 use Rattle.org_fileset.specs.Laws.{IsArmedFor, KeepsTexts, IsEachOldOrNew}
 use Rattle.org_fileset.proofs.Laying.{may_leave, takes_write, takes_cut}
-use Rattle.org_fileset.proofs.Takes.{name_cases, entry-TakesTo, named_apart, layable_at}
+use Rattle.org_fileset.proofs.Takes.{entry-TakesTo, named_apart, layable_at}
 use Rattle.org_fileset.proofs.Replaying.{not_journal, entry_takes}
 use Rattle.org_fileset.proofs.Stands.{stands_open, open_stands, all_fit-takes}
 use Rattle.org_fileset.proofs.Recovering.{armed_takes, formed_layable}

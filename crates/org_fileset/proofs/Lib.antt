@@ -1,4 +1,6 @@
+mod Starting
 mod Laying
+pub mod Elements
 pub mod Sorted
 mod Steps
 mod Takes

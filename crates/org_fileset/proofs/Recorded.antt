@@ -7,6 +7,7 @@ use Rattle.std.specs.Str.{bytes_eq}
 use Rattle.std.proofs.lemmas.Bool.{and_from, false≢true}
 use Rattle.std.proofs.lemmas.Map.Keys.{IsDistinct-tail, IsDistinct-head}
 use Rattle.org_disk.specs.Names.{is_file_name, journal_name}
+use Rattle.org_disk.proofs.Names.{name_cases, same_name}
 use Rattle.org_splice.specs.Patches.{LayTo, lay}
 use Rattle.org_splice.specs.Texts.{EditedText, IsEditOf}
 use Rattle.org_journal.specs.declared.record.Entry.{Entry}
@@ -15,7 +16,6 @@ use Rattle.org_journal.specs.Record.{pairs, is_named, names_differ, greatest_len
 use Rattle.org_journal.specs.Standing.{Image, fits, all_fit, replayed}
 use Rattle.org_fileset.specs.Entries.{IsEntryOf, AreEntriesOf, changed}
 use Rattle.org_fileset.specs.Replay.{IsLayable, AreLayable}
-use Rattle.org_fileset.proofs.Takes.{name_cases}
 use Rattle.org_fileset.proofs.Stands.{fits-true}
 
 abbrev Change : Type 0
@@ -52,12 +52,6 @@ no_entry name (change ∷ changes) (entry ∷ entries) are none = elim (name_cas
       absurd (false≢true (sym none.0 ∙ here))
   | inr other ↦ let e : bytes_eq entry.name name ≡ false = other.1 in rw e (no_entry name changes entries are.1 none.1)
 ]
-  where
-    same_name : (x : List ℕ) → bytes_eq x x ≡ true
-    same_name x = elim (name_cases x x) [
-      | inl is ↦ is.1
-      | inr apart ↦ absurd (apart.0 refl)
-    ]
 no_entry name [] (entry ∷ entries) are none = absurd are
 no_entry name (change ∷ changes) [] are none = absurd are
 

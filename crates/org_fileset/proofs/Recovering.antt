@@ -3,21 +3,21 @@ use Rattle.std.proofs.Common.{◌≡◌, ◌≢◌, ◌⊎◌, inl, inr, ⊎_eli
 use Rattle.std.specs.Prelude.{IsSomeAnd, is_some, nat_le, slice_index, ◌==◌, if◌then◌else◌}
 use Rattle.std.specs.List.{AllByRecursion}
 use Rattle.std.specs.Str.{bytes_eq}
-use Rattle.std.proofs.lemmas.Bool.{cases_Bool, cases_lt, cases_eq, and_from, and_parts, le-leb, leb-true, eq-eqb, true≢false, false≢true}
+use Rattle.std.proofs.lemmas.Bool.{cases_lt, cases_eq, and_from, le-leb, eq-eqb, true≢false, false≢true}
 use Rattle.std.proofs.lemmas.List.{get_or-set_same, get_or-set_other, get_or-take, get_or_append_left}
 use Rattle.org_disk.specs.Disk.{FileState, IsOutside, IsImage, IsStable, AreImages, AreLeftBy, MayLeave, Changes, sync, stable}
 use Rattle.org_disk.specs.Names.{journal_name}
 use Rattle.org_disk.specs.declared.disk.DiskFault.{DiskFault}
 use Rattle.org_disk.proofs.Images.{only_image, stable_is}
+use Rattle.org_disk.proofs.Names.{name_cases}
 use Rattle.org_journal.specs.declared.record.Entry.{Entry}
-use Rattle.org_journal.specs.Gate.{is_open, HasClosedGate, LeavesClosed}
+use Rattle.org_journal.specs.Gate.{front_size, is_open, HasClosedGate, LeavesClosed}
 use Rattle.org_journal.specs.Reading.{journal_at}
 use Rattle.org_journal.specs.declared.record.Version.TheVariants.{Two}
 use Rattle.org_journal.specs.Record.{is_named, IsEntry, IsWellFormed}
 use Rattle.org_journal.specs.Standing.{Image, SameFiles, StandsFor, IsArmed, IsFit, OthersStable, stands, all_fit, replayed, contents}
 use Rattle.org_fileset.specs.Recovery.{EachStands, StandsAsBefore}
 use Rattle.org_fileset.specs.Replay.{TakesTo, IsLayable, AreLayable, EachTakes, IsOpenOver, IsReplayable, IsAtRest}
-use Rattle.org_fileset.proofs.Takes.{name_cases}
 use Rattle.org_fileset.proofs.Stands.{stands_open, stands_closed, open_stands, takes-replayed}
 
 -- A file of which a stop leaves the content and nothing else is all on the disk.
@@ -201,21 +201,13 @@ pub closed_stable : (files : List ℕ → FileState) → is_open (contents files
 closed_stable files shut (inl stable) = stable
 closed_stable files shut (inr armed) = absurd (false≢true (sym shut ∙ armed.opened))
 
-pub short_shut : (journal : List ℕ) → length journal < 16 → is_open journal ≡ false
-short_shut journal short = elim (cases_Bool (is_open journal)) [
-  | inl opened ↦
-      let long : 16 ≤ length journal = leb-true 16 (length journal) (and_parts (nat_le 16 (length journal)) (slice_index journal 0 == 1) opened).0 in
-      absurd (omega arith)
-  | inr shut ↦ shut
-]
-
 -- a stable journal of which the gate is closed has it on the disk
-pub shut_gate : (file : FileState) → IsStable file → is_open file.content ≡ false → 16 ≤ length file.content → HasClosedGate file
+pub shut_gate : (file : FileState) → IsStable file → is_open file.content ≡ false → front_size ≤ length file.content → HasClosedGate file
 shut_gate file stable shut long = record {
   nonempty = omega arith;
   fixed = (omega (arith, stable.least), stable.fixed 0 (omega arith));
   closed = λ one.
-      let opened : is_open file.content ≡ true = and_from (nat_le 16 (length file.content)) (slice_index file.content 0 == 1) (le-leb 16 (length file.content) long) (eq-eqb (slice_index file.content 0) 1 one) in
+      let opened : is_open file.content ≡ true = and_from (nat_le front_size (length file.content)) (slice_index file.content 0 == 1) (le-leb front_size (length file.content) long) (eq-eqb (slice_index file.content 0) 1 one) in
       true≢false (sym opened ∙ shut);
 }
 

@@ -9,13 +9,14 @@ use Rattle.org_disk.specs.Names.{journal_name}
 use Rattle.org_disk.specs.declared.disk.DiskFault.{DiskFault}
 use Rattle.org_disk.proofs.Images.{only_image, stable_is}
 use Rattle.org_disk.proofs.Moments.{passes_none, passes_then}
+use Rattle.org_disk.proofs.Names.{name_cases}
 use Rattle.org_splice.specs.Patches.{LayTo}
 use Rattle.org_journal.specs.declared.record.Entry.{Entry}
 use Rattle.org_journal.specs.Record.{pairs, is_named, names_differ}
 use Rattle.org_journal.specs.Standing.{Image, contents}
 use Rattle.org_fileset.specs.Replay.{EachLaysTo, Lays, TakesTo, AreLayable, EachTakes, LeavesTaking, Replays}
 use Rattle.org_fileset.proofs.Laying.{lays_none, lays_call}
-use Rattle.org_fileset.proofs.Takes.{name_cases, TakesTo-entry, entry-TakesTo, named_apart, journal_unnamed}
+use Rattle.org_fileset.proofs.Takes.{TakesTo-entry, entry-TakesTo, named_apart, journal_unnamed}
 
 -- no entry's name is the journal's
 pub not_journal : (entries : List Entry) (i : ℕ) (entry : Entry) → AreLayable entries → slice_get entries i ≡ Some entry → entry.name ≢ journal_name

@@ -1,12 +1,11 @@
 -- The names of a set's files.
-use Rattle.std.proofs.Common.{nat_lt, ◌≡◌, ◌≢◌, ◌+◌, ◌*◌, ◌≤◌, length, get_or, drop, ◌<◌, sym, ◌∙◌, length-append, IsTrue, false, ◌⊎◌, inl, inr, ⊎_elim, ℕ, List, [], ◌∷◌, ◌++◌, refl, ap, subst, arith}
+use Rattle.std.proofs.Common.{nat_lt, ◌≡◌, ◌≢◌, ◌+◌, ◌*◌, ◌≤◌, length, get_or, drop, ◌<◌, sym, ◌∙◌, length-append, false, ⊎_elim, ℕ, List, [], ◌∷◌, ◌++◌, refl, ap, subst, arith}
 use Rattle.std.proofs.lemmas.Bool.Decides.{nat_tests}
-use Rattle.std.proofs.lemmas.Bool.{false≢true}
 use Rattle.std.specs.List.{Contains, All, AllByRecursion}
-use Rattle.std.proofs.lemmas.List.Elements.{Contains-append_left, Contains-append_right, Contains-append_cases, Contains-push, Contains-push_cases, All-contains, All-contains_itself, All-weaker, All-from_recursion, recursion_from_All}
+use Rattle.std.proofs.lemmas.List.Elements.{All-contains, All-contains_itself, All-weaker, All-from_recursion, recursion_from_All}
 use Rattle.std.proofs.lemmas.List.{get_or-append-add, drop_more}
-use Rattle.org_disk.specs.Names.{archive_name, archive_suffix, is_archive_name, is_file_name, journal_name}
-use Rattle.org_fileset.specs.Names.{with_archives, AreSorted, IsGiven, most_names, limit, first_large}
+use Rattle.org_disk.specs.Names.{archive_name, archive_suffix, journal_name, IsOrgFile}
+use Rattle.org_fileset.specs.Names.{with_archives, AreSorted, most_names, limit, first_large}
 use Rattle.org_fileset.specs.Opening.{AreSetNames}
 use Rattle.std.specs.Prelude.{Option, Some, None, IsSomeAnd}
 use Rattle.org_disk.specs.Disk.{FileState, AreImages}
@@ -14,25 +13,11 @@ use Rattle.org_journal.specs.Standing.{SameFiles, stands, contents}
 use Rattle.org_fileset.specs.Recovery.{StandsAsBefore}
 use Rattle.org_fileset.specs.Replay.{IsAtRest}
 use Rattle.org_fileset.proofs.Commits.{at_rest_stands}
+use Rattle.org_fileset.proofs.Elements.{no_member, cons_cases, cons_here, cons_later}
 
 pub with_archives-push : (names : List (List ℕ)) (name : List ℕ) → with_archives (names ++ name ∷ []) ≡ with_archives names ++ name ∷ archive_name name ∷ []
 with_archives-push [] name = refl
 with_archives-push (n ∷ names) name = ap (λ l. n ∷ archive_name n ∷ l) (with_archives-push names name)
-
-pub no_member : (name : List ℕ) → Contains [] name → ⊥
-no_member name there = omega (arith, there.1)
-
-pub cons_cases : (x : List ℕ) (xs : List (List ℕ)) (name : List ℕ) → Contains (x ∷ xs) name → (x ≡ name) ⊎ Contains xs name
-cons_cases x xs name there = ⊎_elim
-    (λ one. ⊎_elim (λ none. absurd (no_member name none)) (λ e. inl e) (Contains-push_cases [] x name one))
-    (λ later. inr later)
-    (Contains-append_cases (x ∷ []) xs name there)
-
-pub cons_here : (x : List ℕ) (xs : List (List ℕ)) → Contains (x ∷ xs) x
-cons_here x xs = Contains-append_left (x ∷ []) xs x (Contains-push [] x)
-
-pub cons_later : (x : List ℕ) (xs : List (List ℕ)) (name : List ℕ) → Contains xs name → Contains (x ∷ xs) name
-cons_later x xs name there = Contains-append_right (x ∷ []) xs name there
 
 -- what is said of each given name and of its archive file's is said of all
 archives_have : (P : List ℕ → Type 0) (names : List (List ℕ)) → ((name : List ℕ) → Contains names name → P name × P (archive_name name)) → (name : List ℕ) → Contains (with_archives names) name → P name
@@ -76,10 +61,6 @@ sorted_archives given sorted names first second = record {
 pub all_sorted : (P : List ℕ → Type 0) (given sorted : List (List ℕ)) → AreSorted given sorted → All P given → All P sorted
 all_sorted P given sorted is all = All-weaker (Contains sorted) P (λ name there. All-contains P given name all ((is.members name).0 there)) sorted (All-contains_itself sorted)
 
--- a file name that is no archive file's may be given
-pub given_name : (name : List ℕ) → IsTrue (is_file_name name) → is_archive_name name ≡ false → IsGiven name
-given_name name accepted plain = (plain, λ journal. false≢true (subst (λ n. IsTrue (is_file_name n)) journal accepted))
-
 -- an archive file's name isn't the journal's
 archive_apart : (name : List ℕ) → archive_name name ≢ journal_name
 archive_apart name same =
@@ -89,7 +70,7 @@ archive_apart name same =
     let other : get_or journal_name 15 0 ≡ 101 = sym (ap (λ (l : List ℕ). get_or l (length name + 7) 0) same ∙ ap (λ (i : ℕ). get_or journal_name i 0) place) ∙ byte in
     absurd (omega arith)
 
-pub archives_apart : (names : List (List ℕ)) → AllByRecursion IsGiven names → AllByRecursion (λ name. name ≢ journal_name) (with_archives names)
+pub archives_apart : (names : List (List ℕ)) → AllByRecursion IsOrgFile names → AllByRecursion (λ name. name ≢ journal_name) (with_archives names)
 archives_apart [] given = tt
 archives_apart (name ∷ names) given = (given.0.1, (archive_apart name, archives_apart names given.1))
 
@@ -98,12 +79,12 @@ length-with_archives [] = refl
 length-with_archives (name ∷ names) = let rest = length-with_archives names in omega (arith, rest)
 
 -- the names of a set: sorted ones of few given ones
-pub set_names : (given sorted names : List (List ℕ)) → AreSorted given sorted → length sorted ≤ most_names → All IsGiven given → AreSorted (with_archives sorted) names
+pub set_names : (given sorted names : List (List ℕ)) → AreSorted given sorted → length sorted ≤ most_names → All IsOrgFile given → AreSorted (with_archives sorted) names
     → length names ≤ length (with_archives sorted) → AreSetNames names
 set_names given sorted names first few all second shorter = record {
   each = recursion_from_All (λ name. name ≢ journal_name) names
       (all_sorted (λ name. name ≢ journal_name) (with_archives sorted) names second
-      (All-from_recursion (λ name. name ≢ journal_name) (with_archives sorted) (archives_apart sorted (recursion_from_All IsGiven sorted (all_sorted IsGiven given sorted first all)))));
+      (All-from_recursion (λ name. name ≢ journal_name) (with_archives sorted) (archives_apart sorted (recursion_from_All IsOrgFile sorted (all_sorted IsOrgFile given sorted first all)))));
   few = omega (arith, shorter, few, length-with_archives sorted);
 }
 

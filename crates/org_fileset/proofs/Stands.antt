@@ -1,17 +1,18 @@
 -- What an image stands for, told by what the record makes of each file.
 use Rattle.std.proofs.Common.{◌≡◌, ◌≢◌, inl, inr, ℕ, suc, List, [], ◌∷◌, length, drop, max, Bool, true, false, Some, refl, sym, ◌∙◌, ap, subst}
-use Rattle.std.specs.Prelude.{nat_le, if◌then◌else◌}
+use Rattle.std.specs.Prelude.{nat_le, if◌then◌else◌, IsSomeAnd, Option, None}
 use Rattle.std.specs.Str.{bytes_eq}
 use Rattle.std.proofs.lemmas.Bool.{cases_Bool, and_parts, and_from, le-leb, leb-true, MatchBool-at_true, MatchBool-at_false}
 use Rattle.org_disk.specs.Names.{journal_name}
+use Rattle.org_disk.proofs.Names.{name_cases}
 use Rattle.org_splice.specs.Patches.{end_of, last_end, BeginWithin, Fit, LayTo, lay}
 use Rattle.org_journal.specs.declared.record.Entry.{Entry}
 use Rattle.org_journal.specs.Gate.{is_open}
 use Rattle.org_journal.specs.Reading.{journal_at}
 use Rattle.org_journal.specs.Record.{pairs, is_named}
-use Rattle.org_journal.specs.Standing.{Image, begins_within, fits, all_fit, replayed, SameFiles, StandsFor}
+use Rattle.org_journal.specs.Standing.{Image, begins_within, fits, all_fit, replayed, stands, SameFiles, StandsFor}
 use Rattle.org_fileset.specs.Replay.{TakesTo, AreLayable}
-use Rattle.org_fileset.proofs.Takes.{name_cases, TakesTo-entry, TakesTo-other}
+use Rattle.org_fileset.proofs.Takes.{TakesTo-entry, TakesTo-other}
 use Rattle.org_fileset.proofs.Replaying.{not_journal}
 use Rattle.std.specs.Prelude.{slice_get}
 
@@ -104,3 +105,11 @@ replayed-entry entries image i entry layable fit is =
 -- and of a file that it doesn't name, the file
 pub replayed-other : (entries : List Entry) (image : Image) (name : List ℕ) → all_fit entries image ≡ true → is_named name entries ≡ false → image name ≡ replayed entries image name
 replayed-other entries image name fit none = TakesTo-other entries name (image name) (replayed entries image name) none (takes-replayed entries image name (replayed entries image name) fit refl)
+
+-- it stands for files that agree with those that it stands for
+pub stands_as : (first second image : Image) → SameFiles first second → StandsFor first image → StandsFor second image
+stands_as first second image same = go (stands image)
+  where
+    go : (o : Option Image) → IsSomeAnd o (λ found. SameFiles found first) → IsSomeAnd o (λ found. SameFiles found second)
+    go (Some found) is = λ name not. is name not ∙ same name not
+    go None is = is

@@ -1,26 +1,15 @@
 -- What a record makes of the file of one name.
-use Rattle.std.proofs.Common.{◌≡◌, ◌≢◌, ◌⊎◌, inl, inr, ⊎_elim, ℕ, zero, suc, List, [], ◌∷◌, Bool, true, false, not, Some, refl, sym, ◌∙◌, ap, subst}
+use Rattle.std.proofs.Common.{◌≡◌, ◌≢◌, inl, inr, ℕ, zero, suc, List, [], ◌∷◌, Bool, true, false, not, Some, refl, sym, ◌∙◌, ap, subst}
 use Rattle.std.specs.Prelude.{slice_get, ◌||◌}
 use Rattle.std.specs.List.{AllByRecursion}
 use Rattle.std.specs.Str.{bytes_eq}
-use Rattle.std.proofs.lemmas.Bool.{cases_Bool, and_parts, not-true, true≢false, false≢true, MatchBool-at_true, MatchBool-at_false}
-use Rattle.std.proofs.lemmas.Bool.Decides.{not_from_Decides}
-use Rattle.std.proofs.lemmas.Slice.Eq.{bytes_eq-Decides}
+use Rattle.std.proofs.lemmas.Bool.{and_parts, not-true, true≢false, false≢true, MatchBool-at_true, MatchBool-at_false}
 use Rattle.org_disk.specs.Names.{journal_name, is_file_name}
+use Rattle.org_disk.proofs.Names.{name_cases, same_name}
 use Rattle.org_splice.specs.Patches.{LayTo}
 use Rattle.org_journal.specs.declared.record.Entry.{Entry}
 use Rattle.org_journal.specs.Record.{pairs, is_named, names_differ}
 use Rattle.org_fileset.specs.Replay.{TakesTo, IsLayable}
-
--- two names are one or they aren't
-pub name_cases : (x y : List ℕ) → ((x ≡ y) × (bytes_eq x y ≡ true)) ⊎ ((x ≢ y) × (bytes_eq x y ≡ false))
-name_cases x y = ⊎_elim (λ t. inl ((bytes_eq-Decides x y).0 t, t)) (λ f. inr (not_from_Decides (bytes_eq x y) (bytes_eq-Decides x y) f, f)) (cases_Bool (bytes_eq x y))
-
-same_name : (x : List ℕ) → bytes_eq x x ≡ true
-same_name x = elim (name_cases x x) [
-  | inl is ↦ is.1
-  | inr not ↦ absurd (not.0 refl)
-]
 
 or_false : (a b : Bool) → (a || b) ≡ false → (a ≡ false) × (b ≡ false)
 or_false true b is = absurd (true≢false is)
@@ -32,12 +21,6 @@ TakesTo-other [] name text to none takes = takes
 TakesTo-other (entry ∷ entries) name text to none takes =
     let parts = or_false (bytes_eq entry.name name) (is_named name entries) none in
     TakesTo-other entries name text to parts.1 (MatchBool-at_false (LayTo (pairs entry.patches) entry.length text to) (TakesTo entries name text to) parts.0 takes)
-
-pub other-TakesTo : (entries : List Entry) (name text to : List ℕ) → is_named name entries ≡ false → text ≡ to → TakesTo entries name text to
-other-TakesTo [] name text to none same = same
-other-TakesTo (entry ∷ entries) name text to none same =
-    let parts = or_false (bytes_eq entry.name name) (is_named name entries) none in
-    let e = parts.0 in rw e (other-TakesTo entries name text to parts.1 same)
 
 -- a name that no entry has isn't this entry's
 pub named_apart : (entries : List Entry) (i : ℕ) (entry : Entry) (name : List ℕ) → is_named name entries ≡ false → slice_get entries i ≡ Some entry → name ≢ entry.name

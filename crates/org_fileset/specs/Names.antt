@@ -1,23 +1,21 @@
 -- The names of a set's files.
-use Rattle.std.specs.Prelude.{◌≢◌, ◌↔◌, IsFalse, ℕ, ◌<◌, ◌≤◌, nat_lt, List, [], ◌∷◌, length, Option, Some, None, if◌then◌else◌}
+use Rattle.std.specs.Prelude.{◌↔◌, ℕ, ◌<◌, ◌≤◌, nat_lt, List, [], ◌∷◌, length, Option, Some, None, if◌then◌else◌}
 use Rattle.std.specs.List.{Contains}
 use Rattle.std.specs.List.Sorted.{IsStrictlySortedBy}
 use Rattle.std.specs.Ordering.{nat_cmp}
 use Rattle.std.specs.Cmp.Lexicographic.{slice_cmp}
-use Rattle.org_disk.specs.Names.{archive_name, is_archive_name, journal_name}
+use Rattle.org_disk.specs.Names.{archive_name}
+use Rattle.org_journal.specs.declared.record.Version.TheVariants.{Two}
+use Rattle.org_journal.specs.Record.{greatest_length}
 use Rattle.org_journal.specs.Standing.{Image}
-
--- a name that may be given: the name of an Org file, whose archive file is one of the set's too
-abbrev pub IsGiven : List ℕ → Type 0
-IsGiven name = IsFalse (is_archive_name name) × (name ≢ journal_name)
 
 -- how many names may be given
 abbrev pub most_names : ℕ
 most_names = 256
 
--- the most bytes of a file
+-- the most bytes of a file: what an entry may have
 abbrev pub limit : ℕ
-limit = 67_108_864
+limit = greatest_length Two
 
 -- these names and those of their archive files
 abbrev pub with_archives : List (List ℕ) → List (List ℕ)

@@ -4,6 +4,7 @@ use Rattle.std.specs.Global.{Global}
 use Rattle.std.specs.List.{AllByRecursion}
 use Rattle.org_disk.specs.Names.{journal_name}
 use Rattle.org_disk.specs.declared.name.FileName.{FileName}
+use Rattle.org_journal.specs.Record.{most_entries}
 use Rattle.org_journal.specs.Standing.{Image, SameFiles, stands}
 use Rattle.org_journal.specs.declared.fault.FindFault.{FindFault}
 use Rattle.org_journal.specs.declared.fault.FindFault.TheVariants as find
@@ -27,7 +28,7 @@ fault_of find.OutOfMemory = OutOfMemory
 -- none of the names is the journal's, and they are no more than a record can have
 pub record AreSetNames (names : List (List ℕ)) : Type 0 where
   pub each : AllByRecursion (λ name. name ≢ journal_name) names
-  pub few : length names ≤ 512
+  pub few : length names ≤ most_entries
 
 -- These names of a set are all that the given ones ask for; or there is this fault with them.
 abbrev pub AreAllNames : List (List ℕ) → Result (Vec FileName Global) OpenFault → Type 0

@@ -1,7 +1,7 @@
 -- What an opening may leave.
 use Rattle.std.specs.Prelude.{ℕ, nat_le, ◌&&◌, not, List, ◌∷◌, length, drop, IsTrue, is_some, if◌then◌else◌}
 use Rattle.org_disk.specs.Disk.{FileState, AreImages}
-use Rattle.org_journal.specs.Gate.{is_open}
+use Rattle.org_journal.specs.Gate.{front_size, is_open}
 use Rattle.org_journal.specs.Standing.{Image, stands, StandsFor}
 
 -- whatever a stop leaves stands for files: no journal is bad
@@ -19,4 +19,4 @@ pub record StandsAsBefore (files : List ℕ → FileState) (image : Image) : Typ
 -- What an opening makes of the journal. One that has the bytes of a header and a closed gate stays as it is, whatever
 -- byte closes it; of another the first byte is 0 then, and the rest as it was.
 abbrev pub closed_journal : List ℕ → List ℕ
-closed_journal journal = if nat_le 16 (length journal) && not (is_open journal) then journal else 0 ∷ drop 1 journal
+closed_journal journal = if nat_le front_size (length journal) && not (is_open journal) then journal else 0 ∷ drop 1 journal

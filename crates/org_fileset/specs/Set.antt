@@ -4,10 +4,11 @@ use Rattle.std.specs.List.{All, AllByRecursion, Contains}
 use Rattle.org_disk.specs.Disk.{FileState}
 use Rattle.org_disk.specs.Names.{journal_name}
 use Rattle.org_splice.specs.Texts.{EditedText, IsEditOf}
+use Rattle.org_journal.specs.Gate.{HasClosedGate}
+use Rattle.org_journal.specs.Record.{most_entries}
 use Rattle.org_journal.specs.Standing.{Image, StandsFor}
 use Rattle.org_fileset.specs.Entries.{changed}
 use Rattle.org_fileset.specs.Names.{limit}
-use Rattle.org_journal.specs.Gate.{HasClosedGate}
 
 -- A set of files: its disk, the names of its files, and whether a call of the disk failed.
 pub record Opened (D : Type 0) : Type 0 where
@@ -20,7 +21,7 @@ pub record Opened (D : Type 0) : Type 0 where
 pub record IsSound (journal : List ℕ) (names : List (List ℕ)) (broken : Bool) (honest : Type 0) (files : List ℕ → FileState) : Type 0 where
   pub journal_is : journal ≡ journal_name
   pub each : AllByRecursion (λ name. name ≢ journal_name) names
-  pub few : length names ≤ 512
+  pub few : length names ≤ most_entries
   pub gate : broken ≡ false → honest → HasClosedGate (files journal_name)
 
 -- An image stands for the files as they are, or as the changes make them.

@@ -1,7 +1,8 @@
 //! The names of a set's files.
 ghost use Rattle.std.specs.Prelude.{◌≡◌, ◌≤◌, length, IfOk};
 ghost use Rattle.std.specs.List.{All};
-ghost use Rattle.org_fileset.specs.Names.{with_archives, AreSorted, IsGiven};
+ghost use Rattle.org_disk.specs.Names.{IsOrgFile};
+ghost use Rattle.org_fileset.specs.Names.{with_archives, AreSorted};
 
 use org_disk::FileName;
 use std::alloc::{AllocError, Global};
@@ -19,7 +20,7 @@ pub fn in_order(names: Vec<FileName>) -> Vec<FileName>
 
 /// These names, none of which is an archive file's or the journal's, and those of their archive files.
 pub fn with_archives(alloc: Global, given: &[FileName]) -> Result<Vec<FileName>, AllocError>
-    requires { All IsGiven given.now }
+    requires { All IsOrgFile given.now }
     ensures { IfOk result (λ names. names.items ≡ with_archives given.now) }
 {
     let mut names = Vec::new(alloc);

@@ -2,10 +2,10 @@
 ghost use Rattle.std.specs.Prelude.{◌≡◌, ◌≤◌, List, Err, IsSomeAnd, IfOk, IfErr, OnOk, IsErrOf};
 ghost use Rattle.std.specs.List.{All};
 ghost use Rattle.org_disk.specs.Disk.{HasRisen, Passes, LeavesOnly, AreImages, KeepsHonesty};
-ghost use Rattle.org_disk.specs.Names.{journal_name};
+ghost use Rattle.org_disk.specs.Names.{journal_name, IsOrgFile};
 ghost use Rattle.org_journal.specs.Gate.{HasClosedGate};
 ghost use Rattle.org_journal.specs.Standing.{SameFiles, IsFit, stands, contents};
-ghost use Rattle.org_fileset.specs.Names.{with_archives, AreSorted, AreFew, IsGiven};
+ghost use Rattle.org_fileset.specs.Names.{with_archives, AreSorted, AreFew};
 ghost use Rattle.org_fileset.specs.Opening.{AreAllNames, AreSetNames, HaveSizes, IsAnswer, fault_of};
 ghost use Rattle.org_fileset.specs.Recovery.{EachStands, StandsAsBefore, closed_journal};
 ghost use Rattle.org_fileset.specs.Replay.{IsAtRest};
@@ -41,7 +41,9 @@ pub enum OpenFault {
 /// A set of files that wasn't opened: its disk, and why.
 #[derive(Drop)]
 pub struct OpenRefused<D> {
+    /// The disk as the call left it.
     pub disk: D,
+    /// Why the set wasn't opened.
     pub fault: OpenFault,
 }
 
@@ -75,7 +77,7 @@ impl From<FindFault> for OpenFault {
 
 /// The names of a set's files in byte order: the given ones and those of their archive files.
 pub fn all_names(alloc: Global, given: Vec<FileName>) -> Result<Vec<FileName>, OpenFault>
-    requires { All IsGiven given.items }
+    requires { All IsOrgFile given.items }
     ensures { AreAllNames given.items result }
 {
     let given = in_order(given);
@@ -91,7 +93,7 @@ pub fn journal_and_names(
     alloc: Global,
     given: Vec<FileName>,
 ) -> Result<(FileName, Vec<FileName>), OpenFault>
-    requires { All IsGiven given.items }
+    requires { All IsOrgFile given.items }
     ensures journal { IfOk result (λ made. made.0 ≡ journal_name) }
     ensures names { IfOk result (λ made. AreFew given.items × AreSorted (with_archives given.items) made.1.items × AreSetNames made.1.items) }
     ensures refused { IfErr result (λ fault. AreAllNames given.items (Err fault)) }
@@ -103,8 +105,8 @@ pub fn journal_and_names(
 /// Asks for the length of each of these files.
 pub fn check_sizes<D: Disk>(disk: &mut D, names: &[FileName]) -> Result<(), OpenFault>
     ensures sizes { D.honest disk.new → HaveSizes (contents (D.files disk.old)) names.now result }
-    ensures only { IsErrOf result OpenFault.TooManyFiles → ⊥ }
-    ensures found { IsErrOf result OpenFault.BadJournal → ⊥ }
+    ensures not_too_many { IsErrOf result OpenFault.TooManyFiles → ⊥ }
+    ensures not_bad { IsErrOf result OpenFault.BadJournal → ⊥ }
     ensures same { D.honest disk.new → D.files disk.new ≡ D.files disk.old }
     ensures any_moment { D.honest disk.new → Passes (D.moment disk.old) (D.moment disk.new) (D.left_since disk.old) (D.left_since disk.new) (AreImages (D.files disk.old)) }
     ensures failed { IsErrOf result OpenFault.Device → HasRisen (D.failures disk.old) (D.failures disk.new) }
@@ -132,7 +134,7 @@ pub fn make_ready<D: Disk>(
     ensures contents { OnOk result (D.honest disk.new → IsSomeAnd (stands (contents (D.files disk.old))) (SameFiles (contents (D.files disk.new)))) }
     ensures journal { OnOk result (D.honest disk.new → contents (D.files disk.new) journal_name ≡ closed_journal (contents (D.files disk.old) journal_name)) }
     ensures answer { D.honest disk.new → IsAnswer (contents (D.files disk.old)) (contents (D.files disk.new)) names.now result }
-    ensures only { IsErrOf result OpenFault.TooManyFiles → ⊥ }
+    ensures not_too_many { IsErrOf result OpenFault.TooManyFiles → ⊥ }
     ensures any_moment { D.honest disk.new → IsFit (D.files disk.old) → EachStands (D.files disk.old) →
         LeavesOnly (D.moment disk.old) (D.moment disk.new) (D.left_since disk.old) (D.left_since disk.new) (StandsAsBefore (D.files disk.old)) }
     ensures fit { D.honest disk.new → IsFit (D.files disk.old) → EachStands (D.files disk.old) → IsFit (D.files disk.new) }

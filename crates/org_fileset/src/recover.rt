@@ -9,11 +9,8 @@ ghost use Rattle.org_fileset.specs.Recovery.{EachStands, StandsAsBefore, closed_
 
 use crate::commit::replay;
 use org_disk::{Disk, FileName};
-use org_journal::{FindFault, Found, find, prepare};
+use org_journal::{FRONT, FindFault, Found, find, prepare};
 use std::alloc::Global;
-
-// A journal shorter than this has no gate.
-const HEADER: u64 = 16;
 
 /// Brings the journal's record to an end where its gate is open, and gives a journal without a gate one that is closed.
 /// Nothing else is written.
@@ -40,7 +37,7 @@ pub fn recover<D: Disk>(alloc: Global, disk: &mut D, journal: &FileName) -> Resu
     match find(alloc, disk, journal)? {
         Found::Armed(record) => replay(disk, journal, record.entries())?,
         Found::Closed => {
-            if disk.length(journal)? < HEADER {
+            if disk.length(journal)? < FRONT {
                 prepare(disk, journal)?;
             }
         }

@@ -1,12 +1,12 @@
 //! The files of a store as one.
-ghost use Rattle.std.specs.Prelude.{◌≡◌, ◌≢◌, ◌≤◌, ◌⊎◌, ◌↔◌, List, ℕ, None, true, false, length, IsTrue, IsFalse, IsSomeAnd, IfOk, IfErr, OnOk, OnErr, IsErrOf, MatchResult};
+ghost use Rattle.std.specs.Prelude.{◌≡◌, ◌≢◌, ◌≤◌, ◌⊎◌, ◌↔◌, List, ℕ, [], None, true, false, length, IsTrue, IsFalse, IsSomeAnd, IfOk, IfErr, OnOk, OnErr, IsErrOf, IsOk, MatchResult};
 ghost use Rattle.std.specs.List.{All, Contains};
 ghost use Rattle.org_disk.specs.Disk.{HasRisen, Passes, LeavesOnly, AreImages, KeepsHonesty};
-ghost use Rattle.org_disk.specs.Names.{journal_name};
+ghost use Rattle.org_disk.specs.Names.{journal_name, IsOrgFile};
 ghost use Rattle.org_splice.specs.Texts.{IsEditOf};
 ghost use Rattle.org_journal.specs.Standing.{IsFit, SameFiles, stands, contents};
 ghost use Rattle.org_fileset.specs.Entries.{changed};
-ghost use Rattle.org_fileset.specs.Names.{with_archives, AreSorted, AreFew, IsGiven, first_large};
+ghost use Rattle.org_fileset.specs.Names.{with_archives, AreSorted, AreFew, first_large};
 ghost use Rattle.org_fileset.specs.Opening.{IsReason, disk_in};
 ghost use Rattle.org_fileset.specs.Recovery.{EachStands, StandsAsBefore, closed_journal};
 ghost use Rattle.org_fileset.specs.Replay.{IsAtRest};
@@ -17,13 +17,13 @@ use crate::entries::entries_of;
 use crate::fault::SetFault;
 use crate::open::{OpenFault, OpenRefused, journal_and_names, make_ready};
 use org_disk::{Disk, FileName};
-use org_journal::Record;
+use org_journal::{GREATEST_LENGTH, Record};
 use org_splice::ChangeSet;
 use std::alloc::Global;
 use std::marker::Model;
 
 /// The most bytes of a file.
-pub const LIMIT: usize = 67_108_864;
+pub const LIMIT: usize = GREATEST_LENGTH as usize;
 
 /// Files of a disk that are read one by one, and changed as one.
 #[derive(Drop)]
@@ -54,9 +54,9 @@ impl<D: Disk> FileSet<D> {
     /// The faults come in the order of `OpenFault`; `Device` and `OutOfMemory` as they are met. A refused call hands the
     /// disk back.
     pub fn open(alloc: Global, disk: D, names: Vec<FileName>) -> Result<FileSet<D>, OpenRefused<D>>
-        requires { All IsGiven names.items }
+        requires { All IsOrgFile names.items }
         ensures names { IfOk result (λ set. AreFew names.items × AreSorted (with_archives names.items) set.names) }
-        ensures working { IfOk result (λ set. set.broken ≡ false) }
+        ensures unbroken { IfOk result (λ set. set.broken ≡ false) }
         ensures contents { IfOk result (λ set. D.honest set.disk → IsSomeAnd (stands (contents (D.files disk))) (SameFiles (contents (D.files set.disk)))) }
         ensures journal { IfOk result (λ set. D.honest set.disk → contents (D.files set.disk) journal_name ≡ closed_journal (contents (D.files disk) journal_name)) }
         ensures sizes { IfOk result (λ set. D.honest set.disk → first_large (contents (D.files set.disk)) set.names ≡ None) }
@@ -149,7 +149,8 @@ impl<D: Disk> FileSet<D> {
     ///
     /// Where all is on the disk when the call begins, then at every moment since what a stop leaves stands for all files
     /// as they were, or for all files with the changed texts; after Ok all is on the disk again, and after `Device` it
-    /// can be opened anew. All memory is taken before the first call of the disk.
+    /// can be opened anew. All memory is taken before the first call of the disk. Where nothing was changed, no call of the
+    /// disk is made.
     pub fn commit(&mut self, changes: &ChangeSet<FileName>) -> Result<(), SetFault>
         requires named { All (λ change. Contains self.old.names change.0) changes.now }
         requires small { All (λ change. length change.1.bytes ≤ LIMIT) changes.now }
@@ -162,7 +163,8 @@ impl<D: Disk> FileSet<D> {
         ensures fit { IsErrOf result SetFault.Device → D.honest self.new.disk → IsAtRest (D.files self.old.disk) → IsFit (D.files self.new.disk) }
         ensures names { self.new.names ≡ self.old.names }
         ensures broken { IsErrOf result SetFault.Broken ↔ IsTrue self.old.broken }
-        ensures same { IsTrue self.old.broken → self.new ≡ self.old }
+        ensures untouched { IsTrue self.old.broken → self.new ≡ self.old }
+        ensures nothing { changes.now ≡ [] → (self.new ≡ self.old) × (IsFalse self.old.broken → IsOk result) }
         ensures breaks { IsTrue self.new.broken ↔ (IsTrue self.old.broken ⊎ IsErrOf result SetFault.Device) }
         ensures failed { IsErrOf result SetFault.Device → HasRisen (D.failures self.old.disk) (D.failures self.new.disk) }
         ensures told { (IsErrOf result SetFault.Device → ⊥) → D.failures self.new.disk ≡ D.failures self.old.disk }

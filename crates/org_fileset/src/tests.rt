@@ -3,7 +3,7 @@ ghost use Rattle.std.specs.Prelude.{IfOk, OnOk};
 ghost use Rattle.std.specs.List.{All};
 ghost use Rattle.org_disk.specs.Memory.{memory_files};
 ghost use Rattle.org_journal.specs.Standing.{contents};
-ghost use Rattle.org_fileset.specs.Names.{IsGiven};
+ghost use Rattle.org_disk.specs.Names.{IsOrgFile};
 ghost use Rattle.org_fileset.specs.Set.{AreCommittable};
 
 use crate::set::{LIMIT, read_file};
@@ -94,7 +94,7 @@ fn stopped(alloc: Global, gate: u8) -> Result<MemoryDisk, Fail> {
 
 // The name of an Org file.
 fn org_name(alloc: Global, text: &str) -> Result<FileName, Fail>
-    ensures { IfOk result IsGiven }
+    ensures { IfOk result IsOrgFile }
 {
     let name = FileName::new(alloc, text)?;
     if name.is_archive() {
@@ -350,7 +350,7 @@ fn a_bad_journal_is_refused(rt: HostRuntime) -> Result<(), Fail> {
 
 // So many different names.
 fn numbered(alloc: Global, count: u32) -> Result<Vec<FileName>, Fail>
-    ensures { IfOk result (λ names. All IsGiven names.items) }
+    ensures { IfOk result (λ names. All IsOrgFile names.items) }
 {
     let mut names = Vec::new(alloc);
     for i in 0..count {

@@ -1,14 +1,11 @@
--- Names that a store can be opened with.
-use Rattle.std.proofs.Common.{◌≡◌, ℕ, List, Bool, true, false, not, ◌&&◌, refl, subst, IsTrue, IsFalse}
-use Rattle.org_disk.specs.Names.{is_file_name, is_archive_name}
-use Rattle.org_folder.specs.OrgFiles.{is_org_file, IsOpenable}
+-- The names of Org files.
+use Rattle.std.proofs.Common.{ℕ, List, not, IsTrue}
+use Rattle.std.proofs.lemmas.Bool.{and_parts, not-true}
+use Rattle.org_disk.specs.Names.{is_file_name, is_archive_name, IsOrgFile}
+use Rattle.org_disk.proofs.Names.{org_file}
+use Rattle.org_folder.specs.OrgFiles.{is_org_file}
 
-both : (a b : Bool) → IsTrue (a && not b) → IsTrue a × IsFalse b
-both true false e = (refl, refl)
-both true true e = let bad : false ≡ true = e in cc
-both false b e = let bad : false ≡ true = e in cc
-
-pub openable : (name : List ℕ) → IsTrue (is_org_file name) → IsOpenable name
-openable name e =
-    let parts = both (is_file_name name) (is_archive_name name) e in
-    (parts.1, λ same. let P : List ℕ → Type 0 = λ n. IsTrue (is_file_name n) in let bad : false ≡ true = subst P same parts.0 in cc)
+pub org_file_is : (name : List ℕ) → IsTrue (is_org_file name) → IsOrgFile name
+org_file_is name e =
+    let parts = and_parts (is_file_name name) (not (is_archive_name name)) e in
+    org_file name parts.0 (not-true (is_archive_name name) parts.1)

@@ -1,39 +1,13 @@
 -- The laws of a disk, for one over the calls of a system.
-use Rattle.std.specs.Prelude.{◌≡◌, ◌≢◌, ℕ, ◌+◌, ◌≤◌, List, [], ◌∷◌, ◌++◌, length, take, drop, true, false, refl}
-use Rattle.std.proofs.Common.{sym, subst, inl, inr, ⊎_elim, arith, length-append, length-take, length-drop}
-use Rattle.std.proofs.lemmas.Bool.{cond-true, cond-false}
+use Rattle.std.specs.Prelude.{◌≡◌, ◌≢◌, ℕ, ◌≤◌, List, [], ◌∷◌, length, true, false, refl}
+use Rattle.std.proofs.Common.{sym, subst, inl, inr, ⊎_elim, arith}
+use Rattle.std.proofs.lemmas.Bool.{cases_Bool, cond-true, cond-false}
 use Rattle.std.proofs.lemmas.Slice.Eq.{bytes_eq-Decides}
 use Rattle.std.specs.Str.{bytes_eq}
 use Rattle.org_disk.specs.Disk.{FileState, IsImage, AreImages, write, cut, sync}
-use Rattle.org_disk.specs.RecordLaws.{bool_cases}
+use Rattle.org_disk.specs.OwnImages.{IsOwnImage, write_own, cut_own, sync_own}
 use Rattle.org_folder.specs.Calls.{Event, World, files, changed, reading, AreRight, LeftSince}
 use Rattle.org_folder.specs.Calls.Event.{Absent, Length, Read, Write, Cut, Sync}
-
--- the content of a file is one of its images
-abbrev IsOwnImage : FileState → Type 0
-IsOwnImage file = IsImage file file.content
-
-write_keeps : (from : ℕ) (bytes : List ℕ) (file : FileState) → IsOwnImage file → IsOwnImage (write from bytes file)
-write_keeps from bytes file own =
-    let long = length-append (take from file.content ++ bytes) (drop (from + length bytes) file.content) in
-    let front = length-append (take from file.content) bytes in
-    let start = length-take from file.content in
-    let end = length-drop (from + length bytes) file.content in
-    record {
-      no_shorter = omega (arith, own.no_shorter, long, front, start, end);
-      no_longer = omega (arith, own.no_longer, long, front, start, end);
-      fixed = λ i fixed. refl;
-    }
-
-cut_keeps : (n : ℕ) (file : FileState) → IsOwnImage file → IsOwnImage (cut n file)
-cut_keeps n file own = record {
-  no_shorter = omega (arith, own.no_shorter, length-take n file.content);
-  no_longer = omega (arith, own.no_longer, length-take n file.content);
-  fixed = λ i fixed. refl;
-}
-
-sync_keeps : (file : FileState) → IsOwnImage file → IsOwnImage (sync file)
-sync_keeps file own = record { no_shorter = omega arith; no_longer = omega arith; fixed = λ i fixed. refl }
 
 -- a file that reads as one of its images
 reading_keeps : (content : List ℕ) (file : FileState) → IsImage file content → IsOwnImage (reading content file)
@@ -44,7 +18,7 @@ changed_here name effect old = cond-true (bytes_eq name name) (effect (old name)
 
 pub changed_other : (name : List ℕ) (effect : FileState → FileState) (old : List ℕ → FileState) (other : List ℕ) → other ≢ name → changed name effect old other ≡ old other
 changed_other name effect old other apart = cond-false (bytes_eq name other) (effect (old other)) (old other)
-    (⊎_elim (λ t. absurd (apart (sym ((bytes_eq-Decides name other).0 t)))) (λ f. f) (bool_cases (bytes_eq name other)))
+    (⊎_elim (λ t. absurd (apart (sym ((bytes_eq-Decides name other).0 t)))) (λ f. f) (cases_Bool (bytes_eq name other)))
 
 -- a call on one file
 changed_keeps : (name : List ℕ) (effect : FileState → FileState) (old : List ℕ → FileState) → IsOwnImage (effect (old name))
@@ -52,7 +26,7 @@ changed_keeps : (name : List ℕ) (effect : FileState → FileState) (old : List
 changed_keeps name effect old here own other = ⊎_elim
     (λ t. subst IsOwnImage (sym (cond-true (bytes_eq name other) (effect (old other)) (old other) t)) (subst (λ n. IsOwnImage (effect (old n))) ((bytes_eq-Decides name other).0 t) here))
     (λ f. subst IsOwnImage (sym (cond-false (bytes_eq name other) (effect (old other)) (old other) f)) (own other))
-    (bool_cases (bytes_eq name other))
+    (cases_Bool (bytes_eq name other))
 
 pub own_image : (world : World) (calls : List Event) → AreRight world calls → (name : List ℕ) → IsImage (files world calls name) (files world calls name).content
 own_image world [] right name = right name
@@ -60,17 +34,17 @@ own_image world (Absent n ∷ earlier) right name = own_image world earlier righ
 own_image world (Length n length ∷ earlier) right name = own_image world earlier right.1 name
 own_image world (Read n from bytes ∷ earlier) right name = own_image world earlier right.1 name
 own_image world (Write n from bytes true ∷ earlier) right name =
-    changed_keeps n (write from bytes) (files world earlier) (write_keeps from bytes (files world earlier n) (own_image world earlier right.1 n)) (own_image world earlier right.1) name
+    changed_keeps n (write from bytes) (files world earlier) (write_own from bytes (files world earlier n) (own_image world earlier right.1 n)) (own_image world earlier right.1) name
 own_image world (Write n from bytes false ∷ earlier) right name =
     let left = world.left (Write n from bytes false ∷ earlier) in
     changed_keeps n (λ file. reading left (write from bytes file)) (files world earlier) (reading_keeps left (write from bytes (files world earlier n)) right.0) (own_image world earlier right.1) name
 own_image world (Cut n to true ∷ earlier) right name =
-    changed_keeps n (cut to) (files world earlier) (cut_keeps to (files world earlier n) (own_image world earlier right.1 n)) (own_image world earlier right.1) name
+    changed_keeps n (cut to) (files world earlier) (cut_own to (files world earlier n) (own_image world earlier right.1 n)) (own_image world earlier right.1) name
 own_image world (Cut n to false ∷ earlier) right name =
     let left = world.left (Cut n to false ∷ earlier) in
     changed_keeps n (λ file. reading left (cut to file)) (files world earlier) (reading_keeps left (cut to (files world earlier n)) right.0) (own_image world earlier right.1) name
 own_image world (Sync n true ∷ earlier) right name =
-    changed_keeps n sync (files world earlier) (sync_keeps (files world earlier n) (own_image world earlier right.1 n)) (own_image world earlier right.1) name
+    changed_keeps n sync (files world earlier) (sync_own (files world earlier n)) (own_image world earlier right.1) name
 own_image world (Sync n false ∷ earlier) right name =
     let left = world.left (Sync n false ∷ earlier) in
     changed_keeps n (reading left) (files world earlier) (reading_keeps left (files world earlier n) right.0) (own_image world earlier right.1) name

@@ -1,5 +1,6 @@
 ghost use Rattle.std.specs.Prelude.{◌≡◌, ◌↔◌, IsTrue, IsFalse, IfOk, IsErrOf, All};
-ghost use Rattle.org_folder.specs.OrgFiles.{is_org_file, IsOpenable};
+ghost use Rattle.org_disk.specs.Names.{IsOrgFile};
+ghost use Rattle.org_folder.specs.OrgFiles.{is_org_file};
 
 use org_disk::{FileName, NameFault};
 use std::alloc::{AllocFailed, Global};
@@ -34,10 +35,10 @@ impl<T: Drop> From<AllocFailed<T>> for ListFault {
 }
 
 /// The name of an Org file that this text is. `BadName` comes exactly where it is none, or an archive file's.
-#[tactic(auto, using(crate::proofs::Names::openable))]
+#[tactic(auto, using(crate::proofs::Names::org_file_is))]
 pub fn org_file(alloc: Global, text: &str) -> Result<FileName, NameFault>
     ensures name { IfOk result (λ name. (name ≡ text.now) × IsTrue (is_org_file text.now)) }
-    ensures openable { IfOk result IsOpenable }
+    ensures org_file { IfOk result IsOrgFile }
     ensures bad { IsErrOf result NameFault.BadName ↔ IsFalse (is_org_file text.now) }
 {
     if !is_org_file(text) {
@@ -58,7 +59,7 @@ pub fn org_files<R: Files + AllocGlobal + Clone + Drop>(
     rt: &R,
     path: &str,
 ) -> Result<Vec<FileName>, ListFault>
-    ensures { IfOk result (λ names. All IsOpenable names.items) }
+    ensures { IfOk result (λ names. All IsOrgFile names.items) }
 {
     let mut names = Vec::new(rt.alloc());
     for entry in fs::read_dir(rt, path)? {

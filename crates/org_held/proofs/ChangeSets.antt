@@ -4,14 +4,14 @@ use Rattle.std.proofs.lemmas.Slice.Eq.{bytes_eq-Decides}
 use Rattle.std.specs.Str.{bytes_eq}
 use Rattle.std.specs.Map.{lookup}
 use Rattle.std.specs.List.{Contains}
+use Rattle.org_disk.proofs.Names.{name_cases}
 use Rattle.org_splice.specs.ChangeSet.{with_text}
 use Rattle.org_splice.specs.Texts.{EditedText}
 use Rattle.org_journal.specs.Standing.{Image}
 use Rattle.org_fileset.specs.Entries.{changed}
 use Rattle.org_held.specs.declared.held.Held.{Held}
 use Rattle.org_held.specs.Held.{held_over, with_held}
-use Rattle.org_held.proofs.Lists.{no_element, cons_cases, cons_here, cons_later}
-use Rattle.org_held.proofs.Names.{name_cases}
+use Rattle.org_fileset.proofs.Elements.{no_member, cons_cases, cons_here, cons_later}
 use Rattle.org_held.proofs.Holding.{held_same, held_behind, with_here}
 
 abbrev pub Change : Type 0
@@ -99,7 +99,7 @@ agree_old changes texts held text agree found files name = elim (name_cases held
 
 -- each change is the new one or an old one
 pub changes_more : (changes : List Change) (name : List ℕ) (text : EditedText) (change : Change) → Contains (with_text bytes_eq changes name text) change → (change ≡ (name, text)) ⊎ Contains changes change
-changes_more [] name text change there = ⊎_elim (λ is. inl (sym is)) (λ none. absurd (no_element change none)) (cons_cases (name, text) [] change there)
+changes_more [] name text change there = ⊎_elim (λ is. inl (sym is)) (λ none. absurd (no_member change none)) (cons_cases (name, text) [] change there)
 changes_more (one ∷ changes) name text change there = elim (name_cases name one.0) [
   | inl is ↦
       let here : with_text bytes_eq (one ∷ changes) name text ≡ (one.0, text) ∷ changes = let t = is.1 in rw t refl in

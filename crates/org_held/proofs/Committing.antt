@@ -6,6 +6,7 @@ use Rattle.std.proofs.lemmas.List.Elements.{All-from_recursion}
 use Rattle.org_disk.specs.Disk.{AreImages, FileState, LeavesOnly}
 use Rattle.org_disk.specs.Names.{journal_name}
 use Rattle.org_disk.proofs.Moments.{passes_as}
+use Rattle.org_disk.proofs.Names.{name_cases}
 use Rattle.org_splice.specs.Texts.{EditedText}
 use Rattle.org_journal.specs.Standing.{Image, SameFiles, contents}
 use Rattle.org_fileset.specs.Entries.{changed}
@@ -14,8 +15,7 @@ use Rattle.org_fileset.specs.Set.{IsWithOrWithout}
 use Rattle.org_fileset.proofs.Commits.{at_rest_stands}
 use Rattle.org_held.specs.Held.{Each}
 use Rattle.org_held.specs.InOrder.{HoldsEither, texts_of, is_name, with_texts}
-use Rattle.org_held.proofs.Lists.{cons_here, cons_later}
-use Rattle.org_held.proofs.Names.{name_cases}
+use Rattle.org_fileset.proofs.Elements.{cons_here, cons_later}
 use Rattle.org_held.proofs.InOrder.{apart_from, texts_same, told_by_texts, holds_told}
 
 abbrev pub Change : Type 0

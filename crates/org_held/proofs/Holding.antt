@@ -1,6 +1,6 @@
 -- Lists of held texts: the first of a name counts.
 use Rattle.std.proofs.Common.{◌≡◌, ◌≢◌, inl, inr, ◌⊎◌, ⊎_elim, ℕ, zero, suc, ◌<◌, ◌≤◌, Bool, true, false, List, [], ◌∷◌, ◌++◌, length, get_or, set, Some, None, refl, sym, ◌∙◌, ap, arith}
-use Rattle.std.proofs.lemmas.Bool.{false≢true}
+use Rattle.std.proofs.lemmas.Bool.{cases_Bool, false≢true}
 use Rattle.std.proofs.lemmas.Slice.Eq.{bytes_eq-Decides}
 use Rattle.std.specs.Str.{bytes_eq}
 use Rattle.std.specs.Prelude.{nat_lt, cond}
@@ -8,10 +8,10 @@ use Rattle.std.specs.List.{position, position_or_len}
 use Rattle.std.proofs.lemmas.Bool.Decides.{nat_tests}
 use Rattle.std.proofs.lemmas.List.Quantifiers.{position-Some}
 use Rattle.std.proofs.lemmas.List.Sums.{fails_before_first}
+use Rattle.org_disk.proofs.Names.{name_cases}
 use Rattle.org_journal.specs.Standing.{Image}
 use Rattle.org_held.specs.declared.held.Held.{Held}
 use Rattle.org_held.specs.Held.{IsHeldWith, held_over, with_held}
-use Rattle.org_held.proofs.Names.{name_cases}
 
 -- held texts over files that agree
 pub held_same : (texts : List Held) (first second : Image) (name : List ℕ) → first name ≡ second name → held_over texts first name ≡ held_over texts second name
@@ -103,12 +103,8 @@ at_name name held = bytes_eq held.name name
 pub first_at : (texts : List Held) (name : List ℕ) (i : ℕ) (d : Held) → position (at_name name) texts ≡ Some i → IsFirst texts name i d
 first_at texts name i d at = let found = position-Some (at_name name) texts i d at in record { within = found.0; here = found.1; before = found.2 }
 
-bool_cases : (b : Bool) → (b ≡ true) ⊎ (b ≡ false)
-bool_cases true = inl refl
-bool_cases false = inr refl
-
 all_before : (texts : List Held) (name : List ℕ) → position (at_name name) texts ≡ None → length texts ≤ position_or_len (at_name name) texts
-all_before texts name none = elim (bool_cases (nat_lt (position_or_len (at_name name) texts) (length texts))) [
+all_before texts name none = elim (cases_Bool (nat_lt (position_or_len (at_name name) texts) (length texts))) [
   | inl t ↦ let there : Some (position_or_len (at_name name) texts) ≡ None = sym (ap (λ b. cond b (Some (position_or_len (at_name name) texts)) None) t) ∙ none in absurd (cc)
   | inr f ↦ grind (arith, nat_tests, f)
 ]

@@ -1,15 +1,15 @@
 -- Texts of files in the order of their names.
 use Rattle.std.proofs.Common.{◌≡◌, ◌≢◌, inl, inr, ℕ, suc, Bool, true, false, List, [], ◌∷◌, Some, is_some, refl, sym, ◌∙◌, ap, subst, if◌then◌else◌, arith}
-use Rattle.std.specs.Prelude.{IsSomeAnd, Option, None}
 use Rattle.std.specs.List.{AllByRecursion, Contains}
 use Rattle.std.proofs.lemmas.Bool.{false≢true}
 use Rattle.std.proofs.lemmas.Slice.Eq.{bytes_eq-Decides}
 use Rattle.org_disk.specs.Names.{journal_name}
-use Rattle.org_journal.specs.Standing.{Image, SameFiles, StandsFor, stands}
+use Rattle.org_disk.proofs.Names.{name_cases}
+use Rattle.org_journal.specs.Standing.{Image, StandsFor}
+use Rattle.org_fileset.proofs.Stands.{stands_as}
 use Rattle.org_held.specs.declared.draft.Draft.{Draft}
 use Rattle.org_held.specs.Held.{with_draft, with_drafts}
 use Rattle.org_held.specs.InOrder.{HoldsTexts, texts_of, is_name, text_at, with_text, with_texts, with_all}
-use Rattle.org_held.proofs.Names.{name_cases}
 
 -- the text of a file, and for which names there is one
 pub some_at : (files : Image) (names : List (List ℕ)) (name : List ℕ) → is_name names name ≡ true → text_at names (texts_of files names) name ≡ Some (files name)
@@ -101,14 +101,6 @@ told_by_texts names new old name outside = go (is_name names name) refl ∙ sym 
     go : (b : Bool) → is_name names name ≡ b → new name ≡ (if b then new name else old name)
     go true is = refl
     go false is = outside is
-
--- an image stands for files that agree
-stands_as : (first second image : Image) → ((name : List ℕ) → name ≢ journal_name → first name ≡ second name) → StandsFor first image → StandsFor second image
-stands_as first second image same = go (stands image)
-  where
-    go : (o : Option Image) → IsSomeAnd o (λ found. SameFiles found first) → IsSomeAnd o (λ found. SameFiles found second)
-    go (Some found) is = λ name not. is name not ∙ same name not
-    go None is = is
 
 pub holds_told : (names : List (List ℕ)) (new old image : Image) → ((name : List ℕ) → is_name names name ≡ false → new name ≡ old name) → StandsFor new image → HoldsTexts names old (texts_of new names) image
 holds_told names new old image outside = stands_as new (with_texts names (texts_of new names) old) image (λ name not. told_by_texts names new old name (outside name))

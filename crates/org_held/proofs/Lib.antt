@@ -1,5 +1,4 @@
-pub mod Names
-mod Closed
+pub mod Closed
 pub mod Results
 mod Lists
 mod Holding

@@ -1,28 +1,13 @@
 -- Elements of lists.
-use Rattle.std.proofs.Common.{◌≡◌, ◌⊎◌, inl, inr, ⊎_elim, List, [], ◌∷◌, map, Option, Some, None, refl, sym, subst, arith}
+use Rattle.std.proofs.Common.{◌≡◌, ⊎_elim, List, [], ◌∷◌, map, Option, Some, None, refl, sym, subst}
 use Rattle.std.specs.List.{Contains}
-use Rattle.std.proofs.lemmas.List.Elements.{Contains-append_left, Contains-append_right, Contains-append_cases, Contains-push, Contains-push_cases}
+use Rattle.org_fileset.proofs.Elements.{no_member, cons_cases, cons_here, cons_later}
 use Rattle.org_held.specs.declared.draft.Draft.{Draft}
 use Rattle.org_held.specs.declared.draft.Drafts.{Drafts}
 use Rattle.org_held.specs.Held.{list_of, listed}
 
-pub no_element : {X : Type 0} (x : X) → Contains [] x → ⊥
-no_element x there = omega (arith, there.1)
-
-pub cons_cases : {X : Type 0} (x : X) (xs : List X) (y : X) → Contains (x ∷ xs) y → (x ≡ y) ⊎ Contains xs y
-cons_cases x xs y there = ⊎_elim
-    (λ one. ⊎_elim (λ none. absurd (no_element y none)) (λ e. inl e) (Contains-push_cases [] x y one))
-    (λ later. inr later)
-    (Contains-append_cases (x ∷ []) xs y there)
-
-pub cons_here : {X : Type 0} (x : X) (xs : List X) → Contains (x ∷ xs) x
-cons_here x xs = Contains-append_left (x ∷ []) xs x (Contains-push [] x)
-
-pub cons_later : {X : Type 0} (x : X) (xs : List X) (y : X) → Contains xs y → Contains (x ∷ xs) y
-cons_later x xs y there = Contains-append_right (x ∷ []) xs y there
-
 pub mapped : {X Y : Type 0} (f : X → Y) (xs : List X) (x : X) → Contains xs x → Contains (map f xs) (f x)
-mapped f [] x there = absurd (no_element x there)
+mapped f [] x there = absurd (no_member x there)
 mapped f (one ∷ xs) x there = ⊎_elim
     (λ is. subst (λ y. Contains (f one ∷ map f xs) (f y)) is (cons_here (f one) (map f xs)))
     (λ later. cons_later (f one) (map f xs) (f x) (mapped f xs x later))
@@ -43,7 +28,7 @@ some_of (Some x) there = (x, refl)
 
 -- an element of a list that was made from another
 pub unmapped : {X Y : Type 0} (f : X → Y) (xs : List X) (y : Y) → Contains (map f xs) y → (x : X) × Contains xs x × (y ≡ f x)
-unmapped f [] y there = absurd (no_element y there)
+unmapped f [] y there = absurd (no_member y there)
 unmapped f (x ∷ xs) y there = ⊎_elim
     (λ is. (x, cons_here x xs, sym is))
     (λ later. let at = unmapped f xs y later in (at.0, cons_later x xs at.0 at.1, at.2))

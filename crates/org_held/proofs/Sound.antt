@@ -4,6 +4,7 @@ use Rattle.std.specs.Prelude.{◌↔◌, IsErrOf, IsTrue}
 use Rattle.std.specs.List.{Contains}
 use Rattle.std.proofs.lemmas.Bool.{false≢true}
 use Rattle.org_disk.specs.Disk.{FileState, LeavesOnly}
+use Rattle.org_disk.proofs.Names.{name_cases}
 use Rattle.org_splice.specs.Texts.{EditedText, IsEditOf}
 use Rattle.org_journal.specs.Standing.{Image, SameFiles, contents}
 use Rattle.org_fileset.specs.Entries.{changed}
@@ -16,8 +17,8 @@ use Rattle.org_held.specs.Held.{Each, IsKept, change_of, change_of_draft, held_o
 use Rattle.org_held.specs.Set.{Holding, IsCommittable, IsDraft, IsPending, IsSound}
 use Rattle.org_held.specs.InOrder.{HoldsEither, texts_of, with_all}
 use Rattle.org_held.proofs.Holding.{held_either, held_same}
-use Rattle.org_held.proofs.Lists.{no_element, unmapped}
-use Rattle.org_held.proofs.Names.{name_cases}
+use Rattle.org_fileset.proofs.Elements.{no_member}
+use Rattle.org_held.proofs.Lists.{unmapped}
 use Rattle.org_held.proofs.InOrder.{apart_from, texts_same, texts_after}
 
 abbrev pub Change : Type 0
@@ -160,7 +161,7 @@ pub sound_committed : (names more : List (List ℕ)) (live now : Type 0) (old ne
 sound_committed names more live now old new kept held pending none before changes sound same agree then each over empty =
     subst (λ (n : List (List ℕ)). IsSound n now new held none) (sym same) (subst (IsSound names now new held) (sym empty) (record {
       apart = sound.apart;
-      pending_are = λ one there. absurd (no_element one there);
+      pending_are = λ one there. absurd (no_member one there);
       kept_are = each sound.kept_are;
       same = λ n name there.
           let there_now : held_over pending old name ≡ new name = sym (agree old name) ∙ sym ((then n).1 name (apart_from names sound.apart name there)) in
@@ -169,6 +170,6 @@ sound_committed names more live now old new kept held pending none before change
 
 -- where a commit failed and broke nothing, memory was refused
 pub no_memory : (result : Result (Unit {0}) SetFault) (fault : SetFault) (broken : Bool) → result ≡ Err fault → (IsErrOf result Broken → ⊥) → (IsTrue broken ↔ IsErrOf result Device) → broken ≡ false → IsErrOf result OutOfMemory
-no_memory result OutOfMemory broken is working breaks unbroken = is
-no_memory result Device broken is working breaks unbroken = absurd (false≢true (sym unbroken ∙ breaks.1 is))
-no_memory result Broken broken is working breaks unbroken = absurd (working is)
+no_memory result OutOfMemory broken is not_broken breaks unbroken = is
+no_memory result Device broken is not_broken breaks unbroken = absurd (false≢true (sym unbroken ∙ breaks.1 is))
+no_memory result Broken broken is not_broken breaks unbroken = absurd (not_broken is)

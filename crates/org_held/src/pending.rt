@@ -1,5 +1,5 @@
 //! What a commit is given: the change set of held texts and of drafts.
-ghost use Rattle.std.specs.Prelude.{◌≡◌, ◌⊎◌, ◌+◌, ◌≤◌, List, ℕ, map, vec_len, vec_capacity, IfOk, OnOk};
+ghost use Rattle.std.specs.Prelude.{◌≡◌, ◌⊎◌, ◌+◌, ◌≤◌, List, ℕ, [], map, vec_len, vec_capacity, IsOk, IfOk, OnOk};
 ghost use Rattle.std.specs.List.{Contains};
 ghost use Rattle.org_splice.specs.Texts.{EditedText};
 ghost use Rattle.org_journal.specs.Standing.{Image};
@@ -17,6 +17,7 @@ use std::alloc::{AllocError, Global};
 pub fn changes(alloc: Global, pending: &[Held]) -> Result<ChangeSet<FileName>, AllocError>
     ensures over { IfOk result (λ changes. (files : Image) (name : List ℕ) → changed changes files name ≡ held_over pending.now files name) }
     ensures each { IfOk result (λ changes. Each (Contains (map change_of pending.now)) changes) }
+    ensures nothing { pending.now ≡ [] → IsOk result × IfOk result (λ changes. changes ≡ []) }
 {
     let mut changes = ChangeSet::new(alloc);
     for held in pending {

@@ -1,12 +1,12 @@
 //! Files of a disk with what is held of their texts.
-ghost use Rattle.std.specs.Prelude.{◌≡◌, ◌≢◌, ◌≤◌, ◌⊎◌, ◌↔◌, List, ℕ, Some, None, true, false, length, IsTrue, IsFalse, IsSomeAnd, is_some, IfOk, IfErr, OnOk, OnErr, IsErrOf, MatchResult};
+ghost use Rattle.std.specs.Prelude.{◌≡◌, ◌≢◌, ◌≤◌, ◌⊎◌, ◌↔◌, List, ℕ, [], Some, None, true, false, length, IsTrue, IsFalse, IsSomeAnd, is_some, IfOk, IfErr, OnOk, OnErr, IsOk, IsErrOf, MatchResult};
 ghost use Rattle.std.specs.List.{All, AllByRecursion, Contains};
 ghost use Rattle.org_disk.specs.Disk.{HasRisen, Passes, LeavesOnly, AreImages, KeepsHonesty};
-ghost use Rattle.org_disk.specs.Names.{journal_name};
+ghost use Rattle.org_disk.specs.Names.{journal_name, IsOrgFile};
 ghost use Rattle.org_splice.specs.Texts.{IsEditOf};
 ghost use Rattle.org_journal.specs.Standing.{IsFit, SameFiles, stands, contents};
 ghost use Rattle.org_fileset.specs.Entries.{changed};
-ghost use Rattle.org_fileset.specs.Names.{with_archives, AreSorted, AreFew, IsGiven, first_large, limit};
+ghost use Rattle.org_fileset.specs.Names.{with_archives, AreSorted, AreFew, first_large, limit};
 ghost use Rattle.org_fileset.specs.Opening.{IsReason};
 ghost use Rattle.org_fileset.specs.Recovery.{EachStands, StandsAsBefore};
 ghost use Rattle.org_fileset.specs.Replay.{IsAtRest};
@@ -63,10 +63,10 @@ impl<D: Disk> HeldSet<D> {
     /// journal's; a repeated one counts once. What a stop cut short is brought to an end first: see `FileSet::open`,
     /// whose faults it answers.
     pub fn open(alloc: Global, disk: D, names: Vec<FileName>) -> Result<HeldSet<D>, OpenRefused<D>>
-        requires { All IsGiven names.items }
+        requires { All IsOrgFile names.items }
         ensures names { IfOk result (λ set. AreFew names.items × AreSorted (with_archives names.items) set.names) }
         ensures texts { IfOk result (λ set. set.texts ≡ texts_of (contents (D.files set.disk)) set.names) }
-        ensures working { IfOk result (λ set. set.broken ≡ false) }
+        ensures unbroken { IfOk result (λ set. set.broken ≡ false) }
         ensures contents { IfOk result (λ set. D.honest set.disk → IsSomeAnd (stands (contents (D.files disk))) (SameFiles (contents (D.files set.disk)))) }
         ensures sizes { IfOk result (λ set. D.honest set.disk → first_large (contents (D.files set.disk)) set.names ≡ None) }
         ensures refused { IfErr result (λ refused. IsReason names.items (D.honest refused.disk) (contents (D.files disk)) (contents (D.files refused.disk)) refused.fault) }
@@ -237,7 +237,7 @@ fn read_to_hold<D: Disk>(
     ensures any_moment { D.honest set.new.disk → Passes (D.moment set.old.disk) (D.moment set.new.disk) (D.left_since set.old.disk) (D.left_since set.new.disk)
         (AreImages (D.files set.old.disk)) }
     ensures names { set.new.names ≡ set.old.names }
-    ensures working { IsErrOf result SetFault.Broken → ⊥ }
+    ensures not_broken { IsErrOf result SetFault.Broken → ⊥ }
     ensures breaks { IsTrue set.new.broken ↔ IsErrOf result SetFault.Device }
     ensures failed { IsErrOf result SetFault.Device → HasRisen (D.failures set.old.disk) (D.failures set.new.disk) }
     ensures told { (IsErrOf result SetFault.Device → ⊥) → D.failures set.new.disk ≡ D.failures set.old.disk }
@@ -269,8 +269,9 @@ fn commit_texts<D: Disk>(
     ensures rest { OnOk result (D.honest set.new.disk → IsAtRest (D.files set.old.disk) → IsAtRest (D.files set.new.disk)) }
     ensures memory { IsErrOf result SetFault.OutOfMemory → set.new ≡ set.old }
     ensures fit { IsErrOf result SetFault.Device → D.honest set.new.disk → IsAtRest (D.files set.old.disk) → IsFit (D.files set.new.disk) }
+    ensures nothing { changes.now ≡ [] → (set.new ≡ set.old) × IsOk result }
     ensures names { set.new.names ≡ set.old.names }
-    ensures working { IsErrOf result SetFault.Broken → ⊥ }
+    ensures not_broken { IsErrOf result SetFault.Broken → ⊥ }
     ensures breaks { IsTrue set.new.broken ↔ IsErrOf result SetFault.Device }
     ensures failed { IsErrOf result SetFault.Device → HasRisen (D.failures set.old.disk) (D.failures set.new.disk) }
     ensures told { (IsErrOf result SetFault.Device → ⊥) → D.failures set.new.disk ≡ D.failures set.old.disk }

@@ -1,6 +1,6 @@
 -- Whether patches fit a file, found patch by patch; and what a journal's front tells of its record.
 use Rattle.std.proofs.Common.{◌≡◌, ℕ, suc, ◌+◌, ◌<◌, ◌≤◌, Bool, true, false, cond, ltb, leb, List, [], ◌∷◌, ◌++◌, length, take, drop, get_or, Option, Some, None, refl, sym, ap, subst, ◌∙◌, arith, add-one, drop-cons}
-use Rattle.std.specs.Prelude.{◌&&◌, ◌==◌, nat_eq, nat_le, max, slice_index, codes, is_some, IsTrue, Err}
+use Rattle.std.specs.Prelude.{◌&&◌, ◌==◌, nat_eq, nat_le, max, slice_index, codes, is_some, Err}
 use Rattle.std.specs.List.{AllByRecursion, starts_with}
 use Rattle.std.proofs.lemmas.Bool.{false≢true, leb-true, le-leb, le-ltb, lt-leb, lt-ltb, ltb-false}
 use Rattle.std.proofs.lemmas.List.{drop_all, drop-drop, length-append, length-drop, length-take, take-append-drop, take-append-le, drop-append-le, get_or_append_left}
@@ -15,9 +15,9 @@ use Rattle.org_journal.specs.Reading.{◌>>=◌, number_at, bytes_at, counted_at
 use Rattle.org_disk.specs.Names.{journal_name}
 use Rattle.org_journal.specs.declared.fault.FindFault.{FindFault}
 use Rattle.org_journal.specs.declared.fault.FindFault.TheVariants.{BadJournal, Device, OutOfMemory}
-use Rattle.org_journal.specs.Gate.{is_open}
+use Rattle.org_journal.specs.Gate.{front_size, is_open}
 use Rattle.org_journal.specs.Standing.{Image, begins_within, fits, all_fit, stands}
-use Rattle.org_journal.specs.Finding.{Finds, FindsSize, FindsRecord, AreWritten, HoldsRecord, record_size}
+use Rattle.org_journal.specs.Finding.{Finds, FindsSize, HaveWellFormedPatches, HoldsRecord, record_size}
 
 -- the test of the patches that are left, from this place on, is that of all
 pub record FitSoFar (left : List Patch) (place final size : ℕ) (all : List Patch) : Type 0 where
@@ -74,22 +74,19 @@ fit_end patches i place final size le so_far =
 
 -- ---- entries
 
-pub written_first : (entries : List Entry) (i : ℕ) (entry : Entry) → i < length entries → entry ≡ get_or entries i entry → AreWritten (drop i entries) → AreWellFormed (pairs entry.patches) entry.length × AreWritten (drop (i + 1) entries)
-written_first entries i entry lt is written = subst AreWritten (first_left entries i entry lt is) written
+pub patches_first : (entries : List Entry) (i : ℕ) (entry : Entry) → i < length entries → entry ≡ get_or entries i entry → HaveWellFormedPatches (drop i entries) → AreWellFormed (pairs entry.patches) entry.length × HaveWellFormedPatches (drop (i + 1) entries)
+patches_first entries i entry lt is formed = subst HaveWellFormedPatches (first_left entries i entry lt is) formed
 
 pub all_first : (entries : List Entry) (i : ℕ) (entry : Entry) (image : Image) → i < length entries → entry ≡ get_or entries i entry
     → all_fit (drop i entries) image ≡ (fits (pairs entry.patches) entry.length (length (image entry.name)) && all_fit (drop (i + 1) entries) image)
 all_first entries i entry image lt is = ap (λ (left : List Entry). all_fit left image) (first_left entries i entry lt is)
 
-pub all_end : (entries : List Entry) (i : ℕ) (image : Image) → length entries ≤ i → all_fit (drop i entries) image ≡ true
-all_end entries i image le = ap (λ (left : List Entry). all_fit left image) (none_left entries i le)
+each_patches : (version : Version) (entries : List Entry) → AllByRecursion (IsEntry version) entries → HaveWellFormedPatches entries
+each_patches version [] each = tt
+each_patches version (entry ∷ entries) each = (each.0.patches, each_patches version entries each.1)
 
-each_written : (version : Version) (entries : List Entry) → AllByRecursion (IsEntry version) entries → AreWritten entries
-each_written version [] each = tt
-each_written version (entry ∷ entries) each = (each.0.patches, each_written version entries each.1)
-
-pub begins_written : (bytes : List ℕ) (entries : List Entry) → BeginsWith bytes entries → AreWritten entries
-begins_written bytes entries is = each_written is.version entries is.well_formed.each
+pub begins_patches : (bytes : List ℕ) (entries : List Entry) → BeginsWith bytes entries → HaveWellFormedPatches entries
+begins_patches bytes entries is = each_patches is.version entries is.well_formed.each
 
 -- ---- the front of a journal
 
@@ -172,7 +169,7 @@ journal_short bytes short =
     ap (λ (r : Option (Version × List ℕ)). r >>= λ found. record_at found.0 found.1) header
 
 -- the header gives a size that the journal doesn't hold
-size_passes : (journal : List ℕ) → length journal < 16 + record_size journal → journal_at (drop 1 journal) ≡ None
+size_passes : (journal : List ℕ) → length journal < front_size + record_size journal → journal_at (drop 1 journal) ≡ None
 size_passes journal short =
     let same : big_number 8 (drop 7 (drop 1 journal)) ≡ record_size journal = ap (big_number 8) (drop-drop 7 1 journal) in
     journal_short (drop 1 journal) (omega (arith, short, same, length-drop 1 journal))
@@ -185,16 +182,6 @@ pub bad_size : (image : Image) (e : FindFault) → FindsSize (image journal_name
 bad_size image BadJournal found = (found.0, no_record image found.0 (size_passes (image journal_name) found.1))
 bad_size image Device found = tt
 bad_size image OutOfMemory found = absurd found
-
--- the record tells
-pub bad_record : (image : Image) (e : FindFault) → IsTrue (is_open (image journal_name)) → HoldsRecord (image journal_name) → FindsRecord (image journal_name) (Err e) → Finds image (Err e)
-bad_record image BadJournal opened holds found = (opened, no_record image opened found)
-bad_record image Device opened holds found = tt
-bad_record image OutOfMemory opened holds found = (opened, holds)
-
--- the record doesn't fit
-pub bad_fit : (image : Image) (entries : List Entry) → IsTrue (is_open (image journal_name)) → journal_at (drop 1 (image journal_name)) ≡ Some entries → all_fit entries image ≡ false → Finds image (Err BadJournal)
-bad_fit image entries opened found unfit = (opened, rw (opened, found, unfit) refl)
 
 -- ---- an open gate
 

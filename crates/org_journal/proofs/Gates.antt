@@ -4,7 +4,7 @@ use Rattle.std.specs.Prelude.{IsFalse}
 use Rattle.std.proofs.lemmas.List.{same_lists, get_or-drop, length-drop, get_or_default}
 use Rattle.org_disk.specs.Disk.{FileState, IsImage, IsStable, AreLeftBy, stable, write, sync, laid}
 use Rattle.org_disk.proofs.Images.{only_image, stable_is, fixed_after_write}
-use Rattle.org_journal.specs.Gate.{is_open, LeavesBody, LeavesClosed}
+use Rattle.org_journal.specs.Gate.{front_size, is_open, LeavesBody, LeavesClosed}
 
 -- the gate alone
 pub laid_gate : (gate : ℕ) (text : List ℕ) → laid 0 (gate ∷ []) text ≡ gate ∷ drop 1 text
@@ -12,7 +12,7 @@ laid_gate gate [] = refl
 laid_gate gate (x ∷ text) = refl
 
 -- too short for a header
-pub short_is_closed : (bytes : List ℕ) → length bytes < 16 → IsFalse (is_open bytes)
+pub short_is_closed : (bytes : List ℕ) → length bytes < front_size → IsFalse (is_open bytes)
 short_is_closed bytes short = grind arith
 
 module _ (journal : List ℕ) (gate : ℕ) (files : List ℕ → FileState) (is : IsStable (files journal)) where
@@ -53,7 +53,7 @@ module _ (journal : List ℕ) (gate : ℕ) (files : List ℕ → FileState) (is 
       record { body = body; others = λ other apart. subst (λ f. IsImage f (image other)) (others other apart) (left.others other apart) }
 
 -- a journal that is shorter than a header stays so when its gate is written
-pub body_is_short : (journal : List ℕ) (files : List ℕ → FileState) → length (files journal).content < 16
+pub body_is_short : (journal : List ℕ) (files : List ℕ → FileState) → length (files journal).content < front_size
     → (image : List ℕ → List ℕ) → LeavesBody journal files image → LeavesClosed journal files image
 body_is_short journal files short image left =
     let same : length (image journal) - 1 ≡ length (files journal).content - 1 =

@@ -28,10 +28,6 @@ pub behind_first : {A : Type 0} (first : A) (read : Option (List A × List ℕ))
 behind_first first (Some found) = refl
 behind_first first None = refl
 
-pub no_front : {A : Type 0} (read : Option (List A × List ℕ)) → with_front [] read ≡ read
-no_front (Some found) = refl
-no_front None = refl
-
 binds_first : {A : Type 0} (first : A) (read : Option (List A × List ℕ)) → (read >>= λ others. Some (first ∷ others.0, others.1)) ≡ with_first first read
 binds_first first (Some found) = refl
 binds_first first None = refl

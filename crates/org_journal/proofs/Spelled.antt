@@ -12,7 +12,7 @@ use Rattle.org_journal.specs.declared.record.Entry.{Entry}
 use Rattle.org_journal.specs.declared.record.Patch.{Patch}
 use Rattle.org_journal.specs.declared.record.Version.{Version}
 use Rattle.org_journal.specs.declared.record.Version.TheVariants.{One, Two}
-use Rattle.org_journal.specs.Record.{name_bytes, counted_bytes, patch_bytes, old_patch_bytes, entry_bytes, record_bytes, most_patches, greatest_length, IsEntry, names_differ, IsWellFormed}
+use Rattle.org_journal.specs.Record.{name_bytes, counted_bytes, patch_bytes, old_patch_bytes, entry_bytes, record_bytes, most_entries, most_patches, greatest_length, IsEntry, names_differ, IsWellFormed}
 use Rattle.org_journal.specs.Reading.{◌>>=◌, number_at, counted_at, name_at, may_follow, patches_at, old_entry, old_entry_at, Head, head_at, entry_at, entries_at, count_at, record_at}
 use Rattle.org_journal.proofs.Numbers.{IsBytes, Takes, Takes-then, bind_some, passed, both_true, back4, back8, number_takes, number_again, counted_takes, counted_again, name_takes, name_again}
 use Rattle.org_journal.proofs.Patched.{Follows, follows_is, follows_again, AllFollow, patches_take, patches_again, length-pairs, well_formed_is, well_formed_follow}
@@ -207,12 +207,12 @@ record_takes version bytes entries fits e =
     let b = bind_some (entries_at version a.0.0 a.0.1) (λ found. cond (eqb (length found.1) 0 && names_differ found.0) (Some found.0) None) entries a.2 in
     let g = passed (eqb (length b.0.1) 0 && names_differ b.0.0) (Some b.0.0) entries b.2 in
     let tests = both_true (eqb (length b.0.1) 0) (names_differ b.0.0) g.0 in
-    let n = bind_some (number_at 4 bytes) (λ count. cond (leb 1 count.0 && leb count.0 512) (Some count) None) a.0 a.1 in
-    let range = passed (leb 1 n.0.0 && leb n.0.0 512) (Some n.0) a.0 n.2 in
-    let bounds = both_true (leb 1 n.0.0) (leb n.0.0 512) range.0 in
+    let n = bind_some (number_at 4 bytes) (λ count. cond (leb 1 count.0 && leb count.0 most_entries) (Some count) None) a.0 a.1 in
+    let range = passed (leb 1 n.0.0 && leb n.0.0 most_entries) (Some n.0) a.0 n.2 in
+    let bounds = both_true (leb 1 n.0.0) (leb n.0.0 most_entries) range.0 in
     let found = number_takes 4 back4 bytes n.0.0 n.0.1 fits n.1 in
-    let count : Takes bytes (big_bytes 4 a.0.0) a.0.1 × (1 ≤ a.0.0) × (a.0.0 ≤ 512) =
-    subst (λ (x : ℕ × List ℕ). Takes bytes (big_bytes 4 x.0) x.1 × (1 ≤ x.0) × (x.0 ≤ 512)) (same_Some n.0 a.0 range.1) (found.0, leb-true _ _ bounds.0, leb-true _ _ bounds.1) in
+    let count : Takes bytes (big_bytes 4 a.0.0) a.0.1 × (1 ≤ a.0.0) × (a.0.0 ≤ most_entries) =
+    subst (λ (x : ℕ × List ℕ). Takes bytes (big_bytes 4 x.0) x.1 × (1 ≤ x.0) × (x.0 ≤ most_entries)) (same_Some n.0 a.0 range.1) (found.0, leb-true _ _ bounds.0, leb-true _ _ bounds.1) in
     let items = entries_take version a.0.0 a.0.1 b.0.0 b.0.1 count.0.rest_fits b.1 in
     let nothing : b.0.1 ≡ [] = nil_from_length b.0.1 (eqb-true _ _ tests.0) in
     let both = (Takes-then bytes (big_bytes 4 a.0.0) a.0.1 (flat_map (entry_bytes version) b.0.0) b.0.1 count.0 items.0).parts in

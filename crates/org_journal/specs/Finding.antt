@@ -9,7 +9,7 @@ use Rattle.org_journal.specs.declared.fault.FindFault.TheVariants.{BadJournal, D
 use Rattle.org_journal.specs.declared.finding.Found.{Found}
 use Rattle.org_journal.specs.declared.finding.Found.TheVariants.{Closed, Armed}
 use Rattle.org_journal.specs.declared.record.Version.TheVariants.{Two}
-use Rattle.org_journal.specs.Gate.{is_open}
+use Rattle.org_journal.specs.Gate.{front_size, is_open}
 use Rattle.org_journal.specs.Reading.{journal_at}
 use Rattle.org_splice.specs.Patches.{AreWellFormed}
 use Rattle.org_journal.specs.Record.{pairs, IsWellFormed}
@@ -21,7 +21,7 @@ record_size journal = big_number 8 (drop 8 journal)
 
 -- the whole record lies within the journal
 abbrev pub HoldsRecord : List ℕ → Type 0
-HoldsRecord journal = 16 + record_size journal ≤ length journal
+HoldsRecord journal = front_size + record_size journal ≤ length journal
 
 -- what was found of a disk with these contents
 abbrev pub Finds : Image → Result Found FindFault → Type 0
@@ -42,7 +42,7 @@ IsWritable (Armed entries) = IsWellFormed Two entries
 abbrev pub FindsSize : List ℕ → Result (Option ℕ) FindFault → Type 0
 FindsSize journal (Ok None) = IsFalse (is_open journal)
 FindsSize journal (Ok (Some size)) = IsTrue (is_open journal) × (size ≡ record_size journal) × HoldsRecord journal
-FindsSize journal (Err BadJournal) = IsTrue (is_open journal) × (length journal < 16 + record_size journal)
+FindsSize journal (Err BadJournal) = IsTrue (is_open journal) × (length journal < front_size + record_size journal)
 FindsSize journal (Err Device) = Unit {0}
 FindsSize journal (Err OutOfMemory) = ⊥
 
@@ -53,6 +53,6 @@ FindsRecord journal (Err BadJournal) = journal_at (drop 1 journal) ≡ None
 FindsRecord journal (Err Device) = Unit {0}
 FindsRecord journal (Err OutOfMemory) = Unit {0}
 
--- the patches of each entry are such as can be written
-abbrev pub AreWritten : List Entry → Type 0
-AreWritten entries = AllByRecursion (λ entry. AreWellFormed (pairs entry.patches) entry.length) entries
+-- the patches of each entry are well-formed
+abbrev pub HaveWellFormedPatches : List Entry → Type 0
+HaveWellFormedPatches entries = AllByRecursion (λ entry. AreWellFormed (pairs entry.patches) entry.length) entries

@@ -2,9 +2,13 @@
 use Rattle.std.specs.Prelude.{◌≡◌, ◌≢◌, ℕ, ◌≤◌, Bool, ◌&&◌, ◌==◌, nat_le, IsFalse, List, length, drop, slice_index}
 use Rattle.org_disk.specs.Disk.{FileState, IsFixed, IsImage}
 
+-- the bytes in front of a record: the gate, and the header behind it
+abbrev pub front_size : ℕ
+front_size = 16
+
 -- The gate is open where the first byte is 1 and the journal has the bytes of a header. Else it is closed.
 abbrev pub is_open : List ℕ → Bool
-is_open journal = nat_le 16 (length journal) && (slice_index journal 0 == 1)
+is_open journal = nat_le front_size (length journal) && (slice_index journal 0 == 1)
 
 -- The gate is on the disk, and it isn't 1: whatever is written behind it, a stop leaves it closed.
 pub record HasClosedGate (journal : FileState) : Type 0 where

@@ -8,7 +8,7 @@ use Rattle.org_journal.specs.declared.record.Entry.{Entry}
 use Rattle.org_journal.specs.declared.record.Patch.{Patch}
 use Rattle.org_journal.specs.declared.record.Version.{Version}
 use Rattle.org_journal.specs.declared.record.Version.TheVariants.{One, Two}
-use Rattle.org_journal.specs.Record.{greatest_length, most_patches, names_differ}
+use Rattle.org_journal.specs.Record.{greatest_length, most_entries, most_patches, names_differ}
 
 infixl 10 ◌>>=◌
 abbrev pub ◌>>=◌ : {A B : Type 0} → Option A → (A → Option B) → Option B
@@ -114,7 +114,7 @@ entries_at version (suc n) bytes = do
 unfoldable pub count_at : List ℕ → Option (ℕ × List ℕ)
 count_at bytes = do
   count ← number_at 4 bytes
-  if nat_le 1 count.0 && nat_le count.0 512 then Some count else None
+  if nat_le 1 count.0 && nat_le count.0 most_entries then Some count else None
 
 -- all of the bytes
 unfoldable pub record_at : Version → List ℕ → Option (List Entry)

@@ -58,6 +58,9 @@ abbrev pub greatest_length : Version → ℕ
 greatest_length One = 16_777_216
 greatest_length Two = 67_108_864
 
+abbrev pub most_entries : ℕ
+most_entries = 512
+
 pub record IsEntry (version : Version) (entry : Entry) : Type 0 where
   pub text : IsUtf8 entry.name
   pub name : IsTrue (is_file_name entry.name)
@@ -76,7 +79,7 @@ names_differ (entry ∷ entries) = not (is_named entry.name entries) && names_di
 
 pub record IsWellFormed (version : Version) (entries : List Entry) : Type 0 where
   pub some : 1 ≤ length entries
-  pub few : length entries ≤ 512
+  pub few : length entries ≤ most_entries
   pub each : AllByRecursion (IsEntry version) entries
   pub apart : IsTrue (names_differ entries)
 

@@ -9,7 +9,8 @@ use std::str;
 
 const OLD_GREATEST_LENGTH: u64 = 16_777_216;
 
-const GREATEST_LENGTH: u64 = 67_108_864;
+/// The most bytes of a file whose entry is written.
+pub const GREATEST_LENGTH: u64 = 67_108_864;
 
 const MOST_PATCHES: u32 = 1_000;
 

@@ -8,7 +8,8 @@ ghost use Rattle.org_journal.specs.Record.{pairs, IsWellFormed};
 ghost use Rattle.org_journal.specs.Reading.{journal_at};
 ghost use Rattle.org_journal.specs.Standing.{contents, fits, all_fit};
 ghost use Rattle.org_journal.specs.declared.record.Version.TheVariants.{Two};
-ghost use Rattle.org_journal.specs.Finding.{Finds, IsWritable, FindsSize, FindsRecord, HoldsRecord, AreWritten, record_size};
+ghost use Rattle.org_journal.specs.Finding.{Finds, IsWritable, FindsSize, FindsRecord, HoldsRecord, HaveWellFormedPatches, record_size};
+ghost use Rattle.org_journal.specs.Gate.{front_size};
 
 use crate::decoding::decode;
 use crate::fault::{FindFault, RecordFault};
@@ -18,8 +19,9 @@ use byteorder::{BigEndian, ByteOrder};
 use org_disk::{Disk, DiskFault, FileName};
 use std::alloc::Global;
 
-// The bytes in front of a record, the gate among them.
-const HEADER: u64 = 16;
+/// How many bytes stand in front of a record: the gate, and the header behind it. A journal that is shorter has a closed
+/// gate.
+pub const FRONT: u64 = 16;
 
 /// What stands in a journal.
 #[derive(Debug, Drop)]
@@ -33,7 +35,7 @@ pub enum Found {
 // The size of the record behind an open gate, and nothing where the gate is closed.
 fn size_of<D: Disk>(disk: &mut D, journal: &FileName) -> Result<Option<u64>, FindFault>
     ensures found { D.honest disk.new → FindsSize (D.files disk.old journal.now).content result }
-    ensures small { IfOk result (λ found. IfSome found (λ size. 16 + size < 2 ^ 64)) }
+    ensures small { IfOk result (λ found. IfSome found (λ size. front_size + size < 2 ^ 64)) }
     ensures same { D.honest disk.new → D.files disk.new ≡ D.files disk.old }
     ensures any_moment { D.honest disk.new → Passes (D.moment disk.old) (D.moment disk.new) (D.left_since disk.old) (D.left_since disk.new) (AreImages (D.files disk.old)) }
     ensures failed { IsErrOf result FindFault.Device → HasRisen (D.failures disk.old) (D.failures disk.new) }
@@ -42,7 +44,7 @@ fn size_of<D: Disk>(disk: &mut D, journal: &FileName) -> Result<Option<u64>, Fin
     ensures honest { KeepsHonesty D.steady (D.honest disk.old) (D.honest disk.new) }
 {
     let length = disk.length(journal)?;
-    if length < HEADER {
+    if length < FRONT {
         return Ok(None);
     }
     let mut header = [0; 16];
@@ -51,7 +53,7 @@ fn size_of<D: Disk>(disk: &mut D, journal: &FileName) -> Result<Option<u64>, Fin
         return Ok(None);
     }
     let size = BigEndian::read_u64(&header[8..]);
-    if size > length - HEADER {
+    if size > length - FRONT {
         return Err(FindFault::BadJournal);
     }
     Ok(Some(size))
@@ -64,8 +66,8 @@ fn body_of<D: Disk>(
     journal: &FileName,
     size: u64,
 ) -> Result<Vec<u8>, FindFault>
-    requires small { 16 + size < 2 ^ 64 }
-    requires within { D.honest disk.old → 16 + size ≤ length (D.files disk.old journal.now).content }
+    requires small { front_size + size < 2 ^ 64 }
+    requires within { D.honest disk.old → front_size + size ≤ length (D.files disk.old journal.now).content }
     ensures bytes { IfOk result (λ body. D.honest disk.new → body.items ≡ take (15 + size) (drop 1 (D.files disk.old journal.now).content)) }
     ensures bad { ¬ (IsErrOf result FindFault.BadJournal) }
     ensures same { D.honest disk.new → D.files disk.new ≡ D.files disk.old }
@@ -87,11 +89,11 @@ fn record_of<D: Disk>(
     journal: &FileName,
     size: u64,
 ) -> Result<Record, FindFault>
-    requires small { 16 + size < 2 ^ 64 }
+    requires small { front_size + size < 2 ^ 64 }
     requires size { D.honest disk.old → size ≡ record_size (D.files disk.old journal.now).content }
     requires within { D.honest disk.old → HoldsRecord (D.files disk.old journal.now).content }
     ensures found { D.honest disk.new → FindsRecord (D.files disk.old journal.now).content result }
-    ensures written { IfOk result (λ entries. AreWritten entries) }
+    ensures patches { IfOk result (λ entries. HaveWellFormedPatches entries) }
     ensures writable { IfOk result (λ entries. IsWellFormed Two entries) }
     ensures same { D.honest disk.new → D.files disk.new ≡ D.files disk.old }
     ensures any_moment { D.honest disk.new → Passes (D.moment disk.old) (D.moment disk.new) (D.left_since disk.old) (D.left_since disk.new) (AreImages (D.files disk.old)) }
@@ -125,7 +127,7 @@ fn fits(patches: &[Patch], length: u64, size: u64) -> bool
 
 // Whether each entry fits its file.
 fn all_fit<D: Disk>(disk: &mut D, entries: &[Entry]) -> Result<bool, DiskFault>
-    requires { AreWritten entries.now }
+    requires { HaveWellFormedPatches entries.now }
     ensures fit { IfOk result (λ answer. D.honest disk.new → answer ≡ all_fit entries.now (contents (D.files disk.old))) }
     ensures same { D.honest disk.new → D.files disk.new ≡ D.files disk.old }
     ensures any_moment { D.honest disk.new → Passes (D.moment disk.old) (D.moment disk.new) (D.left_since disk.old) (D.left_since disk.new) (AreImages (D.files disk.old)) }

@@ -3,7 +3,7 @@
 ghost use Rattle.std.specs.Prelude.{◌≡◌, ◌≢◌, ◌≤◌, ◌<◌, List, ℕ, length, drop, ◌∷◌, OnOk, OnErr, IsTrue, is_some};
 ghost use Rattle.org_disk.specs.Disk.{IsStable, Passes, HasRisen, laid, KeepsHonesty};
 ghost use Rattle.org_journal.specs.Reading.{journal_at};
-ghost use Rattle.org_journal.specs.Gate.{is_open, HasClosedGate, LeavesClosed, LeavesBody};
+ghost use Rattle.org_journal.specs.Gate.{front_size, is_open, HasClosedGate, LeavesClosed, LeavesBody};
 
 use org_disk::{Disk, DiskFault, FileName};
 
@@ -16,7 +16,7 @@ pub(crate) const OPEN: u8 = 1;
 /// call fails.
 pub fn prepare<D: Disk>(disk: &mut D, journal: &FileName) -> Result<(), DiskFault>
     requires stable { D.honest disk.old → IsStable (D.files disk.old journal.now) }
-    requires short { D.honest disk.old → length (D.files disk.old journal.now).content < 16 }
+    requires short { D.honest disk.old → length (D.files disk.old journal.now).content < front_size }
     ensures any_moment { D.honest disk.new → Passes (D.moment disk.old) (D.moment disk.new) (D.left_since disk.old) (D.left_since disk.new)
         (LeavesClosed journal.now (D.files disk.old)) }
     ensures stable { OnOk result (D.honest disk.new → IsStable (D.files disk.new journal.now)) }

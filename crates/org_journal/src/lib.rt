@@ -15,7 +15,8 @@ mod record;
 
 pub use decoding::decode;
 pub use fault::{FindFault, RecordFault};
-pub use finding::{Found, find};
+pub use fields::GREATEST_LENGTH;
+pub use finding::{FRONT, Found, find};
 pub use gate::{arm, close_gate, open_gate, prepare};
 pub use reading::well_formed;
 pub use record::{Entry, Patch, Patches, Record};

@@ -8,7 +8,9 @@ use std::marker::Model;
 /// The bytes that stand in a file from the byte position `from` on.
 #[derive(Debug, Drop)]
 pub struct Patch {
+    /// The byte position of the first of them.
     pub from: u64,
+    /// The bytes.
     pub bytes: Bytes,
 }
 
@@ -46,8 +48,11 @@ impl Patches {
 /// What becomes of one file: its patches are laid over it in order, and it has `length` bytes then.
 #[derive(Debug, Drop)]
 pub struct Entry {
+    /// The name of the file.
     pub name: FileName,
+    /// How many bytes the file has in the end, at most `GREATEST_LENGTH` in a record.
     pub length: u64,
+    /// What is laid over it, each patch behind the one before, at most 1,000 in a record.
     pub patches: Patches,
 }
 

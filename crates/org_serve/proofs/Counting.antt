@@ -20,9 +20,6 @@ HasRisen-later old mid new le rose = elim rose [ inl r ↦ inl (omega arith) | i
 pub HasRisen-before : (old mid new : ℕ) → mid ≤ new → HasRisen old mid → HasRisen old new
 HasRisen-before old mid new le rose = elim rose [ inl r ↦ inl (omega arith) | inr r ↦ inr (omega arith) ]
 
-pub Breaks-never : (s : Session) (n : ℕ) → BreaksByFailure s s n n
-Breaks-never s n = record { rises = omega arith; breaks = λ b. inl b }
-
 pub Breaks-then : {a b c : Session} {x y z : ℕ} → BreaksByFailure a b x y → BreaksByFailure b c y z → BreaksByFailure a c x z
 Breaks-then {x = x} {y = y} {z = z} p q = record {
   rises = omega (arith, p.rises, q.rises);

@@ -15,10 +15,6 @@ pub in_front-one : (text : List ℕ) (b : ℕ) (read : Option (List ℕ)) → in
 in_front-one text b None = refl
 in_front-one text b (Some more) = rw append_assoc refl
 
-pub in_front-none : (read : Option (List ℕ)) → in_front [] read ≡ read
-in_front-none None = refl
-in_front-none (Some more) = refl
-
 pub step-escaped : (text : List ℕ) (x b : ℕ) (more : List ℕ) → Some b ≡ escape x → in_front (text ++ b ∷ []) (unescaped_from false more) ≡ in_front text (unescaped_from true (x ∷ more))
 step-escaped text x b more e = rw (← e) (in_front-one text b (unescaped_from false more))
 

@@ -7,7 +7,7 @@ use Rattle.org_serve.specs.Pending.{Stands}
 use Rattle.org_serve.specs.Transcript.{Answers}
 use Rattle.org_serve.specs.Feeding.{FeedOk, FeedErr}
 use Rattle.org_serve.proofs.Cuts.{cut-both, cut-line}
-use Rattle.org_serve.proofs.Joins.{Answers-append, Appends-append, Appends-none}
+use Rattle.org_serve.proofs.Joins.{Answers-append, Appends-append}
 
 -- Some lines of the bytes were run, and rest is left behind a part of a line.
 pub record Fed {S : Type 0} (AnswersLine : S → List ℕ → List ℕ → S → Type 0) (old : S) (bytes rest : List ℕ) (new : S) (written written' : Option (List ℕ)) (pending : Pending) : Type 0 where
@@ -19,19 +19,6 @@ pub record Fed {S : Type 0} (AnswersLine : S → List ℕ → List ℕ → S →
   pub answered : Answers AnswersLine old ran out new
   pub wrote : Appends written written' out
   pub stands : Stands pending part
-
-pub Fed-start : {S : Type 0} (AnswersLine : S → List ℕ → List ℕ → S → Type 0) (old : S) (part piece : List ℕ) (written : Option (List ℕ)) (pending : Pending)
-    → (cut part).lines ≡ [] → Stands pending part → Fed AnswersLine old (part ++ piece) piece old written written pending
-Fed-start AnswersLine old part piece written pending free stands = record {
-  part = part;
-  ran = [];
-  out = [];
-  free = free;
-  cuts = refl;
-  answered = (refl, refl);
-  wrote = Appends-none written;
-  stands = stands;
-}
 
 -- a line and its newline in front of what is left
 cuts-line : {S : Type 0} {AnswersLine : S → List ℕ → List ℕ → S → Type 0} {old : S} {bytes rest : List ℕ} {mid : S} {written between : Option (List ℕ)} {pending : Pending}

@@ -8,7 +8,7 @@ use Rattle.org_serve.specs.Pending.{Stands}
 use Rattle.org_serve.specs.Transcript.{Answers, ServesAll, ServesLines, RunsSome, RunsAllAndSettles}
 use Rattle.org_serve.specs.Feeding.{FeedOk, FeedErr, EndsWith}
 use Rattle.org_serve.proofs.Cuts.{cut-append}
-use Rattle.org_serve.proofs.Joins.{Answers-append, Appends-append, Appends-none, Consumes-append, Consumes-none}
+use Rattle.org_serve.proofs.Joins.{Answers-append, Appends-append, Consumes-append, Consumes-no_more}
 
 -- The input so far was read, its lines are answered, and what stands behind its last newline is kept.
 pub record Served {S : Type 0} (AnswersLine : S → List ℕ → List ℕ → S → Type 0) (old new : S) (left left' written written' : Option (List ℕ)) (pending : Pending) : Type 0 where
@@ -18,17 +18,6 @@ pub record Served {S : Type 0} (AnswersLine : S → List ℕ → List ℕ → S 
   pub answered : Answers AnswersLine old (cut input).lines out new
   pub wrote : Appends written written' out
   pub stands : Stands pending (cut input).rest
-
-pub Served-start : {S : Type 0} (AnswersLine : S → List ℕ → List ℕ → S → Type 0) (old : S) (left written : Option (List ℕ)) (pending : Pending)
-    → Stands pending [] → Served AnswersLine old old left left written written pending
-Served-start AnswersLine old left written pending stands = record {
-  input = [];
-  out = [];
-  read = Consumes-none left;
-  answered = (refl, refl);
-  wrote = Appends-none written;
-  stands = stands;
-}
 
 pub Served-more : {S : Type 0} {AnswersLine : S → List ℕ → List ℕ → S → Type 0} {old mid : S} {left between written among : Option (List ℕ)} {pending : Pending}
     → (s : Served AnswersLine old mid left between written among pending) (piece : List ℕ) (new : S) (left' written' : Option (List ℕ)) (pending' : Pending)
@@ -63,47 +52,35 @@ Served-some {AnswersLine = AnswersLine} {old = old} {mid = mid} {left = left} {b
   Answers-append AnswersLine old mid new (cut s.input).lines fed.0 s.out fed.2 s.answered fed.4,
 )
 
+-- no more is read
+pub Served-no_more : {S : Type 0} {AnswersLine : S → List ℕ → List ℕ → S → Type 0} {old new : S} {left between written written' : Option (List ℕ)} {pending : Pending}
+    → Served AnswersLine old new left between written written' pending → (left' : Option (List ℕ)) → Consumes between left' [] → Served AnswersLine old new left left' written written' pending
+Served-no_more {left = left} {between = between} s left' read = record {
+  input = s.input;
+  out = s.out;
+  read = Consumes-no_more left between left' s.input s.read read;
+  answered = s.answered;
+  wrote = s.wrote;
+  stands = s.stands;
+}
+
 -- a write of the last reply fails: all lines were run
-pub Served-all_ran : {S : Type 0} {AnswersLine : S → List ℕ → List ℕ → S → Type 0} {old new : S} {left between written among : Option (List ℕ)} {pending : Pending}
-    → (s : Served AnswersLine old new left between written among pending) (left' : Option (List ℕ))
-    → Consumes between left' [] → RunsSome AnswersLine old new left left'
-Served-all_ran {left = left} {between = between} s left' read = (
-  s.input ++ [],
-  (cut (s.input ++ [])).lines,
-  [],
-  s.out,
-  Consumes-append left between left' s.input [] s.read read,
-  sym (append-nil (cut (s.input ++ [])).lines),
-  rw append-nil s.answered,
-)
+pub Served-all_ran : {S : Type 0} {AnswersLine : S → List ℕ → List ℕ → S → Type 0} {old new : S} {left left' written among : Option (List ℕ)} {pending : Pending}
+    → Served AnswersLine old new left left' written among pending → RunsSome AnswersLine old new left left'
+Served-all_ran s = (s.input, (cut s.input).lines, [], s.out, s.read, sym (append-nil (cut s.input).lines), s.answered)
 
-pub Served-lines : {S : Type 0} {AnswersLine : S → List ℕ → List ℕ → S → Type 0} {old new : S} {left between written written' : Option (List ℕ)} {pending : Pending}
-    → (s : Served AnswersLine old new left between written written' pending) (left' : Option (List ℕ)) → Consumes between left' []
-    → ServesLines AnswersLine old new left left' written written'
-Served-lines {left = left} {between = between} s left' read = (
-  s.input ++ [],
-  s.out,
-  Consumes-append left between left' s.input [] s.read read,
-  rw append-nil s.answered,
-  s.wrote,
-)
+pub Served-lines : {S : Type 0} {AnswersLine : S → List ℕ → List ℕ → S → Type 0} {old new : S} {left left' written written' : Option (List ℕ)} {pending : Pending}
+    → Served AnswersLine old new left left' written written' pending → ServesLines AnswersLine old new left left' written written'
+Served-lines s = (s.input, s.out, s.read, s.answered, s.wrote)
 
-pub Served-end : {S : Type 0} (Finishes : S → ServeEnd → List ℕ → S → Type 0) {AnswersLine : S → List ℕ → List ℕ → S → Type 0} {old mid : S} {left between written among : Option (List ℕ)} {pending : Pending}
-    → (s : Served AnswersLine old mid left between written among pending) (end : ServeEnd) (new : S) (left' written' : Option (List ℕ)) → Consumes between left' [] → IsAtEnd left'
+pub Served-end : {S : Type 0} (Finishes : S → ServeEnd → List ℕ → S → Type 0) {AnswersLine : S → List ℕ → List ℕ → S → Type 0} {old mid : S} {left left' written among : Option (List ℕ)} {pending : Pending}
+    → (s : Served AnswersLine old mid left left' written among pending) (end : ServeEnd) (new : S) (written' : Option (List ℕ)) → IsAtEnd left'
     → EndsWith Finishes (cut s.input).rest mid end new among written' → ServesAll AnswersLine Finishes old end new left left' written written'
-Served-end Finishes {mid = mid} {left = left} {between = between} {written = written} {among = among} s end new left' written' read at_end ends =
-    let tail = ends.0 ++ ends.1 in (
-      s.input ++ [],
-      s.out ++ tail,
-      Consumes-append left between left' s.input [] s.read read,
-      at_end,
-      rw append-nil (mid, s.out, ends.0, ends.1, s.answered, ends.2, ends.3, refl),
-      Appends-append written among written' s.out tail s.wrote ends.4,
-    )
+Served-end Finishes {mid = mid} {written = written} {among = among} s end new written' at_end ends =
+    let tail = ends.0 ++ ends.1 in
+    (s.input, s.out ++ tail, s.read, at_end, (mid, s.out, ends.0, ends.1, s.answered, ends.2, ends.3, refl), Appends-append written among written' s.out tail s.wrote ends.4)
 
 -- a write fails after the settling
-pub Served-settled : {S : Type 0} (Settles : S → S → Type 0) {AnswersLine : S → List ℕ → List ℕ → S → Type 0} {old mid : S} {left between written among : Option (List ℕ)} {pending : Pending}
-    → (s : Served AnswersLine old mid left between written among pending) (new : S) (left' : Option (List ℕ)) → Consumes between left' [] → IsAtEnd left'
-    → Settles mid new → RunsAllAndSettles AnswersLine Settles old new left left'
-Served-settled Settles {mid = mid} {left = left} {between = between} s new left' read at_end settles =
-    (s.input ++ [], mid, s.out, Consumes-append left between left' s.input [] s.read read, at_end, rw append-nil s.answered, settles)
+pub Served-settled : {S : Type 0} (Settles : S → S → Type 0) {AnswersLine : S → List ℕ → List ℕ → S → Type 0} {old mid : S} {left left' written among : Option (List ℕ)} {pending : Pending}
+    → Served AnswersLine old mid left left' written among pending → (new : S) → IsAtEnd left' → Settles mid new → RunsAllAndSettles AnswersLine Settles old new left left'
+Served-settled Settles {mid = mid} s new at_end settles = (s.input, mid, s.out, s.read, at_end, s.answered, settles)

@@ -36,3 +36,7 @@ pub Consumes-kept : (x y : Option (List ℕ)) → Keeps x y → Consumes x y []
 Consumes-kept None y kept = tt
 Consumes-kept (Some xs) None kept = kept
 Consumes-kept (Some xs) (Some ys) kept = sym kept
+
+-- no more is read
+pub Consumes-no_more : (x y z : Option (List ℕ)) (a : List ℕ) → Consumes x y a → Consumes y z [] → Consumes x z a
+Consumes-no_more x y z a p q = subst (λ t. Consumes x z t) (append-nil a) (Consumes-append x y z a [] p q)

@@ -1,7 +1,7 @@
 -- What serving does to the disk of a store, line by line.
-use Rattle.std.proofs.Common.{◌≡◌, ◌≢◌, ◌⊎◌, inl, inr, ⊎_elim, ℕ, ◌<◌, Bool, true, false, nat_lt, List, [], ◌∷◌, ◌++◌, Option, Result, Ok, Err, refl, sym, ap, ◌∙◌, subst, append-nil, append_assoc, arith}
-use Rattle.std.specs.Prelude.{MatchBool, IsFalse}
-use Rattle.std.specs.Io.KnownBytes.{Consumes, Appends}
+use Rattle.std.proofs.Common.{◌≡◌, ◌≢◌, ◌⊎◌, inl, inr, ⊎_elim, ℕ, ◌<◌, Bool, true, false, nat_lt, List, [], ◌∷◌, ◌++◌, Option, Result, Ok, Err, refl, sym, ap, ◌∙◌, subst, append-nil, arith}
+use Rattle.std.specs.Prelude.{IsFalse}
+use Rattle.std.specs.Io.KnownBytes.{Appends}
 use Rattle.org_disk.specs.Disk.{FileState, AreImages, LeavesOnly}
 use Rattle.org_journal.specs.Standing.{Image, contents}
 use Rattle.org_fileset.specs.Replay.{IsAtRest}
@@ -10,22 +10,21 @@ use Rattle.org_store.specs.declared.command.RunFault.{RunFault}
 use Rattle.org_store.specs.declared.command.RunFault.TheVariants as run
 use Rattle.org_store.specs.Session.{Session, Kept}
 use Rattle.org_store.specs.Outcome.{outcome}
-use Rattle.org_store.specs.Step.{Settles, done}
-use Rattle.org_store.specs.Runs.{SettlesOver, IsOnDisk, IsBetween, IsLeftOf}
+use Rattle.org_store.specs.Step.{Step, Settles, done}
+use Rattle.org_store.specs.Runs.{RunsOver, SettlesOver, IsOnDisk, IsBetween, IsLeftOf}
 use Rattle.org_store.proofs.Runs.{Course, course_none, course_as, course_run, course_settle, course_leaves, goes_on}
 use Rattle.org_serve.specs.declared.end.ServeEnd.{ServeEnd}
 use Rattle.org_serve.specs.declared.end.ServeEnd.TheVariants.{End, Unsettled, Device, Read, Write}
 use Rattle.org_serve.specs.declared.fault.LineFault.{LineFault}
 use Rattle.org_serve.specs.declared.pending.Pending.{Pending}
-use Rattle.org_serve.specs.Feeding.{FeedErr, EndsWith}
-use Rattle.org_serve.specs.Lines.{Cut, cut}
+use Rattle.org_serve.specs.Feeding.{EndsWith}
+use Rattle.org_serve.specs.Lines.{cut}
 use Rattle.org_serve.specs.Replies.{answer_text, settled_text}
-use Rattle.org_serve.specs.Serving.{IsReadAs, AnswersRead, AnswersLine, Finishes, HasSettled, end_of}
-use Rattle.org_serve.specs.Stops.{RunsRead, RunsLine, HasSettledOver, FinishesOver, Runs, Reaches, KeepsDisk}
-use Rattle.org_serve.specs.Transcript.{Answers}
-use Rattle.org_serve.proofs.Cuts.{cut-append}
+use Rattle.org_serve.specs.Serving.{IsReadAs, AnswersReadBy, AnswersLine, EndsBy, Finishes, HasSettled, end_of}
+use Rattle.org_serve.specs.Stops.{RunsLine, HasSettledOver, FinishesOver, Runs, Reaches, KeepsDisk}
+use Rattle.org_serve.specs.Transcript.{Answers, RunsSome}
 use Rattle.org_serve.proofs.Inputs.{Served}
-use Rattle.org_serve.proofs.Joins.{Answers-append, Appends-append, Appends-none, Consumes-append}
+use Rattle.org_serve.proofs.Joins.{Appends-append, Appends-none}
 
 -- What was run, as serving ends.
 
@@ -36,37 +35,40 @@ write_or_not Device = inr (λ e. absurd (cc))
 write_or_not Read = inr (λ e. absurd (cc))
 write_or_not Write = inl refl
 
--- the input was read to here, and no line is left
-pub runs_whole : {S : Type 0} {AnswersLine : S → List ℕ → List ℕ → S → Type 0} (Settles : S → S → Type 0) {old mid : S} {left between written among : Option (List ℕ)} {pending : Pending}
-    → (s : Served AnswersLine old mid left between written among pending) (new : S) (end : ServeEnd) (left' written' : Option (List ℕ)) → Consumes between left' []
+-- no line is left of what was read
+pub runs_whole : {S : Type 0} {AnswersLine : S → List ℕ → List ℕ → S → Type 0} (Settles : S → S → Type 0) {old mid : S} {left left' written among : Option (List ℕ)} {pending : Pending}
+    → Served AnswersLine old mid left left' written among pending → (new : S) (end : ServeEnd) (written' : Option (List ℕ))
     → (new ≡ mid) ⊎ Settles mid new → (end ≢ Write → (tail : List ℕ) × Appends among written' tail) → Runs AnswersLine Settles old new end left left' written written'
-runs_whole Settles {mid = mid} {left = left} {between = between} {written = written} {among = among} s new end left' written' read ends wrote = record {
-  input = s.input ++ [];
+runs_whole Settles {mid = mid} {written = written} {among = among} s new end written' ends wrote = record {
+  input = s.input;
   ran = (cut s.input).lines;
   others = [];
   out = s.out;
   mid = mid;
-  read = Consumes-append left between left' s.input [] s.read read;
-  lines = ap (λ (i : List ℕ). (cut i).lines) (append-nil s.input) ∙ sym (append-nil (cut s.input).lines);
+  read = s.read;
+  lines = sym (append-nil (cut s.input).lines);
   answered = s.answered;
   ends = ends;
   wrote = λ not. let tail = wrote not in (tail.0, Appends-append written among written' s.out tail.0 s.wrote tail.1);
 }
 
--- a write fails within a piece
-pub runs_some : {S : Type 0} {AnswersLine : S → List ℕ → List ℕ → S → Type 0} (Settles : S → S → Type 0) {old mid : S} {left between written among : Option (List ℕ)} {pending : Pending}
-    → (s : Served AnswersLine old mid left between written among pending) (piece : List ℕ) (new : S) (left' written' : Option (List ℕ))
-    → Consumes between left' piece → FeedErr AnswersLine mid ((cut s.input).rest ++ piece) new → Runs AnswersLine Settles old new Write left left' written written'
-runs_some {AnswersLine = AnswersLine} Settles {old = old} {mid = mid} {left = left} {between = between} s piece new left' written' read fed = record {
-  input = s.input ++ piece;
-  ran = (cut s.input).lines ++ fed.0;
-  others = fed.1;
-  out = s.out ++ fed.2;
+-- no more is read
+pub runs_read : {S : Type 0} {AnswersLine : S → List ℕ → List ℕ → S → Type 0} (Settles : S → S → Type 0) {old new : S} {left left' written written' : Option (List ℕ)} {pending : Pending}
+    → Served AnswersLine old new left left' written written' pending → Runs AnswersLine Settles old new Read left left' written written'
+runs_read Settles {new = new} {written' = written'} s = runs_whole Settles s new Read written' (inl refl) (λ not. ([], Appends-none written'))
+
+-- a write fails among the lines
+pub runs_some : {S : Type 0} {AnswersLine : S → List ℕ → List ℕ → S → Type 0} (Settles : S → S → Type 0) {old new : S} {left left' : Option (List ℕ)} (written written' : Option (List ℕ))
+    → RunsSome AnswersLine old new left left' → Runs AnswersLine Settles old new Write left left' written written'
+runs_some Settles {new = new} written written' some = record {
+  input = some.0;
+  ran = some.1;
+  others = some.2;
+  out = some.3;
   mid = new;
-  read = Consumes-append left between left' s.input piece s.read read;
-  lines = ap (λ (c : Cut). c.lines) (cut-append s.input piece) ∙ ap (λ (ls : List (List ℕ)). (cut s.input).lines ++ ls) fed.3
-      ∙ sym (append_assoc (cut s.input).lines fed.0 fed.1);
-  answered = Answers-append AnswersLine old mid new (cut s.input).lines fed.0 s.out fed.2 s.answered fed.4;
+  read = some.4;
+  lines = some.5;
+  answered = some.6;
   ends = inl refl;
   wrote = λ not. absurd (not refl);
 }
@@ -88,7 +90,10 @@ module _ {D : Type 0} (files : D → List ℕ → FileState) (moment : D → ℕ
 
   -- What is said of the session alone.
 
-  session_of_read : (old : Kept D) (read : Result Command LineFault) (out : List ℕ) (new : Kept D) → RunsRead files moment left_since old read out new → AnswersRead old.session read out new.session
+  abbrev Reads : Kept D → Result Command LineFault → List ℕ → Kept D → Type 0
+  Reads = AnswersReadBy (RunsOver files moment left_since) (λ k. k.session)
+
+  session_of_read : (old : Kept D) (read : Result Command LineFault) (out : List ℕ) (new : Kept D) → Reads old read out new → AnswersReadBy Step (λ s. s) old.session read out new.session
   session_of_read old (Err fault) out new ran = (ran.0, ap (λ (k : Kept D). k.session) ran.1)
   session_of_read old (Ok command) out new ran = (ran.0, ran.1.step, ran.2)
 
@@ -107,25 +112,16 @@ module _ {D : Type 0} (files : D → List ℕ → FileState) (moment : D → ℕ
     stands = s.stands;
   }
 
-  pub session_of_fed : (old new : Kept D) (bytes : List ℕ) → FeedErr Line old bytes new → FeedErr AnswersLine old.session bytes new.session
-  session_of_fed old new bytes fed = (fed.0, fed.1, fed.2, fed.3, session_of_lines old fed.0 fed.2 new fed.4)
+  pub session_of_some : (old new : Kept D) (left left' : Option (List ℕ)) → RunsSome Line old new left left' → RunsSome AnswersLine old.session new.session left left'
+  session_of_some old new left left' some = (some.0, some.1, some.2, some.3, some.4, some.5, session_of_lines old some.1 some.3 new some.6)
 
   pub session_of_settled : (old new : Kept D) → Settled old new → HasSettled old.session new.session
   session_of_settled old new settled = (settled.0, settled.1.step)
 
-  -- an end of serving, by whether the store is broken and whether accepted commands aren't settled yet
   abbrev Ends : Bool → Bool → Kept D → ServeEnd → List ℕ → Kept D → Type 0
-  Ends fell pending old end out new =
-      MatchBool fell ((end ≡ Device) × (out ≡ []) × (new ≡ old))
-      (MatchBool pending ((answer : Result (Unit {0}) RunFault) × SettlesOver files moment left_since old answer new × (end ≡ end_of answer) × (out ≡ settled_text answer new.session.acknowledged))
-      ((end ≡ End) × (out ≡ []) × (new ≡ old)))
+  Ends = EndsBy (SettlesOver files moment left_since) (λ k. k.session)
 
-  abbrev SessionEnds : Bool → Bool → Session → ServeEnd → List ℕ → Session → Type 0
-  SessionEnds fell pending old end out new =
-      MatchBool fell ((end ≡ Device) × (out ≡ []) × (new ≡ old))
-      (MatchBool pending ((answer : Result (Unit {0}) RunFault) × Settles old answer new × (end ≡ end_of answer) × (out ≡ settled_text answer new.acknowledged)) ((end ≡ End) × (out ≡ []) × (new ≡ old)))
-
-  session_of_end : (fell pending : Bool) (old : Kept D) (end : ServeEnd) (out : List ℕ) (new : Kept D) → Ends fell pending old end out new → SessionEnds fell pending old.session end out new.session
+  session_of_end : (fell pending : Bool) (old : Kept D) (end : ServeEnd) (out : List ℕ) (new : Kept D) → Ends fell pending old end out new → EndsBy Settles (λ s. s) fell pending old.session end out new.session
   session_of_end true pending old end out new f = (f.0, f.1, ap (λ (k : Kept D). k.session) f.2)
   session_of_end false true old end out new f = (f.0, f.1.step, f.2, f.3)
   session_of_end false false old end out new f = (f.0, f.1, ap (λ (k : Kept D). k.session) f.2)
@@ -144,17 +140,12 @@ module _ {D : Type 0} (files : D → List ℕ → FileState) (moment : D → ℕ
       → (new ≡ old) ⊎ Settled old new
   settled_at_end part old end new written written' e = settled_or_not old.session.broken (nat_lt old.session.acknowledged old.session.accepted) old end e.1 new e.3
 
-  -- no more was read
-  pub runs_read : {old new : Kept D} {left between written written' : Option (List ℕ)} {pending : Pending} → Served Line old new left between written written' pending → (left' : Option (List ℕ)) → Consumes between left' []
-      → Runs Line Settled old new Read left left' written written'
-  runs_read {new = new} {written' = written'} s left' read = runs_whole Settled s new Read left' written' read (inl refl) (λ not. ([], Appends-none written'))
-
   -- the input was read to its end
-  pub runs_finish : {old mid : Kept D} {left between written among : Option (List ℕ)} {pending : Pending} → (s : Served Line old mid left between written among pending) (new : Kept D) (end : ServeEnd) (left' written' : Option (List ℕ))
-      → Consumes between left' [] → (end ≢ Write → EndsWith (FinishesOver files moment left_since) (cut s.input).rest mid end new among written') → (end ≡ Write → (new ≡ mid) ⊎ Settled mid new)
+  pub runs_finish : {old mid : Kept D} {left left' written among : Option (List ℕ)} {pending : Pending} → (s : Served Line old mid left left' written among pending) (new : Kept D) (end : ServeEnd) (written' : Option (List ℕ))
+      → (end ≢ Write → EndsWith (FinishesOver files moment left_since) (cut s.input).rest mid end new among written') → (end ≡ Write → (new ≡ mid) ⊎ Settled mid new)
       → Runs Line Settled old new end left left' written written'
-  runs_finish s new end left' written' read told failed =
-      runs_whole Settled s new end left' written' read (⊎_elim failed (λ not. settled_at_end _ _ _ _ _ _ (told not)) (write_or_not end)) (λ not. let e = told not in (e.0 ++ e.1, e.4))
+  runs_finish s new end written' told failed =
+      runs_whole Settled s new end written' (⊎_elim failed (λ not. settled_at_end _ _ _ _ _ _ (told not)) (write_or_not end)) (λ not. let e = told not in (e.0 ++ e.1, e.4))
 
   -- a settling at the end
   pub finishes_settling : (old : Kept D) (answer : Result (Unit {0}) RunFault) (new : Kept D) (end : ServeEnd) → old.session.broken ≡ false → old.session.acknowledged < old.session.accepted
@@ -185,7 +176,7 @@ module _ {D : Type 0} (files : D → List ℕ → FileState) (moment : D → ℕ
 
   -- one line, and the lines after it
   module _ (old mid new : Kept D) (line : List ℕ) (lines : List (List ℕ)) (out first later : List ℕ) (is : out ≡ first ++ later) (course : Goes mid new (Reaches mid.session lines later)) where
-    course_read : (read : Result Command LineFault) → IsReadAs line read → RunsRead files moment left_since old read first mid → Goes old new (Reaches old.session (line ∷ lines) out)
+    course_read : (read : Result Command LineFault) → IsReadAs line read → Reads old read first mid → Goes old new (Reaches old.session (line ∷ lines) out)
     course_read (Err fault) readable ran =
         let session : mid.session ≡ old.session = ap (λ (k : Kept D). k.session) ran.1 in
         let same = course_as files moment left_since mid new (Reaches mid.session lines later) (Reaches old.session (line ∷ lines) out) course

@@ -1,5 +1,5 @@
--- What serving does to the session of a store.
-use Rattle.std.specs.Prelude.{◌≡◌, ◌⊎◌, ℕ, ◌<◌, ◌≤◌, IsTrue, nat_lt, List, [], length, None, Some, Result, Ok, Err, MatchBool}
+-- What serving does to a store. S is what runs the lines, as a session or a store over a disk; `session` is the session of it.
+use Rattle.std.specs.Prelude.{◌≡◌, ◌⊎◌, ℕ, ◌<◌, ◌≤◌, Bool, true, false, IsTrue, nat_lt, List, [], length, None, Some, Result, Ok, Err}
 use Rattle.org_disk.specs.Disk.{HasRisen}
 use Rattle.org_store.specs.declared.command.Command.{Command}
 use Rattle.org_store.specs.declared.command.Reply.{Reply}
@@ -26,15 +26,20 @@ abbrev pub IsReadAs : List ℕ → Result Command LineFault → Type 0
 IsReadAs line (Ok command) = (length line ≤ limit) × (command_of line ≡ Some command)
 IsReadAs line (Err fault) = IsNotRun fault line
 
--- A line is answered by these bytes, and the session goes on from old to new: as one that isn't run, or as the store's
--- answer to its command.
-abbrev pub AnswersRead : Session → Result Command LineFault → List ℕ → Session → Type 0
-AnswersRead old (Err fault) out new = (out ≡ fault_text fault) × (new ≡ old)
-AnswersRead old (Ok command) out new =
-    (answer : Result Reply RunFault) × Step old command answer new × (out ≡ answer_text answer old.acknowledged new.acknowledged)
+-- What a line was read as is answered by these bytes, and the store goes on from old to new: as one that isn't run, or by
+-- one call for its command. Does says what such a call answers and what it leaves.
+abbrev pub AnswersReadBy : {S : Type 0} → (S → Command → Result Reply RunFault → S → Type 0) → (S → Session) → S → Result Command LineFault → List ℕ → S → Type 0
+AnswersReadBy Does session old (Err fault) out new = (out ≡ fault_text fault) × (new ≡ old)
+AnswersReadBy Does session old (Ok command) out new =
+    (answer : Result Reply RunFault) × Does old command answer new × (out ≡ answer_text answer (session old).acknowledged (session new).acknowledged)
 
+-- a line is answered so, as what it may be read as
+abbrev pub AnswersLineBy : {S : Type 0} → (S → Command → Result Reply RunFault → S → Type 0) → (S → Session) → S → List ℕ → List ℕ → S → Type 0
+AnswersLineBy Does session old line out new = (read : Result Command LineFault) × IsReadAs line read × AnswersReadBy Does session old read out new
+
+-- a line is answered by the store's answer to its command
 abbrev pub AnswersLine : Session → List ℕ → List ℕ → Session → Type 0
-AnswersLine old line out new = (read : Result Command LineFault) × IsReadAs line read × AnswersRead old read out new
+AnswersLine = AnswersLineBy Step (λ s. s)
 
 -- how serving ends after the settling
 abbrev pub end_of : Result (Unit {0}) RunFault → ServeEnd
@@ -42,18 +47,27 @@ end_of (Ok done) = End
 end_of (Err run.OutOfMemory) = Unsettled
 end_of (Err fault) = Device
 
--- At the end of the input: a broken store is left; one that holds accepted commands that aren't on the disk settles;
--- any other is done.
+-- At the end of the input, by whether the store is broken and whether it holds accepted commands that aren't on the disk:
+-- a broken one is left; one that holds such commands settles, as Settles says; any other is done.
+abbrev pub EndsBy : {S : Type 0} → (S → Result (Unit {0}) RunFault → S → Type 0) → (S → Session) → Bool → Bool → S → ServeEnd → List ℕ → S → Type 0
+EndsBy Settles session true unsettled old end out new = (end ≡ Device) × (out ≡ []) × (new ≡ old)
+EndsBy Settles session false true old end out new =
+    (answer : Result (Unit {0}) RunFault) × Settles old answer new × (end ≡ end_of answer) × (out ≡ settled_text answer (session new).acknowledged)
+EndsBy Settles session false false old end out new = (end ≡ End) × (out ≡ []) × (new ≡ old)
+
+abbrev pub FinishesBy : {S : Type 0} → (S → Result (Unit {0}) RunFault → S → Type 0) → (S → Session) → S → ServeEnd → List ℕ → S → Type 0
+FinishesBy Settles session old end out new =
+    let s = session old in EndsBy Settles session s.broken (nat_lt s.acknowledged s.accepted) old end out new
+
 abbrev pub Finishes : Session → ServeEnd → List ℕ → Session → Type 0
-Finishes old end out new =
-    MatchBool old.broken ((end ≡ Device) × (out ≡ []) × (new ≡ old))
-    (MatchBool (nat_lt old.acknowledged old.accepted)
-    ((answer : Result (Unit {0}) RunFault) × Settles old answer new × (end ≡ end_of answer) × (out ≡ settled_text answer new.acknowledged))
-    ((end ≡ End) × (out ≡ []) × (new ≡ old)))
+Finishes = FinishesBy Settles (λ s. s)
 
 -- the settling was made, with whatever answer
+abbrev pub HasSettledBy : {S : Type 0} → (S → Result (Unit {0}) RunFault → S → Type 0) → S → S → Type 0
+HasSettledBy Settles old new = (answer : Result (Unit {0}) RunFault) × Settles old answer new
+
 abbrev pub HasSettled : Session → Session → Type 0
-HasSettled old new = (answer : Result (Unit {0}) RunFault) × Settles old answer new
+HasSettled = HasSettledBy Settles
 
 -- A store that wasn't broken is broken only where a call of its disk failed: so many had failed before, so many now.
 pub record BreaksByFailure (old new : Session) (before now : ℕ) : Type 0 where

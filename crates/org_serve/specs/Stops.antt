@@ -1,48 +1,29 @@
 -- What serving does to the disk of a store, and what a stop leaves meanwhile. `files`, `moment` and `left_since` are what
 -- is seen of a disk of the type D.
-use Rattle.std.specs.Prelude.{◌≡◌, ◌≢◌, ◌⊎◌, ℕ, List, [], ◌∷◌, ◌++◌, nat_lt, Option, Result, Ok, Err, MatchBool, IsTrue, IsFalse}
+use Rattle.std.specs.Prelude.{◌≡◌, ◌≢◌, ◌⊎◌, ℕ, List, [], ◌∷◌, ◌++◌, Option, IsTrue, IsFalse}
 use Rattle.std.specs.Io.KnownBytes.{Consumes, Appends}
 use Rattle.org_disk.specs.Disk.{FileState}
 use Rattle.org_journal.specs.Standing.{Image, SameFiles, IsFit, contents}
 use Rattle.org_fileset.specs.Replay.{IsAtRest}
-use Rattle.org_store.specs.declared.command.Command.{Command}
-use Rattle.org_store.specs.declared.command.Reply.{Reply}
-use Rattle.org_store.specs.declared.command.RunFault.{RunFault}
 use Rattle.org_held.specs.InOrder.{with_texts}
 use Rattle.org_store.specs.Session.{Session, Kept}
 use Rattle.org_store.specs.Outcome.{outcome}
 use Rattle.org_store.specs.Runs.{RunsOver, SettlesOver, GoesOn}
 use Rattle.org_serve.specs.declared.end.ServeEnd.{ServeEnd}
-use Rattle.org_serve.specs.declared.end.ServeEnd.TheVariants.{End, Device, Write}
-use Rattle.org_serve.specs.declared.fault.LineFault.{LineFault}
-use Rattle.org_serve.specs.Faults.{fault_text}
+use Rattle.org_serve.specs.declared.end.ServeEnd.TheVariants.{Write}
 use Rattle.org_serve.specs.Lines.{cut}
-use Rattle.org_serve.specs.Replies.{answer_text, settled_text}
-use Rattle.org_serve.specs.Serving.{IsReadAs, end_of}
+use Rattle.org_serve.specs.Serving.{AnswersLineBy, FinishesBy, HasSettledBy}
 use Rattle.org_serve.specs.Transcript.{Answers}
 
--- A line is answered by these bytes, and the store goes on from old to new: as one that isn't run, or by one call of
--- the store.
-abbrev pub RunsRead : {D : Type 0} → (D → List ℕ → FileState) → (D → ℕ) → (D → ℕ → Image → Type 0) → Kept D → Result Command LineFault → List ℕ → Kept D → Type 0
-RunsRead files moment left_since old (Err fault) out new = (out ≡ fault_text fault) × (new ≡ old)
-RunsRead files moment left_since old (Ok command) out new =
-    (answer : Result Reply RunFault) × RunsOver files moment left_since old command answer new × (out ≡ answer_text answer old.session.acknowledged new.session.acknowledged)
-
+-- a line is answered by one call of the store
 abbrev pub RunsLine : {D : Type 0} → (D → List ℕ → FileState) → (D → ℕ) → (D → ℕ → Image → Type 0) → Kept D → List ℕ → List ℕ → Kept D → Type 0
-RunsLine files moment left_since old line out new = (read : Result Command LineFault) × IsReadAs line read × RunsRead files moment left_since old read out new
+RunsLine files moment left_since = AnswersLineBy (RunsOver files moment left_since) (λ k. k.session)
 
--- the settling was made, with whatever answer
 abbrev pub HasSettledOver : {D : Type 0} → (D → List ℕ → FileState) → (D → ℕ) → (D → ℕ → Image → Type 0) → Kept D → Kept D → Type 0
-HasSettledOver files moment left_since old new = (answer : Result (Unit {0}) RunFault) × SettlesOver files moment left_since old answer new
+HasSettledOver files moment left_since = HasSettledBy (SettlesOver files moment left_since)
 
--- At the end of the input: a broken store is left; one that holds accepted commands that aren't on the disk settles;
--- any other is done.
 abbrev pub FinishesOver : {D : Type 0} → (D → List ℕ → FileState) → (D → ℕ) → (D → ℕ → Image → Type 0) → Kept D → ServeEnd → List ℕ → Kept D → Type 0
-FinishesOver files moment left_since old end out new =
-    MatchBool old.session.broken ((end ≡ Device) × (out ≡ []) × (new ≡ old))
-    (MatchBool (nat_lt old.session.acknowledged old.session.accepted)
-    ((answer : Result (Unit {0}) RunFault) × SettlesOver files moment left_since old answer new × (end ≡ end_of answer) × (out ≡ settled_text answer new.session.acknowledged))
-    ((end ≡ End) × (out ≡ []) × (new ≡ old)))
+FinishesOver files moment left_since = FinishesBy (SettlesOver files moment left_since) (λ k. k.session)
 
 -- Some of the lines of what was read, from the first on, were run, and then the settling was made or wasn't. Unless a
 -- write failed, what was written begins with the replies to these lines.
@@ -60,13 +41,8 @@ pub record Runs {S : Type 0} (AnswersLine : S → List ℕ → List ℕ → S �
 
 -- A line that is answered by these bytes takes the session from old to new. A command that was to be accepted, and at
 -- whose settling the disk failed, counts as done.
-abbrev pub GoesOnRead : Session → Result Command LineFault → List ℕ → Session → Type 0
-GoesOnRead old (Err fault) out new = (out ≡ fault_text fault) × (new ≡ old)
-GoesOnRead old (Ok command) out new =
-    (answer : Result Reply RunFault) × GoesOn old (outcome old command) answer new × (out ≡ answer_text answer old.acknowledged new.acknowledged)
-
 abbrev pub GoesOnLine : Session → List ℕ → List ℕ → Session → Type 0
-GoesOnLine old line out new = (read : Result Command LineFault) × IsReadAs line read × GoesOnRead old read out new
+GoesOnLine = AnswersLineBy (λ old command answer new. GoesOn old (outcome old command) answer new) (λ s. s)
 
 -- Some of the lines, from the first on, lead from the one session to the other, where they are answered by these bytes.
 abbrev pub Reaches : Session → List (List ℕ) → List ℕ → Session → Type 0

@@ -19,7 +19,7 @@ pub fn has_few_fields(line: &[u8]) -> bool
     line.iter().filter(|b| **b == b'\t').count() < 7
 }
 
-/// The fields of a line.
+/// The fields of a line. An error comes where memory for them was refused.
 pub fn fields(alloc: Global, line: &[u8]) -> Result<Vec<&[u8]>, AllocError>
     ensures { IfOk result (λ v. map (λ s. s.now) v.items ≡ slice_split (λ b. b == 9) line.now) }
 {
@@ -69,7 +69,8 @@ fn unescape(alloc: Global, field: &[u8]) -> Result<Vec<u8>, LineFault>
     Ok(text)
 }
 
-/// TEMPLATE and INITIAL.
+/// The text that a field TEMPLATE or INITIAL is. `BadLine` comes only where it has a wrong escape; `OutOfMemory` where
+/// memory for it was refused.
 pub fn text(alloc: Global, field: &[u8]) -> Result<Bytes, LineFault>
     ensures { Gives result (unescaped field.now) }
 {
@@ -86,7 +87,8 @@ fn utf8(bytes: &[u8]) -> Option<&str>
     }
 }
 
-/// FILE.
+/// The name that a field FILE is. `BadLine` comes only where it is no file name; `OutOfMemory` where memory for it was
+/// refused.
 #[tactic(auto, unfolding(crate::specs::Grammar::file_of))]
 pub fn file(alloc: Global, field: &[u8]) -> Result<FileName, LineFault>
     ensures { Gives result (file_of field.now) }
@@ -102,7 +104,7 @@ pub fn file(alloc: Global, field: &[u8]) -> Result<FileName, LineFault>
     }
 }
 
-/// TARGET.
+/// The target that a field TARGET is, if it is one.
 #[tactic(auto, unfolding(crate::specs::Grammar::target_of))]
 pub fn target(field: &[u8]) -> Option<Target>
     ensures { result ≡ target_of field.now }
@@ -114,7 +116,7 @@ pub fn target(field: &[u8]) -> Option<Target>
     }
 }
 
-/// PLACE.
+/// The place that a field PLACE is, if it is one.
 #[tactic(auto, unfolding(crate::specs::Grammar::place_of))]
 pub fn place(field: &[u8]) -> Option<Place>
     ensures { result ≡ place_of field.now }

@@ -44,7 +44,7 @@ fn time(field: &[u8]) -> Option<(u8, u8)>
     }
 }
 
-/// The moment that a field is.
+/// The moment that a field MOMENT is, if it is one.
 #[tactic(auto, unfolding(crate::specs::Grammar::moment_of))]
 pub fn moment(field: &[u8]) -> Option<Moment>
     ensures { result ≡ moment_of field.now }

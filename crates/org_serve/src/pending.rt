@@ -1,11 +1,72 @@
 // The start of a line whose newline hasn't come.
-mod add;
+ghost use Rattle.std.specs.Prelude.{◌≡◌, ◌<◌, ◌≤◌, ◌++◌, List, ℕ, [], length, MatchOption, MatchResult};
+ghost use Rattle.org_serve.specs.Pending.{limit, IsCause, Stands};
 
 use crate::fault::LineFault;
+use std::alloc::Global;
+
+/// The most bytes that a command line may have, without its newline.
+const LIMIT: usize = 1_048_576;
 
 /// The bytes of a line so far, or why they aren't kept.
 #[derive(Drop)]
 pub struct Pending {
     bytes: Vec<u8>,
     fault: Option<LineFault>,
+}
+
+impl Pending {
+    /// Nothing of a line.
+    pub fn new(alloc: Global) -> Pending
+        ensures { Stands result [] }
+    {
+        Pending {
+            bytes: Vec::new(alloc),
+            fault: None,
+        }
+    }
+
+    /// Adds bytes of the line. From the first that passes the limit, or whose memory is refused, none is kept.
+    pub fn add(&mut self, piece: &[u8])
+        ensures { (part : List ℕ) → Stands self.old part → Stands self.new (part ++ piece.now) }
+    {
+        if self.fault.is_some() || piece.is_empty() {
+            return;
+        }
+        if piece.len() > LIMIT.saturating_sub(self.bytes.len()) {
+            self.fault = Some(LineFault::BadLine);
+        } else if self.bytes.extend_from_slice(piece).is_err() {
+            self.fault = Some(LineFault::OutOfMemory);
+        }
+    }
+
+    /// The line, now that its newline has come.
+    pub fn line(&self) -> Result<&[u8], LineFault>
+        ensures { (part : List ℕ) → Stands self.now part
+            → MatchResult result (λ line. (line.now ≡ part) × (length part ≤ limit)) (λ fault. IsCause fault part) }
+    {
+        match self.fault {
+            None => Ok(self.bytes.as_slice()),
+            Some(fault) => Err(fault),
+        }
+    }
+
+    /// What is answered where the input ends within a line.
+    pub fn unended(&self) -> Option<LineFault>
+        ensures { (part : List ℕ) → Stands self.now part → MatchOption result (part ≡ []) (λ _. 0 < length part) }
+    {
+        match self.fault {
+            None if self.bytes.is_empty() => None,
+            None => Some(LineFault::BadLine),
+            Some(fault) => Some(fault),
+        }
+    }
+
+    /// Forgets the line, for the next one.
+    pub fn clear(&mut self)
+        ensures { Stands self.new [] }
+    {
+        self.bytes.clear();
+        self.fault = None;
+    }
 }

@@ -1,5 +1,5 @@
 // Command lines.
-ghost use Rattle.std.specs.Prelude.{map, ◌≡◌};
+ghost use Rattle.std.specs.Prelude.{map};
 ghost use Rattle.org_serve.specs.Grammar.{show_of, capture_of, command_of, command_of_fields};
 ghost use Rattle.org_serve.specs.Gives.{Gives};
 
@@ -9,7 +9,8 @@ use crate::moment::moment;
 use org_store::Command;
 use std::alloc::Global;
 
-/// The command that a line is, given without its newline. `BadLine` comes exactly where it is none.
+/// The command that a line is, given without its newline. `BadLine` comes only where it is none; `OutOfMemory` where
+/// memory for it was refused.
 #[tactic(auto, using(crate::proofs::Fields::too_many))]
 pub fn read_command(alloc: Global, line: &[u8]) -> Result<Command, LineFault>
     ensures { Gives result (command_of line.now) }

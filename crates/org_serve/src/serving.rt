@@ -4,13 +4,13 @@ ghost use Rattle.std.specs.Io.KnownBytes.{Appends};
 ghost use Rattle.org_disk.specs.Disk.{HasRisen, LeavesOnly, KeepsHonesty};
 ghost use Rattle.org_journal.specs.Standing.{contents};
 ghost use Rattle.org_fileset.specs.Replay.{IsAtRest};
-ghost use Rattle.org_store.specs.Runs.{IsBetween, IsLeftOf};
+ghost use Rattle.org_store.specs.Runs.{RunsOver, IsBetween, IsLeftOf};
 ghost use Rattle.org_serve.specs.Counts.{HasRisenBy};
 ghost use Rattle.org_serve.specs.Feeding.{FeedOk, FeedErr, EndsWith};
 ghost use Rattle.org_serve.specs.Lines.{cut};
 ghost use Rattle.org_serve.specs.Pending.{Stands};
-ghost use Rattle.org_serve.specs.Serving.{IsReadAs, AnswersLine, Finishes, HasSettled, BreaksByFailure, end_of};
-ghost use Rattle.org_serve.specs.Stops.{RunsRead, RunsLine, HasSettledOver, FinishesOver, Runs, Reaches, KeepsDisk};
+ghost use Rattle.org_serve.specs.Serving.{IsReadAs, AnswersReadBy, AnswersLine, Finishes, HasSettled, BreaksByFailure, end_of};
+ghost use Rattle.org_serve.specs.Stops.{RunsLine, HasSettledOver, FinishesOver, Runs, Reaches, KeepsDisk};
 ghost use Rattle.org_serve.specs.Transcript.{AnswersRest, ServesAll, ServesLines, RunsSome, RunsAllAndSettles};
 
 use crate::end::ServeEnd;
@@ -156,7 +156,7 @@ fn answer_read<D: Disk, W: Sink>(
     read: &Result<Command, LineFault>,
     writer: &mut W,
 ) -> Result<(), PipeFault>
-    ensures step { D.honest store.new.disk → (out : List ℕ) × RunsRead D.files D.moment D.left_since store.old read.now out store.new
+    ensures step { D.honest store.new.disk → (out : List ℕ) × AnswersReadBy (RunsOver D.files D.moment D.left_since) (λ kept. kept.session) store.old read.now out store.new
         × OnOk result (Appends (W.written writer.old) (W.written writer.new) out) }
     ensures same { OnOk result (W.failures writer.new ≡ W.failures writer.old) }
     ensures err { OnErr result (HasRisen (W.failures writer.old) (W.failures writer.new)) }

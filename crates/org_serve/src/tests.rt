@@ -1,6 +1,6 @@
 // Lines served over a disk in memory.
 ghost use Rattle.std.specs.Prelude.{IfOk, All};
-ghost use Rattle.org_fileset.specs.Names.{IsGiven};
+ghost use Rattle.org_disk.specs.Names.{IsOrgFile};
 ghost use Rattle.org_serve.specs.Group.{IsGroup};
 
 mod groups;
@@ -35,7 +35,7 @@ fn two_files(alloc: Global, a: &[u8], b: &[u8]) -> Result<MemoryDisk, Fail> {
 // A store of these two files and of inbox.org, which is absent.
 fn setup(alloc: Global, group: u32) -> Result<Setup, Fail>
     requires { IsGroup group }
-    ensures { IfOk result (λ setup. All IsGiven setup.names.items × IsGroup setup.group) }
+    ensures { IfOk result (λ setup. All IsOrgFile setup.names.items × IsGroup setup.group) }
 {
     let a = FileName::new(alloc, "a.org")?;
     let b = FileName::new(alloc, "b.org")?;

@@ -1,8 +1,8 @@
 // A whole run over a disk, from the opening to the end of the input.
-ghost use Rattle.std.specs.Prelude.{◌≡◌, ◌⊎◌, ◌≤◌, Ok, All, IfOk, IfErr, MatchResult};
+ghost use Rattle.std.specs.Prelude.{◌≡◌, ◌⊎◌, Ok, All, IfOk, IfErr, MatchResult};
 ghost use Rattle.org_disk.specs.Disk.{HasRisen, LeavesOnly, KeepsHonesty};
 ghost use Rattle.org_journal.specs.Standing.{IsFit, contents};
-ghost use Rattle.org_fileset.specs.Names.{IsGiven};
+ghost use Rattle.org_disk.specs.Names.{IsOrgFile};
 ghost use Rattle.org_fileset.specs.Opening.{IsReason};
 ghost use Rattle.org_fileset.specs.Recovery.{EachStands, StandsAsBefore};
 ghost use Rattle.org_fileset.specs.declared.open.OpenFault.{OpenFault};
@@ -55,7 +55,7 @@ pub fn serve_disk<D: Disk, R: Source, W: Sink>(
     writer: &mut W,
     turns: u64,
 ) -> Served<D>
-    requires names { All IsGiven setup.names.items }
+    requires names { All IsOrgFile setup.names.items }
     requires group { IsGroup setup.group }
     ensures served { D.honest result.disk → IfOk result.end (λ end.
         ServesOver setup.states setup.group setup.names.items (contents (D.files disk)) end

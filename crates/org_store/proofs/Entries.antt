@@ -1,5 +1,5 @@
 -- Texts that are one heading with what lies below it.
-use Rattle.std.proofs.Common.{◌↔◌, IsTrue, Bool, true, false, ◌≡◌, ℕ, ◌+◌, ◌<◌, ◌≤◌, List, [], ◌∷◌, ◌++◌, length, take, drop, slice_index_or, Option, Some, None, Ok, Err, refl, sym, ◌∙◌, ap, arith, length-append}
+use Rattle.std.proofs.Common.{◌↔◌, IsTrue, Bool, true, false, ◌≡◌, ℕ, ◌+◌, ◌<◌, List, [], ◌∷◌, ◌++◌, length, take, drop, slice_index_or, Option, Some, None, Ok, Err, refl, sym, ◌∙◌, ap, arith, length-append}
 use Rattle.std.proofs.lemmas.Bool.{false≢true}
 use Rattle.std.proofs.lemmas.List.{append-nil}
 use Rattle.std.proofs.Math.Seq.{take-append_seam, drop-append_seam}
@@ -10,7 +10,7 @@ use Rattle.org_outline.specs.declared.moves.Place.{Place}
 use Rattle.org_outline.specs.Moves.{IsPrinted, Inserts, InsertsAt, insert, shift_node}
 use Rattle.org_outline.proofs.Nodes.{print_lines-append}
 use Rattle.org_outline.proofs.Trees.{tree-is}
-use Rattle.org_store.specs.declared.command.Refusal.TheVariants.{BadTemplate, BadEntry}
+use Rattle.org_store.specs.declared.command.Refusal.TheVariants.{BadEntry}
 use Rattle.org_store.specs.declared.command.Target.{Target}
 use Rattle.org_store.specs.declared.command.Target.TheVariants.{Top}
 use Rattle.org_store.specs.Capture.{has_percent, only_root, entry_in, entry_of, captured}
@@ -76,9 +76,6 @@ inserted old new k added at =
     ∙ ap (λ t. at.front ++ (added ++ t)) (drop-append_seam at.front at.back)
     ∙ sym at.is
 
-pub within : (old new : List ℕ) (k : ℕ) (added : List ℕ) → Inserts old new k added → k ≤ length old
-within old new k added at = omega (arith, at.at, ap length at.was, length-append at.front at.back)
-
 -- the entry of a template, by the closed text of it
 
 entry_shut : (template text : List ℕ) → has_percent template ≡ false → text ≡ closed template → entry_of template ≡ entry_in (only_root (tree text).preamble (tree text).forest)
@@ -91,9 +88,6 @@ pub entry_bad : (template text : List ℕ) → has_percent template ≡ false �
     → entry_of template ≡ Err BadEntry
 entry_bad template text plain is ends test tells isnt = entry_shut template text plain is ∙ other_entry text ends (λ printed. false≢true (sym isnt ∙ tells.1 printed))
 
-pub no_expansion : (template : List ℕ) → has_percent template ≡ true → entry_of template ≡ Err BadTemplate
-no_expansion template percent = rw percent refl
-
 -- an entry put in a text where the outline of the closed text has its place
 pub captured_is : (target : Target) (old text : List ℕ) (place : Place) (k : ℕ) (added : List ℕ) → text ≡ closed old → ((node : Node) → InsertsAt text (insert None place node (tree text)) k (shift_node 1 node))
     → (new : List ℕ) → new ≡ take k text ++ (added ++ drop k text) → (node : Node) → added ≡ print_node (shift_node 1 node) → new ≡ captured target place node old
@@ -102,9 +96,6 @@ captured_is Top old text place k added is at new put node entry =
     ∙ ap (λ a. take k text ++ (a ++ drop k text)) entry
     ∙ inserted text (print (insert None place node (tree text))) k (print_node (shift_node 1 node)) (at node)
     ∙ ap (λ d. print (insert None place node d)) (ap tree is ∙ tree-closed old)
-
-pub place_within : (text : List ℕ) (place : Place) (k : ℕ) → ((node : Node) → InsertsAt text (insert None place node (tree text)) k (shift_node 1 node)) → k ≤ length text
-place_within text place k at = within text (print (insert None place no_node.node (tree text))) k (print_node (shift_node 1 no_node.node)) (at no_node.node)
 
 -- a text with an entry is closed
 pub captured_shut : (target : Target) (place : Place) (node : Node) (old : List ℕ) → closed (captured target place node old) ≡ captured target place node old

@@ -1,12 +1,13 @@
 -- What follows from the relation between a store before and after a call.
-use Rattle.std.proofs.Common.{◌≡◌, ◌⊎◌, inl, inr, ⊎_elim, ℕ, ◌+◌, ◌<◌, Bool, true, false, List, [], ◌∷◌, ◌++◌, Result, Ok, Err, refl, sym, ◌∙◌, ap, subst, if◌then◌else◌, arith}
+use Rattle.std.proofs.Common.{◌≡◌, ◌⊎◌, inl, inr, ⊎_elim, ℕ, ◌+◌, ◌<◌, true, false, List, [], ◌∷◌, ◌++◌, Result, Ok, Err, refl, sym, ◌∙◌, ap, subst, if◌then◌else◌, arith}
+use Rattle.std.proofs.lemmas.Bool.{cases_Bool}
 use Rattle.org_store.specs.declared.command.Command.{Command}
 use Rattle.org_store.specs.declared.command.Reply.{Reply}
 use Rattle.org_store.specs.declared.command.Reply.TheVariants.{Done, Safe, Text}
 use Rattle.org_store.specs.declared.command.RunFault.{RunFault}
 use Rattle.org_store.specs.declared.command.RunFault.TheVariants.{Refused, OutOfMemory, Device, Broken}
 use Rattle.org_store.specs.Session.{Session}
-use Rattle.org_store.specs.Outcome.{Outcome, Accepts, Shows, Settles as Asks, Refuses, outcome}
+use Rattle.org_store.specs.Outcome.{Outcome, Accepts, Shows, AsksToSettle, Refuses, outcome}
 use Rattle.org_store.specs.Step.{fills, done, settled, Does, Step, Run, IsReply}
 
 same_done : (old new other : Session) (files more : List (List ℕ)) → Accepts files ≡ Accepts more → new ≡ done old files → other ≡ done old more → new ≡ other
@@ -33,15 +34,15 @@ does_one old new other outcome (Ok (Text s)) (Err (Refused how)) a b x y = let a
 does_one old new other outcome (Err (Refused why)) (Ok (Done m)) a b x y = let apart : Refuses why ≡ Accepts y.1.0 = sym x.1 ∙ y.1.1 in absurd (cc)
 does_one old new other outcome (Err (Refused why)) (Ok (Text t)) a b x y = let apart : Refuses why ≡ Shows t = sym x.1 ∙ y.1 in absurd (cc)
 does_one old new other outcome (Ok (Safe n)) (Ok (Safe m)) a b x y = (ap (λ (k : ℕ). Ok (Safe k)) (x.2 ∙ sym y.2), x.3 ∙ sym y.3)
-does_one old new other outcome (Ok (Safe n)) (Ok (Done m)) a b x y = let apart : Asks ≡ Accepts y.1.0 = sym x.1 ∙ y.1.1 in absurd (cc)
-does_one old new other outcome (Ok (Safe n)) (Ok (Text t)) a b x y = let apart : Asks ≡ Shows t = sym x.1 ∙ y.1 in absurd (cc)
-does_one old new other outcome (Ok (Safe n)) (Err (Refused how)) a b x y = let apart : Asks ≡ Refuses how = sym x.1 ∙ y.1 in absurd (cc)
+does_one old new other outcome (Ok (Safe n)) (Ok (Done m)) a b x y = let apart : AsksToSettle ≡ Accepts y.1.0 = sym x.1 ∙ y.1.1 in absurd (cc)
+does_one old new other outcome (Ok (Safe n)) (Ok (Text t)) a b x y = let apart : AsksToSettle ≡ Shows t = sym x.1 ∙ y.1 in absurd (cc)
+does_one old new other outcome (Ok (Safe n)) (Err (Refused how)) a b x y = let apart : AsksToSettle ≡ Refuses how = sym x.1 ∙ y.1 in absurd (cc)
 does_one old new other outcome (Ok (Safe n)) (Err OutOfMemory) a b x y = absurd b
 does_one old new other outcome (Ok (Safe n)) (Err Device) a b x y = absurd b
 does_one old new other outcome (Ok (Safe n)) (Err Broken) a b x y = absurd b
-does_one old new other outcome (Ok (Done n)) (Ok (Safe m)) a b x y = let apart : Accepts x.1.0 ≡ Asks = sym x.1.1 ∙ y.1 in absurd (cc)
-does_one old new other outcome (Ok (Text s)) (Ok (Safe m)) a b x y = let apart : Shows s ≡ Asks = sym x.1 ∙ y.1 in absurd (cc)
-does_one old new other outcome (Err (Refused why)) (Ok (Safe m)) a b x y = let apart : Refuses why ≡ Asks = sym x.1 ∙ y.1 in absurd (cc)
+does_one old new other outcome (Ok (Done n)) (Ok (Safe m)) a b x y = let apart : Accepts x.1.0 ≡ AsksToSettle = sym x.1.1 ∙ y.1 in absurd (cc)
+does_one old new other outcome (Ok (Text s)) (Ok (Safe m)) a b x y = let apart : Shows s ≡ AsksToSettle = sym x.1 ∙ y.1 in absurd (cc)
+does_one old new other outcome (Err (Refused why)) (Ok (Safe m)) a b x y = let apart : Refuses why ≡ AsksToSettle = sym x.1 ∙ y.1 in absurd (cc)
 does_one old new other outcome (Err OutOfMemory) second a b x y = absurd a
 does_one old new other outcome (Err Device) second a b x y = absurd a
 does_one old new other outcome (Err Broken) second a b x y = absurd a
@@ -61,12 +62,8 @@ step_one old new other command answer second a b x y = does_one old new other (o
 
 -- what an accepted command makes of the counts
 done_few : (s : Session) (files : List (List ℕ)) → 0 < s.group → (done s files).accepted < (done s files).acknowledged + (done s files).group
-done_few s files some = ⊎_elim full part (bool_cases (fills s))
+done_few s files some = ⊎_elim full part (cases_Bool (fills s))
   where
-    bool_cases : (b : Bool) → (b ≡ true) ⊎ (b ≡ false)
-    bool_cases true = inl refl
-    bool_cases false = inr refl
-
     full : fills s ≡ true → (done s files).accepted < (done s files).acknowledged + (done s files).group
     full is = rw is (omega (arith, some))
 

@@ -24,9 +24,9 @@ use Rattle.org_store.specs.declared.command.Target.TheVariants.{Top}
 use Rattle.org_store.specs.Session.{Session, Holds}
 use Rattle.org_store.specs.Step.{fills}
 use Rattle.org_store.specs.Capture.{entry_of, captured}
-use Rattle.org_store.specs.Outcome.{Outcome, Accepts, Shows, Settles, Refuses, capture, with_entry, changed as changed_file}
+use Rattle.org_store.specs.Outcome.{Outcome, Accepts, Shows, AsksToSettle, Refuses, capture, with_entry, changed as changed_file}
 use Rattle.org_store.specs.Counts.{SameCounts}
-use Rattle.org_store.specs.Left.{IsLeftFailing, IsLeftBy, IsLeftSettling}
+use Rattle.org_store.specs.Left.{IsLeftFailing, IsLeftBy}
 use Rattle.org_store.specs.Keeping.{IsLeftKeeping, KeepsCounts, after}
 use Rattle.org_store.proofs.Closed.{tree-closed}
 
@@ -46,7 +46,7 @@ others_unwritten names settled old new own same =
 -- where nothing was settled, an answer of any kind leaves what was settled before
 failing_quiet : (s : Session) (others : Image) (outcome : Outcome) (accepted : ℕ) (image : Image) → Holds s others s.settled image → IsLeftFailing s others outcome accepted image
 failing_quiet s others (Accepts files) accepted image holds = inl holds
-failing_quiet s others Settles accepted image holds = inl holds
+failing_quiet s others AsksToSettle accepted image holds = inl holds
 failing_quiet s others (Shows text) accepted image holds = holds
 failing_quiet s others (Refuses why) accepted image holds = holds
 
@@ -59,13 +59,6 @@ left_quiet s others outcome (Err (Refused why)) accepted image holds = holds
 left_quiet s others outcome (Err OutOfMemory) accepted image holds = holds
 left_quiet s others outcome (Err Device) accepted image holds = failing_quiet s others outcome accepted image holds
 left_quiet s others outcome (Err Broken) accepted image holds = holds
-
-pub settling_quiet : (s : Session) (others : Image) (answer : Result (Unit {0}) RunFault) (image : Image) → Holds s others s.settled image → IsLeftSettling s others answer image
-settling_quiet s others (Ok _) image holds = inl holds
-settling_quiet s others (Err (Refused why)) image holds = holds
-settling_quiet s others (Err OutOfMemory) image holds = holds
-settling_quiet s others (Err Device) image holds = inl holds
-settling_quiet s others (Err Broken) image holds = holds
 
 -- what a stop leaves of the files of a store at rest
 pub left_at_rest : (s : Session) (files : List ℕ → FileState) → s.settled ≡ texts_of (contents files) s.names → IsAtRest files → (image : Image) → AreImages files image → Holds s (contents files) s.settled image

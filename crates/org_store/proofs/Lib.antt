@@ -2,8 +2,9 @@ mod Rows
 pub mod Closed
 pub mod Entries
 pub mod Keeping
+pub mod Leaving
 pub mod Sessions
-pub mod Steps
+pub mod Accepted
 pub mod Follows
 pub mod Sortings
 pub mod Runs

@@ -1,37 +1,32 @@
 -- An image that stands for small files is opened again.
-use Rattle.std.proofs.Common.{◌≡◌, ◌≢◌, ◌⊎◌, inl, inr, ⊎_elim, ℕ, ◌+◌, ◌-◌, ◌^◌, ◌==◌, ◌≤◌, nat_lt, Bool, true, false, List, [], ◌∷◌, length, Option, Some, None, Result, Ok, Err, refl, sym, ◌∙◌, ap, subst, if◌then◌else◌, arith}
+use Rattle.std.proofs.Common.{◌≡◌, ◌≢◌, ◌⊎◌, inl, inr, ⊎_elim, ℕ, ◌+◌, ◌-◌, ◌≤◌, nat_lt, Bool, true, false, List, [], ◌∷◌, length, Option, Some, None, Result, Ok, Err, refl, sym, ◌∙◌, ap, subst, if◌then◌else◌, arith}
 use Rattle.std.specs.Prelude.{IsSomeAnd}
 use Rattle.std.specs.List.{All, AllByRecursion, Contains}
 use Rattle.std.specs.Str.{bytes_eq}
 use Rattle.std.proofs.lemmas.Bool.Decides.{nat_tests}
 use Rattle.std.proofs.lemmas.List.Elements.{All-from_recursion, recursion_from_All}
-use Rattle.org_disk.specs.Names.{journal_name}
+use Rattle.org_disk.specs.Names.{journal_name, IsOrgFile}
+use Rattle.org_disk.proofs.Names.{name_cases}
 use Rattle.org_journal.specs.Standing.{Image, SameFiles, stands}
-use Rattle.org_fileset.specs.Names.{with_archives, AreSorted, AreFew, AreTooMany, IsGiven, first_large, limit}
+use Rattle.org_fileset.specs.Names.{with_archives, AreSorted, AreFew, AreTooMany, first_large, limit}
 use Rattle.org_fileset.specs.Opening.{IsReason}
 use Rattle.org_fileset.specs.declared.open.OpenFault.{OpenFault}
 use Rattle.org_fileset.specs.declared.open.OpenFault.TheVariants.{TooManyFiles, BadJournal, TooLarge, Device, OutOfMemory}
-use Rattle.org_fileset.proofs.Sorted.{no_member, cons_cases, cons_here, cons_later, all_sorted, archives_apart, archives_grow}
-use Rattle.org_outline.specs.declared.moves.Place.{Place}
-use Rattle.org_outline.specs.Tree.{Node}
+use Rattle.org_fileset.proofs.Elements.{no_member, cons_cases, cons_here, cons_later}
+use Rattle.org_fileset.proofs.Sorted.{all_sorted, archives_apart, archives_grow}
 use Rattle.org_store.specs.declared.command.Command.{Command}
-use Rattle.org_store.specs.declared.command.Command.TheVariants.{Capture, Show, Settle}
-use Rattle.org_store.specs.declared.command.Target.{Target}
-use Rattle.org_store.specs.declared.command.Refusal.{Refusal}
-use Rattle.org_store.specs.declared.command.Refusal.TheVariants as refusal
 use Rattle.org_store.specs.declared.command.Reply.{Reply}
 use Rattle.org_store.specs.declared.command.Reply.TheVariants.{Done, Safe, Text}
 use Rattle.org_store.specs.declared.command.RunFault.{RunFault}
 use Rattle.org_store.specs.declared.command.RunFault.TheVariants as run
-use Rattle.org_held.specs.InOrder.{texts_of, text_at, with_text, with_texts}
+use Rattle.org_held.specs.InOrder.{texts_of, with_text, with_texts}
 use Rattle.org_store.specs.Session.{Session, Holds}
-use Rattle.org_store.specs.Capture.{entry_of, captured}
-use Rattle.org_store.specs.Outcome.{Outcome, Accepts, Shows, Settles, Refuses, changed, with_entry, capture, show, outcome}
+use Rattle.org_store.specs.Outcome.{Outcome, Accepts, Shows, AsksToSettle, Refuses, outcome}
 use Rattle.org_store.specs.Step.{fills, done, settled}
 use Rattle.org_store.specs.Left.{to_settle, IsEither, IsLeftFailing, IsLeftBy, IsLeft}
 use Rattle.org_store.specs.Runs.{GoesOn, Reaches, IsBetween, IsLeftOf}
 use Rattle.org_store.specs.Reopening.{AreSameNames, IsOpenable, AreSmall}
-use Rattle.org_held.proofs.Names.{name_cases}
+use Rattle.org_store.proofs.Accepted.{accepted_puts}
 use Rattle.org_store.proofs.Sortings.{one_sorting}
 
 never_both : (given : List (List ℕ)) → AreFew given → AreTooMany given → ⊥
@@ -47,13 +42,13 @@ agreeing : (stood : Option Image) (now texts : Image) → IsSomeAnd stood (SameF
 agreeing (Some found) now texts made is = λ name not. made name not ∙ is name not
 agreeing None now texts made is = absurd made
 
-apart_names : (given names : List (List ℕ)) → All IsGiven given → AreSorted (with_archives given) names → AllByRecursion (λ name. name ≢ journal_name) names
+apart_names : (given names : List (List ℕ)) → All IsOrgFile given → AreSorted (with_archives given) names → AllByRecursion (λ name. name ≢ journal_name) names
 apart_names given names all sorted =
     recursion_from_All (λ name. name ≢ journal_name) names
     (all_sorted (λ name. name ≢ journal_name) (with_archives given) names sorted
-    (All-from_recursion (λ name. name ≢ journal_name) (with_archives given) (archives_apart given (recursion_from_All IsGiven given all))))
+    (All-from_recursion (λ name. name ≢ journal_name) (with_archives given) (archives_apart given (recursion_from_All IsOrgFile given all))))
 
-pub only_faults : (given : List (List ℕ)) (honest : Type 0) (image now : Image) (fault : OpenFault) → All IsGiven given → honest → IsOpenable given image → IsReason given honest image now fault
+pub only_faults : (given : List (List ℕ)) (honest : Type 0) (image now : Image) (fault : OpenFault) → All IsOrgFile given → honest → IsOpenable given image → IsReason given honest image now fault
     → (fault ≡ OutOfMemory) ⊎ (fault ≡ Device)
 only_faults given honest image now TooManyFiles all is can many = absurd (never_both given can.few many)
 only_faults given honest image now BadJournal all is can reason =
@@ -70,7 +65,7 @@ only_faults given honest image now Device all is can reason = inr refl
 only_faults given honest image now OutOfMemory all is can reason = inl refl
 
 -- the fault of the disk comes with a failure
-pub counted_faults : (given : List (List ℕ)) (honest Counted : Type 0) (image now : Image) (fault : OpenFault) → All IsGiven given → honest → IsOpenable given image
+pub counted_faults : (given : List (List ℕ)) (honest Counted : Type 0) (image now : Image) (fault : OpenFault) → All IsOrgFile given → honest → IsOpenable given image
     → IsReason given honest image now fault → (fault ≡ Device → Counted) → (fault ≡ OutOfMemory) ⊎ ((fault ≡ Device) × Counted)
 counted_faults given honest Counted image now fault all is can reason counted =
     ⊎_elim (λ memory. inl memory) (λ device. inr (device, counted device)) (only_faults given honest image now fault all is can reason)
@@ -168,37 +163,8 @@ small_with names texts name new here are = record {
       (all_with (λ text. length text ≤ limit) names texts name new here (recursion_from_All (λ text. length text ≤ limit) texts are.small));
 }
 
--- what a command makes of the texts
-small_changed : (s : Session) (name text : List ℕ) (files : List (List ℕ)) → AreSmall s.names s.files → changed s name text ≡ Accepts files → AreSmall s.names files
-small_changed s name text files are = go (nat_lt limit (length text)) refl (s.accepted == 2 ^ 64 - 1)
-  where
-    go : (large : Bool) → nat_lt limit (length text) ≡ large → (full : Bool)
-        → (if large then Refuses refusal.TooLarge else if full then Refuses refusal.TooLarge else Accepts (with_text s.names s.files name text)) ≡ Accepts files → AreSmall s.names files
-    go true is full accepts = absurd (cc)
-    go false is true accepts = absurd (cc)
-    go false is false accepts =
-        let same : with_text s.names s.files name text ≡ files = cc in
-        subst (AreSmall s.names) same (small_with s.names s.files name text (grind (arith, nat_tests, is)) are)
-
-small_with_entry : (s : Session) (name : List ℕ) (target : Target) (place : Place) (entry : Result Node Refusal) (text : List ℕ) (files : List (List ℕ)) → AreSmall s.names s.files
-    → with_entry s name target place entry text ≡ Accepts files → AreSmall s.names files
-small_with_entry s name target place (Err why) text files are accepts = absurd (cc)
-small_with_entry s name target place (Ok entry) text files are accepts = small_changed s name (captured target place entry text) files are accepts
-
-small_capture : (s : Session) (name : List ℕ) (target : Target) (place : Place) (template : List ℕ) (old : Option (List ℕ)) (files : List (List ℕ)) → AreSmall s.names s.files
-    → capture s name target place template old ≡ Accepts files → AreSmall s.names files
-small_capture s name target place template None files are accepts = absurd (cc)
-small_capture s name target place template (Some text) files are accepts = small_with_entry s name target place (entry_of template) text files are accepts
-
-shows_none : (old : Option (List ℕ)) (files : List (List ℕ)) → show old ≡ Accepts files → ⊥
-shows_none None files accepts = absurd (cc)
-shows_none (Some text) files accepts = absurd (cc)
-
 pub accepted_small : (s : Session) (command : Command) (files : List (List ℕ)) → AreSmall s.names s.files → outcome s command ≡ Accepts files → AreSmall s.names files
-accepted_small s (Capture file target place moment template initial) files are accepts =
-    small_capture s file target place template (text_at s.names s.files file) files are accepts
-accepted_small s (Show file) files are accepts = absurd (shows_none (text_at s.names s.files file) files accepts)
-accepted_small s Settle files are accepts = absurd (cc)
+accepted_small s command files are accepts = let put = accepted_puts s command files accepts in subst (AreSmall s.names) put.3 (small_with s.names s.files put.0 put.1 put.2 are)
 
 -- what a stop leaves while a command runs
 abbrev HoldsSmall : Session → Image → Image → Type 0
@@ -211,7 +177,7 @@ small_settled s others (Accepts files) image are accepted holds = (files, accept
     go : (full : Bool) → IsSomeAnd (if full then Some files else None) (λ texts. Holds s others texts image) → Holds s others files image
     go true there = there
     go false there = absurd there
-small_settled s others Settles image are accepted holds = (s.files, are, holds)
+small_settled s others AsksToSettle image are accepted holds = (s.files, are, holds)
 small_settled s others (Shows text) image are accepted holds = absurd holds
 small_settled s others (Refuses why) image are accepted holds = absurd holds
 
@@ -222,7 +188,7 @@ small_either s others outcome image before are accepted = ⊎_elim (λ holds. (s
 small_failing : (s : Session) (others : Image) (outcome : Outcome) (accepted : ℕ) (image : Image) → AreSmall s.names s.settled → AreSmall s.names s.files
     → ((files : List (List ℕ)) → outcome ≡ Accepts files → AreSmall s.names files) → IsLeftFailing s others outcome accepted image → HoldsSmall s others image
 small_failing s others (Accepts files) accepted image before are small left = ⊎_elim (λ holds. (s.settled, before, holds)) (λ now. (files, small files refl, now.2)) left
-small_failing s others Settles accepted image before are small left = ⊎_elim (λ holds. (s.settled, before, holds)) (λ now. (s.files, are, now)) left
+small_failing s others AsksToSettle accepted image before are small left = ⊎_elim (λ holds. (s.settled, before, holds)) (λ now. (s.files, are, now)) left
 small_failing s others (Shows text) accepted image before are small left = (s.settled, before, left)
 small_failing s others (Refuses why) accepted image before are small left = (s.settled, before, left)
 

@@ -1,37 +1,26 @@
 -- Runs of commands over a disk: what a stop leaves meanwhile, and what the disk is after them.
-use Rattle.std.proofs.Common.{◌≡◌, ◌⊎◌, inl, inr, ⊎_elim, ℕ, ◌+◌, ◌-◌, ◌^◌, ◌==◌, ◌≤◌, nat_lt, length, Bool, true, false, List, [], ◌∷◌, Option, Some, None, is_some, Result, Ok, Err, refl, sym, ◌∙◌, ap, subst, if◌then◌else◌, arith, IsTrue}
+use Rattle.std.proofs.Common.{◌≡◌, ◌⊎◌, inl, inr, ⊎_elim, ℕ, ◌+◌, ◌-◌, ◌≤◌, true, false, List, [], ◌∷◌, Option, Some, None, is_some, Result, Ok, Err, refl, sym, ◌∙◌, ap, subst, arith, IsTrue}
 use Rattle.std.specs.Prelude.{IsSomeAnd, IsErrOf}
 use Rattle.std.specs.Str.{bytes_eq}
-use Rattle.std.proofs.lemmas.Bool.{false≢true}
+use Rattle.std.proofs.lemmas.Bool.{cases_Bool, false≢true}
 use Rattle.std.proofs.lemmas.Slice.Eq.{bytes_eq-Decides}
 use Rattle.org_disk.specs.Disk.{FileState, AreImages, Passes, LeavesOnly}
 use Rattle.org_disk.proofs.Moments.{passes_none, passes_as, passes_then, leaves_only}
-use Rattle.org_outline.specs.declared.moves.Place.{Place}
-use Rattle.org_outline.specs.Tree.{Node}
 use Rattle.org_journal.specs.Standing.{Image, SameFiles, IsFit, StandsFor, stands, contents}
 use Rattle.org_fileset.specs.Replay.{IsAtRest}
-use Rattle.org_fileset.specs.Names.{limit}
 use Rattle.org_fileset.proofs.Commits.{at_rest_stands}
-use Rattle.org_store.specs.declared.command.Target.{Target}
-use Rattle.org_store.specs.declared.command.Refusal.{Refusal}
-use Rattle.org_store.specs.declared.command.Refusal.TheVariants.{TooLarge}
 use Rattle.org_store.specs.declared.command.Command.{Command}
-use Rattle.org_store.specs.declared.command.Command.TheVariants.{Capture, Show, Settle}
 use Rattle.org_store.specs.declared.command.Reply.{Reply}
 use Rattle.org_store.specs.declared.command.Reply.TheVariants.{Done, Safe, Text}
 use Rattle.org_store.specs.declared.command.RunFault.{RunFault}
 use Rattle.org_store.specs.declared.command.RunFault.TheVariants.{Refused, OutOfMemory, Device, Broken}
 use Rattle.org_held.specs.InOrder.{texts_of, text_at, with_text, with_texts}
 use Rattle.org_store.specs.Session.{Session, Kept, Holds}
-use Rattle.org_store.specs.Outcome.{Outcome, Accepts, Shows, Settles as Asks, Refuses, outcome, capture, show, changed, with_entry}
-use Rattle.org_store.specs.Capture.{entry_of}
+use Rattle.org_store.specs.Outcome.{Outcome, Accepts, Shows, AsksToSettle, Refuses, outcome}
 use Rattle.org_store.specs.Step.{Does, Step, Settles, fills, done, settled}
 use Rattle.org_store.specs.Left.{IsLeftBy, IsLeftFailing, IsLeftSettling, IsEither, to_settle}
+use Rattle.org_store.proofs.Accepted.{accepted_puts}
 use Rattle.org_store.specs.Runs.{RunsOver, SettlesOver, RunsAllOver, IsOnDisk, GoesOn, Reaches, IsBetween, IsLeftOf}
-
-bool_cases : (b : Bool) → (b ≡ true) ⊎ (b ≡ false)
-bool_cases true = inl refl
-bool_cases false = inr refl
 
 -- The files with the texts of some names depend on the other files alone.
 
@@ -39,7 +28,7 @@ texts_over : (names texts : List (List ℕ)) (first second : Image) (name : List
     → with_texts names texts first name ≡ with_texts names texts second name
 texts_over [] texts first second name same = same refl
 texts_over (one ∷ names) [] first second name same = same refl
-texts_over (one ∷ names) (text ∷ texts) first second name same = elim (bool_cases (bytes_eq one name)) [
+texts_over (one ∷ names) (text ∷ texts) first second name same = elim (cases_Bool (bytes_eq one name)) [
   | inl t ↦ rw t refl
   | inr f ↦ rw f (texts_over names texts first second name (λ none. same (rw f none)))
 ]
@@ -47,7 +36,7 @@ texts_over (one ∷ names) (text ∷ texts) first second name same = elim (bool_
 texts_apart : (names texts : List (List ℕ)) (files : Image) (name : List ℕ) → is_some (text_at names texts name) ≡ false → with_texts names texts files name ≡ files name
 texts_apart [] texts files name none = refl
 texts_apart (one ∷ names) [] files name none = refl
-texts_apart (one ∷ names) (text ∷ texts) files name none = elim (bool_cases (bytes_eq one name)) [
+texts_apart (one ∷ names) (text ∷ texts) files name none = elim (cases_Bool (bytes_eq one name)) [
   | inl t ↦ let some : true ≡ false = rw t at none in absurd (false≢true (sym some))
   | inr f ↦ rw f (texts_apart names texts files name (rw f at none))
 ]
@@ -59,40 +48,14 @@ HaveTexts names texts more = (name : List ℕ) → is_some (text_at names more n
 with_text_has : (names texts : List (List ℕ)) (name new : List ℕ) → HaveTexts names texts (with_text names texts name new)
 with_text_has [] texts name new other = refl
 with_text_has (one ∷ names) [] name new other = refl
-with_text_has (one ∷ names) (text ∷ texts) name new other = elim (bool_cases (bytes_eq one other)) [
+with_text_has (one ∷ names) (text ∷ texts) name new other = elim (cases_Bool (bytes_eq one other)) [
   | inl t ↦ rw t refl
   | inr f ↦ rw f (with_text_has names texts name new other)
 ]
 
 -- A command that is accepted keeps the names that have texts.
-
-accepts_changed : (s : Session) (name text : List ℕ) (files : List (List ℕ)) → changed s name text ≡ Accepts files → HaveTexts s.names s.files files
-accepts_changed s name text files is =
-    subst (HaveTexts s.names s.files) (accepted (nat_lt limit (length text)) (s.accepted == 2 ^ 64 - 1) (with_text s.names s.files name text) files is) (with_text_has s.names s.files name text)
-  where
-    accepted : (large full : Bool) (texts files : List (List ℕ)) → (if large then Refuses TooLarge else (if full then Refuses TooLarge else Accepts texts)) ≡ Accepts files → texts ≡ files
-    accepted true full texts files is = absurd (cc)
-    accepted false true texts files is = absurd (cc)
-    accepted false false texts files is = cc
-
-accepts_entry : (s : Session) (name : List ℕ) (target : Target) (place : Place) (entry : Result Node Refusal) (text : List ℕ) (files : List (List ℕ)) → with_entry s name target place entry text ≡ Accepts files
-    → HaveTexts s.names s.files files
-accepts_entry s name target place (Err why) text files is = absurd (cc)
-accepts_entry s name target place (Ok entry) text files is = accepts_changed s name _ files is
-
-accepts_capture : (s : Session) (name : List ℕ) (target : Target) (place : Place) (template : List ℕ) (text : Option (List ℕ)) (files : List (List ℕ)) → capture s name target place template text ≡ Accepts files
-    → HaveTexts s.names s.files files
-accepts_capture s name target place template None files is = absurd (cc)
-accepts_capture s name target place template (Some text) files is = accepts_entry s name target place (entry_of template) text files is
-
-accepts_show : (text : Option (List ℕ)) (files : List (List ℕ)) → show text ≡ Accepts files → ⊥
-accepts_show None files is = absurd (cc)
-accepts_show (Some text) files is = absurd (cc)
-
 accepts : (s : Session) (command : Command) (files : List (List ℕ)) → outcome s command ≡ Accepts files → HaveTexts s.names s.files files
-accepts s (Capture file target place moment template initial) files is = accepts_capture s file target place template (text_at s.names s.files file) files is
-accepts s (Show file) files is = absurd (accepts_show (text_at s.names s.files file) files is)
-accepts s Settle files is = absurd (cc)
+accepts s command files is = let put = accepted_puts s command files is in subst (HaveTexts s.names s.files) put.3 (with_text_has s.names s.files put.0 put.1)
 
 -- What a call that met no failure of the disk does to the session.
 pub record Onward (old new : Session) : Type 0 where
@@ -116,16 +79,16 @@ onward_then old mid new first second = record {
 
 -- the session after an accepted command
 done_files : (s : Session) (files : List (List ℕ)) → (done s files).files ≡ files
-done_files s files = elim (bool_cases (fills s)) [ inl t ↦ rw t refl | inr f ↦ rw f refl ]
+done_files s files = elim (cases_Bool (fills s)) [ inl t ↦ rw t refl | inr f ↦ rw f refl ]
 
 done_accepted : (s : Session) (files : List (List ℕ)) → (done s files).accepted ≡ s.accepted + 1
-done_accepted s files = elim (bool_cases (fills s)) [ inl t ↦ rw t refl | inr f ↦ rw f refl ]
+done_accepted s files = elim (cases_Bool (fills s)) [ inl t ↦ rw t refl | inr f ↦ rw f refl ]
 
 abbrev Settling : Session → Session → Type 0
 Settling old new = (new.settled ≡ old.settled) ⊎ (new.settled ≡ new.files)
 
 onward_done : (s : Session) (files : List (List ℕ)) → HaveTexts s.names s.files files → Onward s (done s files) × Settling s (done s files)
-onward_done s files has = elim (bool_cases (fills s)) [
+onward_done s files has = elim (cases_Bool (fills s)) [
   | inl t ↦ rw t (record { names = refl; broken = refl; settled = inr has; texts = has }, inr refl)
   | inr f ↦ rw f (record { names = refl; broken = refl; settled = inl refl; texts = has }, inl refl)
 ]
@@ -187,11 +150,11 @@ either_of old others outcome image IsReached self accepted left = ⊎_elim (λ b
   where
     some : (outcome : Outcome) → ((files : List (List ℕ)) → outcome ≡ Accepts files → IsTrue (fills old) → IsReached (done old files))
         → IsSomeAnd (to_settle old outcome) (λ texts. Holds old others texts image) → IsLeftOf old others IsReached image
-    some (Accepts files) accepted now = elim (bool_cases (fills old)) [
+    some (Accepts files) accepted now = elim (cases_Bool (fills old)) [
       | inl t ↦ inr (done old files, accepted files refl t, subst (λ texts. Holds old others texts image) (sym (done_files old files)) (rw t at now))
       | inr f ↦ let none : ⊥ = rw f at now in absurd none
     ]
-    some Asks accepted now = inr (old, self, now)
+    some AsksToSettle accepted now = inr (old, self, now)
     some (Shows text) accepted now = absurd now
     some (Refuses why) accepted now = absurd now
 
@@ -202,7 +165,7 @@ failing_of old others (Accepts files) accepted image IsReached self torn left = 
     (λ before. inl before)
     (λ now. inr (done old files, torn files refl now.1 now.0, subst (λ texts. Holds old others texts image) (sym (done_files old files)) now.2))
     left
-failing_of old others Asks accepted image IsReached self torn left = ⊎_elim (λ before. inl before) (λ now. inr (old, self, now)) left
+failing_of old others AsksToSettle accepted image IsReached self torn left = ⊎_elim (λ before. inl before) (λ now. inr (old, self, now)) left
 failing_of old others (Shows text) accepted image IsReached self torn left = inl left
 failing_of old others (Refuses why) accepted image IsReached self torn left = inl left
 
@@ -217,7 +180,7 @@ left_of old mid others outcome (Ok (Done n)) image IsReached does self here torn
     accepted : (files more : List (List ℕ)) → Accepts files ≡ Accepts more → files ≡ more
     accepted files more same = cc
 left_of old mid others outcome (Ok (Safe n)) image IsReached does self here torn left =
-    either_of old others outcome image IsReached self (λ files accepts full. let apart : Asks ≡ Accepts files = sym does.1 ∙ accepts in absurd (cc)) left
+    either_of old others outcome image IsReached self (λ files accepts full. let apart : AsksToSettle ≡ Accepts files = sym does.1 ∙ accepts in absurd (cc)) left
 left_of old mid others outcome (Err Device) image IsReached does self here torn left =
     failing_of old others outcome mid.accepted image IsReached self (λ files accepts full counted. torn files refl accepts full counted) left
 left_of old mid others outcome (Ok (Text bytes)) image IsReached does self here torn left = inl left
@@ -257,7 +220,7 @@ holds_back old mid before after image onward disk same texts which holds =
 -- texts of files, laid over these files
 pub own_over : (names : List (List ℕ)) (files : Image) (name : List ℕ) → files name ≡ with_texts names (texts_of files names) files name
 own_over [] files name = refl
-own_over (one ∷ names) files name = elim (bool_cases (bytes_eq one name)) [
+own_over (one ∷ names) files name = elim (cases_Bool (bytes_eq one name)) [
   | inl t ↦ rw t (ap files (sym ((bytes_eq-Decides one name).0 t)))
   | inr f ↦ rw f (own_over names files name)
 ]
@@ -368,7 +331,7 @@ module _ {D : Type 0} (files : D → List ℕ → FileState) (moment : D → ℕ
   -- a run that was unbroken at its end was so at its start
   sound_before : (old new : Kept D) → (old.session.broken ≡ true → new ≡ old) → new.session.broken ≡ false → old.session.broken ≡ false
   sound_before old new stays sound =
-      ⊎_elim (λ fell. absurd (false≢true (sym sound ∙ ap (λ (k : Kept D). k.session.broken) (stays fell) ∙ fell))) (λ f. f) (bool_cases old.session.broken)
+      ⊎_elim (λ fell. absurd (false≢true (sym sound ∙ ap (λ (k : Kept D). k.session.broken) (stays fell) ∙ fell))) (λ f. f) (cases_Bool old.session.broken)
 
   -- one call, and a run after it
   module _ (old mid new : Kept D) (command : Command) (answer : Result Reply RunFault) (P Later : Session → Type 0) (ran : RunsOver files moment left_since old command answer mid) (course : Goes mid new Later)
@@ -401,11 +364,11 @@ module _ {D : Type 0} (files : D → List ℕ → FileState) (moment : D → ℕ
           passes = λ rest disk sound.
               subst (λ (k : Kept D). Passes (moment old.disk) (moment k.disk) (left_since old.disk) (left_since k.disk) (IsLeftOf old.session (contents (files old.disk)) (Reached old.session new.session P)))
               (sym same)
-              (passes_as (ran.any_moment rest).passes
+              (passes_as (ran.disk.any_moment rest).passes
               (λ image left. left_of old.session mid.session (contents (files old.disk)) (outcome old.session command) answer image (Reached old.session new.session P) ran.step self_reached
               (λ fine. absurd (fine failed)) reached left));
           rest = λ sound. absurd (false≢true (sym sound ∙ broken));
-          fit = λ rest. subst (λ (k : Kept D). IsFit (files k.disk)) (sym same) (ran.fit rest);
+          fit = λ rest. subst (λ (k : Kept D). IsFit (files k.disk)) (sym same) (ran.disk.fit rest);
           others = λ sound. absurd (false≢true (sym sound ∙ broken));
           onward = λ sound. absurd (false≢true (sym sound ∙ broken));
           stays = stays;
@@ -414,7 +377,7 @@ module _ {D : Type 0} (files : D → List ℕ → FileState) (moment : D → ℕ
 
     after_answer : (IsErrOf answer Device → ⊥) → Goes old new P
     after_answer fine =
-        let same : SameFiles (contents (files mid.disk)) (with_texts mid.session.names mid.session.settled (contents (files old.disk))) = ran.others fine in
+        let same : SameFiles (contents (files mid.disk)) (with_texts mid.session.names mid.session.settled (contents (files old.disk))) = ran.disk.others fine in
         let now : IsOnDisk mid.session (contents (files mid.disk)) =
         on_disk_after mid.session.names mid.session.settled (contents (files old.disk)) (contents (files mid.disk)) same in
         let goes : old.session.broken ≡ false → Onwards old.session mid.session = λ sound. onward old.session mid.session command answer sound fine ran.step in
@@ -445,13 +408,13 @@ module _ {D : Type 0} (files : D → List ℕ → FileState) (moment : D → ℕ
         record {
           passes = λ rest disk sound.
               passes_then
-              (passes_as (ran.any_moment rest).passes
+              (passes_as (ran.disk.any_moment rest).passes
               (λ image left. left_of old.session mid.session (contents (files old.disk)) (outcome old.session command) answer image (Reached old.session new.session P) ran.step self_reached
               (λ not. here sound) (λ texts failed. absurd (fine failed)) left))
-              (course.passes (ran.rest fine rest) now ((goes sound).0.broken ∙ sound))
+              (course.passes (ran.disk.rest fine rest) now ((goes sound).0.broken ∙ sound))
               (back sound disk);
-          rest = λ sound rest. course.rest sound (ran.rest fine rest);
-          fit = λ rest. course.fit (ran.rest fine rest);
+          rest = λ sound rest. course.rest sound (ran.disk.rest fine rest);
+          fit = λ rest. course.fit (ran.disk.rest fine rest);
           others = λ sound disk name not.
               let o = (goes (sound_then sound)).0 in
               let l = course.onward sound in
@@ -469,8 +432,8 @@ module _ {D : Type 0} (files : D → List ℕ → FileState) (moment : D → ℕ
   module _ (old new : Kept D) (answer : Result (Unit {0}) RunFault) (P : Session → Type 0) (ran : SettlesOver files moment left_since old answer new) (self : P old.session) where
     settling_left : (others : Image) (answer : Result (Unit {0}) RunFault) (image : Image) (IsReached : Session → Type 0) → IsReached old.session → IsLeftSettling old.session others answer image
         → IsLeftOf old.session others IsReached image
-    settling_left others (Ok _) image IsReached here left = either_of old.session others Asks image IsReached here (λ texts (accepts : Asks ≡ Accepts texts). absurd (cc)) left
-    settling_left others (Err Device) image IsReached here left = either_of old.session others Asks image IsReached here (λ texts (accepts : Asks ≡ Accepts texts). absurd (cc)) left
+    settling_left others (Ok _) image IsReached here left = either_of old.session others AsksToSettle image IsReached here (λ texts (accepts : AsksToSettle ≡ Accepts texts). absurd (cc)) left
+    settling_left others (Err Device) image IsReached here left = either_of old.session others AsksToSettle image IsReached here (λ texts (accepts : AsksToSettle ≡ Accepts texts). absurd (cc)) left
     settling_left others (Err (Refused why)) image IsReached here left = inl left
     settling_left others (Err OutOfMemory) image IsReached here left = inl left
     settling_left others (Err Broken) image IsReached here left = inl left
@@ -480,11 +443,11 @@ module _ {D : Type 0} (files : D → List ℕ → FileState) (moment : D → ℕ
         let ends = settling_ends old.session new.session answer ran.step in
         record {
           passes = λ rest disk sound.
-              passes_as (ran.any_moment rest).passes
+              passes_as (ran.disk.any_moment rest).passes
               (λ image left. settling_left (contents (files old.disk)) answer image (Reached old.session new.session P) (λ name. refl, self_between old.session new.session ends.0, self) left);
-          rest = λ sound rest. ran.rest (ends.1 sound).0 rest;
-          fit = ran.fit;
-          others = λ sound disk. ran.others (ends.1 sound).0;
+          rest = λ sound rest. ran.disk.rest (ends.1 sound).0 rest;
+          fit = ran.disk.fit;
+          others = λ sound disk. ran.disk.others (ends.1 sound).0;
           onward = λ sound. (ends.1 sound).1;
           stays = λ fell. ran.untouched (ends.2 fell);
           rises = ends.0;

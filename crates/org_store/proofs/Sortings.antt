@@ -8,7 +8,7 @@ use Rattle.std.proofs.lemmas.List.Elements.{All-contains}
 use Rattle.std.proofs.lemmas.Map.Keys.{sorted_tail}
 use Rattle.std.proofs.lemmas.Map.Views.{All-after_first}
 use Rattle.org_fileset.specs.Names.{AreSorted}
-use Rattle.org_fileset.proofs.Sorted.{no_member, cons_cases, cons_here, cons_later}
+use Rattle.org_fileset.proofs.Elements.{no_member, cons_cases, cons_here, cons_later}
 
 abbrev order : List ℕ → List ℕ → Ordering
 order = slice_cmp nat_cmp

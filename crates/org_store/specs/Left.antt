@@ -8,13 +8,13 @@ use Rattle.org_store.specs.declared.command.Reply.TheVariants.{Done, Safe, Text}
 use Rattle.org_store.specs.declared.command.RunFault.{RunFault}
 use Rattle.org_store.specs.declared.command.RunFault.TheVariants.{Refused, OutOfMemory, Device, Broken}
 use Rattle.org_store.specs.Session.{Session, Holds}
-use Rattle.org_store.specs.Outcome.{Outcome, Accepts, Shows, Settles, Refuses, outcome}
+use Rattle.org_store.specs.Outcome.{Outcome, Accepts, Shows, AsksToSettle, Refuses, outcome}
 use Rattle.org_store.specs.Step.{fills}
 
 -- the texts that are put on the disk where the outcome asks for a settling or fills the group
 abbrev pub to_settle : Session → Outcome → Option (List (List ℕ))
 to_settle s (Accepts files) = if fills s then Some files else None
-to_settle s Settles = Some s.files
+to_settle s AsksToSettle = Some s.files
 to_settle s (Shows text) = None
 to_settle s (Refuses why) = None
 
@@ -27,7 +27,7 @@ IsEither old others outcome image = Holds old others old.settled image ⊎ IsSom
 abbrev pub IsLeftFailing : Session → Image → Outcome → ℕ → Image → Type 0
 IsLeftFailing old others (Accepts files) accepted image =
     Holds old others old.settled image ⊎ ((accepted ≡ old.accepted + 1) × IsTrue (fills old) × Holds old others files image)
-IsLeftFailing old others Settles accepted image = Holds old others old.settled image ⊎ Holds old others old.files image
+IsLeftFailing old others AsksToSettle accepted image = Holds old others old.settled image ⊎ Holds old others old.files image
 IsLeftFailing old others (Shows text) accepted image = Holds old others old.settled image
 IsLeftFailing old others (Refuses why) accepted image = Holds old others old.settled image
 
@@ -47,8 +47,8 @@ IsLeft old others command answer accepted image = IsLeftBy old others (outcome o
 
 -- the same while the store is settled
 abbrev pub IsLeftSettling : Session → Image → Result (Unit {0}) RunFault → Image → Type 0
-IsLeftSettling old others (Ok _) image = IsEither old others Settles image
-IsLeftSettling old others (Err Device) image = IsEither old others Settles image
+IsLeftSettling old others (Ok _) image = IsEither old others AsksToSettle image
+IsLeftSettling old others (Err Device) image = IsEither old others AsksToSettle image
 IsLeftSettling old others (Err (Refused why)) image = Holds old others old.settled image
 IsLeftSettling old others (Err OutOfMemory) image = Holds old others old.settled image
 IsLeftSettling old others (Err Broken) image = Holds old others old.settled image

@@ -18,7 +18,7 @@ pub data Outcome : Type 0 where
   -- to answer this text
   Shows : List ℕ → Outcome
   -- to settle what was accepted
-  Settles : Outcome
+  AsksToSettle : Outcome
   -- to be accepted, with these texts of all files after it
   Accepts : List (List ℕ) → Outcome
 
@@ -45,4 +45,4 @@ show (Some text) = Shows text
 abbrev pub outcome : Session → Command → Outcome
 outcome s (Capture file target place moment template initial) = capture s file target place template (text_at s.names s.files file)
 outcome s (Show file) = show (text_at s.names s.files file)
-outcome s Settle = Settles
+outcome s Settle = AsksToSettle

@@ -13,25 +13,30 @@ use Rattle.org_store.specs.Outcome.{Outcome, Accepts, outcome}
 use Rattle.org_store.specs.Step.{Does, Step, Settles, fills, done}
 use Rattle.org_store.specs.Left.{IsLeft, IsLeftSettling}
 
--- A command was run over a disk of the type D that is honest after it: the store was `old`, this was answered, and the store is `new`.
--- `files`, `moment` and `left_since` are what is seen of a disk. These are the clauses of `Store::run`.
+-- What a call of a store leaves of its disk, where the disk is honest after it. `files`, `moment` and `left_since` are
+-- what is seen of a disk of the type D; `Left` is what a stop may leave while the call runs, and `Failed` says that the
+-- call answers Device.
+pub record LeavesDisk {D : Type 0} (files : D → List ℕ → FileState) (moment : D → ℕ) (left_since : D → ℕ → Image → Type 0) (old new : Kept D) (Left : Image → Type 0) (Failed : Type 0) : Type 0 where
+  -- where all was on the disk: what a stop at any moment since the call began leaves
+  pub any_moment : IsAtRest (files old.disk) → LeavesOnly (moment old.disk) (moment new.disk) (left_since old.disk) (left_since new.disk) Left
+  -- where the disk didn't fail: the store's files have the texts that are settled, and all others are as they were
+  pub others : (Failed → ⊥) → SameFiles (contents (files new.disk)) (with_texts new.session.names new.session.settled (contents (files old.disk)))
+  -- .. and all is on the disk again
+  pub rest : (Failed → ⊥) → IsAtRest (files old.disk) → IsAtRest (files new.disk)
+  -- after a failure too, it may be opened again
+  pub fit : IsAtRest (files old.disk) → IsFit (files new.disk)
+
+-- A command was run over a disk of the type D that is honest after it: the store was `old`, this was answered, and the
+-- store is `new`. These are the clauses of `Store::run`.
 pub record RunsOver {D : Type 0} (files : D → List ℕ → FileState) (moment : D → ℕ) (left_since : D → ℕ → Image → Type 0) (old : Kept D) (command : Command) (answer : Result Reply RunFault) (new : Kept D) : Type 0 where
   pub step : Step old.session command answer new.session
-  pub any_moment : IsAtRest (files old.disk) → LeavesOnly (moment old.disk) (moment new.disk) (left_since old.disk) (left_since new.disk)
-      (IsLeft old.session (contents (files old.disk)) command answer new.session.accepted)
-  pub others : (IsErrOf answer Device → ⊥) → SameFiles (contents (files new.disk)) (with_texts new.session.names new.session.settled (contents (files old.disk)))
-  pub rest : (IsErrOf answer Device → ⊥) → IsAtRest (files old.disk) → IsAtRest (files new.disk)
-  pub fit : IsAtRest (files old.disk) → IsFit (files new.disk)
+  pub disk : LeavesDisk files moment left_since old new (IsLeft old.session (contents (files old.disk)) command answer new.session.accepted) (IsErrOf answer Device)
   pub untouched : IsErrOf answer Broken → new ≡ old
 
 -- The same of settling: the clauses of `Store::settle`.
 pub record SettlesOver {D : Type 0} (files : D → List ℕ → FileState) (moment : D → ℕ) (left_since : D → ℕ → Image → Type 0) (old : Kept D) (answer : Result (Unit {0}) RunFault) (new : Kept D) : Type 0 where
   pub step : Settles old.session answer new.session
-  pub any_moment : IsAtRest (files old.disk) → LeavesOnly (moment old.disk) (moment new.disk) (left_since old.disk) (left_since new.disk)
-      (IsLeftSettling old.session (contents (files old.disk)) answer)
-  pub others : (IsErrOf answer Device → ⊥) → SameFiles (contents (files new.disk)) (with_texts new.session.names new.session.settled (contents (files old.disk)))
-  pub rest : (IsErrOf answer Device → ⊥) → IsAtRest (files old.disk) → IsAtRest (files new.disk)
-  pub fit : IsAtRest (files old.disk) → IsFit (files new.disk)
+  pub disk : LeavesDisk files moment left_since old new (IsLeftSettling old.session (contents (files old.disk)) answer) (IsErrOf answer Device)
   pub untouched : IsErrOf answer Broken → new ≡ old
 
 -- Commands were run over a disk, one after another, and got these answers.

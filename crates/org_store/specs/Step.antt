@@ -6,7 +6,7 @@ use Rattle.org_store.specs.declared.command.Reply.TheVariants.{Done, Safe, Text}
 use Rattle.org_store.specs.declared.command.RunFault.{RunFault}
 use Rattle.org_store.specs.declared.command.RunFault.TheVariants.{Refused, OutOfMemory, Device, Broken}
 use Rattle.org_store.specs.Session.{Session}
-use Rattle.org_store.specs.Outcome.{Outcome, Accepts, Shows, Settles as Asks, Refuses, outcome}
+use Rattle.org_store.specs.Outcome.{Outcome, Accepts, Shows, AsksToSettle, Refuses, outcome}
 
 -- with one more accepted command, the group is full
 abbrev pub fills : Session → Bool
@@ -23,8 +23,8 @@ abbrev pub settled : Session → Session
 settled s = record s { settled = s.files; acknowledged = s.accepted }
 
 -- a call of the disk failed in a read
-abbrev pub stopped : Session → Session
-stopped s = record s { broken = true }
+abbrev pub failed_in_read : Session → Session
+failed_in_read s = record s { broken = true }
 
 -- a call of the disk failed while texts were put on the disk. The session then tells nothing of the files: `left`
 -- and `now` may be any.
@@ -37,7 +37,7 @@ torn_in s left now = record s { files = left; settled = now; accepted = s.accept
 
 -- the disk failed as the store was asked to settle
 abbrev pub IsTornBetween : Session → Outcome → Session → Type 0
-IsTornBetween old outcome new = (left : List (List ℕ)) × (now : List (List ℕ)) × (outcome ≡ Asks) × (new ≡ torn old left now)
+IsTornBetween old outcome new = (left : List (List ℕ)) × (now : List (List ℕ)) × (outcome ≡ AsksToSettle) × (new ≡ torn old left now)
 
 -- the disk failed as a command was settled that would be accepted and fills the group
 abbrev pub IsTorn : Session → Outcome → Session → Type 0
@@ -49,10 +49,10 @@ abbrev pub Does : Session → Outcome → Result Reply RunFault → Session → 
 Does old outcome (Ok (Done n)) new =
     (old.broken ≡ false) × ((files : List (List ℕ)) × (outcome ≡ Accepts files) × (n ≡ old.accepted + 1) × (new ≡ done old files))
 Does old outcome (Ok (Text bytes)) new = (old.broken ≡ false) × (outcome ≡ Shows bytes) × (new ≡ old)
-Does old outcome (Ok (Safe n)) new = (old.broken ≡ false) × (outcome ≡ Asks) × (n ≡ old.accepted) × (new ≡ settled old)
+Does old outcome (Ok (Safe n)) new = (old.broken ≡ false) × (outcome ≡ AsksToSettle) × (n ≡ old.accepted) × (new ≡ settled old)
 Does old outcome (Err (Refused why)) new = (old.broken ≡ false) × (outcome ≡ Refuses why) × (new ≡ old)
 Does old outcome (Err OutOfMemory) new = (old.broken ≡ false) × (new ≡ old)
-Does old outcome (Err Device) new = (old.broken ≡ false) × ((new ≡ stopped old) ⊎ IsTorn old outcome new ⊎ IsTornBetween old outcome new)
+Does old outcome (Err Device) new = (old.broken ≡ false) × ((new ≡ failed_in_read old) ⊎ IsTorn old outcome new ⊎ IsTornBetween old outcome new)
 Does old outcome (Err Broken) new = (old.broken ≡ true) × (new ≡ old)
 
 -- The store was `old`, a command gets this answer, and the store is `new`.

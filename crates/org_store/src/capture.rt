@@ -17,7 +17,9 @@ use std::alloc::{AllocError, Global};
 /// Why a template makes no entry.
 #[derive(Clone, Copy, Debug, PartialEq, Eq)]
 pub enum EntryFault {
+    /// The template can't be expanded, or isn't one heading.
     Refused(Refusal),
+    /// There was no memory for it.
     OutOfMemory,
 }
 

@@ -23,6 +23,7 @@ pub enum Target {
 pub enum Command {
     /// Puts a new entry into a file: the expanded template (Org manual, "Capture templates").
     Capture {
+        /// The file that the entry goes into.
         file: FileName,
         /// What the entry goes below.
         target: Target,
@@ -30,12 +31,14 @@ pub enum Command {
         place: Place,
         /// The moment of the capture.
         moment: Moment,
+        /// The template as it was given, not expanded yet.
         template: Bytes,
         /// The text that was selected when the capture began.
         initial: Bytes,
     },
     /// Answers the text of a file.
     Show {
+        /// The file whose text is asked for.
         file: FileName,
     },
     /// Puts all accepted commands on the disk.

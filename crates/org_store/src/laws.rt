@@ -4,7 +4,8 @@ ghost use Rattle.std.specs.List.{All};
 ghost use Rattle.org_disk.specs.Disk.{HasRisen, LeavesOnly};
 ghost use Rattle.org_outline.specs.States.{Keywords};
 ghost use Rattle.org_journal.specs.Standing.{Image, SameFiles, contents};
-ghost use Rattle.org_fileset.specs.Names.{with_archives, AreSorted, AreFew, IsGiven, first_large};
+ghost use Rattle.org_disk.specs.Names.{IsOrgFile};
+ghost use Rattle.org_fileset.specs.Names.{with_archives, AreSorted, AreFew, first_large};
 ghost use Rattle.org_fileset.specs.Opening.{IsReason};
 ghost use Rattle.org_fileset.specs.Replay.{IsAtRest};
 ghost use Rattle.org_fileset.specs.declared.open.OpenFault.{OpenFault};
@@ -84,7 +85,7 @@ pub fn texts_stay_small()
 /// such an image, `Store::open` answers Ok, OutOfMemory, or Device with a counted failure, and nothing else.
 pub fn every_image_opens<D: Disk>()
     // what a refused opening of such an image tells
-    ensures faults { (given : List (List ℕ)) (disk now : D) (fault : OpenFault) → All IsGiven given → D.honest now → IsOpenable given (contents (D.files disk))
+    ensures faults { (given : List (List ℕ)) (disk now : D) (fault : OpenFault) → All IsOrgFile given → D.honest now → IsOpenable given (contents (D.files disk))
         → IsReason given (D.honest now) (contents (D.files disk)) (contents (D.files now)) fault → (fault ≡ Device → HasRisen (D.failures disk) (D.failures now))
         → (fault ≡ OutOfMemory) ⊎ ((fault ≡ Device) × HasRisen (D.failures disk) (D.failures now)) }
     // what a stop left of a store's files is such an image, as long as no text of them was past the limit

@@ -1,21 +1,22 @@
 // A store over a disk.
-ghost use Rattle.std.specs.Prelude.{◌≡◌, ◌≤◌, ◌<◌, ◌⊎◌, ◌↔◌, ◌+◌, ◌^◌, ◌-◌, true, false, List, ℕ, Err, length, is_some, IsSomeAnd, IfOk, IfErr, OnOk, IsErrOf, IsTrue, None, MatchResult};
-ghost use Rattle.std.specs.List.{All, Contains};
+ghost use Rattle.std.specs.Prelude.{◌≡◌, ◌≤◌, ◌<◌, ◌⊎◌, ◌↔◌, ◌+◌, ◌^◌, ◌-◌, true, false, Err, is_some, IsSomeAnd, IfOk, IfErr, IsErrOf, IsTrue, None, MatchResult};
+ghost use Rattle.std.specs.List.{All};
 ghost use Rattle.org_disk.specs.Disk.{HasRisen, LeavesOnly, Passes, AreImages, KeepsHonesty};
-ghost use Rattle.org_journal.specs.Standing.{Image, SameFiles, IsFit, stands, contents};
-ghost use Rattle.org_fileset.specs.Names.{with_archives, AreSorted, AreFew, IsGiven, first_large};
+ghost use Rattle.org_disk.specs.Names.{IsOrgFile};
+ghost use Rattle.org_journal.specs.Standing.{SameFiles, IsFit, stands, contents};
+ghost use Rattle.org_fileset.specs.Names.{with_archives, AreSorted, AreFew, first_large};
 ghost use Rattle.org_fileset.specs.Opening.{IsReason};
 ghost use Rattle.org_fileset.specs.Recovery.{EachStands, StandsAsBefore};
 ghost use Rattle.org_fileset.specs.Replay.{IsAtRest};
 ghost use Rattle.org_fileset.specs.declared.open.OpenFault.{OpenFault};
 ghost use Rattle.org_held.specs.Held.{Each, list_of};
-ghost use Rattle.org_held.specs.InOrder.{is_name, text_at, texts_of, with_texts};
+ghost use Rattle.org_held.specs.InOrder.{is_name, text_at, texts_of};
 ghost use Rattle.org_held.specs.Set.{IsDraft};
 ghost use Rattle.org_store.specs.Opening.{opened, disk_in};
 ghost use Rattle.org_store.specs.Reopening.{IsOpenable};
-ghost use Rattle.org_store.specs.Runs.{IsOnDisk};
+ghost use Rattle.org_store.specs.Runs.{IsOnDisk, LeavesDisk};
 ghost use Rattle.org_store.specs.Outcome.{capture, show};
-ghost use Rattle.org_store.specs.Step.{Does, Step, Settles, fills};
+ghost use Rattle.org_store.specs.Step.{Does, Step, Settles};
 ghost use Rattle.org_store.specs.Left.{IsLeft, IsLeftBy, IsLeftSettling};
 ghost use Rattle.org_store.specs.Counts.{Counts, SameCounts, SettledCounts};
 ghost use Rattle.org_store.specs.Keeping.{Plans, Keeps, KeepsCounts, IsLeftKeeping, after};
@@ -34,7 +35,8 @@ use std::marker::Model;
 ///
 /// A clause sees its disk and its session (specs/Session.antt). What is said of files and of stops is said where the
 /// disk is honest after the call; of stops in `run` and `settle` also only where it was at rest, as an opening of a fit
-/// disk and each call without a failure leave it. A store that is broken does nothing any more: open its files anew.
+/// disk and each call without a failure leave it (`LeavesDisk`, specs/Runs.antt). A store that is broken does nothing
+/// any more: open its files anew.
 #[derive(Drop)]
 pub struct Store<D: Disk> {
     alloc: Global,
@@ -87,7 +89,7 @@ impl<D: Disk> Store<D> {
         names: Vec<FileName>,
         states: States,
     ) -> Result<Store<D>, OpenRefused<D>>
-        requires { All IsGiven names.items }
+        requires { All IsOrgFile names.items }
         ensures session { IfOk result (λ store. store.session ≡ opened states store.session.names (texts_of (contents (D.files store.disk)) store.session.names)) }
         ensures names { IfOk result (λ store. AreFew names.items × AreSorted (with_archives names.items) store.session.names) }
         ensures contents { IfOk result (λ store. D.honest store.disk → IsSomeAnd (stands (contents (D.files disk))) (SameFiles (contents (D.files store.disk)))) }
@@ -169,12 +171,8 @@ impl<D: Disk> Store<D> {
     /// where it was broken before.
     pub fn settle(&mut self) -> Result<(), RunFault>
         ensures step { D.honest self.new.disk → Settles self.old.session result self.new.session }
-        ensures any_moment { D.honest self.new.disk → IsAtRest (D.files self.old.disk) → LeavesOnly (D.moment self.old.disk) (D.moment self.new.disk)
-            (D.left_since self.old.disk) (D.left_since self.new.disk) (IsLeftSettling self.old.session (contents (D.files self.old.disk)) result) }
-        ensures others { (IsErrOf result RunFault.Device → ⊥) → D.honest self.new.disk →
-            SameFiles (contents (D.files self.new.disk)) (with_texts self.new.session.names self.new.session.settled (contents (D.files self.old.disk))) }
-        ensures rest { (IsErrOf result RunFault.Device → ⊥) → D.honest self.new.disk → IsAtRest (D.files self.old.disk) → IsAtRest (D.files self.new.disk) }
-        ensures fit { D.honest self.new.disk → IsAtRest (D.files self.old.disk) → IsFit (D.files self.new.disk) }
+        ensures disk { D.honest self.new.disk → LeavesDisk D.files D.moment D.left_since self.old self.new
+            (IsLeftSettling self.old.session (contents (D.files self.old.disk)) result) (IsErrOf result RunFault.Device) }
         ensures counts { SettledCounts self.old.session result self.new.session }
         ensures failed { IsErrOf result RunFault.Device → HasRisen (D.failures self.old.disk) (D.failures self.new.disk) }
         ensures told { (IsErrOf result RunFault.Device → ⊥) → D.failures self.new.disk ≡ D.failures self.old.disk }
@@ -191,19 +189,14 @@ impl<D: Disk> Store<D> {
 }
 
 impl<D: Disk> Store<D> {
-    // Accepts one more command that makes these drafts. Where it fills the group, all is settled.
+    // Accepts one more command that makes these drafts, and holds them in memory. Where it fills the group, all is settled.
     fn accept(&mut self, drafts: Drafts) -> Result<(), RunFault>
         requires unbroken { self.old.session.broken ≡ false }
         requires drafts { Each (IsDraft self.old.session.names ((self.old.session.broken ≡ false) × D.honest self.old.disk) (contents (D.files self.old.disk))) (list_of drafts) }
         requires countable { self.old.session.accepted + 1 < 2 ^ 64 }
         ensures keeps { D.honest self.new.disk → Keeps self.old.session (after self.old.session drafts) result self.new.session }
-        ensures any_moment { D.honest self.new.disk → IsAtRest (D.files self.old.disk) → LeavesOnly (D.moment self.old.disk) (D.moment self.new.disk)
-            (D.left_since self.old.disk) (D.left_since self.new.disk)
-            (IsLeftKeeping self.old.session (contents (D.files self.old.disk)) (after self.old.session drafts) result) }
-        ensures others { (IsErrOf result RunFault.Device → ⊥) → D.honest self.new.disk →
-            SameFiles (contents (D.files self.new.disk)) (with_texts self.new.session.names self.new.session.settled (contents (D.files self.old.disk))) }
-        ensures rest { (IsErrOf result RunFault.Device → ⊥) → D.honest self.new.disk → IsAtRest (D.files self.old.disk) → IsAtRest (D.files self.new.disk) }
-        ensures fit { D.honest self.new.disk → IsAtRest (D.files self.old.disk) → IsFit (D.files self.new.disk) }
+        ensures disk { D.honest self.new.disk → LeavesDisk D.files D.moment D.left_since self.old self.new
+            (IsLeftKeeping self.old.session (contents (D.files self.old.disk)) (after self.old.session drafts) result) (IsErrOf result RunFault.Device) }
         ensures counts { KeepsCounts self.old.session result self.new.session }
         ensures failed { IsErrOf result RunFault.Device → HasRisen (D.failures self.old.disk) (D.failures self.new.disk) }
         ensures told { (IsErrOf result RunFault.Device → ⊥) → D.failures self.new.disk ≡ D.failures self.old.disk }
@@ -212,58 +205,10 @@ impl<D: Disk> Store<D> {
         ensures honest { KeepsHonesty D.steady (D.honest self.old.disk) (D.honest self.new.disk) }
     {
         if self.accepted + 1 - self.acknowledged < u64::from(self.group) {
-            return self.hold(drafts);
+            self.files.put(drafts)?;
+            self.accepted += 1;
+            return Ok(());
         }
-        self.commit(drafts)
-    }
-
-    // Accepts one more command, and holds what it makes in memory.
-    fn hold(&mut self, drafts: Drafts) -> Result<(), RunFault>
-        requires unbroken { self.old.session.broken ≡ false }
-        requires drafts { Each (IsDraft self.old.session.names ((self.old.session.broken ≡ false) × D.honest self.old.disk) (contents (D.files self.old.disk))) (list_of drafts) }
-        requires countable { self.old.session.accepted + 1 < 2 ^ 64 }
-        requires part { fills self.old.session ≡ false }
-        ensures keeps { D.honest self.new.disk → Keeps self.old.session (after self.old.session drafts) result self.new.session }
-        ensures any_moment { D.honest self.new.disk → IsAtRest (D.files self.old.disk) → LeavesOnly (D.moment self.old.disk) (D.moment self.new.disk)
-            (D.left_since self.old.disk) (D.left_since self.new.disk)
-            (IsLeftKeeping self.old.session (contents (D.files self.old.disk)) (after self.old.session drafts) result) }
-        ensures others { (IsErrOf result RunFault.Device → ⊥) → D.honest self.new.disk →
-            SameFiles (contents (D.files self.new.disk)) (with_texts self.new.session.names self.new.session.settled (contents (D.files self.old.disk))) }
-        ensures rest { (IsErrOf result RunFault.Device → ⊥) → D.honest self.new.disk → IsAtRest (D.files self.old.disk) → IsAtRest (D.files self.new.disk) }
-        ensures fit { D.honest self.new.disk → IsAtRest (D.files self.old.disk) → IsFit (D.files self.new.disk) }
-        ensures counts { KeepsCounts self.old.session result self.new.session }
-        ensures failed { IsErrOf result RunFault.Device → HasRisen (D.failures self.old.disk) (D.failures self.new.disk) }
-        ensures told { (IsErrOf result RunFault.Device → ⊥) → D.failures self.new.disk ≡ D.failures self.old.disk }
-        ensures breaks { IsErrOf result RunFault.Device ↔ IsTrue self.new.session.broken }
-        ensures failures { D.failures self.old.disk ≤ D.failures self.new.disk }
-        ensures honest { KeepsHonesty D.steady (D.honest self.old.disk) (D.honest self.new.disk) }
-    {
-        self.files.put(drafts)?;
-        self.accepted += 1;
-        Ok(())
-    }
-
-    // Accepts one more command, and settles it with all before it.
-    fn commit(&mut self, drafts: Drafts) -> Result<(), RunFault>
-        requires unbroken { self.old.session.broken ≡ false }
-        requires drafts { Each (IsDraft self.old.session.names ((self.old.session.broken ≡ false) × D.honest self.old.disk) (contents (D.files self.old.disk))) (list_of drafts) }
-        requires countable { self.old.session.accepted + 1 < 2 ^ 64 }
-        requires full { fills self.old.session ≡ true }
-        ensures keeps { D.honest self.new.disk → Keeps self.old.session (after self.old.session drafts) result self.new.session }
-        ensures any_moment { D.honest self.new.disk → IsAtRest (D.files self.old.disk) → LeavesOnly (D.moment self.old.disk) (D.moment self.new.disk)
-            (D.left_since self.old.disk) (D.left_since self.new.disk)
-            (IsLeftKeeping self.old.session (contents (D.files self.old.disk)) (after self.old.session drafts) result) }
-        ensures others { (IsErrOf result RunFault.Device → ⊥) → D.honest self.new.disk →
-            SameFiles (contents (D.files self.new.disk)) (with_texts self.new.session.names self.new.session.settled (contents (D.files self.old.disk))) }
-        ensures rest { (IsErrOf result RunFault.Device → ⊥) → D.honest self.new.disk → IsAtRest (D.files self.old.disk) → IsAtRest (D.files self.new.disk) }
-        ensures fit { D.honest self.new.disk → IsAtRest (D.files self.old.disk) → IsFit (D.files self.new.disk) }
-        ensures counts { KeepsCounts self.old.session result self.new.session }
-        ensures failed { IsErrOf result RunFault.Device → HasRisen (D.failures self.old.disk) (D.failures self.new.disk) }
-        ensures told { (IsErrOf result RunFault.Device → ⊥) → D.failures self.new.disk ≡ D.failures self.old.disk }
-        ensures breaks { IsErrOf result RunFault.Device ↔ IsTrue self.new.session.broken }
-        ensures failures { D.failures self.old.disk ≤ D.failures self.new.disk }
-        ensures honest { KeepsHonesty D.steady (D.honest self.old.disk) (D.honest self.new.disk) }
-    {
         match self.files.commit(drafts) {
             Ok(()) => {
                 self.accepted += 1;
@@ -331,13 +276,8 @@ impl<D: Disk> Store<D> {
         requires unbroken { self.old.session.broken ≡ false }
         ensures does { D.honest self.new.disk → Does self.old.session
             (capture self.old.session file.now target.now place template.now (text_at self.old.session.names self.old.session.files file.now)) result self.new.session }
-        ensures any_moment { D.honest self.new.disk → IsAtRest (D.files self.old.disk) → LeavesOnly (D.moment self.old.disk) (D.moment self.new.disk)
-            (D.left_since self.old.disk) (D.left_since self.new.disk) (IsLeftBy self.old.session (contents (D.files self.old.disk))
-            (capture self.old.session file.now target.now place template.now (text_at self.old.session.names self.old.session.files file.now)) result self.new.session.accepted) }
-        ensures others { (IsErrOf result RunFault.Device → ⊥) → D.honest self.new.disk →
-            SameFiles (contents (D.files self.new.disk)) (with_texts self.new.session.names self.new.session.settled (contents (D.files self.old.disk))) }
-        ensures rest { (IsErrOf result RunFault.Device → ⊥) → D.honest self.new.disk → IsAtRest (D.files self.old.disk) → IsAtRest (D.files self.new.disk) }
-        ensures fit { D.honest self.new.disk → IsAtRest (D.files self.old.disk) → IsFit (D.files self.new.disk) }
+        ensures disk { D.honest self.new.disk → LeavesDisk D.files D.moment D.left_since self.old self.new
+            (IsLeftBy self.old.session (contents (D.files self.old.disk)) (capture self.old.session file.now target.now place template.now (text_at self.old.session.names self.old.session.files file.now)) result self.new.session.accepted) (IsErrOf result RunFault.Device) }
         ensures counts { Counts self.old.session result self.new.session }
         ensures failed { IsErrOf result RunFault.Device → HasRisen (D.failures self.old.disk) (D.failures self.new.disk) }
         ensures told { (IsErrOf result RunFault.Device → ⊥) → D.failures self.new.disk ≡ D.failures self.old.disk }
@@ -388,12 +328,8 @@ impl<D: Disk> Store<D> {
     /// and breaks the store; `Broken` comes exactly where it was broken before.
     pub fn run(&mut self, command: &Command) -> Result<Reply, RunFault>
         ensures step { D.honest self.new.disk → Step self.old.session command.now result self.new.session }
-        ensures any_moment { D.honest self.new.disk → IsAtRest (D.files self.old.disk) → LeavesOnly (D.moment self.old.disk) (D.moment self.new.disk)
-            (D.left_since self.old.disk) (D.left_since self.new.disk) (IsLeft self.old.session (contents (D.files self.old.disk)) command.now result self.new.session.accepted) }
-        ensures others { (IsErrOf result RunFault.Device → ⊥) → D.honest self.new.disk →
-            SameFiles (contents (D.files self.new.disk)) (with_texts self.new.session.names self.new.session.settled (contents (D.files self.old.disk))) }
-        ensures rest { (IsErrOf result RunFault.Device → ⊥) → D.honest self.new.disk → IsAtRest (D.files self.old.disk) → IsAtRest (D.files self.new.disk) }
-        ensures fit { D.honest self.new.disk → IsAtRest (D.files self.old.disk) → IsFit (D.files self.new.disk) }
+        ensures disk { D.honest self.new.disk → LeavesDisk D.files D.moment D.left_since self.old self.new
+            (IsLeft self.old.session (contents (D.files self.old.disk)) command.now result self.new.session.accepted) (IsErrOf result RunFault.Device) }
         ensures counts { Counts self.old.session result self.new.session }
         ensures failed { IsErrOf result RunFault.Device → HasRisen (D.failures self.old.disk) (D.failures self.new.disk) }
         ensures told { (IsErrOf result RunFault.Device → ⊥) → D.failures self.new.disk ≡ D.failures self.old.disk }

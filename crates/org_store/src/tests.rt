@@ -1,7 +1,7 @@
 // A store over a disk in memory.
 ghost use Rattle.std.specs.Prelude.{◌≤◌, IfOk};
 ghost use Rattle.std.specs.List.{All};
-ghost use Rattle.org_fileset.specs.Names.{IsGiven};
+ghost use Rattle.org_disk.specs.Names.{IsOrgFile};
 
 use crate::{Command, OpenFault, Refusal, Reply, RunFault, Store, Target};
 use org_disk::{FileName, MemoryDisk, Outcome};
@@ -22,7 +22,7 @@ fn two_files(alloc: Global, a: &[u8], b: &[u8]) -> Result<MemoryDisk, Fail> {
 
 // The name of an Org file.
 fn org_name(alloc: Global, text: &str) -> Result<FileName, Fail>
-    ensures { IfOk result IsGiven }
+    ensures { IfOk result IsOrgFile }
 {
     let name = FileName::new(alloc, text)?;
     if name.is_archive() {
@@ -37,7 +37,7 @@ fn opened(
     disk: MemoryDisk,
     names: Vec<FileName>,
 ) -> Result<Result<Store<MemoryDisk>, OpenFault>, Fail>
-    requires { All IsGiven names.items }
+    requires { All IsOrgFile names.items }
 {
     let states = States::new(alloc, &["TODO"], &["DONE"])?;
     Ok(Store::open(alloc, disk, names, states).map_err(|refused| refused.fault))

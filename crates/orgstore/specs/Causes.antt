@@ -6,6 +6,8 @@ use Rattle.org_fileset.specs.declared.open.OpenFault.TheVariants as refused
 use Rattle.org_folder.specs.OrgFiles.{is_org_file}
 use Rattle.org_folder.specs.declared.list.ListFault.{ListFault}
 use Rattle.org_folder.specs.declared.list.ListFault.TheVariants as list
+use Rattle.org_outline.specs.declared.states.StatesFault.{StatesFault}
+use Rattle.org_outline.specs.declared.states.StatesFault.TheVariants as states
 use Rattle.org_serve.specs.declared.end.ServeEnd.{ServeEnd}
 use Rattle.org_serve.specs.declared.end.ServeEnd.TheVariants.{End, Unsettled, Device, Read, Write}
 use Rattle.orgstore.specs.declared.fault.Fault.{Fault}
@@ -24,6 +26,11 @@ told (Err fault) = Err (Open fault)
 abbrev pub listing : ListFault → Fault
 listing list.Device = Open refused.Device
 listing list.OutOfMemory = Open refused.OutOfMemory
+
+-- why the states couldn't be had
+abbrev pub stating : StatesFault → Fault
+stating states.BadStates = BadStates
+stating states.OutOfMemory = Open refused.OutOfMemory
 
 -- why a new name can't be one of a store's
 abbrev pub IsCauseOf : List ℕ → Fault → Type 0

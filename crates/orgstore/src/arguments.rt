@@ -1,6 +1,8 @@
 // The command line. Nothing else of the program knows how its words are read.
-ghost use Rattle.std.specs.Prelude.{IfOk, IfSome};
+ghost use Rattle.std.specs.Prelude.{IfOk, IfErr, SomeIff};
+ghost use Rattle.std.specs.Str.Parse.{digits_value};
 ghost use Rattle.org_serve.specs.Group.{IsGroup};
+ghost use Rattle.orgstore.specs.Words.{IsGroupText, IsFaultOfWords};
 
 use crate::fault::Fault;
 use clap::error::ErrorKind;
@@ -24,7 +26,8 @@ pub struct Arguments {
 
 /// The arguments of this run. Help is a fault too: standard output holds replies alone.
 pub fn read(rt: &HostRuntime) -> Result<Arguments, Fault>
-    ensures { IfOk result (λ arguments. IsGroup arguments.group) }
+    ensures group { IfOk result (λ arguments. IsGroup arguments.group) }
+    ensures fault { IfErr result IsFaultOfWords }
 {
     let words: Vec<String> = match env::args(rt) {
         Ok(words) => words.collect(rt.alloc())?,
@@ -35,7 +38,8 @@ pub fn read(rt: &HostRuntime) -> Result<Arguments, Fault>
 
 /// The arguments that these words are, the first being the program's name.
 pub fn read_words(alloc: Global, words: &[String]) -> Result<Arguments, Fault>
-    ensures { IfOk result (λ arguments. IsGroup arguments.group) }
+    ensures group { IfOk result (λ arguments. IsGroup arguments.group) }
+    ensures fault { IfErr result IsFaultOfWords }
 {
     match parse(alloc, words) {
         Ok(arguments) => Ok(arguments),
@@ -80,9 +84,9 @@ fn parse(alloc: Global, words: &[String]) -> Result<Arguments, Error>
 
 // The group that a decimal number is. It has no sign.
 fn group_of(text: &str) -> Option<u32>
-    ensures { IfSome result IsGroup }
+    ensures { SomeIff result (IsGroupText text.now) (digits_value 10 text.now) }
 {
-    if !text.bytes().all(|b| b.is_ascii_digit()) {
+    if let [b'+', ..] = text.as_bytes() {
         return None;
     }
     match text.parse::<u32>() {
@@ -91,7 +95,9 @@ fn group_of(text: &str) -> Option<u32>
     }
 }
 
-fn usage(alloc: Global, error: &Error) -> Fault {
+fn usage(alloc: Global, error: &Error) -> Fault
+    ensures { IsFaultOfWords result }
+{
     if error.kind() == ErrorKind::OutOfMemory {
         return Fault::Open(OpenFault::OutOfMemory);
     }
@@ -102,7 +108,9 @@ fn usage(alloc: Global, error: &Error) -> Fault {
 }
 
 // The words can't be read at all: one of them isn't UTF-8.
-fn unreadable(alloc: Global, error: &io::Error) -> Fault {
+fn unreadable(alloc: Global, error: &io::Error) -> Fault
+    ensures { IsFaultOfWords result }
+{
     if error.kind() == io::ErrorKind::OutOfMemory {
         return Fault::Open(OpenFault::OutOfMemory);
     }

@@ -1,7 +1,7 @@
 // Why the program doesn't run to the end of its input: what it says on standard error, and its exit status.
 ghost use Rattle.std.specs.Prelude.{◌≡◌};
 ghost use Rattle.org_fileset.specs.declared.open.OpenFault.TheVariants.{OutOfMemory};
-ghost use Rattle.orgstore.specs.Causes.{listing};
+ghost use Rattle.orgstore.specs.Causes.{listing, stating};
 ghost use Rattle.orgstore.specs.declared.fault.Fault.TheVariants.{Open};
 
 use org_folder::ListFault;
@@ -78,6 +78,8 @@ impl From<ListFault> for Fault {
 }
 
 impl From<StatesFault> for Fault {
+    ghost from_gives = { λ cause fault. fault ≡ stating cause };
+
     fn from(fault: StatesFault) -> Fault {
         match fault {
             StatesFault::BadStates => Fault::BadStates,

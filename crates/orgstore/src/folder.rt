@@ -2,7 +2,7 @@
 ghost use Rattle.std.specs.Prelude.{◌≡◌, ◌⊎◌, Ok, IfOk, IfErr, MatchResult, All, []};
 ghost use Rattle.org_disk.specs.Disk.{HasRisen};
 ghost use Rattle.org_journal.specs.Standing.{Image, IsFit, contents};
-ghost use Rattle.org_fileset.specs.Names.{IsGiven};
+ghost use Rattle.org_disk.specs.Names.{IsOrgFile};
 ghost use Rattle.org_fileset.specs.Opening.{IsReason};
 ghost use Rattle.org_fileset.specs.Recovery.{EachStands, StandsAsBefore};
 ghost use Rattle.org_folder.specs.Calls.{files, AreRight, LeftSince};
@@ -45,7 +45,7 @@ pub fn serve_folder<F: Files + AllocGlobal + Drop, S: Start, R: Source, W: Sink>
 ) -> Result<Served<FolderDisk<F, S>>, AllocError>
 where
     F::File: FileExt,
-    requires names { All IsGiven setup.names.items }
+    requires names { All IsOrgFile setup.names.items }
     requires group { IsGroup setup.group }
     ensures served { IfOk result (λ served. AreRight S.world (record_of served.disk) → IfOk served.end (λ end.
         ServesOver setup.states setup.group setup.names.items (contents S.world.start) end

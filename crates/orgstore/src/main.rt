@@ -2,10 +2,10 @@
 //! and writes their replies to standard output. A fault is a line on standard error and the exit status.
 #![tactic(auto)]
 
-ghost use Rattle.std.specs.Prelude.{◌≡◌, [], ◌∷◌, ◌++◌, ℕ, List, map, string_bytes, codes, IfOk, All};
-ghost use Rattle.org_fileset.specs.Names.{IsGiven};
+ghost use Rattle.std.specs.Prelude.{◌≡◌, [], ◌∷◌, ◌++◌, ℕ, List, map, string_bytes, codes, IfOk, IfErr, All};
+ghost use Rattle.org_disk.specs.Names.{IsOrgFile};
 ghost use Rattle.org_serve.specs.Group.{IsGroup};
-ghost use Rattle.orgstore.specs.Causes.{told};
+ghost use Rattle.orgstore.specs.Causes.{told, IsCause};
 
 mod arguments;
 mod fault;
@@ -66,10 +66,11 @@ fn told(end: Result<ServeEnd, OpenFault>) -> Result<(), Fault>
 
 fn setup(rt: &HostRuntime, arguments: &Arguments) -> Result<Setup, Fault>
     requires { IsGroup arguments.now.group }
-    ensures names { IfOk result (λ setup. All IsGiven setup.names.items) }
+    ensures names { IfOk result (λ setup. All IsOrgFile setup.names.items) }
     ensures new { IfOk result (λ setup. (listed : List (List ℕ)) × (setup.names.items ≡ map string_bytes arguments.now.new.items ++ listed)) }
     ensures states { IfOk result (λ setup. setup.states ≡ record { active = codes "TODO" ∷ []; done = codes "DONE" ∷ [] }) }
     ensures group { IfOk result (λ setup. setup.group ≡ arguments.now.group) }
+    ensures cause { IfErr result (IsCause (map string_bytes arguments.now.new.items)) }
 {
     Ok(Setup {
         names: names(rt, &arguments.folder, &arguments.new)?,

@@ -1,6 +1,6 @@
 // The names that the store is opened with.
 ghost use Rattle.std.specs.Prelude.{◌≡◌, ◌++◌, ℕ, List, map, string_bytes, IfOk, IfErr, All};
-ghost use Rattle.org_folder.specs.OrgFiles.{IsOpenable};
+ghost use Rattle.org_disk.specs.Names.{IsOrgFile};
 ghost use Rattle.orgstore.specs.Causes.{IsCause, IsCauseOf};
 
 use crate::fault::Fault;
@@ -10,7 +10,7 @@ use org_store::OpenFault;
 
 /// The names given as new ones, each a file name in `.org`, and those of the folder's Org files.
 pub fn names(rt: &HostRuntime, folder: &str, new: &[String]) -> Result<Vec<FileName>, Fault>
-    ensures openable { IfOk result (λ names. All IsOpenable names.items) }
+    ensures openable { IfOk result (λ names. All IsOrgFile names.items) }
     ensures new { IfOk result (λ names. (listed : List (List ℕ)) × (names.items ≡ map string_bytes new.now ++ listed)) }
     ensures cause { IfErr result (IsCause (map string_bytes new.now)) }
 {
@@ -20,7 +20,7 @@ pub fn names(rt: &HostRuntime, folder: &str, new: &[String]) -> Result<Vec<FileN
 }
 
 fn new_names(rt: &HostRuntime, new: &[String]) -> Result<Vec<FileName>, Fault>
-    ensures openable { IfOk result (λ names. All IsOpenable names.items) }
+    ensures openable { IfOk result (λ names. All IsOrgFile names.items) }
     ensures names { IfOk result (λ names. names.items ≡ map string_bytes new.now) }
     ensures cause { IfErr result (IsCause (map string_bytes new.now)) }
 {
@@ -32,7 +32,7 @@ fn new_names(rt: &HostRuntime, new: &[String]) -> Result<Vec<FileName>, Fault>
 }
 
 fn new_name(rt: &HostRuntime, name: &str) -> Result<FileName, Fault>
-    ensures openable { IfOk result IsOpenable }
+    ensures openable { IfOk result IsOrgFile }
     ensures name { IfOk result (λ one. one ≡ name.now) }
     ensures cause { IfErr result (IsCauseOf name.now) }
 {

@@ -1,9 +1,10 @@
 use Rattle.std.proofs.Common.{◌≡◌, ◌≢◌, inl, inr, ◌∷◌, ℕ, List, drop, sym, ◌∙◌, subst}
 use Rattle.org_disk.specs.Disk.{IsStable, laid}
-use Rattle.org_disk.proofs.Moments.{passes_as, passes_then, leaves_only}
+use Rattle.org_disk.proofs.Moments.{passes_as, passes_then}
 use Rattle.org_journal.specs.Gate.{LeavesClosed, LeavesBody}
-use Rattle.org_journal.specs.Standing.{Image, contents, replayed}
+use Rattle.org_journal.specs.Standing.{contents, replayed}
 use Rattle.org_fileset.specs.Replay.{IsReplayable}
+use Rattle.org_fileset.proofs.Starting.{since_start}
 use Rattle.org_fileset.proofs.Armed.{on_ok_one, on_err_one}
 use Rattle.org_fileset.proofs.Commits.{at_rest_stands, while_arming, while_opening, opened_over, opened_fits, opened_takes, opened_made}
 use Rattle.org_fileset.proofs.commit.commit_entries.Goals as goal
@@ -17,11 +18,9 @@ returns-in_err-arm-clause-any_moment g c ended rest =
     let gate = c.requires.gate honest in
     let fit = c.requires.fits honest in
     let name_is = c.requires.journal in
-    let start = λ (image : Image) (left : g.D.Disk.left_since c.args.disk.now (g.D.Disk.moment c.args.disk.now) image).
-    inl (at_rest_stands files rest image (g.met.D.Disk.only_now c.args.disk.now image honest left)) in
     let armed = passes_as (c.arm.ensures.any_moment ended) (λ image left.
     while_arming entries files layable gate fit c.args.body.now c.requires.body c.requires.long rest image (subst (λ (n : List ℕ). LeavesClosed n files image) name_is left)) in
-    leaves_only armed start
+    since_start armed files (g.met.D.Disk.only_now c.args.disk.now) honest (λ image left. inl (at_rest_stands files rest image left))
 
 pub returns-in_err-open_gate-clause-any_moment : goal.returns-in_err-open_gate-clause-any_moment
 returns-in_err-open_gate-clause-any_moment g c ended rest =
@@ -33,8 +32,6 @@ returns-in_err-open_gate-clause-any_moment g c ended rest =
     let gate = c.requires.gate honest in
     let fit = c.requires.fits honest in
     let name_is = c.requires.journal in
-    let start = λ (image : Image) (left : g.D.Disk.left_since c.args.disk.now (g.D.Disk.moment c.args.disk.now) image).
-    inl (at_rest_stands files rest image (g.met.D.Disk.only_now c.args.disk.now image honest left)) in
     let armed = passes_as (c.arm.ensures.any_moment h1) (λ image left.
     while_arming entries files layable gate fit c.args.body.now c.requires.body c.requires.long rest image (subst (λ (n : List ℕ). LeavesClosed n files image) name_is left)) in
     let mid = g.D.Disk.files c.arm.new.disk in
@@ -44,7 +41,7 @@ returns-in_err-open_gate-clause-any_moment g c ended rest =
     let others = subst Q name_is (c.arm.ensures.others h1) in
     let opening = passes_then armed (c.open_gate.ensures.any_moment ended) (λ image left.
     while_opening entries files layable gate fit c.args.body.now c.requires.body c.requires.long mid written others rest image (subst (λ (n : List ℕ). LeavesBody n mid image) name_is left)) in
-    leaves_only opening start
+    since_start opening files (g.met.D.Disk.only_now c.args.disk.now) honest (λ image left. inl (at_rest_stands files rest image left))
 
 pub replay-requires-clause-opened : goal.replay-requires-clause-opened
 replay-requires-clause-opened g c ended =
@@ -98,8 +95,6 @@ returns-clause-any_moment g c ended rest =
     let gate = c.requires.gate honest in
     let fit = c.requires.fits honest in
     let name_is = c.requires.journal in
-    let start = λ (image : Image) (left : g.D.Disk.left_since c.args.disk.now (g.D.Disk.moment c.args.disk.now) image).
-    inl (at_rest_stands files rest image (g.met.D.Disk.only_now c.args.disk.now image honest left)) in
     let armed = passes_as (c.arm.ensures.any_moment h1) (λ image left.
     while_arming entries files layable gate fit c.args.body.now c.requires.body c.requires.long rest image (subst (λ (n : List ℕ). LeavesClosed n files image) name_is left)) in
     let mid = g.D.Disk.files c.arm.new.disk in
@@ -117,7 +112,7 @@ returns-clause-any_moment g c ended rest =
       texts = replayed entries (contents files);
       takes = opened_takes entries files layable gate fit c.args.body.now c.requires.body c.requires.long mid written others rest last last_others;
     } in
-    leaves_only (passes_then opening (c.replay.ensures.any_moment ended can) (λ image stands. inr stands)) start
+    since_start (passes_then opening (c.replay.ensures.any_moment ended can) (λ image stands. inr stands)) files (g.met.D.Disk.only_now c.args.disk.now) honest (λ image left. inl (at_rest_stands files rest image left))
 
 pub returns-clause-contents : goal.returns-clause-contents
 returns-clause-contents g c = on_ok_one c.replay.result c.replay.ensures.contents (λ done ended.

@@ -2,8 +2,10 @@ use Rattle.std.proofs.Common.{◌≡◌, ◌≢◌, inl, inr, ◌≤◌, ◌∷�
 use Rattle.org_disk.specs.Disk.{FileState, IsStable}
 use Rattle.org_disk.specs.Names.{journal_name}
 use Rattle.org_disk.proofs.Moments.{passes_as, passes_then}
+use Rattle.org_disk.proofs.Names.{name_cases}
+use Rattle.org_journal.specs.Gate.{front_size}
 use Rattle.org_journal.specs.Standing.{contents}
-use Rattle.org_fileset.proofs.Takes.{name_cases, journal_unnamed}
+use Rattle.org_fileset.proofs.Takes.{journal_unnamed}
 use Rattle.org_fileset.proofs.Stands.{replayed-takes}
 use Rattle.org_fileset.proofs.Armed.{replays_then, taking_stands, replayable_armed, still_open, still_replayable, IsDone, closing_stands, rest_after, open_long, on_err_always, on_ok_one, on_ok_both}
 use Rattle.org_fileset.proofs.commit.replay.Goals as goal
@@ -40,8 +42,6 @@ returns-in_err-sync_all-clause-any_moment g c ended can =
     let laid = c.lay_all.ensures.replays h1 is.stable can.texts can.takes in
     let is1 = still_open entries files (g.D.Disk.files c.lay_all.new.disk) layable is (c.lay_all.ensures.others h1) in
     let synced = replays_then layable laid (c.sync_all.ensures.replays ended is1.stable can.texts laid.takes) in
-    let last = g.D.Disk.files c.sync_all.new.disk in
-    let is2 = still_open entries (g.D.Disk.files c.lay_all.new.disk) last layable is1 (c.sync_all.ensures.others ended) in
     passes_as synced.any_moment (taking_stands entries can.texts (files journal_name).content layable is.opened is.found)
 
 pub returns-in_err-sync_all-clause-fit : goal.returns-in_err-sync_all-clause-fit
@@ -66,7 +66,7 @@ close_gate-requires-clause-nonempty g c ended =
     let is1 = still_open c.args.entries.now (g.D.Disk.files c.args.disk.now) (g.D.Disk.files c.lay_all.new.disk) (c.requires.layable honest) (c.requires.opened honest) (c.lay_all.ensures.others h1) in
     let last = g.D.Disk.files c.sync_all.new.disk in
     let is2 = still_open c.args.entries.now (g.D.Disk.files c.lay_all.new.disk) last (c.requires.layable honest) is1 (c.sync_all.ensures.others ended) in
-    let long : 16 ≤ length (last journal_name).content = open_long (last journal_name).content is2.opened in
+    let long : front_size ≤ length (last journal_name).content = open_long (last journal_name).content is2.opened in
     let P : List ℕ → Type 0 = λ n. 1 ≤ length (last n).content in
     subst P (sym c.requires.journal) (omega arith)
 
@@ -110,9 +110,7 @@ returns-clause-rest g c = on_ok_both c.close_gate.result c.close_gate.ensures.st
     let is = c.requires.opened honest in
     let laid = c.lay_all.ensures.replays h1 is.stable can.texts can.takes in
     let is1 = still_open entries files (g.D.Disk.files c.lay_all.new.disk) layable is (c.lay_all.ensures.others h1) in
-    let synced = replays_then layable laid (c.sync_all.ensures.replays h2 is1.stable can.texts laid.takes) in
     let last = g.D.Disk.files c.sync_all.new.disk in
-    let is2 = still_open entries (g.D.Disk.files c.lay_all.new.disk) last layable is1 (c.sync_all.ensures.others h2) in
     let stable : (name : List ℕ) → IsStable (last name) = λ name. c.in_ok-sync_all.ensures.stable h2 name (λ none. elim (name_cases name journal_name) [
       | inl same ↦ subst (λ (n : List ℕ). IsStable (g.D.Disk.files c.lay_all.new.disk n)) (sym same.0) is1.stable
       | inr apart ↦ subst IsStable (sym (laid.others name none)) (can.others name apart.0 none)

@@ -2,7 +2,8 @@ use Rattle.std.proofs.Common.{inl, inr, ℕ, List, length, refl, sym, ◌∙◌,
 use Rattle.std.proofs.lemmas.Option.{slice_get_read}
 use Rattle.org_disk.specs.Disk.{FileState}
 use Rattle.org_disk.proofs.Images.{is_stable}
-use Rattle.org_fileset.proofs.Takes.{name_cases, named_apart}
+use Rattle.org_disk.proofs.Names.{name_cases}
+use Rattle.org_fileset.proofs.Takes.{named_apart}
 use Rattle.org_fileset.proofs.Replaying.{entry_takes, replays_none, replays_entry, lays_sync, stable_more, all_stable}
 use Rattle.org_fileset.proofs.lay.sync_all.Goals as goal
 

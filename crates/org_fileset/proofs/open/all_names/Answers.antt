@@ -1,11 +1,12 @@
 use Rattle.std.proofs.Common.{◌≤◌, length, arith}
-use Rattle.org_fileset.specs.Names.{most_names, IsGiven}
+use Rattle.org_disk.specs.Names.{IsOrgFile}
+use Rattle.org_fileset.specs.Names.{most_names}
 use Rattle.org_fileset.proofs.Sorted.{all_sorted, sorted_archives, set_names}
 use Rattle.org_fileset.proofs.open.all_names.Goals as goal
 
 pub with_archives-requires : goal.with_archives-requires
 with_archives-requires c =
-    rw c.deref.ensures.value (all_sorted IsGiven c.args.given.items c.in_order-given.result.items c.in_order-given.ensures.sorted c.requires)
+    rw c.deref.ensures.value (all_sorted IsOrgFile c.args.given.items c.in_order-given.result.items c.in_order-given.ensures.sorted c.requires)
 
 pub returns : goal.returns
 returns c =

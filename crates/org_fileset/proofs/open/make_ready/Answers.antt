@@ -1,5 +1,6 @@
 use Rattle.std.proofs.Common.{List, ℕ}
-use Rattle.org_disk.proofs.Moments.{Image, passes_then, leaves_only}
+use Rattle.org_disk.proofs.Moments.{passes_then}
+use Rattle.org_fileset.proofs.Starting.{since_start}
 use Rattle.org_fileset.proofs.Recovering.{as_before}
 use Rattle.org_fileset.proofs.Sorted.{left_after}
 use Rattle.org_fileset.proofs.open.make_ready.Goals as goal
@@ -12,7 +13,5 @@ returns-clause-any_moment g c ended fit each =
     let mid = g.D.Disk.files c.recover.new.disk in
     let recovering = c.recover.ensures.any_moment h1 fit each in
     let own = λ (name : List ℕ). g.met.D.Disk.content_is_image c.args.disk.now name honest in
-    let start = λ (image : Image) (left : g.D.Disk.left_since c.args.disk.now (g.D.Disk.moment c.args.disk.now) image).
-    as_before old each image (g.met.D.Disk.only_now c.args.disk.now image honest left) in
-    leaves_only (passes_then recovering.passes (c.check_sizes.ensures.any_moment ended)
-    (left_after old mid own (c.in_ok-recover.ensures.contents h1) (c.in_ok-recover.ensures.rest h1 fit each))) start
+    since_start (passes_then recovering.passes (c.check_sizes.ensures.any_moment ended)
+    (left_after old mid own (c.in_ok-recover.ensures.contents h1) (c.in_ok-recover.ensures.rest h1 fit each))) old (g.met.D.Disk.only_now c.args.disk.now) honest (as_before old each)

@@ -5,12 +5,12 @@ use Rattle.std.proofs.lemmas.List.Elements.{All-from_recursion, recursion_from_A
 use Rattle.std.proofs.lemmas.List.{get_or_default}
 use Rattle.org_disk.specs.Disk.{FileState}
 use Rattle.org_disk.specs.Memory.{memory_files}
+use Rattle.org_disk.proofs.Names.{name_cases}
 use Rattle.org_splice.specs.ChangeSet.{with_text}
 use Rattle.org_splice.specs.Texts.{EditedText, IsEditOf}
 use Rattle.org_journal.specs.Standing.{contents}
 use Rattle.org_fileset.specs.Names.{limit}
 use Rattle.org_fileset.specs.Set.{AreCommittable}
-use Rattle.org_fileset.proofs.Takes.{name_cases}
 use Rattle.org_fileset.proofs.tests.put_edit.Goals as goal
 
 abbrev Change : Type 0

@@ -1,4 +1,4 @@
-use Rattle.std.proofs.Common.{◌≡◌, ◌∙◌, ◌+◌, ⊎_elim, List, [], ◌∷◌, ◌++◌, take, map, None, sym, ap, subst, rules}
+use Rattle.std.proofs.Common.{◌≡◌, ◌∙◌, ◌+◌, ⊎_elim, List, [], ◌∷◌, ◌++◌, take, map, None, refl, sym, ap, subst, rules}
 use Rattle.std.specs.List.{Contains}
 use Rattle.std.specs.Map.{lookup}
 use Rattle.std.specs.Str.{bytes_eq}
@@ -6,6 +6,7 @@ use Rattle.std.proofs.lemmas.List.{take_more}
 use Rattle.org_splice.specs.ChangeSet.{with_text}
 use Rattle.org_held.specs.declared.held.Held.{Held}
 use Rattle.org_fileset.specs.Entries.{changed}
+use Rattle.org_fileset.proofs.Elements.{no_member, none_there}
 use Rattle.org_held.specs.Held.{change_of, held_over}
 use Rattle.org_held.proofs.ChangeSets.{Change, agree_new, agree_old, changes_more}
 use Rattle.org_held.proofs.Lists.{some_of, mapped}
@@ -40,3 +41,9 @@ loop-held-preserved c =
             each = λ change there. so_far.each change (subst (λ (l : List Change). Contains l change) w.changes-is there);
           }
     ]
+
+pub returns-clause-nothing : goal.returns-clause-nothing
+returns-clause-nothing c none = (
+  refl,
+  none_there c.loop-held.changes (λ change there. no_member change (subst (λ (l : List Held). Contains (map change_of l) change) none (c.loop-held.invariant.each change there))),
+)

@@ -24,8 +24,8 @@ commit-requires-clause-edits g c = λ unbroken honest.
     all_of (λ (change : Change). IsEditOf (contents (g.D.Disk.files c.args.set.now.disk) change.0) change.1) c.args.changes.now (λ change there. (c.requires.each change there).edit honest)
 
 pub returns-clause-any_moment : goal.returns-clause-any_moment
-returns-clause-any_moment g c honest rest =
-    leaves_as (c.commit.ensures.any_moment honest rest)
+returns-clause-any_moment g c ended rest =
+    leaves_as (c.commit.ensures.any_moment ended rest)
     (left_by_commit c.args.set.now.names c.args.changes.now (contents (g.D.Disk.files c.args.set.now.disk)) (λ change there. (c.requires.each change there).named))
 
 pub returns-clause-texts : goal.returns-clause-texts
@@ -34,8 +34,8 @@ returns-clause-texts g c =
     let new = contents (g.D.Disk.files c.commit.new.self.disk) in
     let changes = c.args.changes.now in
     on_ok_weaker c.commit.result
-    (λ (same : g.D.Disk.honest c.commit.new.self.disk → SameFiles new (changed changes old)) (honest : g.D.Disk.honest c.commit.new.self.disk).
-    ap (texts_of new) c.commit.ensures.names ∙ texts_committed c.args.set.now.names changes old new c.requires.apart (same honest))
+    (λ (same : g.D.Disk.honest c.commit.new.self.disk → SameFiles new (changed changes old)) (ended : g.D.Disk.honest c.commit.new.self.disk).
+    ap (texts_of new) c.commit.ensures.names ∙ texts_committed c.args.set.now.names changes old new c.requires.apart (same ended))
     c.commit.ensures.contents
 
 pub returns-clause-others : goal.returns-clause-others
@@ -45,7 +45,7 @@ returns-clause-others g c =
     let new = contents (g.D.Disk.files c.commit.new.self.disk) in
     let changes = c.args.changes.now in
     on_ok_weaker c.commit.result
-    (λ (same : g.D.Disk.honest c.commit.new.self.disk → SameFiles new (changed changes old)) (honest : g.D.Disk.honest c.commit.new.self.disk).
+    (λ (same : g.D.Disk.honest c.commit.new.self.disk → SameFiles new (changed changes old)) (ended : g.D.Disk.honest c.commit.new.self.disk).
     subst (λ (n : List (List ℕ)). SameFiles new (with_texts n (texts_of new n) old)) (sym c.commit.ensures.names)
-    (others_committed names changes old new (λ change there. (c.requires.each change there).named) (same honest)))
+    (others_committed names changes old new (λ change there. (c.requires.each change there).named) (same ended)))
     c.commit.ensures.contents

@@ -1,14 +1,14 @@
 use Rattle.std.proofs.Common.{◌≡◌, ◌≤◌, drop}
 use Rattle.org_disk.specs.Disk.{Passes, AreImages, KeepsHonesty}
 use Rattle.org_journal.specs.Standing.{contents, all_fit}
-use Rattle.org_journal.specs.Finding.{AreWritten}
+use Rattle.org_journal.specs.Finding.{HaveWellFormedPatches}
 use Rattle.org_journal.proofs.finding.all_fit.Given as goal
 
 abbrev pub invariant-loop-entry : goal.invariant-loop-entry
 invariant-loop-entry g l =
     let disk = g.D.Disk in
     record {
-      written : AreWritten (drop l.entry-index l.entries);
+      formed : HaveWellFormedPatches (drop l.entry-index l.entries);
       honest : KeepsHonesty disk.steady (disk.honest l.fn.disk) (disk.honest l.disk);
       failures : disk.failures l.fn.disk ≤ disk.failures l.disk;
       told : disk.failures l.disk ≡ disk.failures l.fn.disk;

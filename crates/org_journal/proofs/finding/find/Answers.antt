@@ -7,7 +7,7 @@ use Rattle.org_journal.proofs.Fitting.{bad_size}
 use Rattle.org_journal.proofs.finding.find.Goals as goal
 
 pub returns-in_err-size-clause-found : goal.returns-in_err-size-clause-found
-returns-in_err-size-clause-found g c honest =
+returns-in_err-size-clause-found g c ended =
     let p = err_from_is_err_and c.from_residual.result c.from_residual.ensures.1 in
     let files = g.D.Disk.files c.args.disk.now in
-    rw (p.1, p.2) (bad_size (contents files) c.in_err-size.field-0.0 (subst (λ (name : List ℕ). FindsSize (files name).content (Err c.in_err-size.field-0.0)) c.requires (c.in_err-size.ensures.found honest)))
+    rw (p.1, p.2) (bad_size (contents files) c.in_err-size.field-0.0 (subst (λ (name : List ℕ). FindsSize (files name).content (Err c.in_err-size.field-0.0)) c.requires (c.in_err-size.ensures.found ended)))

@@ -9,10 +9,7 @@ returns-in-Ok-clause-step g c = λ honest.
     let d = g.D.Disk in
     let over : RunsOver d.files d.moment d.left_since c.args.store.now c.in-Ok.command c.run-answer.result c.run-answer.new.self = record {
       step = e.step honest;
-      any_moment = e.any_moment honest;
-      others = λ fine. e.others fine honest;
-      rest = λ fine. e.rest fine honest;
-      fit = e.fit honest;
+      disk = e.disk honest;
       untouched = e.untouched;
     } in
     rw c.in-Ok.is (

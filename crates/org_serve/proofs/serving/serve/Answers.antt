@@ -1,49 +1,46 @@
-use Rattle.std.proofs.Common.{◌≡◌, ◌∙◌, arith, ◌<◌, ◌++◌, length, take, inl, inr}
+use Rattle.std.proofs.Common.{◌≡◌, ◌∙◌, arith, ◌<◌, length, take, inl, inr}
 use Rattle.org_serve.specs.Lines.{cut}
 use Rattle.org_serve.specs.Serving.{Finishes, HasSettled}
 use Rattle.org_serve.specs.Stops.{HasSettledOver}
 use Rattle.org_serve.proofs.Cuts.{rest-free}
-use Rattle.org_serve.proofs.Inputs.{Served-more, Served-some, Served-all_ran, Served-end, Served-settled, Served-lines}
-use Rattle.org_serve.proofs.Joins.{Consumes-none, Consumes-kept}
+use Rattle.org_serve.proofs.Inputs.{Served-more, Served-some, Served-no_more, Served-all_ran, Served-end, Served-settled, Served-lines}
+use Rattle.org_serve.proofs.Joins.{Consumes-kept}
 use Rattle.org_serve.proofs.Counting.{HasRisenBy-counted, Breaks-then}
-use Rattle.org_serve.proofs.Stops.{session_of_served, session_of_ends, session_of_settled, session_of_fed, runs_read, runs_finish, runs_some, runs_leave, runs_keep}
+use Rattle.org_serve.proofs.Stops.{session_of_served, session_of_ends, session_of_settled, session_of_some, runs_read, runs_finish, runs_some, runs_leave, runs_keep}
 use Rattle.org_serve.proofs.serving.serve.Goals as goal
 
 pub returns-in-Ok-eq0-clause-end : goal.returns-in-Ok-eq0-clause-end
 returns-in-Ok-eq0-clause-end g c = λ honest no_read no_write.
     let d = g.D.Disk in
-    let s = c.loop.invariant.0 (c.finish.ensures.honest.0 honest) in
     let zero : c.in-Ok-eq0.field-0 ≡ 0 = omega arith in
     let read = rw zero at c.in-Ok-eq0.ensures.bytes in
+    let s = Served-no_more (c.loop.invariant.0 (c.finish.ensures.honest.0 honest)) (g.R.Source.left c.read.new.self) read.0 in
     let room : 0 < length c.read.new.into = omega (arith, c.read.auto.into) in
-    let at_end = c.in-Ok-eq0.ensures.bytes.1 zero room in
-    Served-end Finishes (session_of_served d.files d.moment d.left_since s) c.finish.result c.finish.new.store.session
-    (g.R.Source.left c.read.new.self) (g.W.Sink.written c.finish.new.writer) read.0 at_end
+    Served-end Finishes (session_of_served d.files d.moment d.left_since s) c.finish.result c.finish.new.store.session (g.W.Sink.written c.finish.new.writer) (c.in-Ok-eq0.ensures.bytes.1 zero room)
     (session_of_ends d.files d.moment d.left_since (cut s.input).rest c.loop.store c.finish.result c.finish.new.store (g.W.Sink.written c.loop.writer) (g.W.Sink.written c.finish.new.writer)
     (c.finish.ensures.told honest no_write (cut s.input).rest s.stands))
 
 pub returns-in-Ok-eq0-clause-write : goal.returns-in-Ok-eq0-clause-write
 returns-in-Ok-eq0-clause-write g c = λ honest e.
     let d = g.D.Disk in
-    let s = c.loop.invariant.0 (c.finish.ensures.honest.0 honest) in
-    let of = session_of_served d.files d.moment d.left_since s in
     let zero : c.in-Ok-eq0.field-0 ≡ 0 = omega arith in
     let read = rw zero at c.in-Ok-eq0.ensures.bytes in
+    let s = Served-no_more (c.loop.invariant.0 (c.finish.ensures.honest.0 honest)) (g.R.Source.left c.read.new.self) read.0 in
+    let of = session_of_served d.files d.moment d.left_since s in
     let room : 0 < length c.read.new.into = omega (arith, c.read.auto.into) in
-    let at_end = c.in-Ok-eq0.ensures.bytes.1 zero room in
     elim (c.finish.ensures.write honest e) [
-      | inl same ↦ inl (rw same (Served-all_ran of (g.R.Source.left c.read.new.self) read.0))
-      | inr h ↦ inr (Served-settled HasSettled of c.finish.new.store.session (g.R.Source.left c.read.new.self) read.0 at_end
+      | inl same ↦ inl (rw same (Served-all_ran of))
+      | inr h ↦ inr (Served-settled HasSettled of c.finish.new.store.session (c.in-Ok-eq0.ensures.bytes.1 zero room)
           (session_of_settled d.files d.moment d.left_since c.loop.store c.finish.new.store h))
     ]
 
 pub returns-in-Ok-eq0-clause-calls : goal.returns-in-Ok-eq0-clause-calls
 returns-in-Ok-eq0-clause-calls g c = λ honest.
     let d = g.D.Disk in
-    let s = c.loop.invariant.0 (c.finish.ensures.honest.0 honest) in
     let zero : c.in-Ok-eq0.field-0 ≡ 0 = omega arith in
     let read = rw zero at c.in-Ok-eq0.ensures.bytes in
-    runs_finish d.files d.moment d.left_since s c.finish.new.store c.finish.result (g.R.Source.left c.read.new.self) (g.W.Sink.written c.finish.new.writer) read.0
+    let s = Served-no_more (c.loop.invariant.0 (c.finish.ensures.honest.0 honest)) (g.R.Source.left c.read.new.self) read.0 in
+    runs_finish d.files d.moment d.left_since s c.finish.new.store c.finish.result (g.W.Sink.written c.finish.new.writer)
     (λ not. c.finish.ensures.told honest not (cut s.input).rest s.stands) (c.finish.ensures.write honest)
 
 pub returns-in-Ok-eq0-clause-any_moment : goal.returns-in-Ok-eq0-clause-any_moment
@@ -60,15 +57,16 @@ pub returns-in-Err-feed-clause-write : goal.returns-in-Err-feed-clause-write
 returns-in-Err-feed-clause-write g c = λ honest e.
     let d = g.D.Disk in
     let s = c.loop.invariant.0 (c.feed.ensures.honest.0 honest) in
-    inl (Served-some (session_of_served d.files d.moment d.left_since s) (take c.in-Ok.n c.read.new.into) c.feed.new.store.session (g.R.Source.left c.read.new.self) c.in-Ok.ensures.bytes.0
-    (session_of_fed d.files d.moment d.left_since c.loop.store c.feed.new.store ((cut s.input).rest ++ take c.in-Ok.n c.read.new.into) (c.in-Err-feed.ensures.fed honest (cut s.input).rest (rest-free s.input) s.stands)))
+    inl (session_of_some d.files d.moment d.left_since c.args.store.now c.feed.new.store _ _ (Served-some s (take c.in-Ok.n c.read.new.into) c.feed.new.store (g.R.Source.left c.read.new.self) c.in-Ok.ensures.bytes.0
+    (c.in-Err-feed.ensures.fed honest (cut s.input).rest (rest-free s.input) s.stands)))
 
 pub returns-in-Err-feed-clause-calls : goal.returns-in-Err-feed-clause-calls
 returns-in-Err-feed-clause-calls g c = λ honest.
     let d = g.D.Disk in
     let s = c.loop.invariant.0 (c.feed.ensures.honest.0 honest) in
-    runs_some (HasSettledOver d.files d.moment d.left_since) s (take c.in-Ok.n c.read.new.into) c.feed.new.store (g.R.Source.left c.read.new.self) (g.W.Sink.written c.feed.new.writer)
-    c.in-Ok.ensures.bytes.0 (c.in-Err-feed.ensures.fed honest (cut s.input).rest (rest-free s.input) s.stands)
+    runs_some (HasSettledOver d.files d.moment d.left_since) (g.W.Sink.written c.args.writer.now) (g.W.Sink.written c.feed.new.writer)
+    (Served-some s (take c.in-Ok.n c.read.new.into) c.feed.new.store (g.R.Source.left c.read.new.self) c.in-Ok.ensures.bytes.0
+    (c.in-Err-feed.ensures.fed honest (cut s.input).rest (rest-free s.input) s.stands))
 
 pub returns-in-Err-feed-clause-any_moment : goal.returns-in-Err-feed-clause-any_moment
 returns-in-Err-feed-clause-any_moment g c = λ honest.
@@ -83,14 +81,14 @@ returns-in-Err-feed-clause-disk g c = λ honest.
 pub returns-in-Err-clause-read : goal.returns-in-Err-clause-read
 returns-in-Err-clause-read g c = λ honest e.
     let d = g.D.Disk in
-    Served-lines (session_of_served d.files d.moment d.left_since (c.loop.invariant.0 honest)) (g.R.Source.left c.read.new.self)
-    (Consumes-kept _ _ c.in-Err.ensures.bytes)
+    let s = Served-no_more (c.loop.invariant.0 honest) (g.R.Source.left c.read.new.self) (Consumes-kept _ _ c.in-Err.ensures.bytes) in
+    Served-lines (session_of_served d.files d.moment d.left_since s)
 
 pub returns-in-Err-clause-calls : goal.returns-in-Err-clause-calls
 returns-in-Err-clause-calls g c = λ honest.
     let d = g.D.Disk in
-    runs_read d.files d.moment d.left_since (c.loop.invariant.0 honest) (g.R.Source.left c.read.new.self)
-    (Consumes-kept _ _ c.in-Err.ensures.bytes)
+    runs_read (HasSettledOver d.files d.moment d.left_since)
+    (Served-no_more (c.loop.invariant.0 honest) (g.R.Source.left c.read.new.self) (Consumes-kept _ _ c.in-Err.ensures.bytes))
 
 pub returns-in-Err-clause-any_moment : goal.returns-in-Err-clause-any_moment
 returns-in-Err-clause-any_moment g c = λ honest.
@@ -105,14 +103,12 @@ returns-in-Err-clause-disk g c = λ honest.
 pub returns-clause-read : goal.returns-clause-read
 returns-clause-read g c = λ honest e.
     let d = g.D.Disk in
-    let left = g.R.Source.left c.loop.reader in
-    Served-lines (session_of_served d.files d.moment d.left_since (c.loop.invariant.0 honest)) left (Consumes-none left)
+    Served-lines (session_of_served d.files d.moment d.left_since (c.loop.invariant.0 honest))
 
 pub returns-clause-calls : goal.returns-clause-calls
 returns-clause-calls g c = λ honest.
     let d = g.D.Disk in
-    let left = g.R.Source.left c.loop.reader in
-    runs_read d.files d.moment d.left_since (c.loop.invariant.0 honest) left (Consumes-none left)
+    runs_read (HasSettledOver d.files d.moment d.left_since) (c.loop.invariant.0 honest)
 
 pub returns-clause-any_moment : goal.returns-clause-any_moment
 returns-clause-any_moment g c = λ honest.

@@ -14,10 +14,7 @@ returns-in-Ok-clause-told g c = λ honest not.
     let pending : old.session.acknowledged < old.session.accepted = omega (arith, c.acknowledged.ensures, c.accepted.ensures, c.if-acknowledged-accepted.false) in
     let over : SettlesOver d.files d.moment d.left_since old c.settle-answer.result new = record {
       step = e.step honest;
-      any_moment = e.any_moment honest;
-      others = λ fine. e.others fine honest;
-      rest = λ fine. e.rest fine honest;
-      fit = e.fit honest;
+      disk = e.disk honest;
       untouched = e.untouched;
     } in (
       settled_text c.settle-answer.result new.session.acknowledged,

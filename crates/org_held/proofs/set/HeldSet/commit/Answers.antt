@@ -55,7 +55,7 @@ invariant_of-self-in_err-commit_texts g c =
     sound_still inside.set.names commit.new.set.names live ((commit.new.set.broken ≡ false) × g.D.Disk.honest commit.new.set.disk)
     old (contents (g.D.Disk.files commit.new.set.disk)) inside.kept.items inside.kept.items c.changes_with.new.pending.items before commit.ensures.names
     (λ n.
-    let same = commit.ensures.memory (no_memory commit.result c.in_err-commit_texts.field-0.0 commit.new.set.broken c.in_err-commit_texts.was commit.ensures.working commit.ensures.breaks n.0) in
+    let same = commit.ensures.memory (no_memory commit.result c.in_err-commit_texts.field-0.0 commit.new.set.broken c.in_err-commit_texts.was commit.ensures.not_broken commit.ensures.breaks n.0) in
     ((unbroken, commit.ensures.honest.0 n.1), rw same refl))
     (λ each. each) (λ live name kept. kept)
 
@@ -72,7 +72,7 @@ returns-in_err-commit_texts-clause-any_moment g c =
 pub returns-in_err-commit_texts-clause-fit : goal.returns-in_err-commit_texts-clause-fit
 returns-in_err-commit_texts-clause-fit g c =
     let given : c.from_residual-in_err-commit_texts.result ≡ Err c.in_err-commit_texts.field-0.0 = search rules in
-    rw (← c.self.view_is) (λ fell honest rest. c.commit_texts.ensures.fit (c.in_err-commit_texts.was ∙ sym given ∙ fell) honest rest)
+    rw (← c.self.view_is) (λ fell ended rest. c.commit_texts.ensures.fit (c.in_err-commit_texts.was ∙ sym given ∙ fell) ended rest)
 
 pub keep_all-requires : goal.keep_all-requires
 keep_all-requires g c one there =
@@ -118,7 +118,7 @@ returns-clause-texts g c =
     let own : texts_of (held_over c.keep_all.new.pending.items new) c.commit_texts.new.set.names ≡ texts_of new c.commit_texts.new.set.names = ap (λ (l : List Held). texts_of (held_over l new) c.commit_texts.new.set.names) c.keep_all.ensures.none in
     texts_told c.args.self.now inside.set.disk names inside.set.broken (texts_of (held_over inside.pending.items files) names) c.self.view_is (g.D.Disk.honest c.commit_texts.new.set.disk) drafts
     (texts_of (held_over c.keep_all.new.pending.items new) c.commit_texts.new.set.names)
-    (λ honest. own ∙ c.in_ok-commit_texts.ensures.texts honest ∙ texts_more names drafts c.in_ok-changes.changes inside.pending.items files c.in_ok-changes.ensures.over)
+    (λ ended. own ∙ c.in_ok-commit_texts.ensures.texts ended ∙ texts_more names drafts c.in_ok-changes.changes inside.pending.items files c.in_ok-changes.ensures.over)
 
 pub returns-clause-others : goal.returns-clause-others
-returns-clause-others g c = rw (← c.self.view_is, c.keep_all.ensures.none) (λ honest. c.in_ok-commit_texts.ensures.others honest)
+returns-clause-others g c = rw (← c.self.view_is, c.keep_all.ensures.none) (λ ended. c.in_ok-commit_texts.ensures.others ended)

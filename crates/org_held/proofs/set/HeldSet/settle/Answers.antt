@@ -42,7 +42,7 @@ invariant_of-self g c =
     sound_still inside.set.names commit.new.set.names ((inside.set.broken ≡ false) × g.D.Disk.honest inside.set.disk) ((commit.new.set.broken ≡ false) × g.D.Disk.honest commit.new.set.disk)
     (contents (g.D.Disk.files inside.set.disk)) (contents (g.D.Disk.files commit.new.set.disk)) inside.kept.items inside.kept.items inside.pending.items c.self.invariant commit.ensures.names
     (λ n.
-    let same = commit.ensures.memory (no_memory commit.result c.in_err-commit_texts.field-0.0 commit.new.set.broken c.in_err-commit_texts.was commit.ensures.working commit.ensures.breaks n.0) in
+    let same = commit.ensures.memory (no_memory commit.result c.in_err-commit_texts.field-0.0 commit.new.set.broken c.in_err-commit_texts.was commit.ensures.not_broken commit.ensures.breaks n.0) in
     ((unbroken, commit.ensures.honest.0 n.1), rw same refl))
     (λ each. each) (λ live name kept. kept)
 
@@ -53,13 +53,13 @@ returns-in_err-commit_texts-clause-any_moment g c =
     let whole : c.deref.result.now ≡ inside.pending.items = search rules in
     let agree : Agree c.in_ok-changes.changes inside.pending.items = subst (λ (l : List Held). Agree c.in_ok-changes.changes l) whole c.in_ok-changes.ensures.over in
     let texts = texts_agree inside.set.names c.in_ok-changes.changes inside.pending.items files agree in
-    rw (← c.self.view_is) (λ honest rest. leaves_as (c.commit_texts.ensures.any_moment honest rest)
+    rw (← c.self.view_is) (λ ended rest. leaves_as (c.commit_texts.ensures.any_moment ended rest)
     (λ image. subst (λ (t : List (List ℕ)). HoldsEither inside.set.names files t image) texts))
 
 pub returns-in_err-commit_texts-clause-fit : goal.returns-in_err-commit_texts-clause-fit
 returns-in_err-commit_texts-clause-fit g c =
     let given : c.from_residual-in_err-commit_texts.result ≡ Err c.in_err-commit_texts.field-0.0 = search rules in
-    rw (← c.self.view_is) (λ fell honest rest. c.commit_texts.ensures.fit (c.in_err-commit_texts.was ∙ sym given ∙ fell) honest rest)
+    rw (← c.self.view_is) (λ fell ended rest. c.commit_texts.ensures.fit (c.in_err-commit_texts.was ∙ sym given ∙ fell) ended rest)
 
 pub keep_all-requires : goal.keep_all-requires
 keep_all-requires g c one there = (c.self.invariant.pending_are one there).heads
@@ -84,7 +84,7 @@ returns-clause-any_moment g c =
     let whole : c.deref.result.now ≡ inside.pending.items = search rules in
     let agree : Agree c.in_ok-changes.changes inside.pending.items = subst (λ (l : List Held). Agree c.in_ok-changes.changes l) whole c.in_ok-changes.ensures.over in
     let texts = texts_agree inside.set.names c.in_ok-changes.changes inside.pending.items files agree in
-    rw (← c.self.view_is) (λ honest rest. leaves_as (c.commit_texts.ensures.any_moment honest rest)
+    rw (← c.self.view_is) (λ ended rest. leaves_as (c.commit_texts.ensures.any_moment ended rest)
     (λ image. subst (λ (t : List (List ℕ)). HoldsEither inside.set.names files t image) texts))
 
 pub returns-clause-texts : goal.returns-clause-texts
@@ -94,4 +94,4 @@ returns-clause-texts g c =
     let whole : c.deref.result.now ≡ inside.pending.items = search rules in
     let agree : Agree c.in_ok-changes.changes inside.pending.items = subst (λ (l : List Held). Agree c.in_ok-changes.changes l) whole c.in_ok-changes.ensures.over in
     let texts = texts_agree inside.set.names c.in_ok-changes.changes inside.pending.items files agree in
-    rw (← c.self.view_is, c.keep_all.ensures.none) (λ honest. c.in_ok-commit_texts.ensures.texts honest ∙ texts)
+    rw (← c.self.view_is, c.keep_all.ensures.none) (λ ended. c.in_ok-commit_texts.ensures.texts ended ∙ texts)

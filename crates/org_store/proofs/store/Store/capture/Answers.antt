@@ -1,8 +1,6 @@
 use Rattle.std.proofs.Common.{◌≡◌, ◌∙◌, Result, Ok, Err, refl, sym, subst, rules}
-use Rattle.org_disk.specs.Disk.{AreImages}
-use Rattle.org_disk.proofs.Moments.{Image, passes_none, passes_as, passes_then, leaves_only}
-use Rattle.org_journal.specs.Standing.{contents}
-use Rattle.org_fileset.specs.Replay.{IsAtRest}
+use Rattle.std.specs.Prelude.{IsErrOf}
+use Rattle.org_journal.specs.Standing.{Image, contents}
 use Rattle.org_held.specs.InOrder.{texts_of, text_at}
 use Rattle.org_store.specs.declared.command.Reply.{Reply}
 use Rattle.org_store.specs.declared.command.Refusal.TheVariants.{NoSuchFile}
@@ -12,99 +10,83 @@ use Rattle.org_store.specs.declared.command.RunFault.TheVariants.{Refused, Devic
 use Rattle.org_store.specs.Outcome.{capture}
 use Rattle.org_store.specs.Left.{IsLeftBy}
 use Rattle.org_store.specs.Keeping.{IsLeftKeeping, after}
-use Rattle.org_store.proofs.Keeping.{others_unwritten, left_at_rest, left_quiet, left_by_accept, match_ok, match_err, same_fault, counts_done}
+use Rattle.org_store.proofs.Keeping.{left_quiet, left_by_accept, match_ok, match_err, same_fault, counts_done}
+use Rattle.org_store.proofs.Leaving.{leaves_same, leaves_unwritten, leaves_after}
 use Rattle.org_store.proofs.store.Store.capture.Goals as goal
 
-pub returns-then-not-has-clause-any_moment : goal.returns-then-not-has-clause-any_moment
-returns-then-not-has-clause-any_moment g c honest rest =
-    let s = c.args.self.now.session in
-    let disk = c.args.self.now.disk in
-    let files = g.D.Disk.files disk in
+pub returns-then-not-has-clause-disk : goal.returns-then-not-has-clause-disk
+returns-then-not-has-clause-disk g c = λ honest.
+    let d = g.D.Disk in
+    let old = c.args.self.now in
+    let s = old.session in
+    let files = contents (d.files old.disk) in
     let outcome = capture s c.args.file.now c.args.target.now c.args.place c.args.template.now (text_at s.names s.files c.args.file.now) in
-    let own : s.settled ≡ texts_of (contents files) s.names = rw (← c.self.view_is) refl in
-    leaves_only (passes_none (g.D.Disk.moment disk) (g.D.Disk.left_since disk) (IsLeftBy s (contents files) outcome (Err (Refused NoSuchFile)) s.accepted))
-    (λ image left. left_quiet s (contents files) outcome (Err (Refused NoSuchFile)) s.accepted image (left_at_rest s files own rest image (g.met.D.Disk.only_now disk image honest left)))
+    let own : s.settled ≡ texts_of files s.names = rw (← c.self.view_is) refl in
+    leaves_unwritten d.files d.moment d.left_since old (IsLeftBy s files outcome (Err (Refused NoSuchFile)) s.accepted) _ (λ image left. g.met.D.Disk.only_now old.disk image honest left) own
+    (λ image holds. left_quiet s files outcome (Err (Refused NoSuchFile)) s.accepted image holds) old refl own
 
-pub returns-then-not-has-clause-others : goal.returns-then-not-has-clause-others
-returns-then-not-has-clause-others g c fault honest =
-    let s = c.args.self.now.session in
-    let files = g.D.Disk.files c.args.self.now.disk in
-    let own : s.settled ≡ texts_of (contents files) s.names = rw (← c.self.view_is) refl in
-    others_unwritten s.names s.settled files files own refl
-
-pub returns-in_err-drafts-clause-any_moment : goal.returns-in_err-drafts-clause-any_moment
-returns-in_err-drafts-clause-any_moment g c ended rest =
-    let honest = c.plan_capture.ensures.honest.0 ended in
-    let s = c.args.self.now.session in
-    let disk = c.args.self.now.disk in
-    let files = g.D.Disk.files disk in
-    let outcome = capture s c.args.file.now c.args.target.now c.args.place c.args.template.now (text_at s.names s.files c.args.file.now) in
-    let own : s.settled ≡ texts_of (contents files) s.names = rw (← c.self.view_is) refl in
-    let quiet = λ (image : Image) (left : AreImages files image). left_quiet s (contents files) outcome c.from_residual.result c.plan_capture.new.self.session.accepted image (left_at_rest s files own rest image left) in
-    leaves_only (passes_as (c.plan_capture.ensures.any_moment ended) quiet) (λ image left. quiet image (g.met.D.Disk.only_now disk image honest left))
-
-pub returns-in_err-drafts-clause-others : goal.returns-in_err-drafts-clause-others
-returns-in_err-drafts-clause-others g c fault ended =
+pub returns-in_err-drafts-clause-disk : goal.returns-in_err-drafts-clause-disk
+returns-in_err-drafts-clause-disk g c = λ ended.
+    let d = g.D.Disk in
+    let e = c.plan_capture.ensures in
+    let old = c.args.self.now in
     let new = c.plan_capture.new.self in
-    others_unwritten new.session.names new.session.settled (g.D.Disk.files c.args.self.now.disk) (g.D.Disk.files new.disk) c.plan_capture.ensures.settled (c.plan_capture.ensures.same ended)
+    let s = old.session in
+    let files = contents (d.files old.disk) in
+    let outcome = capture s c.args.file.now c.args.target.now c.args.place c.args.template.now (text_at s.names s.files c.args.file.now) in
+    let own : s.settled ≡ texts_of files s.names = rw (← c.self.view_is) refl in
+    leaves_same d.files d.moment d.left_since old (IsLeftBy s files outcome c.from_residual.result new.session.accepted) _ (λ image left. g.met.D.Disk.only_now old.disk image (e.honest.0 ended) left) own
+    (λ image holds. left_quiet s files outcome c.from_residual.result new.session.accepted image holds) new (e.any_moment ended) (e.same ended) e.settled
 
-pub returns-in_err-accept-clause-any_moment : goal.returns-in_err-accept-clause-any_moment
-returns-in_err-accept-clause-any_moment g c ended rest =
-    let h1 = c.accept.ensures.honest.0 ended in
-    let honest = c.plan_capture.ensures.honest.0 h1 in
-    let s = c.args.self.now.session in
-    let disk = c.args.self.now.disk in
-    let files = g.D.Disk.files disk in
+pub returns-in_err-accept-clause-disk : goal.returns-in_err-accept-clause-disk
+returns-in_err-accept-clause-disk g c = λ ended.
+    let d = g.D.Disk in
+    let e = c.plan_capture.ensures in
+    let fault = c.in_err-accept.field-0.0 in
+    let planned_honest = c.accept.ensures.honest.0 ended in
+    let old = c.args.self.now in
     let mid = c.plan_capture.new.self in
-    let now = g.D.Disk.files mid.disk in
-    let new = c.accept.new.self.session in
+    let new = c.accept.new.self in
+    let s = old.session in
+    let files = contents (d.files old.disk) in
     let drafts = c.in_ok-drafts.drafts in
     let outcome = capture s c.args.file.now c.args.target.now c.args.place c.args.template.now (text_at s.names s.files c.args.file.now) in
-    let own : s.settled ≡ texts_of (contents files) s.names = rw (← c.self.view_is) refl in
-    let planned = c.in_ok-drafts.ensures.plans h1 in
-    let same = c.plan_capture.ensures.same h1 in
+    let own : s.settled ≡ texts_of files s.names = rw (← c.self.view_is) refl in
+    let planned = c.in_ok-drafts.ensures.plans planned_honest in
+    let same = e.same planned_honest in
     let answer = c.from_residual-in_err-accept.result in
-    let given : answer ≡ Err c.in_err-accept.field-0.0 = search rules in
-    let quiet = λ (image : Image) (left : AreImages files image). left_quiet s (contents files) outcome answer new.accepted image (left_at_rest s files own rest image left) in
-    let weaker = λ (image : Image) (left : IsLeftKeeping mid.session (contents now) (after mid.session drafts) c.accept.result image).
-    subst (λ (r : Result Reply RunFault). IsLeftBy s (contents files) outcome r new.accepted image) (sym given)
-    (match_err (IsLeftBy s (contents files) outcome (Ok (Done 0)) new.accepted image) (λ fault. IsLeftBy s (contents files) outcome (Err fault) new.accepted image) c.accept.result c.in_err-accept.field-0.0 c.in_err-accept.was
-    (left_by_accept s mid.session new files now drafts outcome c.accept.result 0 image planned.1 same planned.0 c.accept.ensures.counts left)) in
-    leaves_only (passes_then (passes_as (c.plan_capture.ensures.any_moment h1) quiet) (c.accept.ensures.any_moment ended (subst IsAtRest (sym same) rest)).passes weaker)
-    (λ image left. quiet image (g.met.D.Disk.only_now disk image honest left))
+    let given : answer ≡ Err fault = search rules in
+    let weaker = λ (image : Image) (left : IsLeftKeeping mid.session (contents (d.files mid.disk)) (after mid.session drafts) c.accept.result image).
+    subst (λ (r : Result Reply RunFault). IsLeftBy s files outcome r new.session.accepted image) (sym given)
+    (match_err (IsLeftBy s files outcome (Ok (Done 0)) new.session.accepted image) (λ fault. IsLeftBy s files outcome (Err fault) new.session.accepted image) c.accept.result fault c.in_err-accept.was
+    (left_by_accept s mid.session new.session (d.files old.disk) (d.files mid.disk) drafts outcome c.accept.result 0 image planned.1 same planned.0 c.accept.ensures.counts left)) in
+    let failed = λ (fell : IsErrOf c.accept.result Device).
+    let same : Err fault ≡ Err Device = sym c.in_err-accept.was ∙ fell in given ∙ same_fault fault Device same in
+    leaves_after d.files d.moment d.left_since old (IsLeftBy s files outcome answer new.session.accepted) (IsErrOf answer Device) (λ image left. g.met.D.Disk.only_now old.disk image (e.honest.0 planned_honest) left) own
+    (λ image holds. left_quiet s files outcome answer new.session.accepted image holds) mid new _ (IsErrOf c.accept.result Device) (e.any_moment planned_honest) same (c.accept.ensures.disk ended) weaker failed
 
-pub returns-in_err-accept-clause-rest : goal.returns-in_err-accept-clause-rest
-returns-in_err-accept-clause-rest g c fault ended rest =
-    let h1 = c.accept.ensures.honest.0 ended in
-    let given : c.from_residual-in_err-accept.result ≡ Err c.in_err-accept.field-0.0 = search rules in
-    let not_the_disk : c.accept.result ≡ Err Device → ⊥ = λ fell. let same : Err c.in_err-accept.field-0.0 ≡ Err Device = sym c.in_err-accept.was ∙ fell in fault (given ∙ same_fault c.in_err-accept.field-0.0 Device same) in
-    c.accept.ensures.rest not_the_disk ended (subst IsAtRest (sym (c.plan_capture.ensures.same h1)) rest)
-
-pub returns-in_err-accept-clause-fit : goal.returns-in_err-accept-clause-fit
-returns-in_err-accept-clause-fit g c ended rest = c.accept.ensures.fit ended (subst IsAtRest (sym (c.plan_capture.ensures.same (c.accept.ensures.honest.0 ended))) rest)
-
-pub returns-clause-any_moment : goal.returns-clause-any_moment
-returns-clause-any_moment g c ended rest =
-    let h1 = c.accept.ensures.honest.0 ended in
-    let honest = c.plan_capture.ensures.honest.0 h1 in
-    let s = c.args.self.now.session in
-    let disk = c.args.self.now.disk in
-    let files = g.D.Disk.files disk in
+pub returns-clause-disk : goal.returns-clause-disk
+returns-clause-disk g c = λ ended.
+    let d = g.D.Disk in
+    let e = c.plan_capture.ensures in
+    let planned_honest = c.accept.ensures.honest.0 ended in
+    let old = c.args.self.now in
     let mid = c.plan_capture.new.self in
-    let now = g.D.Disk.files mid.disk in
-    let new = c.accept.new.self.session in
+    let new = c.accept.new.self in
+    let s = old.session in
+    let files = contents (d.files old.disk) in
     let drafts = c.in_ok-drafts.drafts in
     let outcome = capture s c.args.file.now c.args.target.now c.args.place c.args.template.now (text_at s.names s.files c.args.file.now) in
-    let own : s.settled ≡ texts_of (contents files) s.names = rw (← c.self.view_is) refl in
-    let planned = c.in_ok-drafts.ensures.plans h1 in
-    let same = c.plan_capture.ensures.same h1 in
-    let answer = (Ok (Done c.self-2.inside.accepted)) in
-    let quiet = λ (image : Image) (left : AreImages files image). left_quiet s (contents files) outcome answer new.accepted image (left_at_rest s files own rest image left) in
-    let weaker = λ (image : Image) (left : IsLeftKeeping mid.session (contents now) (after mid.session drafts) c.accept.result image).
-    match_ok (λ fault. IsLeftBy s (contents files) outcome (Err fault) new.accepted image) c.accept.result tt c.in_ok-accept.was
-    (left_by_accept s mid.session new files now drafts outcome c.accept.result c.self-2.inside.accepted image planned.1 same planned.0 c.accept.ensures.counts left) in
-    leaves_only (passes_then (passes_as (c.plan_capture.ensures.any_moment h1) quiet) (c.accept.ensures.any_moment ended (subst IsAtRest (sym same) rest)).passes weaker)
-    (λ image left. quiet image (g.met.D.Disk.only_now disk image honest left))
+    let own : s.settled ≡ texts_of files s.names = rw (← c.self.view_is) refl in
+    let planned = c.in_ok-drafts.ensures.plans planned_honest in
+    let same = e.same planned_honest in
+    let answer : Result Reply RunFault = Ok (Done c.self-2.inside.accepted) in
+    let weaker = λ (image : Image) (left : IsLeftKeeping mid.session (contents (d.files mid.disk)) (after mid.session drafts) c.accept.result image).
+    match_ok (λ fault. IsLeftBy s files outcome (Err fault) new.session.accepted image) c.accept.result tt c.in_ok-accept.was
+    (left_by_accept s mid.session new.session (d.files old.disk) (d.files mid.disk) drafts outcome c.accept.result c.self-2.inside.accepted image planned.1 same planned.0 c.accept.ensures.counts left) in
+    let failed = λ (fell : IsErrOf c.accept.result Device). let no : Ok tt ≡ Err Device = sym c.in_ok-accept.was ∙ fell in absurd (cc) in
+    leaves_after d.files d.moment d.left_since old (IsLeftBy s files outcome answer new.session.accepted) (IsErrOf answer Device) (λ image left. g.met.D.Disk.only_now old.disk image (e.honest.0 planned_honest) left) own
+    (λ image holds. left_quiet s files outcome answer new.session.accepted image holds) mid new _ (IsErrOf c.accept.result Device) (e.any_moment planned_honest) same (c.accept.ensures.disk ended) weaker failed
 
 pub returns-clause-counts : goal.returns-clause-counts
 returns-clause-counts g c =
