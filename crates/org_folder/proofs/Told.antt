@@ -31,28 +31,11 @@ looks_told world event old new is same = subst (λ calls. Looks world old calls)
   time = passes_told world event old (AreImages (files world old)) (λ image now. subst (λ (fs : List ℕ → FileState). AreImages fs image) same now);
 })
 
-pub looks_absent : (world : World) (name : List ℕ) (old new : List Event) → new ≡ Absent name ∷ old → Looks world old new
-looks_absent world name old new is = looks_told world (Absent name) old new is refl
-
-pub looks_length : (world : World) (name : List ℕ) (n : ℕ) (old new : List Event) → new ≡ Length name n ∷ old → Looks world old new
-looks_length world name n old new is = looks_told world (Length name n) old new is refl
-
-pub looks_read : (world : World) (name : List ℕ) (from : ℕ) (bytes : List ℕ) (old new : List Event) → new ≡ Read name from bytes ∷ old → Looks world old new
-looks_read world name from bytes old new is = looks_told world (Read name from bytes) old new is refl
-
 -- What looks answer, of a file that was opened under the name
-
-pub absent_is : (world : World) (name : List ℕ) (old new : List Event) → AreRight world new → new ≡ Absent name ∷ old → files world old name ≡ stable []
-absent_is world name old new right is = (subst (AreRight world) is right).0
 
 pub length_is : (world : World) (called name : List ℕ) (n : ℕ) (old new : List Event) → AreRight world new → called ≡ name → new ≡ Length called n ∷ old
     → n ≡ length (files world old name).content
 length_is world called name n old new right same is = subst (λ c. n ≡ length (files world old c).content) same (subst (AreRight world) is right).0
-
-pub read_is : (world : World) (called name : List ℕ) (from : ℕ) (bytes : List ℕ) (old new : List Event) → AreRight world new → called ≡ name
-    → new ≡ Read called from bytes ∷ old → bytes ≡ take (length bytes) (drop from (files world old name).content)
-read_is world called name from bytes old new right same is =
-    subst (λ c. bytes ≡ take (length bytes) (drop from (files world old c).content)) same (subst (AreRight world) is right).0
 
 -- Calls that change a file
 
@@ -154,18 +137,6 @@ does_nothing world effect name old new (Err fault) failed right looks = record {
     ok = tt;
     err = subst (λ f. IsLeftBy effect (files world old name) f) (sym (ap (λ (fs : List ℕ → FileState). fs name) looks.same))
         (record { content = inl (own_image world old right name); images = λ bytes left. inl left });
-    others = λ other apart. ap (λ (fs : List ℕ → FileState). fs other) looks.same;
-  };
-  time = looks_left world effect name old new looks;
-}
-
--- a call that a name without a file has no need of
-pub does_idle : (world : World) (effect : FileState → FileState) (name : List ℕ) (old new : List Event) (done : Unit {0}) → files world old name ≡ stable []
-    → effect (stable []) ≡ stable [] → Looks world old new → Does world effect name old new (Ok done)
-does_idle world effect name old new done absent idle looks = record {
-  changes = record {
-    ok = ap (λ (fs : List ℕ → FileState). fs name) looks.same ∙ absent ∙ sym idle ∙ sym (ap effect absent);
-    err = tt;
     others = λ other apart. ap (λ (fs : List ℕ → FileState). fs other) looks.same;
   };
   time = looks_left world effect name old new looks;
