@@ -1,4 +1,3 @@
-pub mod Closed
 pub mod Results
 mod Lists
 mod Holding

@@ -69,6 +69,9 @@ lines_of-print_lines (l ∷ ls) p = lines_of-append l (print_lines ls) p.0 ∙ a
 pub lines_of-closed : (t : List ℕ) → lines_of (closed t) ≡ lines_of t
 lines_of-closed t = ap lines_of (sym (print_lines-lines_of t)) ∙ lines_of-print_lines (lines_of t) (lines_of-lines t)
 
+pub closed_twice : (t : List ℕ) → closed (closed t) ≡ closed t
+closed_twice t = sym (print_lines-lines_of (closed t)) ∙ ap print_lines (lines_of-closed t) ∙ print_lines-lines_of t
+
 -- a line is its stars and the rest
 pub one-add : (n : ℕ) → 1 + n ≡ suc n
 one-add n = omega arith

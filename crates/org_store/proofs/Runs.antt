@@ -9,6 +9,7 @@ use Rattle.org_disk.proofs.Moments.{passes_none, passes_as, passes_then, leaves_
 use Rattle.org_journal.specs.Standing.{Image, SameFiles, IsFit, StandsFor, stands, contents}
 use Rattle.org_fileset.specs.Replay.{IsAtRest}
 use Rattle.org_fileset.proofs.Commits.{at_rest_stands}
+use Rattle.org_fileset.proofs.Stands.{stands_as}
 use Rattle.org_store.specs.declared.command.Command.{Command}
 use Rattle.org_store.specs.declared.command.Reply.{Reply}
 use Rattle.org_store.specs.declared.command.Reply.TheVariants.{Done, Safe, Text}
@@ -134,14 +135,6 @@ falls old new command step = elim step.1 [
   ]
 ]
 
--- an image stands for files that agree
-stands_as : (first second image : Image) → SameFiles first second → StandsFor first image → StandsFor second image
-stands_as first second image same = go (stands image)
-  where
-    go : (o : Option Image) → IsSomeAnd o (λ found. SameFiles found first) → IsSomeAnd o (λ found. SameFiles found second)
-    go (Some found) is = λ name not. is name not ∙ same name not
-    go None is = is
-
 -- What is left of one call: the files that were settled, or those of a session that was reached.
 
 either_of : (old : Session) (others : Image) (outcome : Outcome) (image : Image) (IsReached : Session → Type 0) → IsReached old
@@ -217,15 +210,7 @@ holds_back old mid before after image onward disk same texts which holds =
     subst (λ names. StandsFor (with_texts names texts before) image) onward.names
     (stands_as (with_texts mid.names texts after) (with_texts mid.names texts before) image (others_over old mid before after onward disk same texts which) holds)
 
--- texts of files, laid over these files
-pub own_over : (names : List (List ℕ)) (files : Image) (name : List ℕ) → files name ≡ with_texts names (texts_of files names) files name
-own_over [] files name = refl
-own_over (one ∷ names) files name = elim (cases_Bool (bytes_eq one name)) [
-  | inl t ↦ rw t (ap files (sym ((bytes_eq-Decides one name).0 t)))
-  | inr f ↦ rw f (own_over names files name)
-]
-
-pub on_disk_after : (names settled : List (List ℕ)) (before after : Image) → SameFiles after (with_texts names settled before) → SameFiles after (with_texts names settled after)
+on_disk_after : (names settled : List (List ℕ)) (before after : Image) → SameFiles after (with_texts names settled before) → SameFiles after (with_texts names settled after)
 on_disk_after names settled before after same name not =
     same name not ∙ texts_over names settled before after name (λ none. sym (same name not ∙ texts_apart names settled before name none))
 

@@ -2,8 +2,7 @@
 ghost use Rattle.std.specs.Prelude.{◌≡◌, ◌<◌, ◌+◌, ◌++◌, ◌⊎◌, List, ℕ, None, Result, Ok, IsTrue, IsFalse};
 ghost use Rattle.std.specs.List.{All};
 ghost use Rattle.org_disk.specs.Disk.{HasRisen, LeavesOnly};
-ghost use Rattle.org_outline.specs.States.{Keywords};
-ghost use Rattle.org_journal.specs.Standing.{Image, SameFiles, contents};
+ghost use Rattle.org_journal.specs.Standing.{Image, contents};
 ghost use Rattle.org_disk.specs.Names.{IsOrgFile};
 ghost use Rattle.org_fileset.specs.Names.{with_archives, AreSorted, AreFew, first_large};
 ghost use Rattle.org_fileset.specs.Opening.{IsReason};
@@ -15,11 +14,10 @@ ghost use Rattle.org_store.specs.declared.command.Reply.{Reply};
 ghost use Rattle.org_store.specs.declared.command.Reply.TheVariants.{Done};
 ghost use Rattle.org_store.specs.declared.command.RunFault.{RunFault};
 ghost use Rattle.org_store.specs.Left.{IsLeft};
-ghost use Rattle.org_store.specs.Opening.{opened};
 ghost use Rattle.org_store.specs.Outcome.{Accepts, outcome};
 ghost use Rattle.org_store.specs.Reopening.{AreSameNames, AreSmall, IsOpenable};
 ghost use Rattle.org_store.specs.Runs.{RunsAllOver, IsOnDisk, Reaches, IsBetween, IsLeftOf};
-ghost use Rattle.org_held.specs.InOrder.{texts_of, with_texts};
+ghost use Rattle.org_held.specs.InOrder.{texts_of};
 ghost use Rattle.org_store.specs.Session.{Session, Kept, Holds};
 ghost use Rattle.org_store.specs.Step.{Step, Run, IsReply};
 
@@ -61,13 +59,6 @@ pub fn stops_leave_a_prefix<D: Disk>()
     // A broken store leaves its disk as it is.
     ensures broken { (old new : Kept D) (commands : List Command) (answers : List (Result Reply RunFault)) → IsTrue old.session.broken
         → RunsAllOver D.files D.moment D.left_since old commands answers new → new ≡ old }
-{}
-
-/// What is settled is on the disk after an opening; and after a call that met no failure, by its clause on the files
-/// that aren't the store's.
-pub fn settled_is_on_disk()
-    ensures opened { (states : Keywords) (names : List (List ℕ)) (files : Image) → IsOnDisk (opened states names (texts_of files names)) files }
-    ensures called { (s : Session) (old new : Image) → SameFiles new (with_texts s.names s.settled old) → IsOnDisk s new }
 {}
 
 /// There is one way to put names in order, each once. So the given names are few or too many, and never both.
