@@ -8,39 +8,55 @@ fn moment(year: u16, month: u8, day: u8, hour: u8, minute: u8) -> Result<Moment,
     Ok(Moment::new(year, month, day, hour, minute).ok_or("no such moment")?)
 }
 
+// Moments, and the minutes from 1970-01-01 00:00 to each.
+const MINUTES: [(u16, u8, u8, u8, u8, i64); 5] = [
+    (1970, 1, 1, 0, 0, 0),
+    (1969, 12, 31, 23, 59, -1),
+    (2000, 1, 1, 0, 1, 10957 * 1440 + 1),
+    (1, 1, 1, 0, 0, -719162 * 1440),
+    (9999, 12, 31, 23, 59, 2932896 * 1440 + 1439),
+];
+
+// Days, and how many days after Monday each is.
+const WEEKDAYS: [(u16, u8, u8, u8); 4] = [
+    (2026, 7, 1, 2),
+    (2005, 10, 3, 0),
+    (2024, 2, 29, 3),
+    (9999, 12, 31, 4),
+];
+
 #[test]
 fn moments_of_the_calendar(rt: HostRuntime) -> Result<(), Fail> {
-    assert_eq!(rt; moment(1970, 1, 1, 0, 0)?.minutes(), 0);
-    assert_eq!(rt; moment(1969, 12, 31, 23, 59)?.minutes(), -1);
-    assert_eq!(rt; moment(2000, 1, 1, 0, 1)?.minutes(), 10957 * 1440 + 1);
-    assert_eq!(rt; moment(1, 1, 1, 0, 0)?.minutes(), -719162 * 1440);
-    assert_eq!(rt;
-        moment(9999, 12, 31, 23, 59)?.minutes(),
-        2932896 * 1440 + 1439
-    );
+    for (year, month, day, hour, minute, minutes) in MINUTES {
+        assert_eq!(rt; moment(year, month, day, hour, minute)?.minutes(), minutes);
+    }
+    for (year, month, day, weekday) in WEEKDAYS {
+        assert_eq!(rt; moment(year, month, day, 9, 5)?.weekday(), weekday);
+    }
     let wednesday = moment(2026, 7, 1, 10, 0)?;
-    assert_eq!(rt; wednesday.weekday(), 2);
-    assert_eq!(rt; wednesday.year(), 2026);
-    assert_eq!(rt; wednesday.month(), 7);
-    assert_eq!(rt; wednesday.day(), 1);
-    assert_eq!(rt; moment(2005, 10, 3, 9, 5)?.weekday(), 0);
-    assert_eq!(rt; moment(2024, 2, 29, 0, 0)?.weekday(), 3);
-    assert_eq!(rt; moment(9999, 12, 31, 0, 0)?.weekday(), 4);
+    assert!(rt; (wednesday.year(), wednesday.month(), wednesday.day()) == (2026, 7, 1));
     Ok(())
 }
 
+// What no calendar has.
+const NO_MOMENTS: [(u16, u8, u8, u8, u8); 10] = [
+    (0, 1, 1, 0, 0),
+    (10000, 1, 1, 0, 0),
+    (2026, 0, 1, 0, 0),
+    (2026, 13, 1, 0, 0),
+    (2026, 1, 0, 0, 0),
+    (2026, 4, 31, 0, 0),
+    (2026, 2, 29, 0, 0),
+    (2100, 2, 29, 0, 0),
+    (2026, 1, 1, 24, 0),
+    (2026, 1, 1, 23, 60),
+];
+
 #[test]
 fn no_moments(rt: HostRuntime) {
-    assert!(rt; Moment::new(0, 1, 1, 0, 0).is_none());
-    assert!(rt; Moment::new(10000, 1, 1, 0, 0).is_none());
-    assert!(rt; Moment::new(2026, 0, 1, 0, 0).is_none());
-    assert!(rt; Moment::new(2026, 13, 1, 0, 0).is_none());
-    assert!(rt; Moment::new(2026, 1, 0, 0, 0).is_none());
-    assert!(rt; Moment::new(2026, 4, 31, 0, 0).is_none());
-    assert!(rt; Moment::new(2026, 2, 29, 0, 0).is_none());
-    assert!(rt; Moment::new(2100, 2, 29, 0, 0).is_none());
-    assert!(rt; Moment::new(2026, 1, 1, 24, 0).is_none());
-    assert!(rt; Moment::new(2026, 1, 1, 23, 60).is_none());
+    for (year, month, day, hour, minute) in NO_MOMENTS {
+        assert!(rt; Moment::new(year, month, day, hour, minute).is_none());
+    }
     assert!(rt; Moment::new(2000, 2, 29, 23, 59).is_some());
 }
 
@@ -52,69 +68,35 @@ fn stamp(text: &[u8]) -> Result<Stamp<'_>, Fail> {
     Ok(stamp)
 }
 
-#[test]
-fn refused_repeats(rt: HostRuntime) -> Result<(), Fail> {
-    let now = moment(2026, 7, 1, 10, 0)?;
-    assert_eq!(rt;
-        stamp(b"<9999-06-01 +1y>")?.repeat(now).err(),
-        Some(RepeatFault::DateRange)
-    );
-    assert_eq!(rt;
-        stamp(b"<2026-01-05 Mon +1h>")?.repeat(now).err(),
-        Some(RepeatFault::BadRepeat)
-    );
-    assert_eq!(rt;
-        stamp(b"<2026-01-05 Mon 10:00-11:00 ++1h>")?
-            .repeat(now)
-            .err(),
-        Some(RepeatFault::BadRepeat)
-    );
-    assert_eq!(rt;
-        stamp(b"<9999-12-31 23:00 ++1h>")?
-            .repeat(moment(9999, 12, 31, 23, 59)?)
-            .err(),
-        Some(RepeatFault::DateRange)
-    );
-    Ok(())
-}
-
-fn prints_as(rt: &impl Abort, alloc: Global, text: &[u8], printed: &[u8]) -> Result<(), Fail> {
-    let found = stamp(text)?.print(alloc)?;
-    assert_eq!(rt; found.as_slice(), printed);
-    Ok(())
-}
+// Timestamps, and how they are printed.
+const PRINTED: [(&str, &str); 8] = [
+    ("<2026-07-01>", "<2026-07-01 Wed>"),
+    ("[2026-07-01 mer. 9:05]", "[2026-07-01 Wed 09:05]"),
+    (
+        "<2026-07-01 +1w/2w --3d Mon 10:00-09:00>",
+        "<2026-07-01 Wed 10:00-09:00 +1w/2w --3d>",
+    ),
+    (
+        "<2026-07-01 \t -2d  .+0001m>",
+        "<2026-07-01 Wed -2d .+0001m>",
+    ),
+    ("<2026-07-01 /x[<:\r>", "<2026-07-01 Wed>"),
+    ("<2024-02-29 \u{e9} 23:59>", "<2024-02-29 Thu 23:59>"),
+    ("<0001-01-01 0:00>", "<0001-01-01 Mon 00:00>"),
+    ("[9999-12-31]", "[9999-12-31 Fri]"),
+];
 
 #[test]
 fn timestamps(rt: HostRuntime) -> Result<(), Fail> {
-    let alloc = rt.alloc();
-    prints_as(&rt, alloc, b"<2026-07-01>", b"<2026-07-01 Wed>")?;
-    prints_as(
-        &rt,
-        alloc,
-        b"[2026-07-01 mer. 9:05]",
-        b"[2026-07-01 Wed 09:05]",
-    )?;
-    prints_as(
-        &rt,
-        alloc,
-        b"<2026-07-01 +1w/2w --3d Mon 10:00-09:00>",
-        b"<2026-07-01 Wed 10:00-09:00 +1w/2w --3d>",
-    )?;
-    prints_as(
-        &rt,
-        alloc,
-        b"<2026-07-01 \t -2d  .+0001m>",
-        b"<2026-07-01 Wed -2d .+0001m>",
-    )?;
-    prints_as(&rt, alloc, b"<2026-07-01 /x[<:\r>", b"<2026-07-01 Wed>")?;
-    prints_as(
-        &rt,
-        alloc,
-        b"<2024-02-29 \xc3\xa9 23:59>",
-        b"<2024-02-29 Thu 23:59>",
-    )?;
-    prints_as(&rt, alloc, b"<0001-01-01 0:00>", b"<0001-01-01 Mon 00:00>")?;
-    prints_as(&rt, alloc, b"[9999-12-31]", b"[9999-12-31 Fri]")?;
+    for (text, printed) in PRINTED {
+        assert_prints(&rt, rt.alloc(), text, printed)?;
+    }
+    Ok(())
+}
+
+fn assert_prints(rt: &impl Abort, alloc: Global, text: &str, printed: &str) -> Result<(), Fail> {
+    let found = stamp(text.as_bytes())?.print(alloc)?;
+    assert!(rt; found.as_slice() == printed.as_bytes(), "{text}");
     Ok(())
 }
 
@@ -174,41 +156,46 @@ const EVERY_ORDER: &str = "\
 
 #[test]
 fn parts_in_every_order(rt: HostRuntime) -> Result<(), Fail> {
-    let alloc = rt.alloc();
     for line in EVERY_ORDER.lines() {
         let (text, printed) = line.split_once(": ").ok_or("no row")?;
-        prints_as(&rt, alloc, text.as_bytes(), printed.as_bytes())?;
+        assert_prints(&rt, rt.alloc(), text, printed)?;
     }
     Ok(())
 }
 
+const NO_TIMESTAMPS: [&str; 25] = [
+    "",
+    "2026-07-01",
+    "<2026-07-01",
+    "<2026-07-01]",
+    "<2026-07-01 a]>",
+    "<2026-07-01 >",
+    "<2026-07-01Wed>",
+    "< 2026-07-01>",
+    "<2026-07-01 Wed Thu>",
+    "<2026-07-01 10:00 11:00>",
+    "<2026-07-01 +1d ++1d>",
+    "<2026-07-01 -1d --1d>",
+    "<2026-07-01 24:00>",
+    "<2026-07-01 10:60>",
+    "<2026-07-01 10:00->",
+    "<2026-07-01 +12345d>",
+    "<2026-07-01 +d>",
+    "<2026-07-01 +1x>",
+    "<2026-07-01 +1d/>",
+    "<2026-07-01 -1d/2d>",
+    "<2026-07-01 Wed\n10:00>",
+    "<2100-02-29>",
+    "<0000-01-01>",
+    "<10000-01-01>",
+    "<2026-7-01>",
+];
+
 #[test]
 fn no_timestamps(rt: HostRuntime) {
-    assert!(rt; Stamp::read(b"").is_none());
-    assert!(rt; Stamp::read(b"2026-07-01").is_none());
-    assert!(rt; Stamp::read(b"<2026-07-01").is_none());
-    assert!(rt; Stamp::read(b"<2026-07-01]").is_none());
-    assert!(rt; Stamp::read(b"<2026-07-01 a]>").is_none());
-    assert!(rt; Stamp::read(b"<2026-07-01 >").is_none());
-    assert!(rt; Stamp::read(b"<2026-07-01Wed>").is_none());
-    assert!(rt; Stamp::read(b"< 2026-07-01>").is_none());
-    assert!(rt; Stamp::read(b"<2026-07-01 Wed Thu>").is_none());
-    assert!(rt; Stamp::read(b"<2026-07-01 10:00 11:00>").is_none());
-    assert!(rt; Stamp::read(b"<2026-07-01 +1d ++1d>").is_none());
-    assert!(rt; Stamp::read(b"<2026-07-01 -1d --1d>").is_none());
-    assert!(rt; Stamp::read(b"<2026-07-01 24:00>").is_none());
-    assert!(rt; Stamp::read(b"<2026-07-01 10:60>").is_none());
-    assert!(rt; Stamp::read(b"<2026-07-01 10:00->").is_none());
-    assert!(rt; Stamp::read(b"<2026-07-01 +12345d>").is_none());
-    assert!(rt; Stamp::read(b"<2026-07-01 +d>").is_none());
-    assert!(rt; Stamp::read(b"<2026-07-01 +1x>").is_none());
-    assert!(rt; Stamp::read(b"<2026-07-01 +1d/>").is_none());
-    assert!(rt; Stamp::read(b"<2026-07-01 -1d/2d>").is_none());
-    assert!(rt; Stamp::read(b"<2026-07-01 Wed\n10:00>").is_none());
-    assert!(rt; Stamp::read(b"<2100-02-29>").is_none());
-    assert!(rt; Stamp::read(b"<0000-01-01>").is_none());
-    assert!(rt; Stamp::read(b"<10000-01-01>").is_none());
-    assert!(rt; Stamp::read(b"<2026-7-01>").is_none());
+    for text in NO_TIMESTAMPS {
+        assert!(rt; Stamp::read(text.as_bytes()).is_none(), "{text}");
+    }
 }
 
 // Each row of these tables: a timestamp, the moment at which it is repeated, and what it becomes by the proleptic
@@ -241,6 +228,8 @@ const OF_MONTHS_AND_YEARS: &str = "\
 <9999-12-31 .+1d> at [9999-12-31 00:00]: DateRange
 <9999-12-31 +1w> at [2026-07-01 10:00]: DateRange
 <9999-12-31 ++1m> at [2026-07-01 10:00]: DateRange
+<9999-06-01 +1y> at [2026-07-01 10:00]: DateRange
+<9999-12-31 23:00 ++1h> at [9999-12-31 23:59]: DateRange
 ";
 
 // For each unit and kind of repeater: from 0001-01-01, to the last date that
@@ -375,7 +364,7 @@ fn assert_repeats(rt: &impl Abort, alloc: Global, rows: &str) -> Result<(), Fail
         let (from, rest) = row.split_once(" at ").ok_or("no moment")?;
         let (now, to) = rest.split_once(": ").ok_or("no outcome")?;
         let found = repeated(alloc, from, now)?;
-        assert_eq!(rt; found.as_slice(), to.as_bytes(), "{row}");
+        assert!(rt; found.as_slice() == to.as_bytes(), "{row}");
     }
     Ok(())
 }
@@ -395,18 +384,33 @@ fn repeats_at_the_ends(rt: HostRuntime) -> Result<(), Fail> {
     assert_repeats(&rt, rt.alloc(), AT_THE_ENDS)
 }
 
+// Hours without a time of day, or with two.
+const BAD_REPEATS: &str = "\
+<2026-01-05 Mon +1h> at [2026-07-01 10:00]: BadRepeat
+<2026-01-05 Mon 10:00-11:00 ++1h> at [2026-07-01 10:00]: BadRepeat
+";
+
+#[test]
+fn bad_repeats(rt: HostRuntime) -> Result<(), Fail> {
+    assert_repeats(&rt, rt.alloc(), BAD_REPEATS)
+}
+
+// Minutes, the least count of characters for the hours, and the duration.
+const DURATIONS: [(u64, usize, &str); 6] = [
+    (90, 2, " 1:30"),
+    (0, 1, "0:00"),
+    (0, 2, " 0:00"),
+    (6000, 2, "100:00"),
+    (605, 2, "10:05"),
+    (u64::MAX, 1, "307445734561825860:15"),
+];
+
 #[test]
 fn durations(rt: HostRuntime) -> Result<(), Fail> {
-    let alloc = rt.alloc();
-    assert_eq!(rt; duration(alloc, 90, 2)?.as_slice(), b" 1:30".as_slice());
-    assert_eq!(rt; duration(alloc, 0, 1)?.as_slice(), b"0:00".as_slice());
-    assert_eq!(rt; duration(alloc, 0, 2)?.as_slice(), b" 0:00".as_slice());
-    assert_eq!(rt; duration(alloc, 6000, 2)?.as_slice(), b"100:00".as_slice());
-    assert_eq!(rt; duration(alloc, 605, 2)?.as_slice(), b"10:05".as_slice());
-    assert_eq!(rt;
-        duration(alloc, u64::MAX, 1)?.as_slice(),
-        b"307445734561825860:15".as_slice()
-    );
+    for (minutes, width, text) in DURATIONS {
+        let found = duration(rt.alloc(), minutes, width)?;
+        assert!(rt; found.as_slice() == text.as_bytes(), "{text}");
+    }
     Ok(())
 }
 
@@ -415,8 +419,8 @@ fn stamps_of_moments(rt: HostRuntime) -> Result<(), Fail> {
     let alloc = rt.alloc();
     let now = moment(2026, 7, 1, 10, 0)?;
     let date = Stamp::at(now, true, false).print(alloc)?;
-    assert_eq!(rt; date.as_slice(), b"<2026-07-01 Wed>".as_slice());
+    assert!(rt; date.as_slice() == b"<2026-07-01 Wed>".as_slice());
     let time = Stamp::at(now, false, true).print(alloc)?;
-    assert_eq!(rt; time.as_slice(), b"[2026-07-01 Wed 10:00]".as_slice());
+    assert!(rt; time.as_slice() == b"[2026-07-01 Wed 10:00]".as_slice());
     Ok(())
 }
