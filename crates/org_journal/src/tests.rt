@@ -63,23 +63,27 @@ fn is_capture(record: &Record) -> bool {
     }
 }
 
+fn is_refused(alloc: Global, bytes: &[u8]) -> bool {
+    !well_formed(bytes) && matches!(decode(alloc, bytes), Err(RecordFault::Malformed))
+}
+
+fn is_read(alloc: Global, bytes: &[u8]) -> bool {
+    well_formed(bytes) && matches!(decode(alloc, bytes), Ok(record) if is_capture(&record))
+}
+
 // The bytes are no record's, and neither are they with one more behind them.
 fn refuse(rt: &impl Abort, alloc: Global, bytes: &[u8]) -> Result<(), AllocError> {
-    assert!(rt; !well_formed(bytes));
-    assert!(rt; matches!(decode(alloc, bytes), Err(RecordFault::Malformed)));
+    assert!(rt; is_refused(alloc, bytes));
     let longer = joined(alloc, bytes, &[0x2a])?;
-    assert!(rt; !well_formed(&longer));
-    assert!(rt; matches!(decode(alloc, &longer), Err(RecordFault::Malformed)));
+    assert!(rt; is_refused(alloc, &longer));
     Ok(())
 }
 
 // The bytes are the capture's, and so are they with others behind them.
 fn accept(rt: &impl Abort, alloc: Global, bytes: &[u8]) -> Result<(), AllocError> {
-    assert!(rt; well_formed(bytes));
-    assert!(rt; matches!(decode(alloc, bytes), Ok(record) if is_capture(&record)));
+    assert!(rt; is_read(alloc, bytes));
     let longer = joined(alloc, bytes, &OLD)?;
-    assert!(rt; well_formed(&longer));
-    assert!(rt; matches!(decode(alloc, &longer), Ok(record) if is_capture(&record)));
+    assert!(rt; is_read(alloc, &longer));
     Ok(())
 }
 
@@ -128,11 +132,22 @@ const TWO: [u8; 76] = [
 ];
 
 #[test]
-fn malformed_new_journals(rt: HostRuntime) -> Result<(), Fail> {
+fn well_formed_new_journals(rt: HostRuntime) -> Result<(), Fail> {
     let alloc = rt.alloc();
     assert!(rt; well_formed(&TWO));
     let touching = with(alloc, &TWO, 66, &[3])?;
     assert!(rt; well_formed(&touching));
+    // A patch that stands alone may have no bytes.
+    let alone = with(alloc, &TWO[..58], 14, &[0x2b])?;
+    let alone = with(alloc, &alone, 41, &[1])?;
+    let alone = with(alloc, &alone, 57, &[0])?;
+    assert!(rt; well_formed(&alone));
+    Ok(())
+}
+
+#[test]
+fn malformed_new_journals(rt: HostRuntime) -> Result<(), Fail> {
+    let alloc = rt.alloc();
     let cases: [(usize, &[u8]); 8] = [
         (66, &[2]), // the second patch begins within the first
         (66, &[8]), // the second patch ends past the final length
@@ -151,11 +166,6 @@ fn malformed_new_journals(rt: HostRuntime) -> Result<(), Fail> {
     let empty = with(alloc, &TWO[..75], 14, &[0x3c])?;
     let empty = with(alloc, &empty, 74, &[0])?;
     refuse(&rt, alloc, &empty)?;
-    // A patch that stands alone may have none.
-    let alone = with(alloc, &TWO[..58], 14, &[0x2b])?;
-    let alone = with(alloc, &alone, 41, &[1])?;
-    let alone = with(alloc, &alone, 57, &[0])?;
-    assert!(rt; well_formed(&alone));
     Ok(())
 }
 
@@ -171,19 +181,21 @@ fn two_equal_names(rt: HostRuntime) -> Result<(), Fail> {
     Ok(())
 }
 
+// Whether the record of these bytes is written as those.
+fn is_written(alloc: Global, bytes: &[u8], expected: &[u8]) -> Result<bool, Fail> {
+    let record = decode(alloc, bytes)?;
+    let written = record.encode(alloc)?;
+    Ok(written.as_slice() == expected)
+}
+
 #[test]
 fn version_2_is_written(rt: HostRuntime) -> Result<(), Fail> {
-    let alloc = rt.alloc();
-    let record = decode(alloc, &OLD)?;
-    let bytes = record.encode(alloc)?;
-    assert_eq!(rt; bytes.as_slice(), NEW.as_slice());
-    let record = decode(alloc, &TWO)?;
-    let bytes = record.encode(alloc)?;
-    assert_eq!(rt; bytes.as_slice(), TWO.as_slice());
+    assert!(rt; is_written(rt.alloc(), &OLD, &NEW)?);
+    assert!(rt; is_written(rt.alloc(), &TWO, &TWO)?);
     Ok(())
 }
 
-#[derive(Clone, Copy, Debug, PartialEq, Eq)]
+#[derive(Clone, Copy, PartialEq, Eq)]
 enum Answer {
     Closed,
     Capture,
@@ -192,70 +204,96 @@ enum Answer {
     Fault,
 }
 
-// What `find` says of a journal with this gate and these bytes behind it, over an inbox.org with this text.
-fn answer_of(alloc: Global, gate: u8, body: &[u8], text: &[u8]) -> Result<Answer, Fail> {
-    let journal = FileName::journal_name(alloc)?;
-    let inbox = FileName::new(alloc, "inbox.org")?;
-    let mut disk = MemoryDisk::new(alloc);
-    disk.set(&journal, &joined(alloc, &[gate], body)?)?;
-    disk.set(&inbox, text)?;
-    Ok(match find(alloc, &mut disk, &journal) {
+fn answer_in(found: &Result<Found, FindFault>) -> Answer {
+    match found {
         Ok(Found::Closed) => Answer::Closed,
-        Ok(Found::Armed(record)) => if is_capture(&record) {
+        Ok(Found::Armed(record)) => if is_capture(record) {
             Answer::Capture
         } else {
             Answer::Other
         },
         Err(FindFault::BadJournal) => Answer::Bad,
         Err(_) => Answer::Fault,
-    })
+    }
+}
+
+// A disk with a journal of this gate and these bytes behind it, and an inbox.org with this text.
+fn disk_with(alloc: Global, gate: u8, body: &[u8], text: &[u8]) -> Result<MemoryDisk, Fail> {
+    let journal = FileName::journal_name(alloc)?;
+    let inbox = FileName::new(alloc, "inbox.org")?;
+    let bytes = joined(alloc, &[gate], body)?;
+    let mut disk = MemoryDisk::new(alloc);
+    disk.set(&journal, &bytes)?;
+    disk.set(&inbox, text)?;
+    Ok(disk)
+}
+
+// What `find` says over such a disk.
+fn answer_of(alloc: Global, gate: u8, body: &[u8], text: &[u8]) -> Result<Answer, Fail> {
+    let journal = FileName::journal_name(alloc)?;
+    let mut disk = disk_with(alloc, gate, body, text)?;
+    let found = find(alloc, &mut disk, &journal);
+    Ok(answer_in(&found))
+}
+
+// Asserts what `find` says in rows of a gate, the bytes behind it, and the text of inbox.org.
+fn assert_answers(
+    rt: &impl Abort,
+    alloc: Global,
+    rows: &[(u8, &[u8], &[u8], Answer)],
+) -> Result<(), Fail> {
+    for (i, (gate, body, text, expected)) in rows.iter().enumerate() {
+        let answer = answer_of(alloc, *gate, body, text)?;
+        assert!(rt; answer == *expected, "row {i}");
+    }
+    Ok(())
 }
 
 #[test]
 fn journals_on_a_disk(rt: HostRuntime) -> Result<(), Fail> {
     let alloc = rt.alloc();
-    assert_eq!(rt; answer_of(alloc, 1, &OLD, b"")?, Answer::Capture);
-    assert_eq!(rt; answer_of(alloc, 1, &NEW, b"")?, Answer::Capture);
-    assert_eq!(rt;
-        answer_of(alloc, 1, &joined(alloc, &OLD, &[0])?, b"")?,
-        Answer::Capture
-    );
-    assert_eq!(rt; answer_of(alloc, 0, &OLD, b"")?, Answer::Closed);
-    assert_eq!(rt; answer_of(alloc, 0x55, &OLD, b"")?, Answer::Closed);
-    // A journal without a whole header has no gate to be open.
-    assert_eq!(rt; answer_of(alloc, 1, &OLD[..14], b"")?, Answer::Closed);
-    // Its last byte is missing.
-    assert_eq!(rt; answer_of(alloc, 1, &OLD[..69], b"")?, Answer::Bad);
-    // A header alone, with the greatest size.
-    assert_eq!(rt;
-        answer_of(alloc, 1, &with(alloc, &OLD[..15], 7, &[0xff; 8])?, b"")?,
-        Answer::Bad
-    );
-    Ok(())
+    let long = joined(alloc, &OLD, &[0])?;
+    let header = with(alloc, &OLD[..15], 7, &[0xff; 8])?;
+    let rows: [(u8, &[u8], &[u8], Answer); 8] = [
+        (1, &OLD, b"", Answer::Capture),
+        (1, &NEW, b"", Answer::Capture),
+        (1, &long, b"", Answer::Capture),
+        (0, &OLD, b"", Answer::Closed),
+        (0x55, &OLD, b"", Answer::Closed),
+        // A journal without a whole header has no gate to be open.
+        (1, &OLD[..14], b"", Answer::Closed),
+        // Its last byte is missing.
+        (1, &OLD[..69], b"", Answer::Bad),
+        // A header alone, with the greatest size.
+        (1, &header, b"", Answer::Bad),
+    ];
+    assert_answers(&rt, alloc, &rows)
 }
 
 #[test]
 fn records_and_their_files(rt: HostRuntime) -> Result<(), Fail> {
     let alloc = rt.alloc();
-    // The patch begins past the end of a file that is absent, and at the end of one of one byte.
     let late = with(alloc, &OLD, 37, &[1, 0, 0, 0, 0, 0, 0, 0, 17])?;
-    assert_eq!(rt; answer_of(alloc, 1, &late, b"")?, Answer::Bad);
-    assert_eq!(rt; answer_of(alloc, 1, &late, b"a")?, Answer::Other);
     let later = joined(alloc, &late, &[0x2a])?;
-    assert_eq!(rt; answer_of(alloc, 1, &later, b"")?, Answer::Bad);
-    assert_eq!(rt; answer_of(alloc, 1, &later, b"a")?, Answer::Other);
-    // The final length is past the end of the patch, and of the file or not.
     let long = with(alloc, &OLD, 45, &[17])?;
-    assert_eq!(rt; answer_of(alloc, 1, &long, b"")?, Answer::Bad);
-    assert_eq!(rt; answer_of(alloc, 1, &long, &[0x61; 17])?, Answer::Other);
     let longer = joined(alloc, &long, &[0x2a])?;
-    assert_eq!(rt; answer_of(alloc, 1, &longer, b"")?, Answer::Bad);
-    assert_eq!(rt; answer_of(alloc, 1, &longer, &[0x61; 17])?, Answer::Other);
-    // The second patch begins past the end of a file, or at its end.
-    assert_eq!(rt; answer_of(alloc, 1, &TWO, b"* A\n")?, Answer::Bad);
-    assert_eq!(rt; answer_of(alloc, 1, &TWO, b"* A\n* ")?, Answer::Bad);
-    assert_eq!(rt; answer_of(alloc, 1, &TWO, b"* A\n* B\n")?, Answer::Other);
-    Ok(())
+    let rows: [(u8, &[u8], &[u8], Answer); 11] = [
+        // The patch begins past the end of a file that is absent, and at the end of one of one byte.
+        (1, &late, b"", Answer::Bad),
+        (1, &late, b"a", Answer::Other),
+        (1, &later, b"", Answer::Bad),
+        (1, &later, b"a", Answer::Other),
+        // The final length is past the end of the patch, and of the file or not.
+        (1, &long, b"", Answer::Bad),
+        (1, &long, &[0x61; 17], Answer::Other),
+        (1, &longer, b"", Answer::Bad),
+        (1, &longer, &[0x61; 17], Answer::Other),
+        // The second patch begins past the end of a file, or at its end.
+        (1, &TWO, b"* A\n", Answer::Bad),
+        (1, &TWO, b"* A\n* ", Answer::Bad),
+        (1, &TWO, b"* A\n* B\n", Answer::Other),
+    ];
+    assert_answers(&rt, alloc, &rows)
 }
 
 // A body behind an open gate, as a commit leaves it until its files are written; then the gate is closed.
@@ -274,10 +312,10 @@ fn opened_and_closed<D: Disk>(
     prepare(disk, journal)?;
     arm(disk, journal, body)?;
     open_gate(disk, journal)?;
-    let open = matches!(find(alloc, disk, journal)?, Found::Armed(record) if is_capture(&record));
+    let open = answer_in(&find(alloc, disk, journal));
     close_gate(disk, journal)?;
-    let closed = matches!(find(alloc, disk, journal)?, Found::Closed);
-    Ok(open && closed)
+    let closed = answer_in(&find(alloc, disk, journal));
+    Ok(open == Answer::Capture && closed == Answer::Closed)
 }
 
 #[test]
