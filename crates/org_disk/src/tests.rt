@@ -6,6 +6,10 @@ use crate::{Disk, DiskFault, FileName, Fuse, MemoryDisk, Outcome};
 use std::alloc::Global;
 use std::test::Fail;
 
+fn is_accepted(alloc: Global, text: &str) -> Result<bool, Fail> {
+    Ok(FileName::accepts(text) && FileName::new(alloc, text)?.as_str() == text)
+}
+
 #[test]
 fn accepted_names(rt: HostRuntime) -> Result<(), Fail> {
     let alloc = rt.alloc();
@@ -16,8 +20,7 @@ fn accepted_names(rt: HostRuntime) -> Result<(), Fail> {
         "~.org",
         "a.org_archive",
     ] {
-        assert!(rt; FileName::accepts(text), "{text}");
-        assert_eq!(rt; FileName::new(alloc, text)?.as_str(), text);
+        assert!(rt; is_accepted(alloc, text)?, "{text}");
     }
     for text in [
         "",
@@ -45,9 +48,9 @@ fn long_names(rt: HostRuntime) -> Result<(), Fail> {
             text.push('a')?;
         }
         text.push_str(".org")?;
-        assert_eq!(rt; FileName::accepts(text.as_str()), accepted);
+        assert!(rt; FileName::accepts(text.as_str()) == accepted);
         text.push_str("_archive")?;
-        assert_eq!(rt; FileName::accepts(text.as_str()), accepted);
+        assert!(rt; FileName::accepts(text.as_str()) == accepted);
     }
     Ok(())
 }
@@ -57,12 +60,16 @@ fn archives(rt: HostRuntime) -> Result<(), Fail> {
     let alloc = rt.alloc();
     let inbox = FileName::new(alloc, "inbox.org")?;
     let archive = inbox.archive()?;
-    assert_eq!(rt; archive.as_str(), "inbox.org_archive");
+    assert!(rt; archive.as_str() == "inbox.org_archive");
     assert!(rt; archive.is_archive() && !inbox.is_archive());
-    let journal = FileName::journal_name(alloc)?;
-    assert_eq!(rt; journal.as_str(), "orgstore.journal");
-    assert!(rt; !journal.is_archive());
     assert!(rt; inbox < archive && archive != inbox && inbox.clone()? == inbox);
+    Ok(())
+}
+
+#[test]
+fn name_of_the_journal(rt: HostRuntime) -> Result<(), Fail> {
+    let journal = FileName::journal_name(rt.alloc())?;
+    assert!(rt; journal.as_str() == "orgstore.journal" && !journal.is_archive());
     Ok(())
 }
 
@@ -73,10 +80,15 @@ fn read_all<D: Disk>(disk: &mut D, alloc: Global, name: &FileName) -> Result<Vec
     Ok(bytes)
 }
 
-// What the disk's image holds of a file.
-fn image_of(disk: &MemoryDisk, alloc: Global, name: &FileName) -> Result<Vec<u8>, Fail> {
+fn holds<D: Disk>(disk: &mut D, alloc: Global, name: &FileName, text: &str) -> Result<bool, Fail> {
+    let bytes = read_all(disk, alloc, name)?;
+    Ok(bytes.as_slice() == text.as_bytes())
+}
+
+// Whether the disk's image holds this text.
+fn leaves(disk: &MemoryDisk, alloc: Global, name: &FileName, text: &str) -> Result<bool, Fail> {
     let mut image = disk.image(alloc)?;
-    read_all(&mut image, alloc, name)
+    holds(&mut image, alloc, name, text)
 }
 
 // From `abcdef`: `abXYef`, `abXYe`, `abXYPQRS`.
@@ -86,6 +98,15 @@ fn write_cut_write<D: Disk>(disk: &mut D, name: &FileName) -> Result<(), DiskFau
     disk.write_at(name, 2, b"XY")?;
     disk.cut(name, 5)?;
     disk.write_at(name, 4, b"PQRS")
+}
+
+// Whether a stop at the third call leaves this text.
+fn stops_write(alloc: Global, name: &FileName, outcome: Outcome, left: &str) -> Result<bool, Fail> {
+    let mut disk = MemoryDisk::new(alloc);
+    disk.stop_at(3, outcome);
+    disk.set(name, b"abcdef")?;
+    let made = write_cut_write(&mut disk, name);
+    Ok(made.is_err() && leaves(&disk, alloc, name, left)?)
 }
 
 #[test]
@@ -101,11 +122,7 @@ fn stopped_write(rt: HostRuntime) -> Result<(), Fail> {
         (Outcome::Front(9), "abXYPQRS"),
         (Outcome::Fill(b'-'), "ab------"),
     ] {
-        let mut disk = MemoryDisk::new(alloc);
-        disk.stop_at(3, outcome);
-        disk.set(&a, b"abcdef")?;
-        assert_eq!(rt; write_cut_write(&mut disk, &a), Err(DiskFault));
-        assert_eq!(rt; image_of(&disk, alloc, &a)?.as_slice(), left.as_bytes());
+        assert!(rt; stops_write(alloc, &a, outcome, left)?, "{left}");
     }
     Ok(())
 }
@@ -118,6 +135,15 @@ fn write_cut<D: Disk>(disk: &mut D, name: &FileName) -> Result<(), DiskFault>
     disk.cut(name, 3)
 }
 
+// Whether a stop at the second call leaves this text.
+fn stops_cut(alloc: Global, name: &FileName, outcome: Outcome, left: &str) -> Result<bool, Fail> {
+    let mut disk = MemoryDisk::new(alloc);
+    disk.stop_at(2, outcome);
+    disk.set(name, b"abcdef")?;
+    let made = write_cut(&mut disk, name);
+    Ok(made.is_err() && leaves(&disk, alloc, name, left)?)
+}
+
 #[test]
 fn stopped_cut(rt: HostRuntime) -> Result<(), Fail> {
     let alloc = rt.alloc();
@@ -128,11 +154,7 @@ fn stopped_cut(rt: HostRuntime) -> Result<(), Fail> {
         (Outcome::Front(1), "XYcdef"),
         (Outcome::Fill(b'-'), "--c---"),
     ] {
-        let mut disk = MemoryDisk::new(alloc);
-        disk.stop_at(2, outcome);
-        disk.set(&a, b"abcdef")?;
-        assert_eq!(rt; write_cut(&mut disk, &a), Err(DiskFault));
-        assert_eq!(rt; image_of(&disk, alloc, &a)?.as_slice(), left.as_bytes());
+        assert!(rt; stops_cut(alloc, &a, outcome, left)?, "{left}");
     }
     Ok(())
 }
@@ -163,30 +185,51 @@ fn stopped_sync(rt: HostRuntime) -> Result<(), Fail> {
     ] {
         let mut disk = MemoryDisk::new(alloc);
         disk.stop_at(k, outcome);
-        assert_eq!(rt; sync_write_cut(&mut disk, &a), Err(DiskFault));
-        assert_eq!(rt; image_of(&disk, alloc, &a)?.as_slice(), left.as_bytes());
+        let made = sync_write_cut(&mut disk, &a);
+        assert!(rt; made.is_err() && leaves(&disk, alloc, &a, left)?, "{left}");
     }
     Ok(())
+}
+
+// Whether the six calls are made and leave `aX`, also after a seventh, which answers this length.
+fn goes_on(
+    disk: &mut MemoryDisk,
+    alloc: Global,
+    name: &FileName,
+    length: Result<u64, DiskFault>,
+) -> Result<bool, Fail> {
+    let made = sync_write_cut(disk, name);
+    if made.is_err() || disk.calls() != 6 || !leaves(disk, alloc, name, "aX")? {
+        return Ok(false);
+    }
+    Ok(disk.length(name) == length && leaves(disk, alloc, name, "aX")?)
 }
 
 #[test]
 fn no_stop(rt: HostRuntime) -> Result<(), Fail> {
     let alloc = rt.alloc();
     let a = FileName::new(alloc, "a.org")?;
-    for k in [0, 7] {
+    for (k, length) in [(0, Ok(2)), (7, Err(DiskFault))] {
         let mut disk = MemoryDisk::new(alloc);
         disk.stop_at(1, Outcome::None);
         disk.stop_at(k, Outcome::None);
-        assert_eq!(rt; sync_write_cut(&mut disk, &a), Ok(()));
-        assert_eq!(rt; image_of(&disk, alloc, &a)?.as_slice(), b"aX".as_slice());
-        assert_eq!(rt; disk.calls(), 6);
-        assert_eq!(rt;
-            disk.length(&a),
-            if k == 0 { Ok(2) } else { Err(DiskFault) }
-        );
-        assert_eq!(rt; image_of(&disk, alloc, &a)?.as_slice(), b"aX".as_slice());
+        assert!(rt; goes_on(&mut disk, alloc, &a, length)?, "to stop at {k}");
     }
     Ok(())
+}
+
+// Whether a write, a cut and a sync fail.
+fn is_stopped(disk: &mut MemoryDisk, name: &FileName) -> bool {
+    disk.write_at(name, 0, b"Q").is_err() && disk.cut(name, 0).is_err() && disk.sync(name).is_err()
+}
+
+// Whether a stop at the first call leaves this text, whatever calls follow.
+fn stops_all(alloc: Global, name: &FileName, outcome: Outcome, left: &str) -> Result<bool, Fail> {
+    let mut disk = MemoryDisk::new(alloc);
+    disk.stop_at(1, outcome);
+    disk.set(name, b"abcdef")?;
+    let made = write_cut(&mut disk, name);
+    Ok(made.is_err() && is_stopped(&mut disk, name) && leaves(&disk, alloc, name, left)?)
 }
 
 #[test]
@@ -198,14 +241,7 @@ fn nothing_counts_after_a_stop(rt: HostRuntime) -> Result<(), Fail> {
         (Outcome::None, "abcdef"),
         (Outcome::Front(1), "Xbcdef"),
     ] {
-        let mut disk = MemoryDisk::new(alloc);
-        disk.stop_at(1, outcome);
-        disk.set(&a, b"abcdef")?;
-        assert_eq!(rt; write_cut(&mut disk, &a), Err(DiskFault));
-        assert_eq!(rt; disk.write_at(&a, 0, b"Q"), Err(DiskFault));
-        assert_eq!(rt; disk.cut(&a, 0), Err(DiskFault));
-        assert_eq!(rt; disk.sync(&a), Err(DiskFault));
-        assert_eq!(rt; image_of(&disk, alloc, &a)?.as_slice(), left.as_bytes());
+        assert!(rt; stops_all(alloc, &a, outcome, left)?, "{left}");
     }
     Ok(())
 }
@@ -224,32 +260,47 @@ fn failed_calls_have_no_effect(rt: HostRuntime) -> Result<(), Fail> {
     ] {
         let mut disk = MemoryDisk::new(alloc);
         disk.fail_at(k);
-        assert_eq!(rt; sync_write_cut(&mut disk, &a), Err(DiskFault));
-        assert_eq!(rt; read_all(&mut disk, alloc, &a)?.as_slice(), left.as_bytes());
+        let made = sync_write_cut(&mut disk, &a);
+        assert!(rt;
+            made.is_err() && holds(&mut disk, alloc, &a, left)?,
+            "call {k}"
+        );
     }
     Ok(())
+}
+
+// Whether the k-th of the six calls fails, and that one alone; where there is none, they are made.
+fn fails_once(disk: &mut MemoryDisk, alloc: Global, name: &FileName, k: u64) -> Result<bool, Fail> {
+    let fails = k > 0 && k < 7;
+    let made = sync_write_cut(disk, name);
+    if made.is_err() != fails || disk.calls() != (if fails { k } else { 6 }) {
+        return Ok(false);
+    }
+    Ok(!fails || sync_write_cut(disk, name).is_ok() && holds(disk, alloc, name, "aX")?)
 }
 
 #[test]
 fn failed_calls(rt: HostRuntime) -> Result<(), Fail> {
     let alloc = rt.alloc();
     let a = FileName::new(alloc, "a.org")?;
-    for k in 0..8 {
+    for k in 0..8u64 {
         let mut disk = MemoryDisk::new(alloc);
         disk.fail_at(1);
         disk.fail_at(k);
-        let made = sync_write_cut(&mut disk, &a);
-        assert_eq!(rt; made.is_ok(), k == 0 || k == 7);
-        assert_eq!(rt; disk.calls(), if k == 0 || k == 7 { 6 } else { k });
-        if k > 0 && k < 7 {
-            assert_eq!(rt; sync_write_cut(&mut disk, &a), Ok(()));
-            assert_eq!(rt;
-                read_all(&mut disk, alloc, &a)?.as_slice(),
-                b"aX".as_slice()
-            );
-        }
+        assert!(rt; fails_once(&mut disk, alloc, &a, k)?, "call {k}");
     }
     Ok(())
+}
+
+// Whether a fuse blows after so many of the six calls, the disk then holding this text.
+fn blows(alloc: Global, name: &FileName, k: u64, held: &str) -> Result<bool, Fail> {
+    let mut fuse = Fuse::new(MemoryDisk::new(alloc), k);
+    let made = sync_write_cut(&mut fuse, name);
+    let after = fuse.sync(name);
+    let mut disk = fuse.into_inner();
+    let calls = disk.calls();
+    let is_held = holds(&mut disk, alloc, name, held)?;
+    Ok(made.is_ok() == (k == 6) && after.is_err() && calls == k && is_held)
 }
 
 #[test]
@@ -257,12 +308,7 @@ fn blown_fuse(rt: HostRuntime) -> Result<(), Fail> {
     let alloc = rt.alloc();
     let a = FileName::new(alloc, "a.org")?;
     for (k, held) in [(0, ""), (3, "abc"), (4, "aXY"), (6, "aX")] {
-        let mut fuse = Fuse::new(MemoryDisk::new(alloc), k);
-        assert_eq!(rt; sync_write_cut(&mut fuse, &a).is_ok(), k == 6);
-        assert_eq!(rt; fuse.sync(&a), Err(DiskFault));
-        let mut disk = fuse.into_inner();
-        assert_eq!(rt; disk.calls(), k);
-        assert_eq!(rt; read_all(&mut disk, alloc, &a)?.as_slice(), held.as_bytes());
+        assert!(rt; blows(alloc, &a, k, held)?, "after {k} calls");
     }
     Ok(())
 }
@@ -286,13 +332,7 @@ fn first_write_stays(rt: HostRuntime) -> Result<(), Fail> {
     let alloc = rt.alloc();
     let a = FileName::new(alloc, "a.org")?;
     let mut disk = MemoryDisk::new(alloc);
-    assert_eq!(rt;
-        write_sync_write(&mut disk, &a, b"kept", b" and more"),
-        Ok(())
-    );
-    assert_eq!(rt;
-        read_all(&mut disk, alloc, &a)?.as_slice(),
-        b"kept and more".as_slice()
-    );
+    let made = write_sync_write(&mut disk, &a, b"kept", b" and more");
+    assert!(rt; made.is_ok() && holds(&mut disk, alloc, &a, "kept and more")?);
     Ok(())
 }
