@@ -2,8 +2,8 @@
 ghost use Rattle.org_serve.specs.Group.{IsGroup};
 
 use super::pipes::{Page, in_pieces, pipe};
-use super::stops::{CAPTURES, OUTCOMES, left_by, prefix_in};
-use super::{Ended, run, served, two_files};
+use super::stops::{CAPTURES, OUTCOMES, calls, prefix_left};
+use super::{is_answered, two_files};
 use crate::ServeEnd;
 use org_disk::MemoryDisk;
 use std::alloc::Global;
@@ -20,8 +20,7 @@ fn answers_in(
     requires { IsGroup group }
 {
     let disk = two_files(rt.alloc(), b"* A\n", b"* Z")?;
-    let written = served(rt.alloc(), disk, group, lines)?;
-    assert_eq!(rt; written.as_slice(), wanted.as_bytes());
+    assert!(rt; is_answered(rt.alloc(), disk, group, lines, wanted.as_bytes())?);
     Ok(())
 }
 
@@ -70,8 +69,7 @@ fn broken_off(alloc: Global, group: u32, lines: &[u8], written: &[u8]) -> Result
 fn a_group_that_is_not_full(rt: HostRuntime) -> Result<(), Fail> {
     for outcome in OUTCOMES {
         let disk = broken_off(rt.alloc(), 3, CAPTURES, b"ok 1\nok 2\n")?;
-        let left = left_by(rt.alloc(), disk, outcome)?;
-        assert_eq!(rt; prefix_in(rt.alloc(), left)?, 0);
+        assert_eq!(rt; prefix_left(rt.alloc(), disk, outcome)?, 0);
     }
     Ok(())
 }
@@ -83,8 +81,7 @@ const SETTLED: &[u8] = b"capture\ta.org\ttop\tlast\t2026-07-01 10:00\t* N\t\n\
 fn a_group_that_is_settled(rt: HostRuntime) -> Result<(), Fail> {
     for outcome in OUTCOMES {
         let disk = broken_off(rt.alloc(), 3, SETTLED, b"ok 1\nok 2\nsafe 2\n")?;
-        let left = left_by(rt.alloc(), disk, outcome)?;
-        assert_eq!(rt; prefix_in(rt.alloc(), left)?, 2);
+        assert_eq!(rt; prefix_left(rt.alloc(), disk, outcome)?, 2);
     }
     Ok(())
 }
@@ -92,14 +89,11 @@ fn a_group_that_is_settled(rt: HostRuntime) -> Result<(), Fail> {
 // Nothing is pending on a fresh store.
 #[test]
 fn settle_of_nothing(rt: HostRuntime) -> Result<(), Fail> {
-    let disk = two_files(rt.alloc(), b"", b"")?;
-    let opening = run(rt.alloc(), two_files(rt.alloc(), b"", b"")?, 1, b"")?;
-    let Ended {
-        written,
-        end: _,
-        disk,
-    } = run(rt.alloc(), disk, 1, b"settle\n")?;
-    assert_eq!(rt; written.as_slice(), b"safe 0\n".as_slice());
-    assert_eq!(rt; disk.calls(), opening.disk.calls());
+    let alloc = rt.alloc();
+    let disk = two_files(alloc, b"", b"")?;
+    assert!(rt; is_answered(alloc, disk, 1, b"settle\n", b"safe 0\n")?);
+    let opening = calls(alloc, two_files(alloc, b"", b"")?, 1, b"")?;
+    let all = calls(alloc, two_files(alloc, b"", b"")?, 1, b"settle\n")?;
+    assert_eq!(rt; all, opening);
     Ok(())
 }

@@ -1,5 +1,6 @@
 // What is answered to each line.
-use super::{answers, served, two_files};
+use super::{answers, is_answered, two_files};
+use org_disk::MemoryDisk;
 use std::alloc::Global;
 use std::process::Abort;
 use std::test::Fail;
@@ -102,8 +103,8 @@ fn long_line(alloc: Global, length: usize) -> Result<Vec<u8>, Fail> {
 
 fn answers_long(rt: &(impl Abort + AllocGlobal), length: usize, wanted: &str) -> Result<(), Fail> {
     let line = long_line(rt.alloc(), length)?;
-    let written = served(rt.alloc(), two_files(rt.alloc(), b"", b"")?, 1, &line)?;
-    assert_eq!(rt; written.as_slice(), wanted.as_bytes());
+    let disk = two_files(rt.alloc(), b"", b"")?;
+    assert!(rt; is_answered(rt.alloc(), disk, 1, &line, wanted.as_bytes())?);
     Ok(())
 }
 
@@ -113,13 +114,18 @@ fn the_limit_of_a_line(rt: HostRuntime) -> Result<(), Fail> {
     answers_long(&rt, 1_048_577, "refused 20 BadLine\n")
 }
 
-// A capture into a.org, which has so many bytes, is answered so.
-fn answers_at(rt: &(impl Abort + AllocGlobal), length: usize, wanted: &str) -> Result<(), Fail> {
-    let mut old = vec![in rt.alloc(); b'x'; length]?;
+// A disk whose a.org has a line of so many bytes.
+fn long_file(alloc: Global, length: usize) -> Result<MemoryDisk, Fail> {
+    let mut old = vec![in alloc; b'x'; length]?;
     old.push(b'\n')?;
+    two_files(alloc, &old, b"")
+}
+
+// A capture into a.org, which has a line of so many bytes, is answered so.
+fn answers_at(rt: &(impl Abort + AllocGlobal), length: usize, wanted: &str) -> Result<(), Fail> {
     let line = b"capture\ta.org\ttop\tlast\t2026-07-01 10:00\t* B\t\n";
-    let written = served(rt.alloc(), two_files(rt.alloc(), &old, b"")?, 1, line)?;
-    assert_eq!(rt; written.as_slice(), wanted.as_bytes());
+    let disk = long_file(rt.alloc(), length)?;
+    assert!(rt; is_answered(rt.alloc(), disk, 1, line, wanted.as_bytes())?);
     Ok(())
 }
 

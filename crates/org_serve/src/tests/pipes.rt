@@ -1,8 +1,8 @@
 // Input that comes in pieces, and pipes that fail.
 ghost use Rattle.org_serve.specs.Group.{IsGroup};
 
-use super::{served, setup, two_files};
-use crate::{PipeFault, ServeEnd, Served, Sink, Source, serve_disk};
+use super::{serve_over, served, two_files};
+use crate::{PipeFault, ServeEnd, Served, Sink, Source};
 use org_disk::MemoryDisk;
 use std::alloc::Global;
 use std::process::Abort;
@@ -108,9 +108,21 @@ pub fn pipe(
 ) -> Result<(ServeEnd, MemoryDisk), Fail>
     requires { IsGroup group }
 {
-    let setup = setup(alloc, group)?;
-    let Served { disk, end } = serve_disk(alloc, disk, setup, reader, writer, turns);
+    let Served { disk, end } = serve_over(alloc, disk, group, reader, writer, turns)?;
     Ok((end?, disk))
+}
+
+// Serves these pieces over a disk, in groups of one: how it ends, and what is written.
+fn paged(
+    alloc: Global,
+    disk: MemoryDisk,
+    reader: &mut Pieces<'_>,
+    writer: Page,
+    turns: u64,
+) -> Result<(ServeEnd, Vec<u8>), Fail> {
+    let mut writer = writer;
+    let (end, _) = pipe(alloc, disk, 1, reader, &mut writer, turns)?;
+    Ok((end, writer.bytes))
 }
 
 // Many lines, longer than one piece, and the start of one more.
@@ -132,12 +144,11 @@ fn answers_pieces(
     input: &[u8],
     wanted: &[u8],
 ) -> Result<(), Fail> {
-    let disk = two_files(rt.alloc(), b"", b"* Z\n")?;
+    let alloc = rt.alloc();
+    let disk = two_files(alloc, b"", b"* Z\n")?;
     let mut reader = in_pieces(input, size);
-    let mut writer = Page::new(rt.alloc());
-    let (end, _) = pipe(rt.alloc(), disk, 1, &mut reader, &mut writer, 100_000)?;
-    assert_eq!(rt; end, ServeEnd::End);
-    assert_eq!(rt; writer.bytes.as_slice(), wanted);
+    let (end, written) = paged(alloc, disk, &mut reader, Page::new(alloc), 100_000)?;
+    assert!(rt; end == ServeEnd::End && written.as_slice() == wanted);
     Ok(())
 }
 
@@ -156,13 +167,12 @@ fn any_pieces_give_one_output(rt: HostRuntime) -> Result<(), Fail> {
 
 // Where a read fails, or the turns are used up, the lines that were read whole are answered.
 fn ends_by_reading(rt: &(impl Abort + AllocGlobal), fails_at: u64, turns: u64) -> Result<(), Fail> {
-    let disk = two_files(rt.alloc(), b"", b"* Z\n")?;
+    let alloc = rt.alloc();
+    let disk = two_files(alloc, b"", b"* Z\n")?;
     let mut reader = in_pieces(b"show\tb.org\nshow\ta.org", 11);
     reader.fails_at = fails_at;
-    let mut writer = Page::new(rt.alloc());
-    let (end, _) = pipe(rt.alloc(), disk, 1, &mut reader, &mut writer, turns)?;
-    assert_eq!(rt; end, ServeEnd::Read);
-    assert_eq!(rt; writer.bytes.as_slice(), b"text 4\n* Z\n\n".as_slice());
+    let (end, written) = paged(alloc, disk, &mut reader, Page::new(alloc), turns)?;
+    assert!(rt; end == ServeEnd::Read && written.as_slice() == b"text 4\n* Z\n\n".as_slice());
     Ok(())
 }
 
@@ -174,12 +184,11 @@ fn a_read_that_fails(rt: HostRuntime) -> Result<(), Fail> {
 
 // An input of one piece, served in so many turns, ends so.
 fn ends_in(rt: &(impl Abort + AllocGlobal), turns: u64, wanted: ServeEnd) -> Result<(), Fail> {
-    let disk = two_files(rt.alloc(), b"", b"")?;
+    let alloc = rt.alloc();
+    let disk = two_files(alloc, b"", b"")?;
     let mut reader = in_pieces(b"show\ta.org\n", 100);
-    let mut writer = Page::new(rt.alloc());
-    let (end, _) = pipe(rt.alloc(), disk, 1, &mut reader, &mut writer, turns)?;
-    assert_eq!(rt; end, wanted);
-    assert_eq!(rt; reader.reads, turns);
+    let (end, _) = paged(alloc, disk, &mut reader, Page::new(alloc), turns)?;
+    assert!(rt; end == wanted && reader.reads == turns);
     Ok(())
 }
 
@@ -199,8 +208,7 @@ fn written_until(alloc: Global, fails_at: u64) -> Result<(ServeEnd, Vec<u8>), Fa
     );
     let mut writer = Page::new(alloc);
     writer.fails_at = fails_at;
-    let (end, _) = pipe(alloc, disk, 1, &mut reader, &mut writer, 100)?;
-    Ok((end, writer.bytes))
+    paged(alloc, disk, &mut reader, writer, 100)
 }
 
 // A text takes five writes, a change and its settling six, a bad line one; each line is flushed.

@@ -1,7 +1,7 @@
 // Stops of the disk, and what opening it again finds.
 ghost use Rattle.org_serve.specs.Group.{IsGroup};
 
-use super::{Ended, bytes_of, run, served, two_files};
+use super::{Ended, bytes_of, is_answered, run, served, two_files};
 use crate::ServeEnd;
 use org_disk::{FileName, MemoryDisk, Outcome};
 use org_store::OpenFault;
@@ -30,23 +30,27 @@ fn files(alloc: Global) -> Result<MemoryDisk, Fail> {
     two_files(alloc, b"* A\n", b"* Z")
 }
 
-// How many of the two captures are in the files of a disk, once it is opened again.
-pub fn prefix_in(alloc: Global, disk: MemoryDisk) -> Result<u64, Fail> {
-    let shown = served(alloc, disk, 1, b"show\ta.org\nshow\tb.org\n")?;
-    match shown.as_slice() {
-        b"text 4\n* A\n\ntext 3\n* Z\n" => Ok(0),
-        b"text 8\n* A\n* N\n\ntext 3\n* Z\n" => Ok(1),
-        b"text 8\n* A\n* N\n\ntext 8\n* Z\n* K\n\n" => Ok(2),
-        _ => Err("no prefix")?,
+// How many of the two captures are in the files, where a show of both answers this.
+fn prefix_of(shown: &[u8]) -> Option<u64> {
+    if shown == b"text 4\n* A\n\ntext 3\n* Z\n".as_slice() {
+        Some(0)
+    } else if shown == b"text 8\n* A\n* N\n\ntext 3\n* Z\n".as_slice() {
+        Some(1)
+    } else if shown == b"text 8\n* A\n* N\n\ntext 8\n* Z\n* K\n\n".as_slice() {
+        Some(2)
+    } else {
+        None
     }
 }
 
-// What a stop at the next call of the disk leaves.
-pub fn left_by(alloc: Global, disk: MemoryDisk, outcome: Outcome) -> Result<MemoryDisk, Fail> {
-    let mut disk = disk;
-    disk.stop_at(1, outcome);
-    let stopped = run(alloc, disk, 1, b"")?;
-    Ok(stopped.disk.image(alloc)?)
+// How many of the two captures are in the files of a disk, once it is opened again.
+pub fn prefix_in(alloc: Global, disk: MemoryDisk) -> Result<u64, Fail> {
+    let shown = served(alloc, disk, 1, b"show\ta.org\nshow\tb.org\n")?;
+    Ok(prefix_of(&shown).ok_or("no prefix")?)
+}
+
+fn image(alloc: Global, disk: &MemoryDisk) -> Result<MemoryDisk, Fail> {
+    Ok(disk.image(alloc)?)
 }
 
 // What a stop at this call of the disk leaves, as these lines are served, and what was written by then.
@@ -67,11 +71,27 @@ fn stopped(
         end: _,
         disk,
     } = run(alloc, disk, group, lines)?;
-    Ok((written, disk.image(alloc)?))
+    Ok((written, image(alloc, &disk)?))
+}
+
+// What a stop at this call of the disk leaves, as the store is opened over it.
+fn stopped_opening(
+    alloc: Global,
+    disk: MemoryDisk,
+    call: u64,
+    outcome: Outcome,
+) -> Result<MemoryDisk, Fail> {
+    let (_, left) = stopped(alloc, disk, 1, b"", call, outcome)?;
+    Ok(left)
+}
+
+// How many of the two captures are in the files, once the next call of the disk was stopped.
+pub fn prefix_left(alloc: Global, disk: MemoryDisk, outcome: Outcome) -> Result<u64, Fail> {
+    prefix_in(alloc, stopped_opening(alloc, disk, 1, outcome)?)
 }
 
 // How many calls of the disk it takes to serve these lines.
-fn calls(alloc: Global, disk: MemoryDisk, group: u32, lines: &[u8]) -> Result<u64, Fail>
+pub fn calls(alloc: Global, disk: MemoryDisk, group: u32, lines: &[u8]) -> Result<u64, Fail>
     requires { IsGroup group }
 {
     Ok(run(alloc, disk, group, lines)?.disk.calls())
@@ -105,19 +125,27 @@ fn stop_at(
 {
     let alloc = rt.alloc();
     let (written, left) = stopped(alloc, files(alloc)?, group, CAPTURES, call, outcome)?;
-    let prefix = prefix_in(alloc, left.image(alloc)?)?;
+    let prefix = prefix_in(alloc, image(alloc, &left)?)?;
     assert!(rt;
         is_prefix(u64::from(group), &written, prefix),
         "{prefix} after {call}"
     );
-    let opening = calls(alloc, left.image(alloc)?, 1, b"")?;
-    for second in 0..opening {
-        stop_opening(rt, &left, second + 1, prefix)?;
+    stop_each_opening(rt, &left, prefix)
+}
+
+// A stop at any call of an opening leaves what the disk stood for.
+fn stop_each_opening(
+    rt: &(impl Abort + AllocGlobal),
+    disk: &MemoryDisk,
+    prefix: u64,
+) -> Result<(), Fail> {
+    let opening = calls(rt.alloc(), image(rt.alloc(), disk)?, 1, b"")?;
+    for call in 0..opening {
+        stop_opening(rt, disk, call + 1, prefix)?;
     }
     Ok(())
 }
 
-// A stop at this call of an opening leaves what the disk stood for.
 fn stop_opening(
     rt: &(impl Abort + AllocGlobal),
     disk: &MemoryDisk,
@@ -126,7 +154,7 @@ fn stop_opening(
 ) -> Result<(), Fail> {
     let alloc = rt.alloc();
     for outcome in OUTCOMES {
-        let (_, left) = stopped(alloc, disk.image(alloc)?, 1, b"", call, outcome)?;
+        let left = stopped_opening(alloc, image(alloc, disk)?, call, outcome)?;
         assert_eq!(rt; prefix_in(alloc, left)?, prefix);
     }
     Ok(())
@@ -177,34 +205,56 @@ const THREE: &[u8] = b"capture\ta.org\ttop\tlast\t2026-07-01 10:00\t* N\t\n\
 
 // One of the captures is told that the disk failed, and each later line that the store is broken.
 fn is_told(group: u32, written: &[u8]) -> bool {
-    match written {
-        b"fault Device\nfault Broken\nfault Broken\n" => true,
-        b"ok 1\nsafe 1\nfault Device\nfault Broken\n" => group == 1,
-        b"ok 1\nfault Device\nfault Broken\n" => group == 2,
-        _ => false,
-    }
+    written == b"fault Device\nfault Broken\nfault Broken\n".as_slice()
+        || group == 1 && written == b"ok 1\nsafe 1\nfault Device\nfault Broken\n".as_slice()
+        || group == 2 && written == b"ok 1\nfault Device\nfault Broken\n".as_slice()
 }
 
-// Where this call fails, the opening is refused and the files are as they were; or a line is told, and what is left has a
-// prefix.
+// How serving ended where a call of the disk failed, what was written, and how many of the two captures are in the files.
+#[derive(Drop)]
+struct Failed {
+    end: Result<ServeEnd, OpenFault>,
+    written: Vec<u8>,
+    prefix: u64,
+}
+
+// Serves these lines, where this call of the disk fails.
+fn serve_failing(alloc: Global, group: u32, lines: &[u8], call: u64) -> Result<Failed, Fail>
+    requires { IsGroup group }
+{
+    let mut disk = files(alloc)?;
+    disk.fail_at(call);
+    let Ended { written, end, disk } = run(alloc, disk, group, lines)?;
+    Ok(Failed {
+        end,
+        written,
+        prefix: prefix_in(alloc, disk)?,
+    })
+}
+
+// The opening is refused, and the files are as they were.
+fn is_refused(failed: &Failed) -> bool {
+    matches!(failed.end, Err(OpenFault::Device)) && failed.written.is_empty() && failed.prefix == 0
+}
+
+// A line is told, and what is left has a prefix.
+fn is_broken(group: u32, failed: &Failed) -> bool {
+    matches!(failed.end, Ok(ServeEnd::Device))
+        && is_told(group, &failed.written)
+        && is_prefix(u64::from(group), &failed.written, failed.prefix)
+}
+
+// Where this call fails, the opening is refused, or a line is told.
 fn fail_at(rt: &(impl Abort + AllocGlobal), group: u32, opening: u64, call: u64) -> Result<(), Fail>
     requires { IsGroup group }
 {
-    let alloc = rt.alloc();
-    let mut disk = files(alloc)?;
-    disk.fail_at(call);
-    let Ended { written, end, disk } = run(alloc, disk, group, THREE)?;
-    let prefix = prefix_in(alloc, disk)?;
-    if call <= opening {
-        assert!(rt; matches!(end, Err(OpenFault::Device)) && written.is_empty() && prefix == 0);
-        return Ok(());
-    }
-    assert!(rt; matches!(end, Ok(ServeEnd::Device)));
-    assert!(rt; is_told(group, &written), "call {call}");
-    assert!(rt;
-        is_prefix(u64::from(group), &written, prefix),
-        "{prefix} after {call}"
-    );
+    let failed = serve_failing(rt.alloc(), group, THREE, call)?;
+    let is_right = if call <= opening {
+        is_refused(&failed)
+    } else {
+        is_broken(group, &failed)
+    };
+    assert!(rt; is_right, "{} after {call}", failed.prefix);
     Ok(())
 }
 
@@ -235,20 +285,12 @@ fn each_failed_call_of_a_group(rt: HostRuntime) -> Result<(), Fail> {
 fn a_show_that_fails(rt: HostRuntime) -> Result<(), Fail> {
     let alloc = rt.alloc();
     let before = calls(alloc, files(alloc)?, 1, CAPTURE)?;
-    let mut disk = files(alloc)?;
-    disk.fail_at(before.saturating_add(1));
-    let ended = run(
-        alloc,
-        disk,
-        1,
-        b"capture\ta.org\ttop\tlast\t2026-07-01 10:00\t* N\t\nshow\tb.org\nshow\ta.org\nnothing\n",
-    )?;
-    assert!(rt; matches!(ended.end, Ok(ServeEnd::Device)));
-    assert_eq!(rt;
-        ended.written.as_slice(),
-        b"ok 1\nsafe 1\nfault Device\nfault Broken\nrefused 20 BadLine\n".as_slice()
-    );
-    assert_eq!(rt; prefix_in(alloc, ended.disk)?, 1);
+    let lines =
+        b"capture\ta.org\ttop\tlast\t2026-07-01 10:00\t* N\t\nshow\tb.org\nshow\ta.org\nnothing\n";
+    let failed = serve_failing(alloc, 1, lines, before.saturating_add(1))?;
+    assert!(rt; matches!(failed.end, Ok(ServeEnd::Device)) && failed.prefix == 1);
+    let wanted = b"ok 1\nsafe 1\nfault Device\nfault Broken\nrefused 20 BadLine\n";
+    assert!(rt; failed.written.as_slice() == wanted.as_slice());
     Ok(())
 }
 
@@ -259,57 +301,91 @@ const GATE: u64 = 5;
 
 const GATE_SYNC: u64 = 6;
 
+// What the disk has where this call of it fails in a capture.
+fn failed_disk(alloc: Global, call: u64) -> Result<MemoryDisk, Fail> {
+    let mut disk = files(alloc)?;
+    disk.fail_at(call);
+    Ok(run(alloc, disk, 1, CAPTURE)?.disk)
+}
+
 // Once the gate was written, the capture may be done or not, in every image.
 #[test]
 fn the_sync_behind_the_gate_fails(rt: HostRuntime) -> Result<(), Fail> {
     let alloc = rt.alloc();
-    let opening = calls(alloc, files(alloc)?, 1, b"")?;
+    let call = calls(alloc, files(alloc)?, 1, b"")?.saturating_add(GATE_SYNC);
+    let whole = image(alloc, &failed_disk(alloc, call)?)?;
+    assert_eq!(rt; prefix_in(alloc, whole)?, 1);
     for outcome in OUTCOMES {
-        let mut disk = files(alloc)?;
-        disk.fail_at(opening.saturating_add(GATE_SYNC));
-        let failed = run(alloc, disk, 1, CAPTURE)?;
-        assert_eq!(rt; prefix_in(alloc, failed.disk.image(alloc)?)?, 1);
-        let left = left_by(alloc, failed.disk, outcome)?;
-        assert!(rt; prefix_in(alloc, left)? <= 1);
+        let prefix = prefix_left(alloc, failed_disk(alloc, call)?, outcome)?;
+        assert!(rt; prefix <= 1);
     }
     Ok(())
 }
 
+// What a stop at this call behind the opening leaves, in a capture over the disk.
+fn stopped_behind(
+    alloc: Global,
+    disk: &MemoryDisk,
+    call: u64,
+    outcome: Outcome,
+) -> Result<MemoryDisk, Fail> {
+    let call = calls(alloc, image(alloc, disk)?, 1, b"")?.saturating_add(call);
+    let (_, left) = stopped(alloc, image(alloc, disk)?, 1, CAPTURE, call, outcome)?;
+    Ok(left)
+}
+
 // What a stop at the write that opens the gate leaves.
 fn stopped_at_gate(alloc: Global, outcome: Outcome) -> Result<MemoryDisk, Fail> {
-    let opening = calls(alloc, files(alloc)?, 1, b"")?;
-    let (_, left) = stopped(
-        alloc,
-        files(alloc)?,
-        1,
-        CAPTURE,
-        opening.saturating_add(GATE),
-        outcome,
-    )?;
-    Ok(left)
+    stopped_behind(alloc, &files(alloc)?, GATE, outcome)
+}
+
+fn journal_of(alloc: Global, disk: MemoryDisk) -> Result<Vec<u8>, Fail> {
+    let mut disk = disk;
+    bytes_of(alloc, &mut disk, &FileName::journal_name(alloc)?)
 }
 
 // The byte that is the gate.
 fn gate_of(alloc: Global, disk: MemoryDisk) -> Result<u8, Fail> {
-    let mut disk = disk;
-    let journal = bytes_of(alloc, &mut disk, &FileName::journal_name(alloc)?)?;
+    let journal = journal_of(alloc, disk)?;
     Ok(*journal.first().ok_or("no gate")?)
 }
 
 #[test]
 fn the_gate_goes_out(rt: HostRuntime) -> Result<(), Fail> {
-    let left = stopped_at_gate(rt.alloc(), Outcome::Fill(1))?;
-    assert_eq!(rt; gate_of(rt.alloc(), left.image(rt.alloc())?)?, 1);
-    assert_eq!(rt; prefix_in(rt.alloc(), left)?, 1);
+    let alloc = rt.alloc();
+    assert_eq!(rt;
+        gate_of(alloc, stopped_at_gate(alloc, Outcome::Fill(1))?)?,
+        1
+    );
+    assert_eq!(rt;
+        prefix_in(alloc, stopped_at_gate(alloc, Outcome::Fill(1))?)?,
+        1
+    );
     Ok(())
+}
+
+// The gate once a disk was opened.
+fn gate_opened(alloc: Global, disk: MemoryDisk) -> Result<u8, Fail> {
+    gate_of(alloc, run(alloc, disk, 1, b"")?.disk)
 }
 
 // A byte that closes the gate is left alone, also where its opening is stopped.
 fn keeps_gate(rt: &(impl Abort + AllocGlobal), left: &MemoryDisk, call: u64) -> Result<(), Fail> {
+    let alloc = rt.alloc();
     for outcome in OUTCOMES {
-        let (_, again) = stopped(rt.alloc(), left.image(rt.alloc())?, 1, b"", call, outcome)?;
-        let opened = run(rt.alloc(), again, 1, b"")?;
-        assert_eq!(rt; gate_of(rt.alloc(), opened.disk)?, 0x55);
+        let again = stopped_opening(alloc, image(alloc, left)?, call, outcome)?;
+        assert_eq!(rt; gate_opened(alloc, again)?, 0x55);
+    }
+    Ok(())
+}
+
+fn keeps_gate_at_every_call(
+    rt: &(impl Abort + AllocGlobal),
+    left: &MemoryDisk,
+) -> Result<(), Fail> {
+    let opening = calls(rt.alloc(), image(rt.alloc(), left)?, 1, b"")?;
+    for call in 0..opening {
+        keeps_gate(rt, left, call + 1)?;
     }
     Ok(())
 }
@@ -317,33 +393,25 @@ fn keeps_gate(rt: &(impl Abort + AllocGlobal), left: &MemoryDisk, call: u64) -> 
 #[test]
 fn another_byte_goes_out(rt: HostRuntime) -> Result<(), Fail> {
     let alloc = rt.alloc();
-    let left = stopped_at_gate(alloc, Outcome::Fill(0x55))?;
-    let opened = run(alloc, left.image(alloc)?, 1, b"")?;
-    let opening = opened.disk.calls();
-    assert_eq!(rt; gate_of(alloc, opened.disk)?, 0x55);
-    assert_eq!(rt; prefix_in(alloc, left.image(alloc)?)?, 0);
-    for call in 0..opening {
-        keeps_gate(&rt, &left, call + 1)?;
-    }
-    Ok(())
+    let outcome = Outcome::Fill(0x55);
+    assert_eq!(rt; gate_opened(alloc, stopped_at_gate(alloc, outcome)?)?, 0x55);
+    assert_eq!(rt; prefix_in(alloc, stopped_at_gate(alloc, outcome)?)?, 0);
+    keeps_gate_at_every_call(&rt, &stopped_at_gate(alloc, outcome)?)
+}
+
+// The two files, and a journal of these bytes.
+fn with_journal(alloc: Global, journal: &[u8]) -> Result<MemoryDisk, Fail> {
+    let mut disk = files(alloc)?;
+    disk.set(&FileName::journal_name(alloc)?, journal)?;
+    Ok(disk)
 }
 
 // A journal of one byte that reads as an open gate has no record.
 #[test]
 fn a_journal_of_one_byte(rt: HostRuntime) -> Result<(), Fail> {
     let alloc = rt.alloc();
-    let mut disk = files(alloc)?;
-    disk.set(&FileName::journal_name(alloc)?, b"\x01")?;
-    let opening = calls(alloc, disk.image(alloc)?, 1, b"")?;
     for outcome in OUTCOMES {
-        let (_, left) = stopped(
-            alloc,
-            disk.image(alloc)?,
-            1,
-            CAPTURE,
-            opening.saturating_add(RECORD),
-            outcome,
-        )?;
+        let left = stopped_behind(alloc, &with_journal(alloc, b"\x01")?, RECORD, outcome)?;
         assert_eq!(rt; prefix_in(alloc, left)?, 0);
     }
     Ok(())
@@ -355,53 +423,48 @@ const OLD: &[u8] = b"\x01ORGJ\x01\0\0\0\0\0\0\0\0\0\x37\
     \0\0\0\0\0\0\0\0\0\0\0\0\0\0\0\x10\0\0\0\0\0\0\0\x10\
     * TODO Call Ann\n";
 
-// The gate and the version of the journal once these lines were served, and what was written.
-fn journal_behind(alloc: Global, lines: &[u8]) -> Result<(u8, u8, Vec<u8>), Fail> {
-    let journal = FileName::journal_name(alloc)?;
-    let mut disk = files(alloc)?;
-    disk.set(&journal, OLD)?;
-    let Ended {
-        written,
-        end: _,
-        mut disk,
-    } = run(alloc, disk, 1, lines)?;
-    match bytes_of(alloc, &mut disk, &journal)?.as_slice() {
-        [gate, _, _, _, _, version, ..] => Ok((*gate, *version, written)),
-        _ => Err("no journal")?,
+// The gate and the version of a journal.
+fn gate_and_version(journal: &[u8]) -> Option<(u8, u8)> {
+    match journal {
+        [gate, _, _, _, _, version, ..] => Some((*gate, *version)),
+        _ => None,
     }
+}
+
+// The gate and the version of the old journal once these lines were served.
+fn journal_behind(alloc: Global, lines: &[u8]) -> Result<(u8, u8), Fail> {
+    let ended = run(alloc, with_journal(alloc, OLD)?, 1, lines)?;
+    let journal = journal_of(alloc, ended.disk)?;
+    Ok(gate_and_version(&journal).ok_or("no journal")?)
 }
 
 #[test]
 fn an_old_journal(rt: HostRuntime) -> Result<(), Fail> {
-    let (gate, version, written) = journal_behind(rt.alloc(), b"show\tinbox.org\n")?;
-    assert_eq!(rt;
-        written.as_slice(),
-        b"text 16\n* TODO Call Ann\n\n".as_slice()
-    );
-    assert_eq!(rt; (gate, version), (0, 1));
-    let (gate, version, _) = journal_behind(rt.alloc(), CAPTURE)?;
-    assert_eq!(rt; (gate, version), (0, 2));
+    let alloc = rt.alloc();
+    let lines = b"show\tinbox.org\n";
+    let wanted = b"text 16\n* TODO Call Ann\n\n";
+    assert!(rt; is_answered(alloc, with_journal(alloc, OLD)?, 1, lines, wanted)?);
+    assert!(rt; journal_behind(alloc, lines)? == (0, 1));
+    assert!(rt; journal_behind(alloc, CAPTURE)? == (0, 2));
     Ok(())
 }
 
 // Its record is longer than the file.
 const BAD: &[u8] = b"\x01ORGJ\x01\0\0\0\0\0\0\0\0\0\xff";
 
+// Whether a disk has the bad journal, and a.org as it was.
+fn is_untouched(alloc: Global, disk: MemoryDisk) -> Result<bool, Fail> {
+    let mut disk = disk;
+    let text = bytes_of(alloc, &mut disk, &FileName::new(alloc, "a.org")?)?;
+    let journal = journal_of(alloc, disk)?;
+    Ok(journal.as_slice() == BAD && text.as_slice() == b"* A\n".as_slice())
+}
+
 #[test]
 fn a_bad_journal(rt: HostRuntime) -> Result<(), Fail> {
     let alloc = rt.alloc();
-    let journal = FileName::journal_name(alloc)?;
-    let mut disk = files(alloc)?;
-    disk.set(&journal, BAD)?;
-    let Ended {
-        written,
-        end,
-        mut disk,
-    } = run(alloc, disk, 1, CAPTURE)?;
+    let Ended { written, end, disk } = run(alloc, with_journal(alloc, BAD)?, 1, CAPTURE)?;
+    assert!(rt; is_untouched(alloc, disk)?);
     assert!(rt; matches!(end, Err(OpenFault::BadJournal)) && written.is_empty());
-    let bytes = bytes_of(alloc, &mut disk, &journal)?;
-    assert_eq!(rt; bytes.as_slice(), BAD);
-    let text = bytes_of(alloc, &mut disk, &FileName::new(alloc, "a.org")?)?;
-    assert_eq!(rt; text.as_slice(), b"* A\n".as_slice());
     Ok(())
 }
