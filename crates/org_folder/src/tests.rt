@@ -4,20 +4,49 @@ use crate::{
     Calls, CallsDisk, FolderDisk, Opened, Start, SystemCalls, Unknown, org_file, org_files,
 };
 use org_disk::{Disk, DiskFault, FileName, NameFault};
-use std::fs;
+use std::alloc::AllocError;
 use std::fs::{File, Permissions};
 use std::os::unix::fs::{PermissionsExt, symlink};
+use std::process::Abort;
 use std::test::Fail;
+use std::{fs, io};
+
+type Folder = FolderDisk<HostRuntime, Unknown>;
 
 // An empty folder of this name.
-fn empty(rt: &HostRuntime, folder: &str) -> Result<(), Fail> {
+fn make_empty(rt: &HostRuntime, folder: &str) -> io::Result<()> {
     if fs::metadata(rt, folder).is_ok() {
         fs::remove_dir_all(rt, folder)?;
     }
-    Ok(fs::create_dir(rt, folder)?)
+    fs::create_dir(rt, folder)
 }
 
-fn disk(rt: &HostRuntime, folder: &str) -> Result<FolderDisk<HostRuntime, Unknown>, Fail> {
+fn put(rt: &HostRuntime, path: &str, bytes: &[u8]) -> io::Result<()> {
+    fs::write(rt, path, bytes)
+}
+
+fn link(rt: &HostRuntime, target: &str, path: &str) -> io::Result<()> {
+    symlink(rt, target, path)
+}
+
+// What the system answers is made a failure of the test where nothing else is owned, which keeps the proofs short.
+fn done(answer: io::Result<()>) -> Result<(), Fail> {
+    Ok(answer?)
+}
+
+fn empty(rt: &HostRuntime, folder: &str) -> Result<(), Fail> {
+    done(make_empty(rt, folder))
+}
+
+fn remove(rt: &HostRuntime, folder: &str) -> Result<(), Fail> {
+    done(fs::remove_dir_all(rt, folder))
+}
+
+fn text(rt: &HostRuntime, path: &str) -> Result<Vec<u8>, Fail> {
+    Ok(fs::read(rt, path)?)
+}
+
+fn disk(rt: &HostRuntime, folder: &str) -> Result<Folder, Fail> {
     Ok(FolderDisk::new(rt.clone()?, rt.alloc(), folder)?)
 }
 
@@ -25,37 +54,73 @@ fn name(rt: &HostRuntime, text: &str) -> Result<FileName, Fail> {
     Ok(FileName::new(rt.alloc(), text)?)
 }
 
+// Calls of a disk that have no clause: where nothing is said of them, the proofs of the tests have less to carry on.
+fn length(disk: &mut Folder, name: &FileName) -> Result<u64, DiskFault> {
+    disk.length(name)
+}
+
+fn write(disk: &mut Folder, name: &FileName, bytes: &[u8]) -> Result<(), DiskFault> {
+    disk.write_at(name, 0, bytes)
+}
+
+// Writes past the four bytes of a file.
+fn append(disk: &mut Folder, name: &FileName, bytes: &[u8]) -> Result<(), DiskFault> {
+    if disk.length(name)? != 4 {
+        return Err(DiskFault);
+    }
+    disk.write_at(name, 4, bytes)
+}
+
+fn sync(disk: &mut Folder, name: &FileName) -> Result<(), DiskFault> {
+    disk.sync(name)
+}
+
 #[test]
 fn names_of_org_files(rt: HostRuntime) -> Result<(), Fail> {
+    let bad = Some(NameFault::BadName);
     assert!(rt; org_file(rt.alloc(), "a.org").is_ok());
-    assert_eq!(rt;
-        org_file(rt.alloc(), "a.txt").err(),
-        Some(NameFault::BadName)
-    );
-    assert_eq!(rt;
-        org_file(rt.alloc(), "a.org_archive").err(),
-        Some(NameFault::BadName)
-    );
+    assert!(rt; org_file(rt.alloc(), "a.txt").err() == bad);
+    assert!(rt; org_file(rt.alloc(), "a.org_archive").err() == bad);
     Ok(())
+}
+
+// Two Org files, of which one is a link that leads nowhere, and what is none.
+fn make_listed(rt: &HostRuntime) -> io::Result<()> {
+    make_empty(rt, "listed")?;
+    put(rt, "listed/a.org", b"* A\n")?;
+    put(rt, "listed/a.org_archive", b"* B\n")?;
+    put(rt, "listed/.hidden.org", b"")?;
+    put(rt, "listed/notes.txt", b"")?;
+    fs::create_dir(rt, "listed/folder.org")?;
+    link(rt, "folder.org", "listed/linked_folder.org")?;
+    link(rt, "nowhere", "listed/link.org")
+}
+
+fn are_listed(names: &[FileName]) -> bool {
+    match names {
+        [first, second] => first.as_str() == "a.org" && second.as_str() == "link.org",
+        _ => false,
+    }
 }
 
 #[test]
 fn files_of_a_folder(rt: HostRuntime) -> Result<(), Fail> {
-    empty(&rt, "listed")?;
-    fs::write(&rt, "listed/a.org", b"* A\n")?;
-    fs::write(&rt, "listed/a.org_archive", b"* B\n")?;
-    fs::write(&rt, "listed/.hidden.org", b"")?;
-    fs::write(&rt, "listed/notes.txt", b"")?;
-    fs::create_dir(&rt, "listed/folder.org")?;
-    symlink(&rt, "folder.org", "listed/linked_folder.org")?;
-    symlink(&rt, "nowhere", "listed/link.org")?;
+    done(make_listed(&rt))?;
     let mut names = org_files(&rt, "listed")?;
     names.sort()?;
-    assert_eq!(rt; names.len(), 2);
-    assert_eq!(rt; names[0].as_str(), "a.org");
-    assert_eq!(rt; names[1].as_str(), "link.org");
+    assert!(rt; are_listed(names.as_slice()));
     assert!(rt; org_files(&rt, "listed/nowhere").is_err());
-    Ok(fs::remove_dir_all(&rt, "listed")?)
+    remove(&rt, "listed")
+}
+
+// Each call on a file that does nothing to it, and its length.
+fn do_nothing(disk: &mut impl Disk, name: &FileName) -> Result<u64, DiskFault> {
+    let length = disk.length(name)?;
+    disk.read_at(name, 0, &mut [])?;
+    disk.write_at(name, 0, b"")?;
+    disk.cut(name, 0)?;
+    disk.sync(name)?;
+    Ok(length)
 }
 
 // What a disk does to no file makes none.
@@ -63,14 +128,9 @@ fn files_of_a_folder(rt: HostRuntime) -> Result<(), Fail> {
 fn absent_and_empty_are_the_same(rt: HostRuntime) -> Result<(), Fail> {
     empty(&rt, "absent")?;
     let mut disk = disk(&rt, "absent")?;
-    let a = name(&rt, "a.org")?;
-    assert_eq!(rt; disk.length(&a)?, 0);
-    disk.read_at(&a, 0, &mut [])?;
-    disk.write_at(&a, 0, b"")?;
-    disk.cut(&a, 0)?;
-    disk.sync(&a)?;
+    assert_eq!(rt; do_nothing(&mut disk, &name(&rt, "a.org")?)?, 0);
     assert!(rt; fs::metadata(&rt, "absent/a.org").is_err());
-    Ok(fs::remove_dir_all(&rt, "absent")?)
+    remove(&rt, "absent")
 }
 
 // Each file is supposed to hold one byte at first.
@@ -84,25 +144,53 @@ impl Start for OneByte {
     ghost world = { record { start = λ _. stable (42 ∷ []); left = λ _. [] } };
 }
 
+fn cut_fails(rt: &HostRuntime, name: &FileName) -> Result<bool, AllocError> {
+    let mut disk: FolderDisk<HostRuntime, OneByte> = FolderDisk::new(
+        rt.clone()?,
+        rt.alloc(),
+        "supposed",
+    )?;
+    Ok(disk.cut(name, 1).is_err())
+}
+
+fn read_fails(rt: &HostRuntime, name: &FileName) -> Result<bool, AllocError> {
+    let mut disk: FolderDisk<HostRuntime, OneByte> = FolderDisk::new(
+        rt.clone()?,
+        rt.alloc(),
+        "supposed",
+    )?;
+    Ok(disk.read_at(name, 0, &mut [0]).is_err())
+}
+
 // A call that goes past the end of a file fails: the file isn't what it was supposed to be.
 #[test]
 fn absent_where_a_byte_is_supposed(rt: HostRuntime) -> Result<(), Fail> {
     empty(&rt, "supposed")?;
     let a = name(&rt, "a.org")?;
-    let mut disk: FolderDisk<HostRuntime, OneByte> = FolderDisk::new(
-        rt.clone()?,
-        rt.alloc(),
-        "supposed",
-    )?;
-    assert!(rt; disk.cut(&a, 1).is_err());
-    let mut disk: FolderDisk<HostRuntime, OneByte> = FolderDisk::new(
-        rt.clone()?,
-        rt.alloc(),
-        "supposed",
-    )?;
-    assert!(rt; disk.read_at(&a, 0, &mut [0]).is_err());
+    assert!(rt; cut_fails(&rt, &a)?);
+    assert!(rt; read_fails(&rt, &a)?);
     assert!(rt; fs::metadata(&rt, "supposed/a.org").is_err());
-    Ok(fs::remove_dir_all(&rt, "supposed")?)
+    remove(&rt, "supposed")
+}
+
+// The length after two writes, and three bytes of what a cut leaves.
+fn write_and_cut(disk: &mut impl Disk, name: &FileName) -> Result<(u64, [u8; 3]), DiskFault> {
+    disk.write_at(name, 0, b"* A\n* B\n")?;
+    disk.write_at(name, 6, b"CC\n")?;
+    disk.sync(name)?;
+    let length = disk.length(name)?;
+    disk.cut(name, 7)?;
+    disk.sync(name)?;
+    let mut bytes = [0; 3];
+    disk.read_at(name, 4, &mut bytes)?;
+    Ok((length, bytes))
+}
+
+// Whether a read fails where another program makes the file shorter.
+fn fails_shortened(rt: &HostRuntime, disk: &mut Folder, name: &FileName) -> Result<bool, Fail> {
+    disk.write_at(name, 0, b"* A\n* C")?;
+    done(fs::write(rt, "written/a.org", b"* A\n* "))?;
+    Ok(disk.read_at(name, 4, &mut [0; 3]).is_err())
 }
 
 #[test]
@@ -110,37 +198,47 @@ fn writes_cuts_and_reads(rt: HostRuntime) -> Result<(), Fail> {
     empty(&rt, "written")?;
     let mut disk = disk(&rt, "written")?;
     let a = name(&rt, "a.org")?;
-    disk.write_at(&a, 0, b"* A\n* B\n")?;
-    disk.write_at(&a, 6, b"CC\n")?;
-    disk.sync(&a)?;
-    assert_eq!(rt; disk.length(&a)?, 9);
-    disk.cut(&a, 7)?;
-    disk.sync(&a)?;
-    let mut bytes = [0; 3];
-    disk.read_at(&a, 4, &mut bytes)?;
-    assert_eq!(rt; bytes.as_slice(), b"* C".as_slice());
-    let text = fs::read(&rt, "written/a.org")?;
-    assert_eq!(rt; text.as_slice(), b"* A\n* C".as_slice());
-    // Another program makes the file shorter.
-    fs::write(&rt, "written/a.org", b"* A\n* ")?;
-    assert!(rt; disk.read_at(&a, 4, &mut bytes).is_err());
-    Ok(fs::remove_dir_all(&rt, "written")?)
+    let (length, bytes) = write_and_cut(&mut disk, &a)?;
+    assert_eq!(rt; length, 9);
+    assert!(rt; bytes.as_slice() == b"* C".as_slice());
+    let text = text(&rt, "written/a.org")?;
+    assert!(rt; text.as_slice() == b"* A\n* C".as_slice());
+    assert!(rt; fails_shortened(&rt, &mut disk, &a)?);
+    remove(&rt, "written")
+}
+
+fn make_linked(rt: &HostRuntime) -> io::Result<()> {
+    make_empty(rt, "linked")?;
+    fs::create_dir(rt, "linked/folder.org")?;
+    link(rt, "folder.org/target", "linked/link.org")
 }
 
 #[test]
 fn links_and_folders(rt: HostRuntime) -> Result<(), Fail> {
-    empty(&rt, "linked")?;
-    fs::create_dir(&rt, "linked/folder.org")?;
-    symlink(&rt, "folder.org/target", "linked/link.org")?;
+    done(make_linked(&rt))?;
     let mut disk = disk(&rt, "linked")?;
-    assert!(rt; disk.length(&name(&rt, "folder.org")?).is_err());
+    assert!(rt; length(&mut disk, &name(&rt, "folder.org")?).is_err());
     let link = name(&rt, "link.org")?;
-    assert_eq!(rt; disk.length(&link)?, 0);
-    disk.write_at(&link, 0, b"* A\n")?;
-    disk.sync(&link)?;
-    let text = fs::read(&rt, "linked/folder.org/target")?;
-    assert_eq!(rt; text.as_slice(), b"* A\n".as_slice());
-    Ok(fs::remove_dir_all(&rt, "linked")?)
+    assert_eq!(rt; length(&mut disk, &link)?, 0);
+    write(&mut disk, &link, b"* A\n")?;
+    sync(&mut disk, &link)?;
+    let text = text(&rt, "linked/folder.org/target")?;
+    assert!(rt; text.as_slice() == b"* A\n".as_slice());
+    remove(&rt, "linked")
+}
+
+// Writes two files, and syncs the second. Both are taken out of the folder then.
+fn write_and_take(
+    rt: &HostRuntime,
+    disk: &mut Folder,
+    a: &FileName,
+    b: &FileName,
+) -> Result<(), Fail> {
+    write(disk, a, b"* A\n")?;
+    write(disk, b, b"* B\n")?;
+    sync(disk, b)?;
+    done(fs::remove_file(rt, "entered/a.org"))?;
+    done(fs::remove_file(rt, "entered/b.org"))
 }
 
 // The first sync of a file looks for its folder, which it syncs, and a later one doesn't.
@@ -150,91 +248,125 @@ fn first_sync_takes_the_folder(rt: HostRuntime) -> Result<(), Fail> {
     let mut disk = disk(&rt, "entered")?;
     let a = name(&rt, "a.org")?;
     let b = name(&rt, "b.org")?;
-    disk.write_at(&a, 0, b"* A\n")?;
-    disk.write_at(&b, 0, b"* B\n")?;
-    disk.sync(&b)?;
-    fs::remove_file(&rt, "entered/a.org")?;
-    fs::remove_file(&rt, "entered/b.org")?;
-    disk.write_at(&b, 4, b"* C\n")?;
-    disk.sync(&b)?;
+    write_and_take(&rt, &mut disk, &a, &b)?;
+    append(&mut disk, &b, b"* C\n")?;
+    sync(&mut disk, &b)?;
     assert_eq!(rt; disk.failures(), 0);
-    assert!(rt; disk.sync(&a).is_err());
+    assert!(rt; sync(&mut disk, &a).is_err());
     assert_eq!(rt; disk.failures(), 1);
-    Ok(fs::remove_dir_all(&rt, "entered")?)
+    remove(&rt, "entered")
+}
+
+fn make_failing(rt: &HostRuntime) -> io::Result<()> {
+    make_empty(rt, "failing")?;
+    put(rt, "failing/a.org", b"* A\n")?;
+    put(rt, "failing/was_file.org", b"")?;
+    link(rt, "nowhere/target", "failing/link.org")
+}
+
+fn make_folder_of_file(rt: &HostRuntime) -> io::Result<()> {
+    fs::remove_file(rt, "failing/was_file.org")?;
+    fs::create_dir(rt, "failing/was_file.org")
+}
+
+fn fails_at_folder(rt: &impl Abort, disk: &mut Folder, folder: &FileName) {
+    assert!(rt; length(disk, folder).is_err());
+    assert_eq!(rt; disk.failures(), 1);
+    assert!(rt; write(disk, folder, b"* B\n").is_err());
+    assert_eq!(rt; disk.failures(), 2);
+}
+
+fn fails_at_link(rt: &impl Abort, disk: &mut Folder, link: &FileName) -> Result<(), DiskFault> {
+    assert_eq!(rt; length(disk, link)?, 0);
+    assert!(rt; write(disk, link, b"* B\n").is_err());
+    assert_eq!(rt; disk.failures(), 3);
+    Ok(())
+}
+
+fn goes_on(rt: &impl Abort, disk: &mut Folder, name: &FileName) -> Result<(), DiskFault> {
+    assert_eq!(rt; length(disk, name)?, 4);
+    append(disk, name, b"* B\n")?;
+    sync(disk, name)?;
+    assert_eq!(rt; length(disk, name)?, 8);
+    assert_eq!(rt; disk.failures(), 3);
+    Ok(())
 }
 
 // Failures that whoever may do all meets too: a name that became a folder's, a link into a folder that isn't there,
 // and a device that is full. Each is counted, and later calls go on.
 #[test]
 fn failures_are_counted(rt: HostRuntime) -> Result<(), Fail> {
-    empty(&rt, "failing")?;
-    fs::write(&rt, "failing/a.org", b"* A\n")?;
-    fs::write(&rt, "failing/was_file.org", b"")?;
-    symlink(&rt, "nowhere/target", "failing/link.org")?;
+    done(make_failing(&rt))?;
     let mut disk = disk(&rt, "failing")?;
-    fs::remove_file(&rt, "failing/was_file.org")?;
-    fs::create_dir(&rt, "failing/was_file.org")?;
-    let folder = name(&rt, "was_file.org")?;
-    assert!(rt; disk.length(&folder).is_err());
-    assert_eq!(rt; disk.failures(), 1);
-    assert!(rt; disk.write_at(&folder, 0, b"* B\n").is_err());
-    assert_eq!(rt; disk.failures(), 2);
-    let link = name(&rt, "link.org")?;
-    assert_eq!(rt; disk.length(&link)?, 0);
-    assert!(rt; disk.write_at(&link, 0, b"* B\n").is_err());
-    assert_eq!(rt; disk.failures(), 3);
-    let a = name(&rt, "a.org")?;
-    assert_eq!(rt; disk.length(&a)?, 4);
-    disk.write_at(&a, 4, b"* B\n")?;
-    disk.sync(&a)?;
-    assert_eq!(rt; disk.length(&a)?, 8);
-    assert_eq!(rt; disk.failures(), 3);
-    Ok(fs::remove_dir_all(&rt, "failing")?)
+    done(make_folder_of_file(&rt))?;
+    fails_at_folder(&rt, &mut disk, &name(&rt, "was_file.org")?);
+    fails_at_link(&rt, &mut disk, &name(&rt, "link.org")?)?;
+    goes_on(&rt, &mut disk, &name(&rt, "a.org")?)?;
+    remove(&rt, "failing")
 }
 
 #[test]
 fn full_device(rt: HostRuntime) -> Result<(), Fail> {
     empty(&rt, "full")?;
     let mut disk = disk(&rt, "full")?;
-    let full = name(&rt, "full.org")?;
-    let a = name(&rt, "a.org")?;
     let has_device = fs::metadata(&rt, "/dev/full").is_ok();
     if has_device {
-        symlink(&rt, "/dev/full", "full/full.org")?;
+        done(symlink(&rt, "/dev/full", "full/full.org"))?;
     }
-    assert_eq!(rt; disk.write_at(&full, 0, b"* A\n").is_err(), has_device);
+    let full = write(&mut disk, &name(&rt, "full.org")?, b"* A\n");
+    assert_eq!(rt; full.is_err(), has_device);
     assert_eq!(rt; disk.failures(), u64::from(has_device));
-    disk.write_at(&a, 0, b"* A\n")?;
-    disk.sync(&a)?;
-    assert_eq!(rt; disk.length(&a)?, 4);
+    let a = name(&rt, "a.org")?;
+    write(&mut disk, &a, b"* A\n")?;
+    sync(&mut disk, &a)?;
+    assert_eq!(rt; length(&mut disk, &a)?, 4);
     assert_eq!(rt; disk.failures(), u64::from(has_device));
-    Ok(fs::remove_dir_all(&rt, "full")?)
+    remove(&rt, "full")
+}
+
+// Two files, of which one may not be read and none be written.
+fn make_closed(rt: &HostRuntime) -> io::Result<()> {
+    make_empty(rt, "closed")?;
+    put(rt, "closed/a.org", b"* A\n")?;
+    put(rt, "closed/b.org", b"* B\n")?;
+    fs::set_permissions(rt, "closed/a.org", Permissions::from_mode(0o000))?;
+    fs::set_permissions(rt, "closed/b.org", Permissions::from_mode(0o444))
+}
+
+fn reads_if(rt: &impl Abort, disk: &mut Folder, name: &FileName, may_read: bool) {
+    assert_eq!(rt; length(disk, name).is_ok(), may_read);
+    assert_eq!(rt; disk.failures(), u64::from(!may_read));
+}
+
+// A write past the four bytes of a file succeeds exactly where it may.
+fn writes_if(
+    rt: &impl Abort,
+    disk: &mut Folder,
+    name: &FileName,
+    may_write: bool,
+) -> Result<(), DiskFault> {
+    assert_eq!(rt; length(disk, name)?, 4);
+    assert_eq!(rt; append(disk, name, b"* C\n").is_ok(), may_write);
+    Ok(())
 }
 
 // Whoever may do all may open each file; then these are none that can't be read or written.
 #[test]
 fn files_without_permission(rt: HostRuntime) -> Result<(), Fail> {
-    empty(&rt, "closed")?;
-    fs::write(&rt, "closed/a.org", b"* A\n")?;
-    fs::write(&rt, "closed/b.org", b"* B\n")?;
-    fs::set_permissions(&rt, "closed/a.org", Permissions::from_mode(0o000))?;
-    fs::set_permissions(&rt, "closed/b.org", Permissions::from_mode(0o444))?;
+    done(make_closed(&rt))?;
     let may_read = File::open(&rt, "closed/a.org").is_ok();
     let may_write = File::options()
         .write(true)
         .open(&rt, "closed/b.org")
         .is_ok();
     let mut disk = disk(&rt, "closed")?;
-    let b = name(&rt, "b.org")?;
-    assert_eq!(rt; disk.length(&name(&rt, "a.org")?).is_ok(), may_read);
-    assert_eq!(rt; disk.failures(), u64::from(!may_read));
-    assert_eq!(rt; disk.length(&b)?, 4);
-    assert_eq!(rt; disk.write_at(&b, 4, b"* C\n").is_ok(), may_write);
+    reads_if(&rt, &mut disk, &name(&rt, "a.org")?, may_read);
+    writes_if(&rt, &mut disk, &name(&rt, "b.org")?, may_write)?;
     assert_eq!(rt;
         disk.failures(),
         u64::from(!may_read) + u64::from(!may_write)
     );
-    Ok(fs::remove_dir_all(&rt, "closed")?)
+    remove(&rt, "closed")
 }
 
 // The calls of the system, of which one fails without effect.
@@ -364,8 +496,8 @@ fn each_call_of_the_system_fails_once(rt: HostRuntime) -> Result<(), Fail> {
         assert_eq!(rt; disk.failures(), 1);
         work(&mut disk, &a)?;
         assert_eq!(rt; disk.failures(), 1);
-        let text = fs::read(&rt, "one_fails/a.org")?;
+        let text = text(&rt, "one_fails/a.org")?;
         assert_eq!(rt; text.as_slice(), b"* A\n* C\n".as_slice());
     }
-    Ok(fs::remove_dir_all(&rt, "one_fails")?)
+    remove(&rt, "one_fails")
 }
