@@ -15,10 +15,22 @@ type Folder = FolderDisk<HostRuntime, Unknown>;
 
 // An empty folder of this name.
 fn make_empty(rt: &HostRuntime, folder: &str) -> io::Result<()> {
-    if fs::metadata(rt, folder).is_ok() {
+    if is_there(rt, folder) {
         fs::remove_dir_all(rt, folder)?;
     }
+    make(rt, folder)
+}
+
+fn make(rt: &HostRuntime, folder: &str) -> io::Result<()> {
     fs::create_dir(rt, folder)
+}
+
+fn take(rt: &HostRuntime, path: &str) -> io::Result<()> {
+    fs::remove_file(rt, path)
+}
+
+fn is_there(rt: &HostRuntime, path: &str) -> bool {
+    fs::metadata(rt, path).is_ok()
 }
 
 fn put(rt: &HostRuntime, path: &str, bytes: &[u8]) -> io::Result<()> {
@@ -91,7 +103,7 @@ fn make_listed(rt: &HostRuntime) -> io::Result<()> {
     put(rt, "listed/a.org_archive", b"* B\n")?;
     put(rt, "listed/.hidden.org", b"")?;
     put(rt, "listed/notes.txt", b"")?;
-    fs::create_dir(rt, "listed/folder.org")?;
+    make(rt, "listed/folder.org")?;
     link(rt, "folder.org", "listed/linked_folder.org")?;
     link(rt, "nowhere", "listed/link.org")
 }
@@ -129,7 +141,7 @@ fn absent_and_empty_are_the_same(rt: HostRuntime) -> Result<(), Fail> {
     empty(&rt, "absent")?;
     let mut disk = disk(&rt, "absent")?;
     assert_eq!(rt; do_nothing(&mut disk, &name(&rt, "a.org")?)?, 0);
-    assert!(rt; fs::metadata(&rt, "absent/a.org").is_err());
+    assert!(rt; !is_there(&rt, "absent/a.org"));
     remove(&rt, "absent")
 }
 
@@ -169,7 +181,7 @@ fn absent_where_a_byte_is_supposed(rt: HostRuntime) -> Result<(), Fail> {
     let a = name(&rt, "a.org")?;
     assert!(rt; cut_fails(&rt, &a)?);
     assert!(rt; read_fails(&rt, &a)?);
-    assert!(rt; fs::metadata(&rt, "supposed/a.org").is_err());
+    assert!(rt; !is_there(&rt, "supposed/a.org"));
     remove(&rt, "supposed")
 }
 
@@ -189,7 +201,7 @@ fn write_and_cut(disk: &mut impl Disk, name: &FileName) -> Result<(u64, [u8; 3])
 // Whether a read fails where another program makes the file shorter.
 fn fails_shortened(rt: &HostRuntime, disk: &mut Folder, name: &FileName) -> Result<bool, Fail> {
     disk.write_at(name, 0, b"* A\n* C")?;
-    done(fs::write(rt, "written/a.org", b"* A\n* "))?;
+    done(put(rt, "written/a.org", b"* A\n* "))?;
     Ok(disk.read_at(name, 4, &mut [0; 3]).is_err())
 }
 
@@ -209,7 +221,7 @@ fn writes_cuts_and_reads(rt: HostRuntime) -> Result<(), Fail> {
 
 fn make_linked(rt: &HostRuntime) -> io::Result<()> {
     make_empty(rt, "linked")?;
-    fs::create_dir(rt, "linked/folder.org")?;
+    make(rt, "linked/folder.org")?;
     link(rt, "folder.org/target", "linked/link.org")
 }
 
@@ -237,8 +249,8 @@ fn write_and_take(
     write(disk, a, b"* A\n")?;
     write(disk, b, b"* B\n")?;
     sync(disk, b)?;
-    done(fs::remove_file(rt, "entered/a.org"))?;
-    done(fs::remove_file(rt, "entered/b.org"))
+    done(take(rt, "entered/a.org"))?;
+    done(take(rt, "entered/b.org"))
 }
 
 // The first sync of a file looks for its folder, which it syncs, and a later one doesn't.
@@ -265,8 +277,8 @@ fn make_failing(rt: &HostRuntime) -> io::Result<()> {
 }
 
 fn make_folder_of_file(rt: &HostRuntime) -> io::Result<()> {
-    fs::remove_file(rt, "failing/was_file.org")?;
-    fs::create_dir(rt, "failing/was_file.org")
+    take(rt, "failing/was_file.org")?;
+    make(rt, "failing/was_file.org")
 }
 
 fn fails_at_folder(rt: &impl Abort, disk: &mut Folder, folder: &FileName) {
@@ -309,9 +321,9 @@ fn failures_are_counted(rt: HostRuntime) -> Result<(), Fail> {
 fn full_device(rt: HostRuntime) -> Result<(), Fail> {
     empty(&rt, "full")?;
     let mut disk = disk(&rt, "full")?;
-    let has_device = fs::metadata(&rt, "/dev/full").is_ok();
+    let has_device = is_there(&rt, "/dev/full");
     if has_device {
-        done(symlink(&rt, "/dev/full", "full/full.org"))?;
+        done(link(&rt, "/dev/full", "full/full.org"))?;
     }
     let full = write(&mut disk, &name(&rt, "full.org")?, b"* A\n");
     assert_eq!(rt; full.is_err(), has_device);
