@@ -317,7 +317,10 @@ fn a_closed_record_is_left(rt: HostRuntime) -> Result<(), Fail> {
 }
 
 // The disk that an opening leaves, and why it is refused, if it is.
-fn closed(alloc: Global, disk: MemoryDisk) -> Result<(MemoryDisk, Option<OpenFault>), Fail> {
+fn opened_then_closed(
+    alloc: Global,
+    disk: MemoryDisk,
+) -> Result<(MemoryDisk, Option<OpenFault>), Fail> {
     match opened(alloc, disk)? {
         Ok(set) => Ok((set.close(), None)),
         Err(refused) => Ok((refused.disk, Some(refused.fault))),
@@ -326,7 +329,7 @@ fn closed(alloc: Global, disk: MemoryDisk) -> Result<(MemoryDisk, Option<OpenFau
 
 // The disk that an opening leaves, whatever it answers.
 fn opened_disk(alloc: Global, disk: MemoryDisk) -> Result<MemoryDisk, Fail> {
-    let (disk, _) = closed(alloc, disk)?;
+    let (disk, _) = opened_then_closed(alloc, disk)?;
     Ok(disk)
 }
 
@@ -357,7 +360,7 @@ fn a_stopped_opening_goes_on(rt: HostRuntime) -> Result<(), Fail> {
 
 // The disk that is handed back where a journal of these bytes is bad, over a.org and an absent inbox.org.
 fn refused(alloc: Global, journal: &[u8]) -> Result<MemoryDisk, Fail> {
-    match closed(alloc, with_journal(alloc, journal)?)? {
+    match opened_then_closed(alloc, with_journal(alloc, journal)?)? {
         (disk, Some(OpenFault::BadJournal)) => Ok(disk),
         _ => Err(Fail::from("not refused as a bad journal")),
     }
@@ -434,7 +437,7 @@ fn with_large(alloc: Global, length: usize) -> Result<MemoryDisk, Fail> {
 
 // What opening answers over an a.org of this length and what a stop left, and how long inbox.org is then.
 fn open_large(alloc: Global, length: usize) -> Result<(Option<OpenFault>, u64), Fail> {
-    let (mut disk, fault) = closed(alloc, with_large(alloc, length)?)?;
+    let (mut disk, fault) = opened_then_closed(alloc, with_large(alloc, length)?)?;
     let inbox = length_of(alloc, &mut disk, "inbox.org")?;
     Ok((fault, inbox))
 }

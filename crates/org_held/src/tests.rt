@@ -63,21 +63,33 @@ fn two(alloc: Global, first: Held, second: Held) -> Result<Vec<Held>, AllocError
 
 // Asserts that these are the texts, in this order.
 fn assert_texts(rt: &impl Abort, texts: &[Held], expected: &[(&str, &[u8])]) {
-    assert_eq!(rt; texts.len(), expected.len());
+    assert!(rt; texts.len() == expected.len());
     for (held, (name, text)) in texts.iter().zip(expected) {
-        assert_eq!(rt; held.name.as_str(), *name);
-        assert_eq!(rt; held.text.bytes(), *text);
+        assert!(rt;
+            held.name.as_str() == *name && held.text.bytes() == *text,
+            "{name}"
+        );
     }
 }
 
 // Asserts that these are the changed files, in this order.
 fn assert_changes(rt: &impl Abort, changes: &ChangeSet<FileName>, expected: &[(&str, &[u8])]) {
-    assert_eq!(rt; changes.len(), expected.len());
+    assert!(rt; changes.len() == expected.len());
     for (i, (name, text)) in expected.iter().enumerate() {
         let (changed, now) = changes.pair(i);
-        assert_eq!(rt; changed.as_str(), *name);
-        assert_eq!(rt; now.bytes(), *text);
+        assert!(rt; changed.as_str() == *name && now.bytes() == *text, "{name}");
     }
+}
+
+// Asserts the text of a draft of three headings, and where the subtree of the second lies.
+fn assert_draft(rt: &impl Abort, draft: &Draft, states: &States, text: &[u8], subtree: Span)
+    requires shut { closed draft.now.text.bytes ≡ draft.now.text.bytes }
+    requires heads { draft.now.heads ≡ headings_of draft.now.text.bytes }
+{
+    assert!(rt; draft.text.bytes() == text);
+    let outline = Outline::over(draft.text.bytes(), &draft.heads, states);
+    assert_eq!(rt; outline.count(), 3);
+    assert!(rt; outline.subtree(outline.node(1)) == subtree);
 }
 
 #[test]
@@ -85,50 +97,83 @@ fn a_draft_is_closed_and_its_headings_follow(rt: HostRuntime) -> Result<(), Fail
     let alloc = rt.alloc();
     let states = States::new(alloc, &["TODO"], &["DONE"])?;
     let mut draft = draft_of(alloc, "a.org", b"* A\ntext\n** B")?;
-    assert_eq!(rt; draft.text.bytes(), b"* A\ntext\n** B\n".as_slice());
+    assert!(rt; draft.text.bytes() == b"* A\ntext\n** B\n".as_slice());
     splice(&mut draft, 4, 5, b"* C\n")?;
-    let text = draft.text.bytes();
-    assert_eq!(rt; text, b"* A\n* C\n** B\n".as_slice());
-    let outline = Outline::over(text, &draft.heads, &states);
-    assert_eq!(rt; outline.count(), 3);
-    assert_eq!(rt;
-        outline.subtree(outline.node(1)),
-        Span { start: 4, end: 13 }
+    assert_draft(
+        &rt,
+        &draft,
+        &states,
+        b"* A\n* C\n** B\n",
+        Span { start: 4, end: 13 },
     );
     Ok(())
+}
+
+// These texts, each put in the place of its name.
+fn put_in_turn(alloc: Global, rows: &[(&str, &[u8])]) -> Result<Vec<Held>, Fail> {
+    let mut texts = Vec::new(alloc);
+    for (name, text) in rows {
+        put(&mut texts, on_disk(alloc, name, text)?)?;
+    }
+    Ok(texts)
+}
+
+// Whether this is what is found under a name.
+fn is_found(
+    alloc: Global,
+    texts: &[Held],
+    name: &str,
+    expected: Option<&[u8]>,
+) -> Result<bool, Fail> {
+    let name = FileName::new(alloc, name)?;
+    Ok(find(texts, &name).map(|held| held.text.bytes()) == expected)
 }
 
 #[test]
 fn a_text_takes_the_place_of_its_name(rt: HostRuntime) -> Result<(), Fail> {
     let alloc = rt.alloc();
-    let mut texts = Vec::new(alloc);
-    put(&mut texts, on_disk(alloc, "a.org", b"* A\n")?)?;
-    put(&mut texts, on_disk(alloc, "b.org", b"* B\n")?)?;
-    put(&mut texts, on_disk(alloc, "a.org", b"* C\n")?)?;
+    let rows: [(&str, &[u8]); 3] = [
+        ("a.org", b"* A\n"),
+        ("b.org", b"* B\n"),
+        ("a.org", b"* C\n"),
+    ];
+    let texts = put_in_turn(alloc, &rows)?;
     assert_texts(&rt, &texts, &[("a.org", b"* C\n"), ("b.org", b"* B\n")]);
-    let name = FileName::new(alloc, "b.org")?;
-    match find(&texts, &name) {
-        Some(held) => assert_eq!(rt; held.text.bytes(), b"* B\n".as_slice()),
-        None => return Err(Fail::from("not found")),
-    }
-    assert!(rt; find(&texts, &FileName::new(alloc, "c.org")?).is_none());
+    assert!(rt; is_found(alloc, &texts, "b.org", Some(b"* B\n"))?);
+    assert!(rt; is_found(alloc, &texts, "c.org", None)?);
     Ok(())
+}
+
+// These texts, whatever their names.
+fn in_turn(alloc: Global, rows: &[(&str, &[u8])]) -> Result<Vec<Held>, Fail> {
+    let mut texts = Vec::new(alloc);
+    for (name, text) in rows {
+        texts.push(on_disk(alloc, name, text)?)?;
+    }
+    Ok(texts)
+}
+
+fn two_drafts(alloc: Global) -> Result<Drafts, Fail> {
+    let first = draft_of(alloc, "c.org", b"* C\n")?;
+    let second = draft_of(alloc, "b.org", b"* D")?;
+    Ok(Drafts {
+        first,
+        second: Some(second),
+    })
 }
 
 #[test]
 fn changes_are_the_first_texts_and_the_drafts(rt: HostRuntime) -> Result<(), Fail> {
     let alloc = rt.alloc();
-    let mut pending = Vec::new(alloc);
-    pending.push(on_disk(alloc, "b.org", b"* B\n")?)?;
-    pending.push(on_disk(alloc, "a.org", b"* A\n")?)?;
-    pending.push(on_disk(alloc, "b.org", b"* Old\n")?)?;
+    let rows: [(&str, &[u8]); 3] = [
+        ("b.org", b"* B\n"),
+        ("a.org", b"* A\n"),
+        ("b.org", b"* Old\n"),
+    ];
+    let pending = in_turn(alloc, &rows)?;
     let mut changes = changes(alloc, &pending)?;
     assert_changes(&rt, &changes, &[("b.org", b"* B\n"), ("a.org", b"* A\n")]);
-    let drafts = Drafts {
-        first: draft_of(alloc, "c.org", b"* C\n")?,
-        second: Some(draft_of(alloc, "b.org", b"* D")?),
-    };
-    add_drafts(&mut changes, &drafts)?;
+    add_drafts(&mut changes, &two_drafts(alloc)?)?;
     assert_changes(
         &rt,
         &changes,
@@ -141,21 +186,32 @@ fn changes_are_the_first_texts_and_the_drafts(rt: HostRuntime) -> Result<(), Fai
     Ok(())
 }
 
+// A draft that was spliced, and a text as the disk has it.
+fn two_pending(alloc: Global) -> Result<Vec<Held>, Fail>
+    ensures { IfOk result (λ texts. Each (λ held. AreHeadsOf held.text.bytes held.heads) texts.items) }
+{
+    let mut draft = draft_of(alloc, "a.org", b"* A\n")?;
+    splice(&mut draft, 4, 0, b"* B\n")?;
+    let second = on_disk(alloc, "c.org", b"* C")?;
+    Ok(two(alloc, Held::from(draft), second)?)
+}
+
+// Whether a text has one patch, of no bytes.
+fn is_settled(held: &Held) -> Result<bool, Fail> {
+    let patches = held.text.patches()?;
+    Ok(matches!(patches.as_slice(), [patch] if patch.bytes.as_slice().is_empty()))
+}
+
 #[test]
 fn pending_texts_are_kept_and_settled(rt: HostRuntime) -> Result<(), Fail> {
     let alloc = rt.alloc();
-    let mut kept = Vec::new(alloc);
-    put(&mut kept, on_disk(alloc, "a.org", b"* A\n")?)?;
-    let mut draft = draft_of(alloc, "a.org", b"* A\n")?;
-    splice(&mut draft, 4, 0, b"* B\n")?;
-    let mut pending = two(alloc, Held::from(draft), on_disk(alloc, "c.org", b"* C")?)?;
+    let mut kept = put_in_turn(alloc, &[("a.org", b"* A\n")])?;
+    let mut pending = two_pending(alloc)?;
     keep_all(&mut kept, &mut pending);
     assert!(rt; pending.is_empty());
     assert_texts(&rt, &kept, &[("a.org", b"* A\n* B\n"), ("c.org", b"* C")]);
     for held in &kept {
-        let patches = held.text.patches()?;
-        assert_eq!(rt; patches.len(), 1);
-        assert!(rt; patches[0].bytes.as_slice().is_empty());
+        assert!(rt; is_settled(held)?);
     }
     Ok(())
 }

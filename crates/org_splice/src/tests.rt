@@ -29,6 +29,11 @@ fn are(patches: &[Patch], expected: &[(usize, &[u8])]) -> bool {
             && patch.bytes.as_slice() == *bytes)
 }
 
+/// Whether a text has these bytes and these patches.
+fn has(text: &Text, bytes: &[u8], patches: &[(usize, &[u8])]) -> Result<bool, AllocError> {
+    Ok(text.bytes() == bytes && are(&text.patches()?, patches))
+}
+
 #[test]
 fn splices_of_worked_texts(rt: HostRuntime) -> Result<(), AllocError> {
     let headings: &[u8] = b"* A\n* B\n";
@@ -76,22 +81,24 @@ fn splices_of_worked_texts(rt: HostRuntime) -> Result<(), AllocError> {
     ];
     for (i, (old, splices, new, expected)) in rows.iter().enumerate() {
         let text = edited(&rt, old, splices)?;
-        assert!(rt; text.bytes() == *new, "the bytes of row {i}");
-        assert!(rt; are(&text.patches()?, expected), "the patches of row {i}");
+        assert!(rt; has(&text, new, expected)?, "row {i}");
     }
     Ok(())
 }
 
-#[test]
-fn more_than_a_thousand_ranges(rt: HostRuntime) -> Result<(), AllocError> {
-    let mut text = Text::new(vec![in rt.alloc(); b'a'; 2_002]?);
+/// Changes every other byte of a text, and asserts that each is a patch of its own, up to a thousand.
+fn assert_counts(rt: &impl Abort, text: &mut Text) -> Result<(), AllocError> {
     for i in 0..1_001usize {
         assert!(rt; 2 * i + 1 <= text.bytes().len());
         text.splice(2 * i, 1, b"b")?;
         let patches = text.patches()?;
         assert!(rt; patches.len() == (i + 1).min(1_000), "after splice {i}");
     }
-    let patches = text.patches()?;
+    Ok(())
+}
+
+/// Asserts that the patches change every other byte, and that the last of a thousand changes two.
+fn assert_every_other(rt: &impl Abort, patches: &[Patch]) {
     for (i, patch) in patches.iter().enumerate() {
         let bytes: &[u8] = if i == 999 { b"bab" } else { b"b" };
         assert!(rt;
@@ -99,6 +106,13 @@ fn more_than_a_thousand_ranges(rt: HostRuntime) -> Result<(), AllocError> {
             "patch {i}"
         );
     }
+}
+
+#[test]
+fn more_than_a_thousand_ranges(rt: HostRuntime) -> Result<(), AllocError> {
+    let mut text = Text::new(vec![in rt.alloc(); b'a'; 2_002]?);
+    assert_counts(&rt, &mut text)?;
+    assert_every_other(&rt, &text.patches()?);
     Ok(())
 }
 
@@ -113,8 +127,7 @@ fn texts_with_a_newline_at_their_end(rt: HostRuntime) -> Result<(), AllocError> 
     for (i, (old, new, expected)) in rows.iter().enumerate() {
         let mut text = edited(&rt, old, &[])?;
         text.close_line()?;
-        assert!(rt; text.bytes() == *new, "the bytes of row {i}");
-        assert!(rt; are(&text.patches()?, expected), "the patches of row {i}");
+        assert!(rt; has(&text, new, expected)?, "row {i}");
     }
     Ok(())
 }
@@ -124,29 +137,46 @@ fn settled_texts_and_copies(rt: HostRuntime) -> Result<(), AllocError> {
     let mut text = edited(&rt, b"* A\n", &[(2, 1, b"B")])?;
     let copy = text.copy()?;
     text.settled();
-    assert!(rt; text.bytes() == b"* B\n".as_slice() && are(&text.patches()?, &[(0, b"")]));
-    assert!(rt; copy.bytes() == b"* B\n".as_slice() && are(&copy.patches()?, &[(2, b"B")]));
+    assert!(rt; has(&text, b"* B\n", &[(0, b"")])?);
+    assert!(rt; has(&copy, b"* B\n", &[(2, b"B")])?);
     Ok(())
+}
+
+/// Puts these texts, each under its name.
+fn put_all(
+    alloc: Global,
+    changes: &mut ChangeSet<u32>,
+    rows: &[(u32, &[u8])],
+) -> Result<(), AllocError> {
+    for (name, bytes) in rows {
+        let text = Text::new(Vec::from_slice(alloc, bytes)?);
+        changes.put(*name, text)?;
+    }
+    Ok(())
+}
+
+/// Whether a set has a text of this name and these bytes at a place.
+fn has_at(changes: &ChangeSet<u32>, place: usize, name: u32, bytes: &[u8]) -> bool {
+    if place >= changes.len() {
+        return false;
+    }
+    let (changed, text) = changes.pair(place);
+    *changed == name && text.bytes() == bytes
 }
 
 #[test]
 fn a_name_put_twice_keeps_its_place(rt: HostRuntime) -> Result<(), AllocError> {
     let mut changes: ChangeSet<u32> = ChangeSet::new(rt.alloc());
     assert!(rt; changes.is_empty());
-    for (name, bytes) in [(7, b"one"), (3, b"two"), (7, b"six")] {
-        let text = Text::new(Vec::from_slice(rt.alloc(), bytes)?);
-        changes.put(name, text)?;
-    }
+    put_all(
+        rt.alloc(),
+        &mut changes,
+        &[(7, b"one"), (3, b"two"), (7, b"six")],
+    )?;
     assert!(rt; changes.len() == 2);
-    let (first, text) = changes.pair(0);
-    assert!(rt; *first == 7 && text.bytes() == b"six".as_slice());
-    let (second, text) = changes.pair(1);
-    assert!(rt; *second == 3 && text.bytes() == b"two".as_slice());
-    assert!(rt;
-        changes
-            .get(&3)
-            .is_some_and(|text| text.bytes() == b"two".as_slice())
-    );
+    assert!(rt; has_at(&changes, 0, 7, b"six") && has_at(&changes, 1, 3, b"two"));
+    let found = changes.get(&3).map(|text| text.bytes());
+    assert!(rt; found == Some(b"two".as_slice()));
     assert!(rt; changes.get(&5).is_none());
     Ok(())
 }
@@ -182,6 +212,22 @@ fn written(
     Ok(text)
 }
 
+/// Splices a text once, at random.
+fn splice_somewhere(text: &mut Text, state: &mut u64) -> Result<(), AllocError> {
+    let letters: &[u8] = b"abcdefghijklmnop";
+    let size = text.bytes().len();
+    let at = below(state, size + 1);
+    let most = if below(state, 4) == 0 { 400 } else { 9 };
+    let removed = below(state, most.min(size - at + 1));
+    let added = if below(state, 2) == 0 {
+        removed
+    } else {
+        below(state, 9)
+    };
+    let first = below(state, 9);
+    text.splice(at, removed, &letters[first..first + added.min(8)])
+}
+
 /// Splices a text at random, settles it after the first of them, and asserts that its patches give the text.
 fn assert_patches(
     rt: &impl Abort,
@@ -190,21 +236,10 @@ fn assert_patches(
     splices: usize,
     state: &mut u64,
 ) -> Result<(), AllocError> {
-    let letters: &[u8] = b"abcdefghijklmnop";
     let mut text = Text::new(bytes);
     let mut old = Vec::new(alloc);
     for step in 0..splices {
-        let size = text.bytes().len();
-        let at = below(state, size + 1);
-        let most = if below(state, 4) == 0 { 400 } else { 9 };
-        let removed = below(state, most.min(size - at + 1));
-        let added = if below(state, 2) == 0 {
-            removed
-        } else {
-            below(state, 9)
-        };
-        let first = below(state, 9);
-        text.splice(at, removed, &letters[first..first + added.min(8)])?;
+        splice_somewhere(&mut text, state)?;
         if step == 0 {
             text.settled();
             old = Vec::from_slice(alloc, text.bytes())?;
@@ -257,6 +292,6 @@ fn bytes_given_away(rt: HostRuntime) -> Result<(), AllocError> {
     text.splice(2, 0, b"B")?;
     text.close_line()?;
     let bytes = text.into_bytes();
-    assert_eq!(rt; bytes.as_slice(), b"* BA\n".as_slice());
+    assert!(rt; bytes.as_slice() == b"* BA\n".as_slice());
     Ok(())
 }
