@@ -3,9 +3,12 @@
 #![tactic(auto)]
 
 ghost use Rattle.std.specs.Prelude.{◌≡◌, [], ◌∷◌, ◌++◌, ℕ, List, map, string_bytes, codes, IfOk, IfErr, All};
+ghost use Rattle.std.specs.Io.Buffered.{writer_buffer};
 ghost use Rattle.org_disk.specs.Names.{IsOrgFile};
+ghost use Rattle.org_fileset.specs.declared.open.OpenFault.TheVariants.{OutOfMemory};
 ghost use Rattle.org_serve.specs.Group.{IsGroup};
 ghost use Rattle.orgstore.specs.Causes.{told, IsCause};
+ghost use Rattle.orgstore.specs.declared.fault.Fault.TheVariants.{Open};
 
 mod arguments;
 mod fault;
@@ -79,7 +82,10 @@ fn setup(rt: &HostRuntime, arguments: &Arguments) -> Result<Setup, Fault>
     })
 }
 
-fn stdout(rt: &HostRuntime) -> Result<BufWriter<Stdout>, Fault> {
+fn stdout(rt: &HostRuntime) -> Result<BufWriter<Stdout>, Fault>
+    ensures empty { IfOk result (λ writer. writer_buffer writer ≡ []) }
+    ensures fault { IfErr result (λ fault. fault ≡ Open OutOfMemory) }
+{
     match BufWriter::new(rt.alloc(), rt.stdout()) {
         Ok(writer) => Ok(writer),
         Err(_) => Err(Fault::Open(OpenFault::OutOfMemory)),
