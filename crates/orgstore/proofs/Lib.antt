@@ -1,1 +1,3 @@
 pub mod Starting
+mod Words
+mod Rows

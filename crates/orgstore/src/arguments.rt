@@ -1,14 +1,15 @@
 // The command line. Nothing else of the program knows how its words are read.
-ghost use Rattle.std.specs.Prelude.{IfOk, IfErr, SomeIff};
+ghost use Rattle.std.specs.Prelude.{◌≡◌, ◌⊎◌, ℕ, List, map, string_bytes, IfOk, IfErr, SomeIff};
 ghost use Rattle.std.specs.Str.Parse.{digits_value};
+ghost use Rattle.clap.specs.Words.{kind_of, app_of};
 ghost use Rattle.org_serve.specs.Group.{IsGroup};
-ghost use Rattle.orgstore.specs.Words.{IsGroupText, IsFaultOfWords};
+ghost use Rattle.orgstore.specs.Words.{command_line, AreTaken, Tells, IsGroupText, IsFaultBy, IsFaultOfWords};
 
 use crate::fault::Fault;
 use clap::error::ErrorKind;
 use clap::{Arg, ArgAction, Command, Error};
 use org_store::OpenFault;
-use std::alloc::Global;
+use std::alloc::{AllocError, Global};
 use std::{env, io};
 
 const NO_GROUP: &str = "the value of '--group <K>' is a number from 1 to 1000";
@@ -26,6 +27,7 @@ pub struct Arguments {
 
 /// The arguments of this run. Help is a fault too: standard output holds replies alone.
 pub fn read(rt: &HostRuntime) -> Result<Arguments, Fault>
+    ensures told { IfOk result (λ arguments. (words : List (List ℕ)) × Tells words arguments) }
     ensures group { IfOk result (λ arguments. IsGroup arguments.group) }
     ensures fault { IfErr result IsFaultOfWords }
 {
@@ -36,10 +38,10 @@ pub fn read(rt: &HostRuntime) -> Result<Arguments, Fault>
     read_words(rt.alloc(), words.as_slice())
 }
 
-/// The arguments that these words are, the first being the program's name.
+/// The arguments that these words are, the first being the program's name. `Usage` comes only where they aren't taken.
 pub fn read_words(alloc: Global, words: &[String]) -> Result<Arguments, Fault>
-    ensures group { IfOk result (λ arguments. IsGroup arguments.group) }
-    ensures fault { IfErr result IsFaultOfWords }
+    ensures told { IfOk result (Tells (map string_bytes words.now)) }
+    ensures fault { IfErr result (IsFaultBy (AreTaken (map string_bytes words.now) → ⊥)) }
 {
     match parse(alloc, words) {
         Ok(arguments) => Ok(arguments),
@@ -48,7 +50,24 @@ pub fn read_words(alloc: Global, words: &[String]) -> Result<Arguments, Fault>
 }
 
 fn parse(alloc: Global, words: &[String]) -> Result<Arguments, Error>
-    ensures { IfOk result (λ arguments. IsGroup arguments.group) }
+    ensures told { IfOk result (Tells (map string_bytes words.now)) }
+    ensures fault { IfErr result (λ error. (kind_of error ≡ ErrorKind.OutOfMemory) ⊎ (AreTaken (map string_bytes words.now) → ⊥)) }
+{
+    let mut command = command(alloc)?;
+    let matches = command.try_get_matches_from_mut(words)?;
+    let Some(group) = group_of(matches.get_str("group").unwrap_or("1")) else {
+        return Err(command.error(ErrorKind::ValueValidation, NO_GROUP)?);
+    };
+    Ok(Arguments {
+        folder: String::from_str(alloc, matches.get_str("DIR").unwrap_or(""))?,
+        new: owned(alloc, matches.get_strs("new").unwrap_or(&[]))?,
+        group,
+    })
+}
+
+// The command line, for clap.
+fn command<'a>(alloc: Global) -> Result<Command<'a>, AllocError>
+    ensures { IfOk result (λ command. app_of command ≡ command_line) }
 {
     let folder = Arg::new(alloc, "DIR")
         .required(true)
@@ -63,23 +82,20 @@ fn parse(alloc: Global, words: &[String]) -> Result<Arguments, Error>
         .value_name("K")
         .help("How many commands are settled together, from 1 to 1000")
         .default_value("1");
-    let mut command = Command::new(alloc, "orgstore")
+    Command::new(alloc, "orgstore")
         .arg(folder)?
         .arg(new)?
-        .arg(group)?;
-    let matches = command.try_get_matches_from_mut(words)?;
-    let Some(group) = group_of(matches.get_str("group").unwrap_or("1")) else {
-        return Err(command.error(ErrorKind::ValueValidation, NO_GROUP)?);
-    };
-    let mut names = Vec::new(alloc);
-    for name in matches.get_strs("new").unwrap_or(&[]) {
-        names.push(String::from_str(alloc, name)?)?;
+        .arg(group)
+}
+
+fn owned(alloc: Global, words: &[&str]) -> Result<Vec<String>, AllocError>
+    ensures { IfOk result (λ owned. map string_bytes owned.items ≡ map (λ word. word.now) words.now) }
+{
+    let mut owned = Vec::new(alloc);
+    for word in words {
+        owned.push(String::from_str(alloc, word)?)?;
     }
-    Ok(Arguments {
-        folder: String::from_str(alloc, matches.get_str("DIR").unwrap_or(""))?,
-        new: names,
-        group,
-    })
+    Ok(owned)
 }
 
 // The group that a decimal number is. It has no sign.
@@ -96,7 +112,7 @@ fn group_of(text: &str) -> Option<u32>
 }
 
 fn usage(alloc: Global, error: &Error) -> Fault
-    ensures { IsFaultOfWords result }
+    ensures { IsFaultBy (kind_of error.now ≡ ErrorKind.OutOfMemory → ⊥) result }
 {
     if error.kind() == ErrorKind::OutOfMemory {
         return Fault::Open(OpenFault::OutOfMemory);
