@@ -6,11 +6,12 @@ use Rattle.std.proofs.lemmas.Bool.{cases_Bool, eqb-true}
 use Rattle.std.proofs.lemmas.Bool.Decides.{nat_tests}
 use Rattle.std.proofs.lemmas.List.{append-nil, take-append-drop, length-replicate, drop-drop, length-drop, take_rest, length-take-le, get_or-drop, take_at, take_all}
 use Rattle.memchr.specs.Find.{IsFirstByte, is_byte}
+use Rattle.org_splice.proofs.Lines.{print_lines-lines_of, lines_of-lines}
 use Rattle.org_outline.specs.declared.heads.Heading.{Heading}
 use Rattle.org_splice.specs.Lines.{closed, lines_of, print_lines, IsLine}
 use Rattle.org_outline.specs.Text.{stars, level_of}
 use Rattle.org_outline.specs.Outline.{headings_of, with_heading, heads_from, ends_line}
-use Rattle.org_outline.proofs.Lines.{print_lines-lines_of, lines_of-lines, stars-split, one-add}
+use Rattle.org_outline.proofs.Lines.{stars-split, one-add}
 use Rattle.org_outline.proofs.Nodes.{headings_from, headings_of-lines}
 
 -- ---- the level of a line is that of the text from there on

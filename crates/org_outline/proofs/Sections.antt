@@ -5,15 +5,16 @@ use Rattle.std.specs.List.{AllByRecursion}
 use Rattle.std.proofs.lemmas.Bool.{eqb-true}
 use Rattle.std.proofs.lemmas.List.{length-append, length-drop, take-append-drop, take_rest, take_at, drop_at, drop-drop, get_or_at}
 use Rattle.memchr.specs.Find.{IsFirstByte, is_byte}
+use Rattle.org_splice.proofs.Lines.{lines_of-lines, size, size-cons, print_lines-append}
 use Rattle.org_outline.specs.declared.heads.Heading.{Heading}
 use Rattle.org_splice.specs.Lines.{closed, print_lines, IsLine, lines_of}
 use Rattle.org_outline.specs.Text.{heading_line}
 use Rattle.org_outline.specs.Tree.{Forest, Empty, Tree, Placed, lines, own_lines, print_node, IsForest, tree, nodes_from, nodes_of, node_at, node_count, no_node}
 use Rattle.org_outline.specs.Outline.{headings_of, next_at, start_or, IsSection}
 use Rattle.org_outline.specs.Moves.{IsNode}
-use Rattle.org_outline.proofs.Lines.{AllByRecursion-append, lines_of-lines}
+use Rattle.org_outline.proofs.Lines.{AllByRecursion-append}
 use Rattle.org_outline.proofs.Trees.{valid-tree_of_lines, IsLine-heading}
-use Rattle.org_outline.proofs.Nodes.{size, size-cons, node_of, own_end, subtree_is, AllByRecursion-at, print_lines-append, heading_read, later_headings}
+use Rattle.org_outline.proofs.Nodes.{node_of, own_end, subtree_is, AllByRecursion-at, heading_read, later_headings}
 
 -- each node of a valid forest is a valid tree
 pub nodes-valid : (at : ℕ) (f : Forest) → IsForest f → AllByRecursion (λ (p : Placed). IsNode p.node) (nodes_from at f)

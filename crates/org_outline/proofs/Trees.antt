@@ -5,11 +5,12 @@ use Rattle.std.specs.List.{AllByRecursion}
 use Rattle.std.proofs.lemmas.Bool.{cases_Bool}
 use Rattle.std.proofs.lemmas.Bool.Decides.{nat_tests}
 use Rattle.std.proofs.lemmas.List.{append-nil}
-use Rattle.org_splice.specs.Lines.{print_lines, IsLine, lines_of}
+use Rattle.org_splice.specs.Lines.{print_lines, IsLine, lines_of, closed}
+use Rattle.org_splice.proofs.Lines.{lines_of-lines, lines_of-print_lines, lines_of-closed, print_lines-lines_of}
 use Rattle.org_outline.specs.Text.{level_of, heading_line}
 use Rattle.org_outline.specs.Tree.{Forest, Empty, Tree, Document, lines, AllRoots, IsPlain, IsForest, IsValid, IsTreeOf, deeper, others, with_line, tree_of_lines, tree}
 use Rattle.org_outline.specs.Moves.{joined}
-use Rattle.org_outline.proofs.Lines.{AllByRecursion-append, AllByRecursion-drop, AllByRecursion-replicate, lines_of-lines, lines_of-print_lines, lines_of-closed, print_lines-lines_of, level_of-some, level_of-heading, drop-heading}
+use Rattle.org_outline.proofs.Lines.{AllByRecursion-append, AllByRecursion-drop, AllByRecursion-replicate, level_of-some, level_of-heading, drop-heading}
 
 -- ---- the first deeper trees, and the others
 
@@ -104,6 +105,10 @@ tree-is t = record {
   valid = valid-tree_of_lines (lines_of t) (lines_of-lines t);
   prints = ap print_lines (lines-tree_of_lines (lines_of t)) ∙ print_lines-lines_of t;
 }
+
+-- a text and the closed text have one tree
+pub tree-closed : (t : List ℕ) → tree (closed t) ≡ tree t
+tree-closed t = ap tree_of_lines (lines_of-closed t)
 
 -- ---- there is no other
 

@@ -1,20 +1,20 @@
 -- Texts that are one heading with what lies below it.
-use Rattle.std.proofs.Common.{◌↔◌, IsTrue, Bool, true, false, ◌≡◌, ℕ, ◌+◌, ◌<◌, List, [], ◌∷◌, ◌++◌, length, take, drop, slice_index_or, Option, Some, None, Ok, Err, refl, sym, ◌∙◌, ap, arith, length-append}
+use Rattle.std.proofs.Common.{◌↔◌, IsTrue, Bool, false, ◌≡◌, ℕ, ◌+◌, ◌<◌, List, [], ◌∷◌, ◌++◌, length, slice_index_or, Option, Some, None, Ok, Err, refl, sym, ◌∙◌, ap, arith, length-append}
 use Rattle.std.proofs.lemmas.Bool.{false≢true}
 use Rattle.std.proofs.lemmas.List.{append-nil}
-use Rattle.std.proofs.Math.Seq.{take-append_seam, drop-append_seam}
 use Rattle.org_splice.specs.Lines.{closed, print_lines}
+use Rattle.org_splice.specs.Edits.{edited}
+use Rattle.org_splice.proofs.Lines.{print_lines-append, closed-print_lines}
 use Rattle.org_outline.specs.Tree.{Forest, Empty, Tree, Node, Document, tree, print, print_node, nodes_from, node_at, no_node, lines}
 use Rattle.org_outline.specs.Text.{heading_line}
 use Rattle.org_outline.specs.declared.moves.Place.{Place}
-use Rattle.org_outline.specs.Moves.{IsPrinted, Inserts, InsertsAt, insert, shift_node}
-use Rattle.org_outline.proofs.Nodes.{print_lines-append}
-use Rattle.org_outline.proofs.Trees.{tree-is}
+use Rattle.org_outline.specs.Moves.{IsPrinted, InsertsAt, insert, shift_node}
+use Rattle.org_outline.proofs.Trees.{tree-is, tree-closed}
+use Rattle.org_outline.proofs.AsEdits.{inserts_edit}
 use Rattle.org_store.specs.declared.command.Refusal.TheVariants.{BadEntry}
 use Rattle.org_store.specs.declared.command.Target.{Target}
 use Rattle.org_store.specs.declared.command.Target.TheVariants.{Top}
 use Rattle.org_store.specs.Capture.{has_percent, only_root, entry_in, entry_of, captured}
-use Rattle.org_store.proofs.Closed.{tree-closed, closed_print}
 
 length-print : (xs ys : List (List ℕ)) → length (print_lines (xs ++ ys)) ≡ length (print_lines xs) + length (print_lines ys)
 length-print xs ys = ap length (print_lines-append xs ys) ∙ length-append (print_lines xs) (print_lines ys)
@@ -67,15 +67,6 @@ other_entry t ends unprinted = no_entry (only_root (tree t).preamble (tree t).fo
     let prints = root_prints (tree t).preamble (tree t).forest (length (print_lines (tree t).preamble)) node is in
     unprinted (prints.0, prints.1 ∙ ((tree-is t).prints ∙ ends)))
 
--- text with bytes put in
-pub inserted : (old new : List ℕ) (k : ℕ) (added : List ℕ) → Inserts old new k added → take k old ++ (added ++ drop k old) ≡ new
-inserted old new k added at =
-    ap (λ n. take n old ++ (added ++ drop n old)) (sym at.at)
-    ∙ ap (λ t. take (length at.front) t ++ (added ++ drop (length at.front) t)) at.was
-    ∙ ap (λ t. t ++ (added ++ drop (length at.front) (at.front ++ at.back))) (take-append_seam at.front at.back)
-    ∙ ap (λ t. at.front ++ (added ++ t)) (drop-append_seam at.front at.back)
-    ∙ sym at.is
-
 -- the entry of a template, by the closed text of it
 
 entry_shut : (template text : List ℕ) → has_percent template ≡ false → text ≡ closed template → entry_of template ≡ entry_in (only_root (tree text).preamble (tree text).forest)
@@ -90,13 +81,13 @@ entry_bad template text plain is ends test tells isnt = entry_shut template text
 
 -- an entry put in a text where the outline of the closed text has its place
 pub captured_is : (target : Target) (old text : List ℕ) (place : Place) (k : ℕ) (added : List ℕ) → text ≡ closed old → ((node : Node) → InsertsAt text (insert None place node (tree text)) k (shift_node 1 node))
-    → (new : List ℕ) → new ≡ take k text ++ (added ++ drop k text) → (node : Node) → added ≡ print_node (shift_node 1 node) → new ≡ captured target place node old
+    → (new : List ℕ) → new ≡ edited k 0 added text → (node : Node) → added ≡ print_node (shift_node 1 node) → new ≡ captured target place node old
 captured_is Top old text place k added is at new put node entry =
     put
-    ∙ ap (λ a. take k text ++ (a ++ drop k text)) entry
-    ∙ inserted text (print (insert None place node (tree text))) k (print_node (shift_node 1 node)) (at node)
+    ∙ ap (λ a. edited k 0 a text) entry
+    ∙ sym (inserts_edit text (print (insert None place node (tree text))) k (print_node (shift_node 1 node)) (at node)).1
     ∙ ap (λ d. print (insert None place node d)) (ap tree is ∙ tree-closed old)
 
 -- a text with an entry is closed
 pub captured_shut : (target : Target) (place : Place) (node : Node) (old : List ℕ) → closed (captured target place node old) ≡ captured target place node old
-captured_shut Top place node old = let new = insert None place node (tree old) in closed_print (new.preamble ++ lines new.forest)
+captured_shut Top place node old = let new = insert None place node (tree old) in closed-print_lines (new.preamble ++ lines new.forest)

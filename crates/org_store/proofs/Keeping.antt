@@ -17,6 +17,7 @@ use Rattle.org_held.proofs.InOrder.{told_by_texts, holds_told}
 use Rattle.org_store.specs.declared.command.Reply.{Reply}
 use Rattle.org_store.specs.declared.command.Reply.TheVariants.{Done, Safe, Text}
 use Rattle.org_store.specs.declared.command.RunFault.{RunFault}
+use Rattle.org_outline.proofs.Trees.{tree-closed}
 use Rattle.org_store.specs.declared.command.RunFault.TheVariants.{Refused, OutOfMemory, Device, Broken}
 use Rattle.org_store.specs.declared.command.Target.{Target}
 use Rattle.org_store.specs.declared.command.Refusal.TheVariants.{TooLarge}
@@ -28,7 +29,6 @@ use Rattle.org_store.specs.Outcome.{Outcome, Accepts, Shows, AsksToSettle, Refus
 use Rattle.org_store.specs.Counts.{SameCounts}
 use Rattle.org_store.specs.Left.{IsLeftFailing, IsLeftBy}
 use Rattle.org_store.specs.Keeping.{IsLeftKeeping, KeepsCounts, after}
-use Rattle.org_store.proofs.Closed.{tree-closed}
 
 -- what a stop leaves of files at rest
 pub at_rest_holds : (s : Session) (files : List ℕ → FileState) → IsAtRest files → (image : Image) → AreImages files image → Holds s (contents files) (texts_of (contents files) s.names) image

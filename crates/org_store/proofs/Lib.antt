@@ -1,5 +1,4 @@
 mod Rows
-pub mod Closed
 pub mod Entries
 pub mod Keeping
 pub mod Leaving

@@ -1,12 +1,11 @@
 -- Runs of commands over a disk: what a stop leaves meanwhile, and what the disk is after them.
-use Rattle.std.proofs.Common.{◌≡◌, ◌⊎◌, inl, inr, ⊎_elim, ℕ, ◌+◌, ◌-◌, ◌≤◌, true, false, List, [], ◌∷◌, Option, Some, None, is_some, Result, Ok, Err, refl, sym, ◌∙◌, ap, subst, arith, IsTrue}
+use Rattle.std.proofs.Common.{◌≡◌, ◌⊎◌, inl, inr, ⊎_elim, ℕ, ◌+◌, ◌≤◌, true, false, List, [], ◌∷◌, is_some, Result, Ok, Err, refl, sym, ◌∙◌, ap, subst, arith, IsTrue}
 use Rattle.std.specs.Prelude.{IsSomeAnd, IsErrOf}
 use Rattle.std.specs.Str.{bytes_eq}
 use Rattle.std.proofs.lemmas.Bool.{cases_Bool, false≢true}
-use Rattle.std.proofs.lemmas.Slice.Eq.{bytes_eq-Decides}
 use Rattle.org_disk.specs.Disk.{FileState, AreImages, Passes, LeavesOnly}
 use Rattle.org_disk.proofs.Moments.{passes_none, passes_as, passes_then, leaves_only}
-use Rattle.org_journal.specs.Standing.{Image, SameFiles, IsFit, StandsFor, stands, contents}
+use Rattle.org_journal.specs.Standing.{Image, SameFiles, IsFit, StandsFor, contents}
 use Rattle.org_fileset.specs.Replay.{IsAtRest}
 use Rattle.org_fileset.proofs.Commits.{at_rest_stands}
 use Rattle.org_fileset.proofs.Stands.{stands_as}
@@ -15,7 +14,7 @@ use Rattle.org_store.specs.declared.command.Reply.{Reply}
 use Rattle.org_store.specs.declared.command.Reply.TheVariants.{Done, Safe, Text}
 use Rattle.org_store.specs.declared.command.RunFault.{RunFault}
 use Rattle.org_store.specs.declared.command.RunFault.TheVariants.{Refused, OutOfMemory, Device, Broken}
-use Rattle.org_held.specs.InOrder.{texts_of, text_at, with_text, with_texts}
+use Rattle.org_held.specs.InOrder.{text_at, with_text, with_texts}
 use Rattle.org_store.specs.Session.{Session, Kept, Holds}
 use Rattle.org_store.specs.Outcome.{Outcome, Accepts, Shows, AsksToSettle, Refuses, outcome}
 use Rattle.org_store.specs.Step.{Does, Step, Settles, fills, done, settled}

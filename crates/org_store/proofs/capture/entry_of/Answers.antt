@@ -1,10 +1,10 @@
 use Rattle.std.proofs.Common.{◌≡◌, ◌∙◌, sym, ap, false, rules}
 use Rattle.org_splice.specs.Lines.{closed}
 use Rattle.org_splice.specs.Texts.{EditedText}
+use Rattle.org_splice.proofs.Lines.{closed_twice}
 use Rattle.org_outline.specs.Tree.{tree, node_at, print_node}
 use Rattle.org_outline.specs.Moves.{shift_node}
 use Rattle.org_store.specs.Capture.{has_percent}
-use Rattle.org_outline.proofs.Lines.{closed_twice}
 use Rattle.org_store.proofs.Entries.{entry_is, entry_bad}
 use Rattle.org_store.proofs.capture.entry_of.Goals as goal
 

@@ -1,5 +1,6 @@
-use Rattle.std.proofs.Common.{◌≡◌, ◌∙◌, ◌+◌, ◌++◌, List, ℕ, take, drop, sym, ap, append_assoc, add-zero}
+use Rattle.std.proofs.Common.{◌≡◌, ◌∙◌, sym, ap}
 use Rattle.org_splice.specs.Lines.{closed}
+use Rattle.org_splice.specs.Edits.{edited}
 use Rattle.org_splice.specs.Texts.{spliced}
 use Rattle.org_held.specs.declared.draft.Draft.{Draft}
 use Rattle.org_store.specs.Capture.{captured}
@@ -18,11 +19,8 @@ splice-requires-clause-closed c =
     let added = c.args.entry.now in
     let node = c.requires.entry.0 in
     let new = (spliced k 0 added draft.text).bytes in
-    let put : new ≡ take k text ++ (added ++ drop k text) =
-    append_assoc (take k draft.text.bytes) added (drop (k + 0) draft.text.bytes)
-    ∙ ap (λ (n : ℕ). take k draft.text.bytes ++ (added ++ drop n draft.text.bytes)) (add-zero k)
-    ∙ ap (λ (d : Draft). take k d.text.bytes ++ (added ++ drop k d.text.bytes)) same
-    ∙ ap (λ (t : List ℕ). take k t ++ (added ++ drop k t)) (sym is) in
+    let put : new ≡ edited k 0 added text =
+    ap (λ (d : Draft). edited k 0 added d.text.bytes) same ∙ ap (edited k 0 added) (sym is) in
     let made : new ≡ captured c.args.target.now c.args.place node old =
     captured_is c.args.target.now old text c.args.place k added (is ∙ sym c.requires.shut) c.place-at.ensures new put node c.requires.entry.1 in
     ap closed made ∙ captured_shut c.args.target.now c.args.place node old ∙ sym made

@@ -2,7 +2,7 @@ use Rattle.std.proofs.Common.{◌≡◌, ◌∙◌, Some, sym, ap, subst}
 use Rattle.org_splice.specs.Lines.{closed}
 use Rattle.org_splice.specs.Texts.{EditedText}
 use Rattle.org_held.specs.Held.{AreHeadsOf}
-use Rattle.org_outline.proofs.Lines.{closed_twice}
+use Rattle.org_splice.proofs.Lines.{closed_twice}
 use Rattle.org_held.proofs.draft.Draft.new.Goals as goal
 use Rattle.org_held.proofs.draft.Draft.new.Goals.{in-Some, in-None+in_ok-close_line-in-None+in_ok-heads-in-None}
 
