@@ -49,7 +49,8 @@ fn are_apart(first: Kind, second: Kind) -> bool
 impl<'a> Cookies<'a> {
     // A first cookie, or a second of the other kind.
     fn with(self, cookie: Cookie<'a>) -> Option<Cookies<'a>>
-        ensures { option_map parts_of result ≡ cookies_with (parts_of self.entry) (part_of cookie.entry) }
+        ensures { option_map parts_of result
+            ≡ cookies_with (parts_of self.entry) (part_of cookie.entry) }
     {
         match self {
             Cookies::Empty => Some(Cookies::One(cookie)),

@@ -45,7 +45,8 @@ pub fn least_day_steps(day: Day, step: u64, target: i64) -> u64
     requires target { IsBetween (neg_ℤ (pos (2 ^ 30))) (pos (2 ^ 30)) target }
     ensures some { 1 ≤ result }
     ensures reached { target ≤ℤ day_number (days_after day (result * step)) }
-    ensures least { (j : ℕ) → 1 ≤ j → j < result → day_number (days_after day (j * step)) <ℤ target }
+    ensures least { (j : ℕ) → 1 ≤ j → j < result
+        → day_number (days_after day (j * step)) <ℤ target }
     ensures bound { result ≤ 2 ^ 36 }
 {
     least_steps(gap(day.number() as i64, target), step)
@@ -59,7 +60,8 @@ pub fn least_month_steps(day: Day, step: u64, now: Day, target: i64) -> u64
     requires target { (target ≡ day_number now) ⊎ (target ≡ day_number now +ℤ pos 1) }
     ensures some { 1 ≤ result }
     ensures reached { target ≤ℤ day_number (months_after day (result * step)) }
-    ensures least { (j : ℕ) → 1 ≤ j → j < result → day_number (months_after day (j * step)) <ℤ target }
+    ensures least { (j : ℕ) → 1 ≤ j → j < result
+        → day_number (months_after day (j * step)) <ℤ target }
     ensures bound { result ≤ 2 ^ 20 }
 {
     let from = day.month_number();
