@@ -7,3 +7,4 @@ mod Calls
 mod ImageSoFar
 mod Outcomes
 mod NameRows
+pub mod Accounting

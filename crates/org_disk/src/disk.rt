@@ -1,6 +1,7 @@
-// A disk as the layers above see it: what a read gives, and what a stop may leave.
-ghost use Rattle.std.specs.Prelude.{◌≡◌, ◌+◌, ◌^◌, ◌<◌, ◌≤◌, List, ℕ, length, take, drop, IfOk, OnOk, OnErr};
-ghost use Rattle.org_disk.specs.Disk.{FileState, IsImage, AreImages, AreLeftBy, Changes, KeepsHonesty, Passes, write, cut, sync, IsCounted};
+//! A disk as the layers above see it: what a read gives, and what a stop may leave.
+ghost use Rattle.std.specs.Prelude.{◌≡◌, ◌+◌, ◌^◌, ◌<◌, ◌≤◌, List, ℕ, length, take, drop, IfOk, OnOk};
+ghost use Rattle.org_disk.specs.Disk.{FileState, IsImage, AreImages, AreLeftBy, Changes, write, cut, sync};
+ghost use Rattle.org_disk.specs.Accounts.{AccountsOfCall, Looks, PassesOver};
 
 use crate::FileName;
 use thiserror::Error;
@@ -40,27 +41,18 @@ pub trait Disk {
     fn length(&mut self, name: &FileName) -> Result<u64, DiskFault>
         ensures value { IfOk result (λ n. honest self.new →
             n ≡ length (files self.old name.now).content) }
-        ensures same { honest self.new → files self.new ≡ files self.old }
-        ensures time { honest self.new →
-            Passes (moment self.old) (moment self.new) (left_since self.old) (left_since self.new)
-            (AreImages (files self.old)) }
-        ensures count_ok { OnOk result (failures self.new ≡ failures self.old) }
-        ensures count_err { OnErr result (IsCounted (failures self.old) (failures self.new)) }
-        ensures honest { KeepsHonesty steady (honest self.old) (honest self.new) };
+        ensures looks { honest self.new → Looks files moment left_since self.old self.new }
+        ensures accounts { AccountsOfCall steady honest failures self.old self.new result };
 
     /// Fills the buffer with the bytes of a file from `from` on; they lie within its length. It changes nothing of the
     /// disk, failed or not; what the buffer holds after a failure is open.
     fn read_at(&mut self, name: &FileName, from: u64, into: &mut [u8]) -> Result<(), DiskFault>
-        requires { honest self.old → from + length into.old ≤ length (files self.old name.now).content }
+        requires { honest self.old → from + length into.old ≤ length
+            (files self.old name.now).content }
         ensures bytes { OnOk result (honest self.new →
             into.new ≡ take (length into.old) (drop from (files self.old name.now).content)) }
-        ensures same { honest self.new → files self.new ≡ files self.old }
-        ensures time { honest self.new →
-            Passes (moment self.old) (moment self.new) (left_since self.old) (left_since self.new)
-            (AreImages (files self.old)) }
-        ensures count_ok { OnOk result (failures self.new ≡ failures self.old) }
-        ensures count_err { OnErr result (IsCounted (failures self.old) (failures self.new)) }
-        ensures honest { KeepsHonesty steady (honest self.old) (honest self.new) };
+        ensures looks { honest self.new → Looks files moment left_since self.old self.new }
+        ensures accounts { AccountsOfCall steady honest failures self.old self.new result };
 
     /// Writes bytes over a file from `from` on, which is at most its length; the file grows where they reach past its
     /// end. Until the next sync a stop may leave any bytes in that range, and any length from the least to the greatest
@@ -71,11 +63,9 @@ pub trait Disk {
         ensures effect { honest self.new →
             Changes (write from bytes.now) name.now (files self.old) (files self.new) result }
         ensures time { honest self.new →
-            Passes (moment self.old) (moment self.new) (left_since self.old) (left_since self.new)
+            PassesOver moment left_since self.old self.new
             (AreLeftBy (write from bytes.now) name.now (files self.old)) }
-        ensures count_ok { OnOk result (failures self.new ≡ failures self.old) }
-        ensures count_err { OnErr result (IsCounted (failures self.old) (failures self.new)) }
-        ensures honest { KeepsHonesty steady (honest self.old) (honest self.new) };
+        ensures accounts { AccountsOfCall steady honest failures self.old self.new result };
 
     /// Takes away the bytes of a file from `to` on, which is at most its length. Until the next sync a stop may leave any
     /// length from the least to the greatest that the file had since the last sync, and any bytes from `to` on.
@@ -84,22 +74,18 @@ pub trait Disk {
         ensures effect { honest self.new →
             Changes (cut to) name.now (files self.old) (files self.new) result }
         ensures time { honest self.new →
-            Passes (moment self.old) (moment self.new) (left_since self.old) (left_since self.new)
+            PassesOver moment left_since self.old self.new
             (AreLeftBy (cut to) name.now (files self.old)) }
-        ensures count_ok { OnOk result (failures self.new ≡ failures self.old) }
-        ensures count_err { OnErr result (IsCounted (failures self.old) (failures self.new)) }
-        ensures honest { KeepsHonesty steady (honest self.old) (honest self.new) };
+        ensures accounts { AccountsOfCall steady honest failures self.old self.new result };
 
     /// Puts a file on the disk: from then on a stop leaves its content, and nothing else.
     fn sync(&mut self, name: &FileName) -> Result<(), DiskFault>
         ensures effect { honest self.new →
             Changes sync name.now (files self.old) (files self.new) result }
         ensures time { honest self.new →
-            Passes (moment self.old) (moment self.new) (left_since self.old) (left_since self.new)
+            PassesOver moment left_since self.old self.new
             (AreLeftBy sync name.now (files self.old)) }
-        ensures count_ok { OnOk result (failures self.new ≡ failures self.old) }
-        ensures count_err { OnErr result (IsCounted (failures self.old) (failures self.new)) }
-        ensures honest { KeepsHonesty steady (honest self.old) (honest self.new) };
+        ensures accounts { AccountsOfCall steady honest failures self.old self.new result };
 
     /// The content is one of the images.
     ghost content_is_image: { (disk : Self) (name : List ℕ) → honest disk →

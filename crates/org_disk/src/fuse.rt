@@ -1,6 +1,6 @@
-// A disk whose calls fail from some call on.
+//! A disk whose calls fail from some call on.
 ghost use Rattle.std.specs.Prelude.{◌≡◌, ◌+◌, ◌-◌, ◌^◌, ◌↔◌, IsErr, OnOk, OnErr};
-ghost use Rattle.org_disk.specs.Disk.{IsCounted, KeepsHonesty};
+ghost use Rattle.org_disk.specs.Disk.{IsCounted};
 
 use crate::{Disk, DiskFault, FileName};
 
@@ -55,7 +55,8 @@ impl<D: Disk> Fuse<D> {
 
 impl<D: Disk> Disk for Fuse<D> {
     ghost use Rattle.std.specs.Prelude.{◌<◌, ◌≤◌, length, take, drop, IfOk};
-    ghost use Rattle.org_disk.specs.Disk.{AreImages, AreLeftBy, Changes, Passes, cut, sync, write};
+    ghost use Rattle.org_disk.specs.Disk.{AreLeftBy, Changes, cut, sync, write};
+    ghost use Rattle.org_disk.specs.Accounts.{AccountsOfCall, Looks, PassesOver};
     ghost use Rattle.org_disk.specs.Fuse.{fuse_failures};
 
     ghost honest = { λ fuse. D.honest fuse.disk };
@@ -79,18 +80,10 @@ impl<D: Disk> Disk for Fuse<D> {
     fn length(&mut self, name: &FileName) -> Result<u64, DiskFault>
         ensures value { IfOk result (λ n. D.honest self.new.disk →
             n ≡ length (D.files self.old.disk name.now).content) }
-        ensures same { D.honest self.new.disk → D.files self.new.disk ≡ D.files self.old.disk }
-        ensures time { D.honest self.new.disk →
-            Passes (D.moment self.old.disk) (D.moment self.new.disk)
-            (D.left_since self.old.disk) (D.left_since self.new.disk)
-            (AreImages (D.files self.old.disk)) }
-        ensures count_ok { OnOk result
-            (fuse_failures self.new.failures (D.failures self.new.disk) ≡
-            fuse_failures self.old.failures (D.failures self.old.disk)) }
-        ensures count_err { OnErr result
-            (IsCounted (fuse_failures self.old.failures (D.failures self.old.disk))
-            (fuse_failures self.new.failures (D.failures self.new.disk))) }
-        ensures honest { KeepsHonesty D.steady (D.honest self.old.disk) (D.honest self.new.disk) }
+        ensures looks { D.honest self.new.disk →
+            Looks D.files D.moment D.left_since self.old.disk self.new.disk }
+        ensures accounts { AccountsOfCall D.steady (λ fuse. D.honest fuse.disk)
+            (λ fuse. fuse_failures fuse.failures (D.failures fuse.disk)) self.old self.new result }
         ensures spent { self.new.passes ≡ self.old.passes - 1 }
         ensures blown { self.old.passes ≡ 0 → IsErr result × (self.new.disk ≡ self.old.disk) }
         ensures passed { 0 < self.old.passes → self.new.failures ≡ self.old.failures }
@@ -104,18 +97,10 @@ impl<D: Disk> Disk for Fuse<D> {
             from + length into.old ≤ length (D.files self.old.disk name.now).content }
         ensures bytes { OnOk result (D.honest self.new.disk → into.new ≡
             take (length into.old) (drop from (D.files self.old.disk name.now).content)) }
-        ensures same { D.honest self.new.disk → D.files self.new.disk ≡ D.files self.old.disk }
-        ensures time { D.honest self.new.disk →
-            Passes (D.moment self.old.disk) (D.moment self.new.disk)
-            (D.left_since self.old.disk) (D.left_since self.new.disk)
-            (AreImages (D.files self.old.disk)) }
-        ensures count_ok { OnOk result
-            (fuse_failures self.new.failures (D.failures self.new.disk) ≡
-            fuse_failures self.old.failures (D.failures self.old.disk)) }
-        ensures count_err { OnErr result
-            (IsCounted (fuse_failures self.old.failures (D.failures self.old.disk))
-            (fuse_failures self.new.failures (D.failures self.new.disk))) }
-        ensures honest { KeepsHonesty D.steady (D.honest self.old.disk) (D.honest self.new.disk) }
+        ensures looks { D.honest self.new.disk →
+            Looks D.files D.moment D.left_since self.old.disk self.new.disk }
+        ensures accounts { AccountsOfCall D.steady (λ fuse. D.honest fuse.disk)
+            (λ fuse. fuse_failures fuse.failures (D.failures fuse.disk)) self.old self.new result }
         ensures spent { self.new.passes ≡ self.old.passes - 1 }
         ensures blown { self.old.passes ≡ 0 → IsErr result × (self.new.disk ≡ self.old.disk) }
         ensures passed { 0 < self.old.passes → self.new.failures ≡ self.old.failures }
@@ -132,16 +117,10 @@ impl<D: Disk> Disk for Fuse<D> {
             Changes (write from bytes.now) name.now
             (D.files self.old.disk) (D.files self.new.disk) result }
         ensures time { D.honest self.new.disk →
-            Passes (D.moment self.old.disk) (D.moment self.new.disk)
-            (D.left_since self.old.disk) (D.left_since self.new.disk)
+            PassesOver D.moment D.left_since self.old.disk self.new.disk
             (AreLeftBy (write from bytes.now) name.now (D.files self.old.disk)) }
-        ensures count_ok { OnOk result
-            (fuse_failures self.new.failures (D.failures self.new.disk) ≡
-            fuse_failures self.old.failures (D.failures self.old.disk)) }
-        ensures count_err { OnErr result
-            (IsCounted (fuse_failures self.old.failures (D.failures self.old.disk))
-            (fuse_failures self.new.failures (D.failures self.new.disk))) }
-        ensures honest { KeepsHonesty D.steady (D.honest self.old.disk) (D.honest self.new.disk) }
+        ensures accounts { AccountsOfCall D.steady (λ fuse. D.honest fuse.disk)
+            (λ fuse. fuse_failures fuse.failures (D.failures fuse.disk)) self.old self.new result }
         ensures spent { self.new.passes ≡ self.old.passes - 1 }
         ensures blown { self.old.passes ≡ 0 → IsErr result × (self.new.disk ≡ self.old.disk) }
         ensures passed { 0 < self.old.passes → self.new.failures ≡ self.old.failures }
@@ -155,16 +134,10 @@ impl<D: Disk> Disk for Fuse<D> {
         ensures effect { D.honest self.new.disk →
             Changes (cut to) name.now (D.files self.old.disk) (D.files self.new.disk) result }
         ensures time { D.honest self.new.disk →
-            Passes (D.moment self.old.disk) (D.moment self.new.disk)
-            (D.left_since self.old.disk) (D.left_since self.new.disk)
+            PassesOver D.moment D.left_since self.old.disk self.new.disk
             (AreLeftBy (cut to) name.now (D.files self.old.disk)) }
-        ensures count_ok { OnOk result
-            (fuse_failures self.new.failures (D.failures self.new.disk) ≡
-            fuse_failures self.old.failures (D.failures self.old.disk)) }
-        ensures count_err { OnErr result
-            (IsCounted (fuse_failures self.old.failures (D.failures self.old.disk))
-            (fuse_failures self.new.failures (D.failures self.new.disk))) }
-        ensures honest { KeepsHonesty D.steady (D.honest self.old.disk) (D.honest self.new.disk) }
+        ensures accounts { AccountsOfCall D.steady (λ fuse. D.honest fuse.disk)
+            (λ fuse. fuse_failures fuse.failures (D.failures fuse.disk)) self.old self.new result }
         ensures spent { self.new.passes ≡ self.old.passes - 1 }
         ensures blown { self.old.passes ≡ 0 → IsErr result × (self.new.disk ≡ self.old.disk) }
         ensures passed { 0 < self.old.passes → self.new.failures ≡ self.old.failures }
@@ -177,16 +150,10 @@ impl<D: Disk> Disk for Fuse<D> {
         ensures effect { D.honest self.new.disk →
             Changes sync name.now (D.files self.old.disk) (D.files self.new.disk) result }
         ensures time { D.honest self.new.disk →
-            Passes (D.moment self.old.disk) (D.moment self.new.disk)
-            (D.left_since self.old.disk) (D.left_since self.new.disk)
+            PassesOver D.moment D.left_since self.old.disk self.new.disk
             (AreLeftBy sync name.now (D.files self.old.disk)) }
-        ensures count_ok { OnOk result
-            (fuse_failures self.new.failures (D.failures self.new.disk) ≡
-            fuse_failures self.old.failures (D.failures self.old.disk)) }
-        ensures count_err { OnErr result
-            (IsCounted (fuse_failures self.old.failures (D.failures self.old.disk))
-            (fuse_failures self.new.failures (D.failures self.new.disk))) }
-        ensures honest { KeepsHonesty D.steady (D.honest self.old.disk) (D.honest self.new.disk) }
+        ensures accounts { AccountsOfCall D.steady (λ fuse. D.honest fuse.disk)
+            (λ fuse. fuse_failures fuse.failures (D.failures fuse.disk)) self.old self.new result }
         ensures spent { self.new.passes ≡ self.old.passes - 1 }
         ensures blown { self.old.passes ≡ 0 → IsErr result × (self.new.disk ≡ self.old.disk) }
         ensures passed { 0 < self.old.passes → self.new.failures ≡ self.old.failures }

@@ -2,16 +2,15 @@
 //!
 //! The trait `Disk` says what each call does to the content of a file, and to its images: what a stop at that moment,
 //! or within the call, may leave of it. `MemoryDisk` meets it, and can be told to fail or to stop; `Fuse` fails from
-//! some call on. Lemmas for callers are public in `proofs/`: `Moments` (one run after another), `Images` and `Back`
-//! (what a call leaves), `Laid` (bytes laid over a text), `Names`.
+//! some call on. What every call over a disk says is said once, in `specs/Accounts`. Lemmas for callers are public in
+//! `proofs/`: `Moments` (one run after another), `Accounting` (their accounts), `Images` and `Back` (what a call
+//! leaves), `Laid` (bytes laid over a text), `Names`.
 #![tactic(auto)]
 
 mod disk;
 mod fuse;
 mod memory;
 mod name;
-#[cfg(test)]
-mod tests;
 
 pub use disk::{Disk, DiskFault};
 pub use fuse::Fuse;

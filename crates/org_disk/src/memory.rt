@@ -1,4 +1,4 @@
-// A disk in memory, which keeps a record of its calls. What it holds is what the record stands for.
+//! A disk in memory, which keeps a record of its calls. What it holds is what the record stands for.
 ghost use Rattle.std.specs.Prelude.{◌≡◌, ◌≢◌, ◌⊎◌, List, ℕ, [], ◌∷◌, ◌++◌, ◌≤◌, length, IsTrue, IsFalse, IfOk, IfSome, OnOk, OnErr, IsNone};
 ghost use Rattle.std.specs.Str.{bytes_eq};
 ghost use Rattle.indexmap.specs.IndexMap.{get};
@@ -156,7 +156,8 @@ impl MemoryDisk {
         ensures whole { IsTrue (leaves_all self.now) →
             IfOk result (λ image. (name : List ℕ) →
             (memory_files image name).content ≡ (memory_files self.now name).content) }
-        ensures fresh { IfOk result (λ image. (image.failures ≡ 0) × (image.fail_in ≡ 0) × (image.stop ≡ Stop.Never)) }
+        ensures fresh { IfOk result (λ image. (image.failures ≡ 0) × (image.fail_in ≡ 0)
+            × (image.stop ≡ Stop.Never)) }
         ensures uncounted { IfOk result (λ image. call_count image ≡ 0) }
     {
         let mut image = MemoryDisk::new(alloc);
@@ -248,11 +249,14 @@ impl MemoryDisk {
     fn call(&mut self, name: &FileName, effect: Effect) -> Result<(), DiskFault>
         ensures ok { OnOk result (self.new.calls.items ≡ self.old.calls.items ++
             (record { name = name.now; effect = effect; stopped = false }) ∷ []) }
-        ensures err { OnErr result (IsTried name.now effect self.old.calls.items self.new.calls.items) }
+        ensures err { OnErr result (IsTried name.now effect self.old.calls.items
+            self.new.calls.items) }
         ensures no_effect { IsFalse (stops_within self.old.stop) →
-            OnErr result (IsTried name.now Effect.Nothing self.old.calls.items self.new.calls.items) }
+            OnErr result (IsTried name.now Effect.Nothing self.old.calls.items
+            self.new.calls.items) }
         ensures sync { effect ≡ Effect.Sync →
-            OnErr result (IsTried name.now Effect.Nothing self.old.calls.items self.new.calls.items) }
+            OnErr result (IsTried name.now Effect.Nothing self.old.calls.items
+            self.new.calls.items) }
         ensures count_ok { OnOk result (self.new.failures ≡ self.old.failures) }
         ensures count_err { OnErr result (IsCounted self.old.failures self.new.failures) }
         ensures due { IsTrue (is_due self.old) → IsErr result }
@@ -428,7 +432,8 @@ impl Disk for MemoryDisk {
     }
 
     fn sync(&mut self, name: &FileName) -> Result<(), DiskFault>
-        ensures effect { Changes sync name.now (memory_files self.old) (memory_files self.new) result }
+        ensures effect { Changes sync name.now (memory_files self.old) (memory_files self.new)
+            result }
         ensures time { Passes (length self.old.calls.items) (length self.new.calls.items)
             (LeftSince self.old.calls.items) (LeftSince self.new.calls.items)
             (AreLeftBy sync name.now (memory_files self.old)) }

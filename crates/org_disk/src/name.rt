@@ -1,4 +1,4 @@
-// The names of files.
+//! The names of files.
 ghost use Rattle.std.specs.Prelude.{◌≡◌, ◌≢◌, ◌≤◌, ◌↔◌, false, nat_eq, refl, Some, length, IsTrue, IsFalse, IsUtf8, IfOk, OnOk, IsErrOf};
 ghost use Rattle.std.specs.List.{list_all};
 ghost use Rattle.std.specs.Ordering.{nat_cmp};

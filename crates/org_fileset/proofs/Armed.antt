@@ -1,7 +1,8 @@
 -- A journal that stands open while its record is laid, and is then closed.
-use Rattle.std.proofs.Common.{◌≡◌, ◌≢◌, inl, inr, ℕ, ◌≤◌, List, ◌∷◌, length, drop, get_or, true, false, Some, Result, Ok, Err, OnOk, OnErr, sym, ◌∙◌, ap, subst, arith}
+use Rattle.std.proofs.Common.{◌≡◌, ◌≢◌, inl, inr, ℕ, ◌≤◌, List, ◌∷◌, length, drop, get_or, true, false, Some, Result, Ok, Err, OnOk, IsErr, sym, ◌∙◌, ap, subst, arith}
 use Rattle.std.specs.Prelude.{nat_le, slice_index, ◌==◌}
 use Rattle.std.proofs.lemmas.Bool.{cases_Bool, and_parts, leb-true}
+use Rattle.std.proofs.lemmas.Result.{IfOk-from_err}
 use Rattle.org_disk.specs.Disk.{FileState, IsImage, IsStable}
 use Rattle.org_disk.specs.Names.{journal_name}
 use Rattle.org_disk.proofs.Images.{only_image}
@@ -115,20 +116,16 @@ rest_after old new rest only is others stable = record {
 pub open_long : (journal : List ℕ) → is_open journal ≡ true → front_size ≤ length journal
 open_long journal opened = leb-true front_size (length journal) (and_parts (nat_le front_size (length journal)) (slice_index journal 0 == 1) opened).0
 
+-- what is asked of an Ok alone
+pub on_ok_never : {T E : Type 0} (P : Type 0) (r : Result T E) → IsErr r → OnOk r P
+on_ok_never P r failed = IfOk-from_err r (λ done. P) failed
+
 -- what holds anyway
-pub on_err_always : {T E P : Type 0} (r : Result T E) → P → OnErr r P
-on_err_always (Ok x) p = tt
-on_err_always (Err e) p = p
+pub on_ok_always : {T E P : Type 0} (r : Result T E) → P → OnOk r P
+on_ok_always (Ok x) p = p
+on_ok_always (Err e) p = tt
 
 -- two facts of an Ok
 pub on_ok_both : {T E P Q R : Type 0} (r : Result T E) → OnOk r P → OnOk r Q → (P → Q → R) → OnOk r R
 on_ok_both (Ok x) p q both = both p q
 on_ok_both (Err e) p q both = tt
-
-pub on_ok_one : {T E P Q : Type 0} (r : Result T E) → OnOk r P → (P → Q) → OnOk r Q
-on_ok_one (Ok x) p so = so p
-on_ok_one (Err e) p so = tt
-
-pub on_err_one : {T E P Q : Type 0} (r : Result T E) → OnErr r P → (P → Q) → OnErr r Q
-on_err_one (Ok x) p so = tt
-on_err_one (Err e) p so = so p

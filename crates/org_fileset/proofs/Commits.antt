@@ -32,7 +32,7 @@ module _ (entries : List Entry) (files : List ℕ → FileState) (layable : AreL
   after = replayed entries (contents files)
 
   abbrev Stands : Image → Type 0
-  Stands image = IsBeforeOrAfter entries (contents files) image
+  Stands image = IsBeforeOrAfter (contents files) (replayed entries (contents files)) image
 
   -- of the files as they are the record makes the new ones
   takes : (name text : List ℕ) → text ≡ contents files name → TakesTo entries name text (after name)

@@ -1,14 +1,16 @@
 -- What a set's commit needs of its changes, from what is asked of them.
-use Rattle.std.proofs.Common.{◌≡◌, ◌≢◌, inl, inr, ◌≤◌, ℕ, zero, suc, List, [], ◌∷◌, length, map, true, refl, subst, arith}
+use Rattle.std.proofs.Common.{◌≡◌, ◌≢◌, inl, inr, ◌≤◌, ℕ, zero, suc, List, [], ◌∷◌, length, map, true, refl, ◌∙◌, subst, arith}
 use Rattle.std.specs.List.{All, AllByRecursion, Contains, IsDistinct}
 use Rattle.std.specs.Map.{keys_of}
 use Rattle.std.specs.Set.{is_member}
 use Rattle.std.specs.Str.{bytes_eq}
+use Rattle.std.specs.Prelude.{Result, OnOk}
 use Rattle.std.proofs.lemmas.Cmp.{nat_list_eq_equiv}
 use Rattle.std.proofs.lemmas.List.{length-map}
 use Rattle.std.proofs.lemmas.List.Elements.{All-from_recursion, recursion_from_All}
 use Rattle.std.proofs.lemmas.Map.Entries.{length-keys_of}
 use Rattle.std.proofs.lemmas.Map.Made.{length-le_from_is_member, is_member-Decides}
+use Rattle.std.proofs.lemmas.Result.{on_ok_weaker}
 use Rattle.std.proofs.lemmas.Slice.Eq.{bytes_eq-Decides}
 use Rattle.org_disk.specs.Disk.{FileState, AreImages, LeavesOnly}
 use Rattle.org_disk.proofs.Moments.{passes_none, passes_as, leaves_only}
@@ -20,8 +22,7 @@ use Rattle.org_journal.specs.declared.record.Version.TheVariants.{Two}
 use Rattle.org_journal.specs.Record.{IsEntry, IsWellFormed, greatest_length, most_entries}
 use Rattle.org_journal.specs.Standing.{Image, contents, replayed}
 use Rattle.org_fileset.specs.Entries.{AreEntriesOf, changed}
-use Rattle.org_fileset.specs.Replay.{IsAtRest, IsBeforeOrAfter}
-use Rattle.org_fileset.specs.Set.{IsWithOrWithout}
+use Rattle.org_fileset.specs.Replay.{IsAtRest, IsBeforeOrAfter, IsCommitted, Commits}
 use Rattle.org_fileset.proofs.Commits.{at_rest_stands}
 use Rattle.org_fileset.proofs.Stands.{stands_as}
 use Rattle.org_fileset.proofs.Recorded.{IsCommittable, file_named, changes_layable, changes_made}
@@ -105,20 +106,43 @@ changes_formed names changes entries are distinct some each few named small =
 
 -- the record's files are the changed ones
 pub with_or_without : (changes : List Change) (entries : List Entry) (files : Image) → AreEntriesOf changes entries → AllByRecursion (λ (change : Change). IsEditOf (files change.0) change.1) changes
-    → (image : Image) → IsBeforeOrAfter entries files image → IsWithOrWithout changes files image
+    → (image : Image) → IsBeforeOrAfter files (replayed entries files) image → IsBeforeOrAfter files (changed changes files) image
 with_or_without changes entries files are edits image (inl before) = inl before
 with_or_without changes entries files are edits image (inr after) = inr (stands_as (replayed entries files) (changed changes files) image (λ name not. changes_made changes entries files name are edits) after)
 
 -- no call of the disk
 pub only_before : (changes : List Change) (files : List ℕ → FileState) (m : ℕ) (since : ℕ → Image → Type 0) → IsAtRest files → ((image : Image) → since m image → AreImages files image)
-    → LeavesOnly m m since since (IsWithOrWithout changes (contents files))
+    → LeavesOnly m m since since (IsBeforeOrAfter (contents files) (changed changes (contents files)))
 only_before changes files m since rest now =
-    leaves_only (passes_none m since (IsWithOrWithout changes (contents files))) (λ image left. inl (at_rest_stands files rest image (now image left)))
+    leaves_only (passes_none m since (IsBeforeOrAfter (contents files) (changed changes (contents files)))) (λ image left. inl (at_rest_stands files rest image (now image left)))
 
 -- the calls of the commit
 pub changes_left : (changes : List Change) (entries : List Entry) (files : Image) (m n : ℕ) (past since : ℕ → Image → Type 0) → AreEntriesOf changes entries
-    → AllByRecursion (λ (change : Change). IsEditOf (files change.0) change.1) changes → LeavesOnly m n past since (IsBeforeOrAfter entries files) → LeavesOnly m n past since (IsWithOrWithout changes files)
+    → AllByRecursion (λ (change : Change). IsEditOf (files change.0) change.1) changes → LeavesOnly m n past since (IsBeforeOrAfter files (replayed entries files)) → LeavesOnly m n past since (IsBeforeOrAfter files (changed changes files))
 changes_left changes entries files m n past since are edits left = record {
   each = λ image at. with_or_without changes entries files are edits image (left.each image at);
   passes = passes_as left.passes (with_or_without changes entries files are edits);
+}
+
+-- no call of the disk, and no change
+pub commits_none : {D A E : Type 0} (files : D → List ℕ → FileState) (moment : D → ℕ) (left_since : D → ℕ → Image → Type 0) (after : Image) (disk : D) (r : Result A E)
+    → ((image : Image) → left_since disk (moment disk) image → AreImages (files disk) image) → OnOk r (IsCommitted after (files disk) (files disk)) → Commits files moment left_since after disk disk r
+commits_none files moment left_since after disk r now done = record {
+  done = done;
+  any_moment = λ rest. leaves_only (passes_none (moment disk) (left_since disk) (IsBeforeOrAfter (contents (files disk)) after)) (λ image left. inl (at_rest_stands (files disk) rest image (now image left)));
+  fit = λ rest. inl (λ name not. rest.stable name);
+}
+
+-- the commit of the record is one of the changes
+pub commits_changes : {D A E B F : Type 0} (files : D → List ℕ → FileState) (moment : D → ℕ) (left_since : D → ℕ → Image → Type 0) (changes : List Change) (entries : List Entry) (old new : D)
+    (r : Result A E) (s : Result B F) → AreEntriesOf changes entries → AllByRecursion (λ (change : Change). IsEditOf (contents (files old) change.0) change.1) changes
+    → Commits files moment left_since (replayed entries (contents (files old))) old new r → OnOk s (IsCommitted (replayed entries (contents (files old))) (files old) (files new))
+    → Commits files moment left_since (changed changes (contents (files old))) old new s
+commits_changes files moment left_since changes entries old new r s are edits commits done = record {
+  done = on_ok_weaker s (λ made. record {
+    made = λ name not. made.made name not ∙ changes_made changes entries (contents (files old)) name are edits;
+    rest = made.rest;
+  }) done;
+  any_moment = λ rest. changes_left changes entries (contents (files old)) (moment old) (moment new) (left_since old) (left_since new) are edits (commits.any_moment rest);
+  fit = commits.fit;
 }

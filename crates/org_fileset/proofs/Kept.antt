@@ -20,7 +20,7 @@ use Rattle.org_journal.specs.Record.{pairs, is_named}
 use Rattle.org_journal.specs.Standing.{Image, SameFiles, StandsFor, all_fit, stands, contents}
 use Rattle.org_fileset.specs.Entries.{changed}
 use Rattle.org_fileset.specs.Replay.{EachLaysTo, TakesTo, AreLayable, EachTakes, IsOpenOver}
-use Rattle.org_fileset.specs.Set.{IsWithOrWithout}
+use Rattle.org_fileset.specs.Replay.{IsBeforeOrAfter}
 use Rattle.org_fileset.specs.Laws.{IsArmedFor, KeepsTexts, IsEachOldOrNew}
 use Rattle.org_fileset.proofs.Laying.{may_leave, takes_write, takes_cut}
 use Rattle.org_fileset.proofs.Takes.{entry-TakesTo, named_apart, layable_at}
@@ -141,6 +141,6 @@ new_or_old : (changes : List (List ℕ × EditedText)) (files : Image) (o : Opti
 new_or_old changes files None same = same
 new_or_old changes files (Some found) same = λ name not. inr (same name not)
 
-pub each_old_or_new : (changes : List (List ℕ × EditedText)) (files image : Image) → IsWithOrWithout changes files image → IsSomeAnd (stands image) (IsEachOldOrNew changes files)
+pub each_old_or_new : (changes : List (List ℕ × EditedText)) (files image : Image) → IsBeforeOrAfter files (changed changes files) image → IsSomeAnd (stands image) (IsEachOldOrNew changes files)
 each_old_or_new changes files image (inl before) = old_or_new changes files (stands image) before
 each_old_or_new changes files image (inr after) = new_or_old changes files (stands image) after

@@ -1,14 +1,16 @@
 -- The stages of an opening, and what is left in each.
 use Rattle.std.proofs.Common.{◌≡◌, ◌≢◌, ◌⊎◌, inl, inr, ⊎_elim, ℕ, ◌+◌, ◌<◌, ◌≤◌, List, [], ◌∷◌, length, take, drop, get_or, set, true, false, Option, Some, None, Result, Ok, Err, refl, sym, ◌∙◌, ap, subst, arith, length-set, length-take, length-append, ◌++◌}
-use Rattle.std.specs.Prelude.{IsSomeAnd, is_some, nat_le, slice_index, ◌==◌, if◌then◌else◌}
+use Rattle.std.specs.Prelude.{Bool, ◌&&◌, not, IsSomeAnd, is_some, nat_le, slice_index, ◌==◌, if◌then◌else◌}
 use Rattle.std.specs.List.{AllByRecursion}
 use Rattle.std.specs.Str.{bytes_eq}
-use Rattle.std.proofs.lemmas.Bool.{cases_lt, cases_eq, and_from, le-leb, eq-eqb, true≢false, false≢true}
+use Rattle.std.proofs.lemmas.Bool.{cases_Bool, cases_lt, cases_eq, and_from, le-leb, leb-true, eq-eqb, true≢false, false≢true}
 use Rattle.std.proofs.lemmas.List.{get_or-set_same, get_or-set_other, get_or-take, get_or_append_left}
 use Rattle.org_disk.specs.Disk.{FileState, IsOutside, IsImage, IsStable, AreImages, AreLeftBy, MayLeave, Changes, sync, stable}
 use Rattle.org_disk.specs.Names.{journal_name}
 use Rattle.org_disk.specs.declared.disk.DiskFault.{DiskFault}
 use Rattle.org_disk.proofs.Images.{only_image, stable_is}
+use Rattle.org_disk.specs.Accounts.{Looks, PassesOver}
+use Rattle.org_disk.proofs.Moments.{passes_as, passes_then}
 use Rattle.org_disk.proofs.Names.{name_cases}
 use Rattle.org_journal.specs.declared.record.Entry.{Entry}
 use Rattle.org_journal.specs.Gate.{front_size, is_open, HasClosedGate, LeavesClosed}
@@ -16,7 +18,7 @@ use Rattle.org_journal.specs.Reading.{journal_at}
 use Rattle.org_journal.specs.declared.record.Version.TheVariants.{Two}
 use Rattle.org_journal.specs.Record.{is_named, IsEntry, IsWellFormed}
 use Rattle.org_journal.specs.Standing.{Image, SameFiles, StandsFor, IsArmed, IsFit, OthersStable, stands, all_fit, replayed, contents}
-use Rattle.org_fileset.specs.Recovery.{EachStands, StandsAsBefore}
+use Rattle.org_fileset.specs.Recovery.{EachStands, StandsAsBefore, closed_journal}
 use Rattle.org_fileset.specs.Replay.{TakesTo, IsLayable, AreLayable, EachTakes, IsOpenOver, IsReplayable, IsAtRest}
 use Rattle.org_fileset.proofs.Stands.{stands_open, stands_closed, open_stands, takes-replayed}
 
@@ -285,3 +287,49 @@ closed_rest files gate only stable = record {
     | inr apart ↦ stable name apart.0
   ];
 }
+
+-- what an opening makes of the journal
+closed_when : (journal : List ℕ) (test : Bool) → (nat_le front_size (length journal) && not (is_open journal)) ≡ test → closed_journal journal ≡ (if test then journal else 0 ∷ drop 1 journal)
+closed_when journal test is = ap (λ (b : Bool). if b then journal else 0 ∷ drop 1 journal) is
+
+and_false : (b : Bool) → (b && false) ≡ false
+and_false true = refl
+and_false false = refl
+
+pub closed_open : (journal : List ℕ) → is_open journal ≡ true → closed_journal journal ≡ 0 ∷ drop 1 journal
+closed_open journal opened = closed_when journal false (ap (λ (b : Bool). nat_le front_size (length journal) && not b) opened ∙ and_false (nat_le front_size (length journal)))
+
+pub closed_short : (journal : List ℕ) → length journal < front_size → closed_journal journal ≡ 0 ∷ drop 1 journal
+closed_short journal short = closed_when journal false (ap (λ (b : Bool). b && not (is_open journal)) not_long)
+  where
+    not_long : nat_le front_size (length journal) ≡ false
+    not_long = elim (cases_Bool (nat_le front_size (length journal))) [
+      | inl long ↦ (let le = leb-true front_size (length journal) long in absurd (omega (arith, le, short)))
+      | inr none ↦ none
+    ]
+
+pub closed_shut : (journal : List ℕ) → is_open journal ≡ false → front_size ≤ length journal → closed_journal journal ≡ journal
+closed_shut journal shut long = closed_when journal true (ap (λ (b : Bool). nat_le front_size (length journal) && not b) shut ∙ ap (λ (b : Bool). b && true) (le-leb front_size (length journal) long))
+
+-- with a closed gate files stand for themselves
+pub stood_closed : (files new : Image) → is_open (files journal_name) ≡ false → SameFiles new files → IsSomeAnd (stands files) (SameFiles new)
+stood_closed files new shut same = rw shut same
+
+-- The journal was synced and looked at, and nothing else was done.
+pub record IsLookedAt {D : Type 0} (files : D → List ℕ → FileState) (moment : D → ℕ) (left_since : D → ℕ → Image → Type 0) (old now : D) : Type 0 where
+  pub is : IsSynced (files old) (files now)
+  pub since : EachStands (files old) → PassesOver moment left_since old now (StandsAsBefore (files old))
+
+pub looked_at : {D : Type 0} (files : D → List ℕ → FileState) (moment : D → ℕ) (left_since : D → ℕ → Image → Type 0) (old mid now : D) (journal : List ℕ) → journal ≡ journal_name
+    → IsImage (files old journal_name) (files old journal_name).content → ((name : List ℕ) → IsImage (files mid name) (files mid name).content)
+    → Changes sync journal (files old) (files mid) (Ok tt) → PassesOver moment left_since old mid (AreLeftBy sync journal (files old))
+    → Looks files moment left_since mid now → IsLookedAt files moment left_since old now
+looked_at files moment left_since old mid now journal name_is own owns changes time looks = record {
+  is = is;
+  since = λ each. passes_then
+      (passes_as time (λ image left. as_before (files old) each image (sync_left journal_name (files old) image own (subst (λ (n : List ℕ). AreLeftBy sync n (files old) image) name_is left))))
+      looks.time (λ image left. as_before (files old) each image (is.images image (subst (λ (f : List ℕ → FileState). AreImages f image) (sym looks.same) left)));
+}
+  where
+    is : IsSynced (files old) (files now)
+    is = synced (files old) (files mid) (files now) own owns (subst (λ (n : List ℕ). Changes sync n (files old) (files mid) (Ok tt)) name_is changes) looks.same

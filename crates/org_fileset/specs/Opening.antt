@@ -12,12 +12,16 @@ use Rattle.org_fileset.specs.declared.open.OpenFault.{OpenFault}
 use Rattle.org_fileset.specs.declared.open.OpenFault.TheVariants.{TooManyFiles, BadJournal, TooLarge, Device, OutOfMemory}
 use Rattle.org_fileset.specs.declared.open.OpenRefused.{OpenRefused}
 use Rattle.org_fileset.specs.Names.{with_archives, AreSorted, AreFew, AreTooMany, first_large}
-use Rattle.org_fileset.specs.Set.{Opened}
 
--- the disk that is in the set, or handed back
-abbrev pub disk_in : {D : Type 0} → Result (Opened D) (OpenRefused D) → D
-disk_in (Ok set) = set.disk
-disk_in (Err refused) = refused.disk
+-- the disk that is in what was opened, or handed back
+abbrev pub disk_in : {S D : Type 0} → Result S (OpenRefused D) → (S → D) → D
+disk_in (Ok opened) disk = disk opened
+disk_in (Err refused) disk = refused.disk
+
+-- it was refused because a call of the disk failed
+abbrev pub IsDeviceRefusal : {A D : Type 0} → Result A (OpenRefused D) → Type 0
+IsDeviceRefusal (Ok opened) = ⊥
+IsDeviceRefusal (Err refused) = refused.fault ≡ Device
 
 -- the same fault, as an opening tells it
 abbrev pub fault_of : FindFault → OpenFault

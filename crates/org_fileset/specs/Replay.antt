@@ -1,16 +1,18 @@
 -- Files over which a record is being laid: whatever a stop leaves of them, the record makes the same texts of it.
-use Rattle.std.specs.Prelude.{◌≡◌, ◌≢◌, ◌⊎◌, ℕ, ◌≤◌, List, [], ◌∷◌, drop, Some, MatchBool, IsTrue, IsFalse}
+use Rattle.std.specs.Prelude.{◌≡◌, ◌≢◌, ◌⊎◌, ℕ, ◌≤◌, List, [], ◌∷◌, drop, Some, Result, OnOk, MatchBool, IsTrue, IsFalse}
 use Rattle.std.specs.List.{AllByRecursion}
 use Rattle.std.specs.Str.{bytes_eq}
 use Rattle.org_disk.specs.Disk.{FileState, IsImage, IsStable, Passes}
+use Rattle.org_disk.specs.Accounts.{PassesOver, LeavesOver}
 use Rattle.org_disk.specs.Names.{journal_name, is_file_name}
+use Rattle.org_disk.specs.declared.disk.DiskFault.{DiskFault}
 use Rattle.org_splice.specs.Patches.{AreWellFormed, LayTo}
 use Rattle.org_journal.specs.declared.record.Entry.{Entry}
 use Rattle.org_journal.specs.declared.record.Version.TheVariants.{Two}
 use Rattle.org_journal.specs.Record.{pairs, is_named, names_differ, greatest_length}
 use Rattle.org_journal.specs.Gate.{is_open, HasClosedGate}
 use Rattle.org_journal.specs.Reading.{journal_at}
-use Rattle.org_journal.specs.Standing.{Image, StandsFor, replayed}
+use Rattle.org_journal.specs.Standing.{Image, SameFiles, StandsFor, IsFit, contents, replayed}
 
 -- whatever a stop leaves of the file takes the patches to this text
 abbrev pub EachLaysTo : List (ℕ × List ℕ) → ℕ → List ℕ → FileState → Type 0
@@ -78,6 +80,51 @@ pub record IsAtRest (files : List ℕ → FileState) : Type 0 where
   pub gate : HasClosedGate (files journal_name)
   pub stable : (name : List ℕ) → IsStable (files name)
 
--- what is left stands for these files, or for what the record makes of them
-abbrev pub IsBeforeOrAfter : List Entry → Image → Image → Type 0
-IsBeforeOrAfter entries files image = StandsFor files image ⊎ StandsFor (replayed entries files) image
+-- what is left stands for these files, or for those
+abbrev pub IsBeforeOrAfter : Image → Image → Image → Type 0
+IsBeforeOrAfter before after image = StandsFor before image ⊎ StandsFor after image
+
+-- The record of an open journal was laid over its files, and the gate was closed.
+pub record IsReplayed (entries : List Entry) (old new : List ℕ → FileState) : Type 0 where
+  pub gate : HasClosedGate (new journal_name)
+  pub journal : contents new journal_name ≡ 0 ∷ drop 1 (contents old journal_name)
+  pub made : SameFiles (contents new) (replayed entries (contents old))
+  pub rest : IsReplayable entries old → IsAtRest new
+
+-- What a call does that lays the record of an open journal over its files, and closes the gate, where the disk is honest
+-- after it.
+pub record ReplaysOver {D : Type 0} (files : D → List ℕ → FileState) (moment : D → ℕ)
+    (left_since : D → ℕ → Image → Type 0) (entries : List Entry) (old new : D)
+    (result : Result (Unit {0}) DiskFault) : Type 0 where
+  pub done : OnOk result (IsReplayed entries (files old) (files new))
+  -- where the record makes the same texts of whatever a stop leaves at the start
+  pub any_moment : (can : IsReplayable entries (files old))
+      → PassesOver moment left_since old new (StandsFor can.texts)
+  pub fit : IsReplayable entries (files old) → IsFit (files new)
+
+-- The files are these now; what was at rest is at rest.
+pub record IsCommitted (after : Image) (old new : List ℕ → FileState) : Type 0 where
+  pub made : SameFiles (contents new) after
+  pub rest : IsAtRest old → IsAtRest new
+
+-- What a commit does that is to make these files, where the disk is honest after it.
+pub record Commits {D A E : Type 0} (files : D → List ℕ → FileState) (moment : D → ℕ)
+    (left_since : D → ℕ → Image → Type 0) (after : Image) (old new : D)
+    (result : Result A E) : Type 0 where
+  pub done : OnOk result (IsCommitted after (files old) (files new))
+  -- where all was on the disk: what a stop at any moment since the call began leaves
+  pub any_moment : IsAtRest (files old)
+      → LeavesOver moment left_since old new (IsBeforeOrAfter (contents (files old)) after)
+  -- after a failure too, it may be opened again
+  pub fit : IsAtRest (files old) → IsFit (files new)
+
+-- `Lays` and `Replays` of a disk before calls and after them
+abbrev pub LaysOver : {D : Type 0} → (D → List ℕ → FileState) → (D → ℕ)
+    → (D → ℕ → Image → Type 0) → List (ℕ × List ℕ) → ℕ → List ℕ → List ℕ → D → D → Type 0
+LaysOver files moment left_since patches final name to old new =
+    Lays patches final name to (moment old) (moment new) (left_since old) (left_since new) (files old) (files new)
+
+abbrev pub TakesOver : {D : Type 0} → (D → List ℕ → FileState) → (D → ℕ)
+    → (D → ℕ → Image → Type 0) → List Entry → Image → D → D → Type 0
+TakesOver files moment left_since entries texts old new =
+    Replays entries texts (moment old) (moment new) (left_since old) (left_since new) (files old) (files new)

@@ -1,13 +1,14 @@
 -- What contracts see of a set of files.
-use Rattle.std.specs.Prelude.{◌≡◌, ◌≢◌, ◌⊎◌, ℕ, ◌≤◌, Bool, false, List, length}
+use Rattle.std.specs.Prelude.{◌≡◌, ◌≢◌, ◌⊎◌, ◌↔◌, ℕ, ◌≤◌, Bool, false, List, length, Result, IsErrOf, IsTrue}
 use Rattle.std.specs.List.{All, AllByRecursion, Contains}
 use Rattle.org_disk.specs.Disk.{FileState}
 use Rattle.org_disk.specs.Names.{journal_name}
 use Rattle.org_splice.specs.Texts.{EditedText, IsEditOf}
 use Rattle.org_journal.specs.Gate.{HasClosedGate}
 use Rattle.org_journal.specs.Record.{most_entries}
-use Rattle.org_journal.specs.Standing.{Image, StandsFor}
-use Rattle.org_fileset.specs.Entries.{changed}
+use Rattle.org_journal.specs.Standing.{Image}
+use Rattle.org_fileset.specs.declared.fault.SetFault.{SetFault}
+use Rattle.org_fileset.specs.declared.fault.SetFault.TheVariants.{Broken, Device}
 use Rattle.org_fileset.specs.Names.{limit}
 
 -- A set of files: its disk, the names of its files, and whether a call of the disk failed.
@@ -24,9 +25,13 @@ pub record IsSound (journal : List ℕ) (names : List (List ℕ)) (broken : Bool
   pub few : length names ≤ most_entries
   pub gate : broken ≡ false → honest → HasClosedGate (files journal_name)
 
--- An image stands for the files as they are, or as the changes make them.
-abbrev pub IsWithOrWithout : List (List ℕ × EditedText) → Image → Image → Type 0
-IsWithOrWithout changes files image = StandsFor files image ⊎ StandsFor (changed changes files) image
+-- What a call of a set, seen as an S, makes of it besides its disk: a failed call of the disk breaks it, and a broken one does nothing.
+pub record KeepsSet {S A : Type 0} (old new : S) (names : S → List (List ℕ)) (broken : S → Bool)
+    (result : Result A SetFault) : Type 0 where
+  pub same_names : names new ≡ names old
+  pub refuses : IsErrOf result Broken ↔ IsTrue (broken old)
+  pub breaks : IsTrue (broken new) ↔ (IsTrue (broken old) ⊎ IsErrOf result Device)
+  pub untouched : IsTrue (broken old) → new ≡ old
 
 -- Changes that may be committed to a set of these names over these files: the names are the set's, and the texts are
 -- edits of what the files hold, and within the limit.

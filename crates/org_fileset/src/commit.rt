@@ -1,11 +1,11 @@
 //! A record made to count: written to the journal, laid over its files, and done with.
-ghost use Rattle.std.specs.Prelude.{◌≡◌, ◌≢◌, ◌≤◌, ◌∷◌, ◌++◌, List, ℕ, Some, length, drop, IsTrue, OnOk, OnErr};
-ghost use Rattle.org_disk.specs.Disk.{HasRisen, Passes, LeavesOnly, KeepsHonesty};
+ghost use Rattle.std.specs.Prelude.{◌≡◌, ◌≤◌, ◌++◌, List, ℕ, Some, length, IsTrue, OnOk, IsErr};
+ghost use Rattle.org_disk.specs.Accounts.{Accounts};
 ghost use Rattle.org_disk.specs.Names.{journal_name};
 ghost use Rattle.org_journal.specs.Gate.{HasClosedGate};
 ghost use Rattle.org_journal.specs.Reading.{journal_at};
-ghost use Rattle.org_journal.specs.Standing.{SameFiles, StandsFor, IsFit, all_fit, replayed, contents};
-ghost use Rattle.org_fileset.specs.Replay.{AreLayable, IsOpenOver, IsReplayable, IsAtRest, IsBeforeOrAfter};
+ghost use Rattle.org_journal.specs.Standing.{all_fit, replayed, contents};
+ghost use Rattle.org_fileset.specs.Replay.{AreLayable, Commits, IsOpenOver, ReplaysOver};
 
 use crate::lay::{lay_all, sync_all};
 use org_disk::{Disk, DiskFault, FileName};
@@ -18,17 +18,9 @@ pub fn replay<D: Disk>(disk: &mut D, journal: &FileName, entries: &[Entry]) -> R
     requires layable { D.honest disk.old → AreLayable entries.now }
     requires opened { D.honest disk.old → IsOpenOver entries.now (D.files disk.old) }
     requires fits { D.honest disk.old → IsTrue (all_fit entries.now (contents (D.files disk.old))) }
-    ensures any_moment { D.honest disk.new → (can : IsReplayable entries.now (D.files disk.old)) →
-        Passes (D.moment disk.old) (D.moment disk.new) (D.left_since disk.old) (D.left_since disk.new) (StandsFor can.texts) }
-    ensures gate { OnOk result (D.honest disk.new → HasClosedGate (D.files disk.new journal_name)) }
-    ensures journal { OnOk result (D.honest disk.new → contents (D.files disk.new) journal_name ≡ 0 ∷ drop 1 (contents (D.files disk.old) journal_name)) }
-    ensures contents { OnOk result (D.honest disk.new → SameFiles (contents (D.files disk.new)) (replayed entries.now (contents (D.files disk.old)))) }
-    ensures rest { OnOk result (D.honest disk.new → IsReplayable entries.now (D.files disk.old) → IsAtRest (D.files disk.new)) }
-    ensures fit { OnErr result (D.honest disk.new → IsReplayable entries.now (D.files disk.old) → IsFit (D.files disk.new)) }
-    ensures failed { OnErr result (HasRisen (D.failures disk.old) (D.failures disk.new)) }
-    ensures told { OnOk result (D.failures disk.new ≡ D.failures disk.old) }
-    ensures failures { D.failures disk.old ≤ D.failures disk.new }
-    ensures honest { KeepsHonesty D.steady (D.honest disk.old) (D.honest disk.new) }
+    ensures replays { D.honest disk.new → ReplaysOver D.files D.moment D.left_since
+        entries.now disk.old disk.new result }
+    ensures accounts { Accounts D.steady D.honest D.failures disk.old disk.new (IsErr result) }
 {
     lay_all(disk, entries)?;
     sync_all(disk, entries)?;
@@ -49,16 +41,10 @@ pub fn commit_entries<D: Disk>(
     requires long { 15 ≤ length body.now }
     requires gate { D.honest disk.old → HasClosedGate (D.files disk.old journal_name) }
     requires fits { D.honest disk.old → IsTrue (all_fit entries.now (contents (D.files disk.old))) }
-    ensures any_moment { D.honest disk.new → IsAtRest (D.files disk.old) → LeavesOnly (D.moment disk.old) (D.moment disk.new) (D.left_since disk.old) (D.left_since disk.new)
-        (IsBeforeOrAfter entries.now (contents (D.files disk.old))) }
-    ensures gate { OnOk result (D.honest disk.new → HasClosedGate (D.files disk.new journal_name)) }
-    ensures contents { OnOk result (D.honest disk.new → SameFiles (contents (D.files disk.new)) (replayed entries.now (contents (D.files disk.old)))) }
-    ensures rest { OnOk result (D.honest disk.new → IsAtRest (D.files disk.old) → IsAtRest (D.files disk.new)) }
-    ensures fit { OnErr result (D.honest disk.new → IsAtRest (D.files disk.old) → IsFit (D.files disk.new)) }
-    ensures failed { OnErr result (HasRisen (D.failures disk.old) (D.failures disk.new)) }
-    ensures told { OnOk result (D.failures disk.new ≡ D.failures disk.old) }
-    ensures failures { D.failures disk.old ≤ D.failures disk.new }
-    ensures honest { KeepsHonesty D.steady (D.honest disk.old) (D.honest disk.new) }
+    ensures commits { D.honest disk.new → Commits D.files D.moment D.left_since
+        (replayed entries.now (contents (D.files disk.old))) disk.old disk.new result }
+    ensures gate { D.honest disk.new → OnOk result (HasClosedGate (D.files disk.new journal_name)) }
+    ensures accounts { Accounts D.steady D.honest D.failures disk.old disk.new (IsErr result) }
 {
     arm(disk, journal, body)?;
     open_gate(disk, journal)?;

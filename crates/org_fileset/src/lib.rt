@@ -13,8 +13,6 @@ mod names;
 mod open;
 mod recover;
 mod set;
-#[cfg(test)]
-mod tests;
 
 pub use fault::SetFault;
 pub use open::{OpenFault, OpenRefused};

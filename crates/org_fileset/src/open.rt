@@ -1,14 +1,12 @@
 //! What is asked of files before a set is opened over them.
-ghost use Rattle.std.specs.Prelude.{◌≡◌, ◌≤◌, List, Err, IsSomeAnd, IfOk, IfErr, OnOk, IsErrOf};
+ghost use Rattle.std.specs.Prelude.{◌≡◌, Err, IfOk, IfErr, IsErrOf};
 ghost use Rattle.std.specs.List.{All};
-ghost use Rattle.org_disk.specs.Disk.{HasRisen, Passes, LeavesOnly, AreImages, KeepsHonesty};
+ghost use Rattle.org_disk.specs.Accounts.{Accounts, Looks};
 ghost use Rattle.org_disk.specs.Names.{journal_name, IsOrgFile};
-ghost use Rattle.org_journal.specs.Gate.{HasClosedGate};
-ghost use Rattle.org_journal.specs.Standing.{SameFiles, IsFit, stands, contents};
+ghost use Rattle.org_journal.specs.Standing.{stands, contents};
 ghost use Rattle.org_fileset.specs.Names.{with_archives, AreSorted, AreFew};
 ghost use Rattle.org_fileset.specs.Opening.{AreAllNames, AreSetNames, HaveSizes, IsAnswer, fault_of};
-ghost use Rattle.org_fileset.specs.Recovery.{EachStands, StandsAsBefore, closed_journal};
-ghost use Rattle.org_fileset.specs.Replay.{IsAtRest};
+ghost use Rattle.org_fileset.specs.Recovery.{Reopens};
 ghost use Rattle.org_fileset.specs.declared.open.OpenFault.TheVariants.{OutOfMemory, Device};
 
 use crate::names::{in_order, with_archives};
@@ -95,7 +93,8 @@ pub fn journal_and_names(
 ) -> Result<(FileName, Vec<FileName>), OpenFault>
     requires { All IsOrgFile given.items }
     ensures journal { IfOk result (λ made. made.0 ≡ journal_name) }
-    ensures names { IfOk result (λ made. AreFew given.items × AreSorted (with_archives given.items) made.1.items × AreSetNames made.1.items) }
+    ensures names { IfOk result (λ made. AreFew given.items
+        × AreSorted (with_archives given.items) made.1.items × AreSetNames made.1.items) }
     ensures refused { IfErr result (λ fault. AreAllNames given.items (Err fault)) }
 {
     let names = all_names(alloc, given)?;
@@ -107,12 +106,9 @@ pub fn check_sizes<D: Disk>(disk: &mut D, names: &[FileName]) -> Result<(), Open
     ensures sizes { D.honest disk.new → HaveSizes (contents (D.files disk.old)) names.now result }
     ensures not_too_many { IsErrOf result OpenFault.TooManyFiles → ⊥ }
     ensures not_bad { IsErrOf result OpenFault.BadJournal → ⊥ }
-    ensures same { D.honest disk.new → D.files disk.new ≡ D.files disk.old }
-    ensures any_moment { D.honest disk.new → Passes (D.moment disk.old) (D.moment disk.new) (D.left_since disk.old) (D.left_since disk.new) (AreImages (D.files disk.old)) }
-    ensures failed { IsErrOf result OpenFault.Device → HasRisen (D.failures disk.old) (D.failures disk.new) }
-    ensures told { (IsErrOf result OpenFault.Device → ⊥) → D.failures disk.new ≡ D.failures disk.old }
-    ensures failures { D.failures disk.old ≤ D.failures disk.new }
-    ensures honest { KeepsHonesty D.steady (D.honest disk.old) (D.honest disk.new) }
+    ensures looks { D.honest disk.new → Looks D.files D.moment D.left_since disk.old disk.new }
+    ensures accounts { Accounts D.steady D.honest D.failures disk.old disk.new
+        (IsErrOf result OpenFault.Device) }
 {
     for name in names {
         if disk.length(name)? > LIMIT as u64 {
@@ -130,19 +126,13 @@ pub fn make_ready<D: Disk>(
     names: &[FileName],
 ) -> Result<(), OpenFault>
     requires { journal.now ≡ journal_name }
-    ensures gate { OnOk result (D.honest disk.new → HasClosedGate (D.files disk.new journal_name)) }
-    ensures contents { OnOk result (D.honest disk.new → IsSomeAnd (stands (contents (D.files disk.old))) (SameFiles (contents (D.files disk.new)))) }
-    ensures journal { OnOk result (D.honest disk.new → contents (D.files disk.new) journal_name ≡ closed_journal (contents (D.files disk.old) journal_name)) }
-    ensures answer { D.honest disk.new → IsAnswer (contents (D.files disk.old)) (contents (D.files disk.new)) names.now result }
+    ensures reopens { D.honest disk.new → Reopens D.files D.moment D.left_since disk.old disk.new
+        result }
+    ensures answer { D.honest disk.new → IsAnswer (contents (D.files disk.old))
+        (contents (D.files disk.new)) names.now result }
     ensures not_too_many { IsErrOf result OpenFault.TooManyFiles → ⊥ }
-    ensures any_moment { D.honest disk.new → IsFit (D.files disk.old) → EachStands (D.files disk.old) →
-        LeavesOnly (D.moment disk.old) (D.moment disk.new) (D.left_since disk.old) (D.left_since disk.new) (StandsAsBefore (D.files disk.old)) }
-    ensures fit { D.honest disk.new → IsFit (D.files disk.old) → EachStands (D.files disk.old) → IsFit (D.files disk.new) }
-    ensures rest { OnOk result (D.honest disk.new → IsFit (D.files disk.old) → EachStands (D.files disk.old) → IsAtRest (D.files disk.new)) }
-    ensures failed { IsErrOf result OpenFault.Device → HasRisen (D.failures disk.old) (D.failures disk.new) }
-    ensures told { (IsErrOf result OpenFault.Device → ⊥) → D.failures disk.new ≡ D.failures disk.old }
-    ensures failures { D.failures disk.old ≤ D.failures disk.new }
-    ensures honest { KeepsHonesty D.steady (D.honest disk.old) (D.honest disk.new) }
+    ensures accounts { Accounts D.steady D.honest D.failures disk.old disk.new
+        (IsErrOf result OpenFault.Device) }
 {
     recover(alloc, disk, journal)?;
     check_sizes(disk, names)

@@ -1,16 +1,16 @@
 //! The files of a store as one.
-ghost use Rattle.std.specs.Prelude.{◌≡◌, ◌≢◌, ◌≤◌, ◌⊎◌, ◌↔◌, List, ℕ, [], None, true, false, length, IsTrue, IsFalse, IsSomeAnd, IfOk, IfErr, OnOk, OnErr, IsErrOf, IsOk, MatchResult};
+ghost use Rattle.std.specs.Prelude.{◌≡◌, ◌≤◌, [], None, true, false, length, IsFalse, IfOk, IfErr, IsErrOf, IsOk};
 ghost use Rattle.std.specs.List.{All, Contains};
-ghost use Rattle.org_disk.specs.Disk.{HasRisen, Passes, LeavesOnly, AreImages, KeepsHonesty};
+ghost use Rattle.org_disk.specs.Accounts.{Accounts, Looks};
 ghost use Rattle.org_disk.specs.Names.{journal_name, IsOrgFile};
 ghost use Rattle.org_splice.specs.Texts.{IsEditOf};
-ghost use Rattle.org_journal.specs.Standing.{IsFit, SameFiles, stands, contents};
+ghost use Rattle.org_journal.specs.Standing.{stands, contents};
 ghost use Rattle.org_fileset.specs.Entries.{changed};
 ghost use Rattle.org_fileset.specs.Names.{with_archives, AreSorted, AreFew, first_large};
-ghost use Rattle.org_fileset.specs.Opening.{IsReason, disk_in};
-ghost use Rattle.org_fileset.specs.Recovery.{EachStands, StandsAsBefore, closed_journal};
-ghost use Rattle.org_fileset.specs.Replay.{IsAtRest};
-ghost use Rattle.org_fileset.specs.Set.{IsWithOrWithout};
+ghost use Rattle.org_fileset.specs.Opening.{IsDeviceRefusal, IsReason, disk_in};
+ghost use Rattle.org_fileset.specs.Recovery.{Reopens};
+ghost use Rattle.org_fileset.specs.Replay.{Commits};
+ghost use Rattle.org_fileset.specs.Set.{KeepsSet};
 
 use crate::commit::commit_entries;
 use crate::entries::entries_of;
@@ -41,7 +41,8 @@ impl<D: Disk> Model for FileSet<D> {
 
     ghost view = { λ s. record { disk = s.disk; names = s.names.items; broken = s.broken } };
 
-    ghost invariant = { λ s. IsSound s.journal s.names.items s.broken (D.honest s.disk) (D.files s.disk) };
+    ghost invariant = { λ s. IsSound s.journal s.names.items s.broken (D.honest s.disk)
+        (D.files s.disk) };
 }
 
 impl<D: Disk> FileSet<D> {
@@ -55,21 +56,19 @@ impl<D: Disk> FileSet<D> {
     /// disk back.
     pub fn open(alloc: Global, disk: D, names: Vec<FileName>) -> Result<FileSet<D>, OpenRefused<D>>
         requires { All IsOrgFile names.items }
-        ensures names { IfOk result (λ set. AreFew names.items × AreSorted (with_archives names.items) set.names) }
+        ensures names { IfOk result (λ set.
+            AreFew names.items × AreSorted (with_archives names.items) set.names) }
         ensures unbroken { IfOk result (λ set. set.broken ≡ false) }
-        ensures contents { IfOk result (λ set. D.honest set.disk → IsSomeAnd (stands (contents (D.files disk))) (SameFiles (contents (D.files set.disk)))) }
-        ensures journal { IfOk result (λ set. D.honest set.disk → contents (D.files set.disk) journal_name ≡ closed_journal (contents (D.files disk) journal_name)) }
-        ensures sizes { IfOk result (λ set. D.honest set.disk → first_large (contents (D.files set.disk)) set.names ≡ None) }
-        ensures refused { IfErr result (λ refused. IsReason names.items (D.honest refused.disk) (contents (D.files disk)) (contents (D.files refused.disk)) refused.fault) }
-        ensures unused { IfErr result (λ refused. refused.fault ≡ OpenFault.TooManyFiles → refused.disk ≡ disk) }
-        ensures any_moment { D.honest (disk_in result) → IsFit (D.files disk) → EachStands (D.files disk) →
-            LeavesOnly (D.moment disk) (D.moment (disk_in result)) (D.left_since disk) (D.left_since (disk_in result)) (StandsAsBefore (D.files disk)) }
-        ensures fit { D.honest (disk_in result) → IsFit (D.files disk) → EachStands (D.files disk) → IsFit (D.files (disk_in result)) }
-        ensures rest { IfOk result (λ set. D.honest set.disk → IsFit (D.files disk) → EachStands (D.files disk) → IsAtRest (D.files set.disk)) }
-        ensures failed { IfErr result (λ refused. refused.fault ≡ OpenFault.Device → HasRisen (D.failures disk) (D.failures refused.disk)) }
-        ensures told { MatchResult result (λ opened. D.failures opened.disk ≡ D.failures disk) (λ refused. (refused.fault ≡ OpenFault.Device → ⊥) → D.failures refused.disk ≡ D.failures disk) }
-        ensures failures { D.failures disk ≤ D.failures (disk_in result) }
-        ensures honest { KeepsHonesty D.steady (D.honest disk) (D.honest (disk_in result)) }
+        ensures reopens { let now = disk_in result (λ set. set.disk) in D.honest now
+            → Reopens D.files D.moment D.left_since disk now result }
+        ensures sizes { IfOk result (λ set. D.honest set.disk
+            → first_large (contents (D.files set.disk)) set.names ≡ None) }
+        ensures refused { IfErr result (λ refused. IsReason names.items (D.honest refused.disk)
+            (contents (D.files disk)) (contents (D.files refused.disk)) refused.fault) }
+        ensures unused { IfErr result (λ refused. refused.fault ≡ OpenFault.TooManyFiles
+            → refused.disk ≡ disk) }
+        ensures accounts { Accounts D.steady D.honest D.failures disk
+            (disk_in result (λ set. set.disk)) (IsDeviceRefusal result) }
     {
         let mut disk = disk;
         let (journal, names) = match journal_and_names(alloc, names) {
@@ -117,18 +116,13 @@ impl<D: Disk> FileSet<D> {
     /// The bytes of a file, one of the set's or not. `Device` breaks the set; after `OutOfMemory` the file can be read
     /// again; a broken set answers `Broken`.
     pub fn read(&mut self, name: &FileName) -> Result<Vec<u8>, SetFault>
-        ensures text { IfOk result (λ bytes. D.honest self.new.disk → bytes.items ≡ contents (D.files self.old.disk) name.now) }
-        ensures same { D.honest self.new.disk → D.files self.new.disk ≡ D.files self.old.disk }
-        ensures any_moment { D.honest self.new.disk → Passes (D.moment self.old.disk) (D.moment self.new.disk) (D.left_since self.old.disk) (D.left_since self.new.disk)
-            (AreImages (D.files self.old.disk)) }
-        ensures names { self.new.names ≡ self.old.names }
-        ensures broken { IsErrOf result SetFault.Broken ↔ IsTrue self.old.broken }
-        ensures breaks { IsTrue self.new.broken ↔ (IsTrue self.old.broken ⊎ IsErrOf result SetFault.Device) }
-        ensures failed { IsErrOf result SetFault.Device → HasRisen (D.failures self.old.disk) (D.failures self.new.disk) }
-        ensures told { (IsErrOf result SetFault.Device → ⊥) → D.failures self.new.disk ≡ D.failures self.old.disk }
-        ensures failures { D.failures self.old.disk ≤ D.failures self.new.disk }
-        ensures honest { KeepsHonesty D.steady (D.honest self.old.disk) (D.honest self.new.disk) }
-        ensures untouched { IsTrue self.old.broken → self.new ≡ self.old }
+        ensures text { IfOk result (λ bytes. D.honest self.new.disk
+            → bytes.items ≡ contents (D.files self.old.disk) name.now) }
+        ensures looks { D.honest self.new.disk → Looks D.files D.moment D.left_since
+            self.old.disk self.new.disk }
+        ensures set { KeepsSet self.old self.new (λ s. s.names) (λ s. s.broken) result }
+        ensures accounts { Accounts D.steady D.honest D.failures self.old.disk self.new.disk
+            (IsErrOf result SetFault.Device) }
     {
         if self.broken {
             return Err(SetFault::Broken);
@@ -154,22 +148,18 @@ impl<D: Disk> FileSet<D> {
     pub fn commit(&mut self, changes: &ChangeSet<FileName>) -> Result<(), SetFault>
         requires named { All (λ change. Contains self.old.names change.0) changes.now }
         requires small { All (λ change. length change.1.bytes ≤ LIMIT) changes.now }
-        requires edits { IsFalse self.old.broken → D.honest self.old.disk → All (λ change. IsEditOf (contents (D.files self.old.disk) change.0) change.1) changes.now }
-        ensures any_moment { D.honest self.new.disk → IsAtRest (D.files self.old.disk) → LeavesOnly (D.moment self.old.disk) (D.moment self.new.disk)
-            (D.left_since self.old.disk) (D.left_since self.new.disk) (IsWithOrWithout changes.now (contents (D.files self.old.disk))) }
-        ensures contents { OnOk result (D.honest self.new.disk → SameFiles (contents (D.files self.new.disk)) (changed changes.now (contents (D.files self.old.disk)))) }
-        ensures rest { OnOk result (D.honest self.new.disk → IsAtRest (D.files self.old.disk) → IsAtRest (D.files self.new.disk)) }
+        requires edits { IsFalse self.old.broken → D.honest self.old.disk
+            → All (λ change. IsEditOf (contents (D.files self.old.disk) change.0) change.1)
+            changes.now }
+        ensures commits { D.honest self.new.disk → Commits D.files D.moment D.left_since
+            (changed changes.now (contents (D.files self.old.disk))) self.old.disk self.new.disk
+            result }
         ensures memory { IsErrOf result SetFault.OutOfMemory → self.new ≡ self.old }
-        ensures fit { IsErrOf result SetFault.Device → D.honest self.new.disk → IsAtRest (D.files self.old.disk) → IsFit (D.files self.new.disk) }
-        ensures names { self.new.names ≡ self.old.names }
-        ensures broken { IsErrOf result SetFault.Broken ↔ IsTrue self.old.broken }
-        ensures untouched { IsTrue self.old.broken → self.new ≡ self.old }
-        ensures nothing { changes.now ≡ [] → (self.new ≡ self.old) × (IsFalse self.old.broken → IsOk result) }
-        ensures breaks { IsTrue self.new.broken ↔ (IsTrue self.old.broken ⊎ IsErrOf result SetFault.Device) }
-        ensures failed { IsErrOf result SetFault.Device → HasRisen (D.failures self.old.disk) (D.failures self.new.disk) }
-        ensures told { (IsErrOf result SetFault.Device → ⊥) → D.failures self.new.disk ≡ D.failures self.old.disk }
-        ensures failures { D.failures self.old.disk ≤ D.failures self.new.disk }
-        ensures honest { KeepsHonesty D.steady (D.honest self.old.disk) (D.honest self.new.disk) }
+        ensures nothing { changes.now ≡ []
+            → (self.new ≡ self.old) × (IsFalse self.old.broken → IsOk result) }
+        ensures set { KeepsSet self.old self.new (λ s. s.names) (λ s. s.broken) result }
+        ensures accounts { Accounts D.steady D.honest D.failures self.old.disk self.new.disk
+            (IsErrOf result SetFault.Device) }
     {
         if self.broken {
             return Err(SetFault::Broken);
@@ -196,14 +186,12 @@ pub(crate) fn read_file<D: Disk>(
     disk: &mut D,
     name: &FileName,
 ) -> Result<Vec<u8>, SetFault>
-    ensures text { IfOk result (λ bytes. D.honest disk.new → bytes.items ≡ contents (D.files disk.old) name.now) }
-    ensures same { D.honest disk.new → D.files disk.new ≡ D.files disk.old }
-    ensures any_moment { D.honest disk.new → Passes (D.moment disk.old) (D.moment disk.new) (D.left_since disk.old) (D.left_since disk.new) (AreImages (D.files disk.old)) }
+    ensures text { IfOk result (λ bytes. D.honest disk.new
+        → bytes.items ≡ contents (D.files disk.old) name.now) }
+    ensures looks { D.honest disk.new → Looks D.files D.moment D.left_since disk.old disk.new }
     ensures not_broken { IsErrOf result SetFault.Broken → ⊥ }
-    ensures failed { IsErrOf result SetFault.Device → HasRisen (D.failures disk.old) (D.failures disk.new) }
-    ensures told { (IsErrOf result SetFault.Device → ⊥) → D.failures disk.new ≡ D.failures disk.old }
-    ensures failures { D.failures disk.old ≤ D.failures disk.new }
-    ensures honest { KeepsHonesty D.steady (D.honest disk.old) (D.honest disk.new) }
+    ensures accounts { Accounts D.steady D.honest D.failures disk.old disk.new
+        (IsErrOf result SetFault.Device) }
 {
     let length = disk.length(name)?;
     let mut bytes = vec![in alloc; 0u8; length as usize]?;

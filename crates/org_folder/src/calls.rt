@@ -1,3 +1,4 @@
+//! The calls of a system on the files of a folder.
 ghost use Rattle.std.specs.Prelude.{◌≡◌, ◌≤◌, List, [], ◌∷◌, length, is_ok, true, IsTrue, IfOk, IfSome, IfNone, OnOk, OnErr};
 ghost use Rattle.org_folder.specs.Calls.{files, AreRight, Event, World};
 ghost use Rattle.org_folder.specs.Calls.Event.{Absent, Cut, Length, Read, Sync, Write};
@@ -86,7 +87,8 @@ pub trait Calls {
     ) -> Result<(), DiskFault>
         requires { AreRight world (history self.old) →
             from ≤ length (files world (history self.old) opened.now.name).content }
-        ensures { history self.new ≡ Write opened.now.name from bytes.now (is_ok result) ∷ history self.old };
+        ensures { history self.new ≡ Write opened.now.name from bytes.now (is_ok result) ∷ history
+            self.old };
 
     /// A write of no bytes, which needs no file and no call of the system.
     fn write_nothing(&mut self, name: &FileName, from: u64)

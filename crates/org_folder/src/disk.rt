@@ -1,3 +1,4 @@
+//! The files of a folder, as a disk.
 ghost use Rattle.std.specs.Prelude.{◌≡◌, [], IfOk, OnOk, OnErr, length};
 ghost use Rattle.org_disk.specs.Disk.{IsCounted};
 ghost use Rattle.org_folder.specs.Calls.{files, AreRight, LeftSince};

@@ -1,4 +1,4 @@
-// The files of a folder, each opened once and kept open. No fault is counted here.
+//! The files of a folder, each opened once and kept open. No fault is counted here.
 ghost use Rattle.std.specs.Prelude.{◌≡◌, ◌<◌, ◌≤◌, [], length, take, drop, IfOk, IfSome, IfNone, OnOk};
 ghost use Rattle.std.specs.List.{HoldsAt};
 ghost use Rattle.org_disk.specs.Disk.{cut, stable, sync, write};
@@ -29,10 +29,12 @@ where
 
     pub fn length(&mut self, name: &FileName) -> Result<u64, DiskFault>
         ensures value { AreRight C.world (C.history self.new.calls) →
-            IfOk result (λ n. n ≡ length (files C.world (C.history self.old.calls) name.now).content) }
+            IfOk result (λ n. n ≡ length (files C.world (C.history self.old.calls)
+            name.now).content) }
         ensures looks { AreRight C.world (C.history self.new.calls) →
             Looks C.world (C.history self.old.calls) (C.history self.new.calls) }
-        ensures honest { AreRight C.world (C.history self.new.calls) → AreRight C.world (C.history self.old.calls) }
+        ensures honest { AreRight C.world (C.history self.new.calls)
+            → AreRight C.world (C.history self.old.calls) }
     {
         match self.find(name)? {
             Some(at) => self.calls.length(&self.files[at]),
@@ -42,10 +44,12 @@ where
 
     pub fn read(&mut self, name: &FileName, from: u64, into: &mut [u8]) -> Result<(), DiskFault>
         ensures bytes { AreRight C.world (C.history self.new.calls) → OnOk result (into.new ≡
-            take (length into.old) (drop from (files C.world (C.history self.old.calls) name.now).content)) }
+            take (length into.old) (drop from
+            (files C.world (C.history self.old.calls) name.now).content)) }
         ensures looks { AreRight C.world (C.history self.new.calls) →
             Looks C.world (C.history self.old.calls) (C.history self.new.calls) }
-        ensures honest { AreRight C.world (C.history self.new.calls) → AreRight C.world (C.history self.old.calls) }
+        ensures honest { AreRight C.world (C.history self.new.calls)
+            → AreRight C.world (C.history self.old.calls) }
     {
         match self.find(name)? {
             Some(at) => self.calls.read_at(&self.files[at], from, into),
@@ -58,9 +62,11 @@ where
     pub fn write(&mut self, name: &FileName, from: u64, bytes: &[u8]) -> Result<(), DiskFault>
         requires { AreRight C.world (C.history self.old.calls) →
             from ≤ length (files C.world (C.history self.old.calls) name.now).content }
-        ensures effect { AreRight C.world (C.history self.new.calls) → Does C.world (write from bytes.now) name.now
+        ensures effect { AreRight C.world (C.history self.new.calls)
+            → Does C.world (write from bytes.now) name.now
             (C.history self.old.calls) (C.history self.new.calls) result }
-        ensures honest { AreRight C.world (C.history self.new.calls) → AreRight C.world (C.history self.old.calls) }
+        ensures honest { AreRight C.world (C.history self.new.calls)
+            → AreRight C.world (C.history self.old.calls) }
     {
         if bytes.is_empty() {
             self.calls.write_nothing(name, from);
@@ -73,9 +79,11 @@ where
     pub fn cut(&mut self, name: &FileName, to: u64) -> Result<(), DiskFault>
         requires { AreRight C.world (C.history self.old.calls) →
             to ≤ length (files C.world (C.history self.old.calls) name.now).content }
-        ensures effect { AreRight C.world (C.history self.new.calls) → Does C.world (cut to) name.now
+        ensures effect { AreRight C.world (C.history self.new.calls)
+            → Does C.world (cut to) name.now
             (C.history self.old.calls) (C.history self.new.calls) result }
-        ensures honest { AreRight C.world (C.history self.new.calls) → AreRight C.world (C.history self.old.calls) }
+        ensures honest { AreRight C.world (C.history self.new.calls)
+            → AreRight C.world (C.history self.old.calls) }
     {
         match self.find(name)? {
             Some(at) => self.calls.cut(&self.files[at], to),
@@ -88,7 +96,8 @@ where
     pub fn sync(&mut self, name: &FileName) -> Result<(), DiskFault>
         ensures effect { AreRight C.world (C.history self.new.calls) → Does C.world sync name.now
             (C.history self.old.calls) (C.history self.new.calls) result }
-        ensures honest { AreRight C.world (C.history self.new.calls) → AreRight C.world (C.history self.old.calls) }
+        ensures honest { AreRight C.world (C.history self.new.calls)
+            → AreRight C.world (C.history self.old.calls) }
     {
         let Some(at) = self.find(name)? else {
             return Ok(());
@@ -104,14 +113,17 @@ where
     fn find(&mut self, name: &FileName) -> Result<Option<usize>, DiskFault>
         ensures name { IfOk result (λ found. IfSome found (λ at.
             HoldsAt (λ opened. opened.name ≡ name.now) self.new.files.items at)) }
-        ensures index { IfOk result (λ found. IfSome found (λ at. at < length self.new.files.items)) }
-        ensures absent { AreRight C.world (C.history self.new.calls) → IfOk result (λ found. IfNone found
+        ensures index { IfOk result (λ found. IfSome found
+            (λ at. at < length self.new.files.items)) }
+        ensures absent { AreRight C.world (C.history self.new.calls)
+            → IfOk result (λ found. IfNone found
             (files C.world (C.history self.old.calls) name.now ≡ stable [])) }
         ensures found { IfOk result (λ found. IfSome found (λ _.
             C.history self.new.calls ≡ C.history self.old.calls)) }
         ensures looks { AreRight C.world (C.history self.new.calls) →
             Looks C.world (C.history self.old.calls) (C.history self.new.calls) }
-        ensures honest { AreRight C.world (C.history self.new.calls) → AreRight C.world (C.history self.old.calls) }
+        ensures honest { AreRight C.world (C.history self.new.calls)
+            → AreRight C.world (C.history self.old.calls) }
     {
         if let Some(at) = self.position(name) {
             return Ok(Some(at));

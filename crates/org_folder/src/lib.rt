@@ -21,6 +21,3 @@ pub use disk::{CallsDisk, FolderDisk};
 pub use list::{ListFault, org_file, org_files};
 pub use start::{Start, Unknown};
 pub use system::SystemCalls;
-
-#[cfg(test)]
-mod tests;

@@ -1,3 +1,4 @@
+//! The Org files of a folder.
 ghost use Rattle.std.specs.Prelude.{◌≡◌, ◌↔◌, IsTrue, IsFalse, IfOk, IsErrOf, All};
 ghost use Rattle.org_disk.specs.Names.{IsOrgFile};
 ghost use Rattle.org_folder.specs.OrgFiles.{is_org_file};

@@ -1,3 +1,4 @@
+//! What a folder holds at first, which no code reads.
 ghost use Rattle.std.specs.Prelude.{[]};
 ghost use Rattle.org_disk.specs.Disk.{stable};
 ghost use Rattle.org_folder.specs.Calls.{World};

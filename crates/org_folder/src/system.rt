@@ -1,6 +1,6 @@
-// The calls of the operating system. Each method makes the call that the trait names, again where a signal interrupts
-// it, and what it takes to reach the file, and then notes what the trait's clauses say. `write_nothing` alone makes no
-// call.
+//! The calls of the operating system. Each method makes the call that the trait names, again where a signal interrupts
+//! it, and what it takes to reach the file, and then notes what the trait's clauses say. `write_nothing` alone makes no
+//! call.
 ghost use Rattle.std.specs.Prelude.{◌≡◌, [], ◌∷◌, IfOk};
 ghost use Rattle.org_folder.specs.Note.{event_of};
 

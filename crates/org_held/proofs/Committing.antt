@@ -10,8 +10,7 @@ use Rattle.org_disk.proofs.Names.{name_cases}
 use Rattle.org_splice.specs.Texts.{EditedText}
 use Rattle.org_journal.specs.Standing.{Image, SameFiles, contents}
 use Rattle.org_fileset.specs.Entries.{changed}
-use Rattle.org_fileset.specs.Replay.{IsAtRest}
-use Rattle.org_fileset.specs.Set.{IsWithOrWithout}
+use Rattle.org_fileset.specs.Replay.{IsAtRest, IsBeforeOrAfter}
 use Rattle.org_fileset.proofs.Commits.{at_rest_stands}
 use Rattle.org_held.specs.Held.{Each}
 use Rattle.org_held.specs.InOrder.{HoldsEither, texts_of, is_name, with_texts}
@@ -42,7 +41,7 @@ not_changed names (change ∷ changes) each files name outside = elim (name_case
 ]
 
 -- what a stop leaves within a commit
-pub left_by_commit : (names : List (List ℕ)) (changes : List Change) (files : Image) → Each (λ (change : Change). is_name names change.0 ≡ true) changes → (image : Image) → IsWithOrWithout changes files image
+pub left_by_commit : (names : List (List ℕ)) (changes : List Change) (files : Image) → Each (λ (change : Change). is_name names change.0 ≡ true) changes → (image : Image) → IsBeforeOrAfter files (changed changes files) image
     → HoldsEither names files (texts_of (changed changes files) names) image
 left_by_commit names changes files each image left = ⊎_elim
     (λ without. inl (holds_told names files files image (λ name outside. refl) without))

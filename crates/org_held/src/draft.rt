@@ -39,7 +39,8 @@ impl Draft {
         ensures name { IfOk result (λ draft. draft.name ≡ held.name) }
         ensures text { IfOk result (λ draft. draft.text.bytes ≡ closed held.text.bytes) }
         ensures shut { IfOk result (λ draft. closed draft.text.bytes ≡ draft.text.bytes) }
-        ensures edit { IfOk result (λ draft. (old : List ℕ) → IsEditOf old held.text → IsEditOf old draft.text) }
+        ensures edit { IfOk result (λ draft. (old : List ℕ) → IsEditOf old held.text
+            → IsEditOf old draft.text) }
         ensures heads { IfOk result (λ draft. draft.heads ≡ headings_of draft.text.bytes) }
     {
         let Held { name, text, heads } = held;
@@ -59,7 +60,8 @@ impl Draft {
     pub fn splice(&mut self, at: usize, removed: usize, bytes: &[u8]) -> Result<(), AllocError>
         requires within { at + removed ≤ length self.old.text.bytes }
         requires shut { closed self.old.text.bytes ≡ self.old.text.bytes }
-        requires closed { closed (spliced at removed bytes.now self.old.text).bytes ≡ (spliced at removed bytes.now self.old.text).bytes }
+        requires closed { closed (spliced at removed bytes.now self.old.text).bytes
+            ≡ (spliced at removed bytes.now self.old.text).bytes }
         requires heads { self.old.heads ≡ headings_of self.old.text.bytes }
         ensures name { self.new.name ≡ self.old.name }
         ensures text { OnOk result (self.new.text ≡ spliced at removed bytes.now self.old.text) }

@@ -11,8 +11,6 @@ mod draft;
 mod held;
 mod pending;
 mod set;
-#[cfg(test)]
-mod tests;
 pub mod texts;
 
 pub use draft::{Draft, Drafts};

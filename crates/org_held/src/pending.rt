@@ -15,7 +15,8 @@ use std::alloc::{AllocError, Global};
 /// What is to be committed of pending texts: the first text of each name. `AllocError` comes where there is no memory
 /// for it.
 pub fn changes(alloc: Global, pending: &[Held]) -> Result<ChangeSet<FileName>, AllocError>
-    ensures over { IfOk result (λ changes. (files : Image) (name : List ℕ) → changed changes files name ≡ held_over pending.now files name) }
+    ensures over { IfOk result (λ changes. (files : Image) (name : List ℕ)
+        → changed changes files name ≡ held_over pending.now files name) }
     ensures each { IfOk result (λ changes. Each (Contains (map change_of pending.now)) changes) }
     ensures nothing { pending.now ≡ [] → IsOk result × IfOk result (λ changes. changes ≡ []) }
 {
@@ -36,9 +37,12 @@ pub(crate) fn changes_with(
 ) -> Result<ChangeSet<FileName>, AllocError>
     ensures same { pending.new.items ≡ pending.old.items }
     ensures room { OnOk result (vec_len pending.new + 2 ≤ vec_capacity pending.new) }
-    ensures over { IfOk result (λ changes. (files : Image) (name : List ℕ) → changed changes files name ≡ with_drafts (list_of drafts.now) (held_over pending.old.items files) name) }
+    ensures over { IfOk result (λ changes. (files : Image) (name : List ℕ)
+        → changed changes files name ≡ with_drafts (list_of drafts.now)
+        (held_over pending.old.items files) name) }
     ensures each { IfOk result (λ changes. (change : List ℕ × EditedText) → Contains changes change
-        → Contains (map change_of_draft (list_of drafts.now)) change ⊎ Contains (map change_of pending.old.items) change) }
+        → Contains (map change_of_draft (list_of drafts.now)) change
+        ⊎ Contains (map change_of pending.old.items) change) }
 {
     pending.reserve(2)?;
     let mut changes = changes(*pending.allocator(), pending)?;
@@ -49,8 +53,12 @@ pub(crate) fn changes_with(
 /// Adds the texts of drafts, each in place of a text of its name. `AllocError` comes where there is no memory; the set
 /// may then have the first draft's text and not the second's.
 pub fn add_drafts(changes: &mut ChangeSet<FileName>, drafts: &Drafts) -> Result<(), AllocError>
-    ensures over { OnOk result ((files : Image) (name : List ℕ) → changed changes.new files name ≡ with_drafts (list_of drafts.now) (changed changes.old files) name) }
-    ensures each { OnOk result ((change : List ℕ × EditedText) → Contains changes.new change → Contains (map change_of_draft (list_of drafts.now)) change ⊎ Contains changes.old change) }
+    ensures over { OnOk result ((files : Image) (name : List ℕ)
+        → changed changes.new files name ≡ with_drafts (list_of drafts.now)
+        (changed changes.old files) name) }
+    ensures each { OnOk result ((change : List ℕ × EditedText) → Contains changes.new change
+        → Contains (map change_of_draft (list_of drafts.now)) change
+        ⊎ Contains changes.old change) }
 {
     add(changes, &drafts.first)?;
     match &drafts.second {
@@ -60,8 +68,10 @@ pub fn add_drafts(changes: &mut ChangeSet<FileName>, drafts: &Drafts) -> Result<
 }
 
 fn add(changes: &mut ChangeSet<FileName>, draft: &Draft) -> Result<(), AllocError>
-    ensures over { OnOk result ((files : Image) (name : List ℕ) → changed changes.new files name ≡ with_draft draft.now (changed changes.old files) name) }
-    ensures each { OnOk result ((change : List ℕ × EditedText) → Contains changes.new change → (change ≡ change_of_draft draft.now) ⊎ Contains changes.old change) }
+    ensures over { OnOk result ((files : Image) (name : List ℕ)
+        → changed changes.new files name ≡ with_draft draft.now (changed changes.old files) name) }
+    ensures each { OnOk result ((change : List ℕ × EditedText) → Contains changes.new change
+        → (change ≡ change_of_draft draft.now) ⊎ Contains changes.old change) }
 {
     changes.put(draft.name.clone()?, draft.text.copy()?)?;
     Ok(())

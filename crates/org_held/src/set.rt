@@ -1,18 +1,18 @@
 //! Files of a disk with what is held of their texts.
-ghost use Rattle.std.specs.Prelude.{◌≡◌, ◌≢◌, ◌≤◌, ◌⊎◌, ◌↔◌, List, ℕ, [], Some, None, true, false, length, IsTrue, IsFalse, IsSomeAnd, is_some, IfOk, IfErr, OnOk, OnErr, IsOk, IsErrOf, MatchResult};
+ghost use Rattle.std.specs.Prelude.{◌≡◌, ◌≢◌, ◌↔◌, List, ℕ, [], Some, None, true, false, IsTrue, is_some, IfOk, IfErr, OnOk, OnErr, IsOk, IsErrOf};
 ghost use Rattle.std.specs.List.{All, AllByRecursion, Contains};
-ghost use Rattle.org_disk.specs.Disk.{HasRisen, Passes, LeavesOnly, AreImages, KeepsHonesty};
+ghost use Rattle.org_disk.specs.Accounts.{Accounts, Looks, LeavesOver};
 ghost use Rattle.org_disk.specs.Names.{journal_name, IsOrgFile};
 ghost use Rattle.org_splice.specs.Texts.{IsEditOf};
-ghost use Rattle.org_journal.specs.Standing.{IsFit, SameFiles, stands, contents};
+ghost use Rattle.org_journal.specs.Standing.{IsFit, SameFiles, contents};
 ghost use Rattle.org_fileset.specs.Entries.{changed};
-ghost use Rattle.org_fileset.specs.Names.{with_archives, AreSorted, AreFew, first_large, limit};
-ghost use Rattle.org_fileset.specs.Opening.{IsReason};
-ghost use Rattle.org_fileset.specs.Recovery.{EachStands, StandsAsBefore};
+ghost use Rattle.org_fileset.specs.Names.{with_archives, AreSorted, AreFew, first_large};
+ghost use Rattle.org_fileset.specs.Opening.{IsDeviceRefusal, IsReason, disk_in};
+ghost use Rattle.org_fileset.specs.Recovery.{Reopens};
 ghost use Rattle.org_fileset.specs.Replay.{IsAtRest};
+ghost use Rattle.org_fileset.specs.Set.{KeepsSet};
 ghost use Rattle.org_fileset.specs.declared.open.OpenFault.{OpenFault};
 ghost use Rattle.org_held.specs.Held.{AreHeadsOf, Each, IsKept, held_over, list_of};
-ghost use Rattle.org_held.specs.Opening.{disk_in};
 ghost use Rattle.org_held.specs.Set.{IsCommittable, IsDraft};
 ghost use Rattle.org_held.specs.InOrder.{HoldsEither, is_name, text_at, texts_of, with_all, with_texts};
 
@@ -55,7 +55,8 @@ impl<D: Disk> Model for HeldSet<D> {
       broken = s.set.broken;
     } };
 
-    ghost invariant = { λ s. IsSound s.set.names ((s.set.broken ≡ false) × D.honest s.set.disk) (contents (D.files s.set.disk)) s.kept.items s.pending.items };
+    ghost invariant = { λ s. IsSound s.set.names ((s.set.broken ≡ false) × D.honest s.set.disk)
+        (contents (D.files s.set.disk)) s.kept.items s.pending.items };
 }
 
 impl<D: Disk> HeldSet<D> {
@@ -64,21 +65,21 @@ impl<D: Disk> HeldSet<D> {
     /// whose faults it answers.
     pub fn open(alloc: Global, disk: D, names: Vec<FileName>) -> Result<HeldSet<D>, OpenRefused<D>>
         requires { All IsOrgFile names.items }
-        ensures names { IfOk result (λ set. AreFew names.items × AreSorted (with_archives names.items) set.names) }
-        ensures texts { IfOk result (λ set. set.texts ≡ texts_of (contents (D.files set.disk)) set.names) }
+        ensures names { IfOk result (λ set. AreFew names.items
+            × AreSorted (with_archives names.items) set.names) }
+        ensures texts { IfOk result (λ set. set.texts
+            ≡ texts_of (contents (D.files set.disk)) set.names) }
         ensures unbroken { IfOk result (λ set. set.broken ≡ false) }
-        ensures contents { IfOk result (λ set. D.honest set.disk → IsSomeAnd (stands (contents (D.files disk))) (SameFiles (contents (D.files set.disk)))) }
-        ensures sizes { IfOk result (λ set. D.honest set.disk → first_large (contents (D.files set.disk)) set.names ≡ None) }
-        ensures refused { IfErr result (λ refused. IsReason names.items (D.honest refused.disk) (contents (D.files disk)) (contents (D.files refused.disk)) refused.fault) }
-        ensures unused { IfErr result (λ refused. refused.fault ≡ OpenFault.TooManyFiles → refused.disk ≡ disk) }
-        ensures any_moment { D.honest (disk_in result) → IsFit (D.files disk) → EachStands (D.files disk) →
-            LeavesOnly (D.moment disk) (D.moment (disk_in result)) (D.left_since disk) (D.left_since (disk_in result)) (StandsAsBefore (D.files disk)) }
-        ensures fit { D.honest (disk_in result) → IsFit (D.files disk) → EachStands (D.files disk) → IsFit (D.files (disk_in result)) }
-        ensures rest { IfOk result (λ set. D.honest set.disk → IsFit (D.files disk) → EachStands (D.files disk) → IsAtRest (D.files set.disk)) }
-        ensures failed { IfErr result (λ refused. refused.fault ≡ OpenFault.Device → HasRisen (D.failures disk) (D.failures refused.disk)) }
-        ensures told { MatchResult result (λ opened. D.failures opened.disk ≡ D.failures disk) (λ refused. (refused.fault ≡ OpenFault.Device → ⊥) → D.failures refused.disk ≡ D.failures disk) }
-        ensures failures { D.failures disk ≤ D.failures (disk_in result) }
-        ensures honest { KeepsHonesty D.steady (D.honest disk) (D.honest (disk_in result)) }
+        ensures reopens { let now = disk_in result (λ set. set.disk) in D.honest now
+            → Reopens D.files D.moment D.left_since disk now result }
+        ensures sizes { IfOk result (λ set. D.honest set.disk
+            → first_large (contents (D.files set.disk)) set.names ≡ None) }
+        ensures refused { IfErr result (λ refused. IsReason names.items (D.honest refused.disk)
+            (contents (D.files disk)) (contents (D.files refused.disk)) refused.fault) }
+        ensures unused { IfErr result (λ refused. refused.fault ≡ OpenFault.TooManyFiles
+            → refused.disk ≡ disk) }
+        ensures accounts { Accounts D.steady D.honest D.failures disk
+            (disk_in result (λ set. set.disk)) (IsDeviceRefusal result) }
     {
         match FileSet::open(alloc, disk, names) {
             Ok(set) => Ok(HeldSet {
@@ -118,22 +119,18 @@ impl<D: Disk> HeldSet<D> {
     /// `OutOfMemory` comes also where there is no memory for the copy.
     pub fn read(&mut self, name: &FileName) -> Result<Held, SetFault>
         requires name { is_name self.old.names name.now ≡ true }
-        ensures text { IfOk result (λ held. D.honest self.new.disk → text_at self.old.names self.old.texts name.now ≡ Some held.text.bytes) }
+        ensures text { IfOk result (λ held. D.honest self.new.disk
+            → text_at self.old.names self.old.texts name.now ≡ Some held.text.bytes) }
         ensures name { IfOk result (λ held. held.name ≡ name.now) }
         ensures heads { IfOk result (λ held. AreHeadsOf held.text.bytes held.heads) }
-        ensures edit { IfOk result (λ held. D.honest self.new.disk → IsEditOf (contents (D.files self.old.disk) name.now) held.text) }
+        ensures edit { IfOk result (λ held. D.honest self.new.disk
+            → IsEditOf (contents (D.files self.old.disk) name.now) held.text) }
         ensures texts { D.honest self.new.disk → self.new.texts ≡ self.old.texts }
-        ensures same { D.honest self.new.disk → D.files self.new.disk ≡ D.files self.old.disk }
-        ensures any_moment { D.honest self.new.disk → Passes (D.moment self.old.disk) (D.moment self.new.disk) (D.left_since self.old.disk) (D.left_since self.new.disk)
-            (AreImages (D.files self.old.disk)) }
-        ensures names { self.new.names ≡ self.old.names }
-        ensures broken { IsErrOf result SetFault.Broken ↔ IsTrue self.old.broken }
-        ensures breaks { IsTrue self.new.broken ↔ (IsTrue self.old.broken ⊎ IsErrOf result SetFault.Device) }
-        ensures failed { IsErrOf result SetFault.Device → HasRisen (D.failures self.old.disk) (D.failures self.new.disk) }
-        ensures told { (IsErrOf result SetFault.Device → ⊥) → D.failures self.new.disk ≡ D.failures self.old.disk }
-        ensures failures { D.failures self.old.disk ≤ D.failures self.new.disk }
-        ensures honest { KeepsHonesty D.steady (D.honest self.old.disk) (D.honest self.new.disk) }
-        ensures untouched { IsTrue self.old.broken → self.new ≡ self.old }
+        ensures looks { D.honest self.new.disk
+            → Looks D.files D.moment D.left_since self.old.disk self.new.disk }
+        ensures set { KeepsSet self.old self.new (λ s. s.names) (λ s. s.broken) result }
+        ensures accounts { Accounts D.steady D.honest D.failures self.old.disk self.new.disk
+            (IsErrOf result SetFault.Device) }
     {
         if self.set.is_broken() {
             return Err(SetFault::Broken);
@@ -149,8 +146,10 @@ impl<D: Disk> HeldSet<D> {
 
     /// Puts the texts of drafts in the place of the files', in memory alone. `AllocError` leaves all as it was.
     pub fn put(&mut self, drafts: Drafts) -> Result<(), AllocError>
-        requires { Each (IsDraft self.old.names ((self.old.broken ≡ false) × D.honest self.old.disk) (contents (D.files self.old.disk))) (list_of drafts) }
-        ensures ok { OnOk result (self.new ≡ record self.old { texts = with_all self.old.names self.old.texts (list_of drafts) }) }
+        requires { Each (IsDraft self.old.names ((self.old.broken ≡ false) × D.honest self.old.disk)
+            (contents (D.files self.old.disk))) (list_of drafts) }
+        ensures ok { OnOk result (self.new ≡ record self.old
+            { texts = with_all self.old.names self.old.texts (list_of drafts) }) }
         ensures err { OnErr result (self.new ≡ self.old) }
     {
         self.pending.reserve(2)?;
@@ -161,24 +160,27 @@ impl<D: Disk> HeldSet<D> {
     /// Puts the texts of drafts in the place of the files', and commits all that was put: see `FileSet::commit`.
     /// `OutOfMemory` leaves all as it was, and comes before the first call of the disk.
     pub fn commit(&mut self, drafts: Drafts) -> Result<(), SetFault>
-        requires { Each (IsDraft self.old.names ((self.old.broken ≡ false) × D.honest self.old.disk) (contents (D.files self.old.disk))) (list_of drafts) }
-        ensures any_moment { D.honest self.new.disk → IsAtRest (D.files self.old.disk) → LeavesOnly (D.moment self.old.disk) (D.moment self.new.disk)
-            (D.left_since self.old.disk) (D.left_since self.new.disk)
-            (HoldsEither self.old.names (contents (D.files self.old.disk)) (with_all self.old.names self.old.texts (list_of drafts))) }
-        ensures texts { OnOk result (D.honest self.new.disk → self.new.texts ≡ with_all self.old.names self.old.texts (list_of drafts)) }
-        ensures settled { OnOk result (self.new.texts ≡ texts_of (contents (D.files self.new.disk)) self.new.names) }
-        ensures others { OnOk result (D.honest self.new.disk → SameFiles (contents (D.files self.new.disk)) (with_texts self.new.names self.new.texts (contents (D.files self.old.disk)))) }
-        ensures rest { OnOk result (D.honest self.new.disk → IsAtRest (D.files self.old.disk) → IsAtRest (D.files self.new.disk)) }
+        requires { Each (IsDraft self.old.names ((self.old.broken ≡ false) × D.honest self.old.disk)
+            (contents (D.files self.old.disk))) (list_of drafts) }
+        ensures any_moment { D.honest self.new.disk → IsAtRest (D.files self.old.disk)
+            → LeavesOver D.moment D.left_since self.old.disk self.new.disk
+            (HoldsEither self.old.names (contents (D.files self.old.disk))
+            (with_all self.old.names self.old.texts (list_of drafts))) }
+        ensures texts { OnOk result (D.honest self.new.disk
+            → self.new.texts ≡ with_all self.old.names self.old.texts (list_of drafts)) }
+        ensures settled { OnOk result (self.new.texts
+            ≡ texts_of (contents (D.files self.new.disk)) self.new.names) }
+        ensures others { OnOk result (D.honest self.new.disk
+            → SameFiles (contents (D.files self.new.disk))
+            (with_texts self.new.names self.new.texts (contents (D.files self.old.disk)))) }
+        ensures rest { OnOk result (D.honest self.new.disk → IsAtRest (D.files self.old.disk)
+            → IsAtRest (D.files self.new.disk)) }
         ensures memory { IsErrOf result SetFault.OutOfMemory → self.new ≡ self.old }
-        ensures fit { IsErrOf result SetFault.Device → D.honest self.new.disk → IsAtRest (D.files self.old.disk) → IsFit (D.files self.new.disk) }
-        ensures names { self.new.names ≡ self.old.names }
-        ensures broken { IsErrOf result SetFault.Broken ↔ IsTrue self.old.broken }
-        ensures untouched { IsTrue self.old.broken → self.new ≡ self.old }
-        ensures breaks { IsTrue self.new.broken ↔ (IsTrue self.old.broken ⊎ IsErrOf result SetFault.Device) }
-        ensures failed { IsErrOf result SetFault.Device → HasRisen (D.failures self.old.disk) (D.failures self.new.disk) }
-        ensures told { (IsErrOf result SetFault.Device → ⊥) → D.failures self.new.disk ≡ D.failures self.old.disk }
-        ensures failures { D.failures self.old.disk ≤ D.failures self.new.disk }
-        ensures honest { KeepsHonesty D.steady (D.honest self.old.disk) (D.honest self.new.disk) }
+        ensures fit { IsErrOf result SetFault.Device → D.honest self.new.disk
+            → IsAtRest (D.files self.old.disk) → IsFit (D.files self.new.disk) }
+        ensures set { KeepsSet self.old self.new (λ s. s.names) (λ s. s.broken) result }
+        ensures accounts { Accounts D.steady D.honest D.failures self.old.disk self.new.disk
+            (IsErrOf result SetFault.Device) }
     {
         if self.set.is_broken() {
             return Err(SetFault::Broken);
@@ -193,22 +195,23 @@ impl<D: Disk> HeldSet<D> {
     /// Commits all that was put: see `FileSet::commit`. `OutOfMemory` leaves all as it was. Where nothing was put, no call
     /// of the disk is made.
     pub fn settle(&mut self) -> Result<(), SetFault>
-        ensures any_moment { D.honest self.new.disk → IsAtRest (D.files self.old.disk) → LeavesOnly (D.moment self.old.disk) (D.moment self.new.disk)
-            (D.left_since self.old.disk) (D.left_since self.new.disk) (HoldsEither self.old.names (contents (D.files self.old.disk)) self.old.texts) }
+        ensures any_moment { D.honest self.new.disk → IsAtRest (D.files self.old.disk)
+            → LeavesOver D.moment D.left_since self.old.disk self.new.disk
+            (HoldsEither self.old.names (contents (D.files self.old.disk)) self.old.texts) }
         ensures texts { OnOk result (D.honest self.new.disk → self.new.texts ≡ self.old.texts) }
-        ensures settled { OnOk result (self.new.texts ≡ texts_of (contents (D.files self.new.disk)) self.new.names) }
-        ensures others { OnOk result (D.honest self.new.disk → SameFiles (contents (D.files self.new.disk)) (with_texts self.new.names self.new.texts (contents (D.files self.old.disk)))) }
-        ensures rest { OnOk result (D.honest self.new.disk → IsAtRest (D.files self.old.disk) → IsAtRest (D.files self.new.disk)) }
+        ensures settled { OnOk result (self.new.texts
+            ≡ texts_of (contents (D.files self.new.disk)) self.new.names) }
+        ensures others { OnOk result (D.honest self.new.disk
+            → SameFiles (contents (D.files self.new.disk))
+            (with_texts self.new.names self.new.texts (contents (D.files self.old.disk)))) }
+        ensures rest { OnOk result (D.honest self.new.disk → IsAtRest (D.files self.old.disk)
+            → IsAtRest (D.files self.new.disk)) }
         ensures memory { IsErrOf result SetFault.OutOfMemory → self.new ≡ self.old }
-        ensures fit { IsErrOf result SetFault.Device → D.honest self.new.disk → IsAtRest (D.files self.old.disk) → IsFit (D.files self.new.disk) }
-        ensures names { self.new.names ≡ self.old.names }
-        ensures broken { IsErrOf result SetFault.Broken ↔ IsTrue self.old.broken }
-        ensures untouched { IsTrue self.old.broken → self.new ≡ self.old }
-        ensures breaks { IsTrue self.new.broken ↔ (IsTrue self.old.broken ⊎ IsErrOf result SetFault.Device) }
-        ensures failed { IsErrOf result SetFault.Device → HasRisen (D.failures self.old.disk) (D.failures self.new.disk) }
-        ensures told { (IsErrOf result SetFault.Device → ⊥) → D.failures self.new.disk ≡ D.failures self.old.disk }
-        ensures failures { D.failures self.old.disk ≤ D.failures self.new.disk }
-        ensures honest { KeepsHonesty D.steady (D.honest self.old.disk) (D.honest self.new.disk) }
+        ensures fit { IsErrOf result SetFault.Device → D.honest self.new.disk
+            → IsAtRest (D.files self.old.disk) → IsFit (D.files self.new.disk) }
+        ensures set { KeepsSet self.old self.new (λ s. s.names) (λ s. s.broken) result }
+        ensures accounts { Accounts D.steady D.honest D.failures self.old.disk self.new.disk
+            (IsErrOf result SetFault.Device) }
     {
         if self.set.is_broken() {
             return Err(SetFault::Broken);
@@ -227,22 +230,23 @@ fn read_to_hold<D: Disk>(
     name: &FileName,
 ) -> Result<Held, SetFault>
     requires unbroken { set.old.broken ≡ false }
-    ensures text { IfOk result (λ held. D.honest set.new.disk → held.text.bytes ≡ contents (D.files set.old.disk) name.now) }
+    ensures text { IfOk result (λ held. D.honest set.new.disk
+        → held.text.bytes ≡ contents (D.files set.old.disk) name.now) }
     ensures name { IfOk result (λ held. held.name ≡ name.now) }
     ensures held { IfOk result IsKept }
     ensures each { Each IsKept kept.old.items → Each IsKept kept.new.items }
-    ensures over { D.honest set.new.disk → (other : List ℕ) → held_over kept.old.items (contents (D.files set.old.disk)) other ≡ contents (D.files set.old.disk) other
-        → held_over kept.new.items (contents (D.files set.old.disk)) other ≡ contents (D.files set.old.disk) other }
-    ensures same { D.honest set.new.disk → D.files set.new.disk ≡ D.files set.old.disk }
-    ensures any_moment { D.honest set.new.disk → Passes (D.moment set.old.disk) (D.moment set.new.disk) (D.left_since set.old.disk) (D.left_since set.new.disk)
-        (AreImages (D.files set.old.disk)) }
+    ensures over { D.honest set.new.disk → (other : List ℕ)
+        → held_over kept.old.items (contents (D.files set.old.disk)) other
+        ≡ contents (D.files set.old.disk) other
+        → held_over kept.new.items (contents (D.files set.old.disk)) other
+        ≡ contents (D.files set.old.disk) other }
+    ensures looks { D.honest set.new.disk → Looks D.files D.moment D.left_since set.old.disk
+        set.new.disk }
     ensures names { set.new.names ≡ set.old.names }
     ensures not_broken { IsErrOf result SetFault.Broken → ⊥ }
     ensures breaks { IsTrue set.new.broken ↔ IsErrOf result SetFault.Device }
-    ensures failed { IsErrOf result SetFault.Device → HasRisen (D.failures set.old.disk) (D.failures set.new.disk) }
-    ensures told { (IsErrOf result SetFault.Device → ⊥) → D.failures set.new.disk ≡ D.failures set.old.disk }
-    ensures failures { D.failures set.old.disk ≤ D.failures set.new.disk }
-    ensures honest { KeepsHonesty D.steady (D.honest set.old.disk) (D.honest set.new.disk) }
+    ensures accounts { Accounts D.steady D.honest D.failures set.old.disk set.new.disk
+        (IsErrOf result SetFault.Device) }
 {
     let bytes = set.read(name)?;
     let held = Held::new(*kept.allocator(), name.clone()?, bytes)?;
@@ -258,25 +262,33 @@ fn commit_texts<D: Disk>(
 ) -> Result<(), SetFault>
     requires apart { AllByRecursion (λ name. name ≢ journal_name) set.old.names }
     requires unbroken { set.old.broken ≡ false }
-    requires each { Each (IsCommittable set.old.names (D.honest set.old.disk) (contents (D.files set.old.disk))) changes.now }
-    ensures any_moment { D.honest set.new.disk → IsAtRest (D.files set.old.disk) → LeavesOnly (D.moment set.old.disk) (D.moment set.new.disk)
-        (D.left_since set.old.disk) (D.left_since set.new.disk)
-        (HoldsEither set.old.names (contents (D.files set.old.disk)) (texts_of (changed changes.now (contents (D.files set.old.disk))) set.old.names)) }
-    ensures contents { OnOk result (D.honest set.new.disk → SameFiles (contents (D.files set.new.disk)) (changed changes.now (contents (D.files set.old.disk)))) }
-    ensures texts { OnOk result (D.honest set.new.disk → texts_of (contents (D.files set.new.disk)) set.new.names ≡ texts_of (changed changes.now (contents (D.files set.old.disk))) set.old.names) }
-    ensures others { OnOk result (D.honest set.new.disk → SameFiles (contents (D.files set.new.disk))
-        (with_texts set.new.names (texts_of (contents (D.files set.new.disk)) set.new.names) (contents (D.files set.old.disk)))) }
-    ensures rest { OnOk result (D.honest set.new.disk → IsAtRest (D.files set.old.disk) → IsAtRest (D.files set.new.disk)) }
+    requires each { Each (IsCommittable set.old.names (D.honest set.old.disk)
+        (contents (D.files set.old.disk))) changes.now }
+    ensures any_moment { D.honest set.new.disk → IsAtRest (D.files set.old.disk)
+        → LeavesOver D.moment D.left_since set.old.disk set.new.disk
+        (HoldsEither set.old.names (contents (D.files set.old.disk))
+        (texts_of (changed changes.now (contents (D.files set.old.disk))) set.old.names)) }
+    ensures contents { OnOk result (D.honest set.new.disk
+        → SameFiles (contents (D.files set.new.disk))
+        (changed changes.now (contents (D.files set.old.disk)))) }
+    ensures texts { OnOk result (D.honest set.new.disk
+        → texts_of (contents (D.files set.new.disk)) set.new.names
+        ≡ texts_of (changed changes.now (contents (D.files set.old.disk))) set.old.names) }
+    ensures others { OnOk result (D.honest set.new.disk
+        → SameFiles (contents (D.files set.new.disk))
+        (with_texts set.new.names (texts_of (contents (D.files set.new.disk)) set.new.names)
+        (contents (D.files set.old.disk)))) }
+    ensures rest { OnOk result (D.honest set.new.disk → IsAtRest (D.files set.old.disk)
+        → IsAtRest (D.files set.new.disk)) }
     ensures memory { IsErrOf result SetFault.OutOfMemory → set.new ≡ set.old }
-    ensures fit { IsErrOf result SetFault.Device → D.honest set.new.disk → IsAtRest (D.files set.old.disk) → IsFit (D.files set.new.disk) }
+    ensures fit { IsErrOf result SetFault.Device → D.honest set.new.disk
+        → IsAtRest (D.files set.old.disk) → IsFit (D.files set.new.disk) }
     ensures nothing { changes.now ≡ [] → (set.new ≡ set.old) × IsOk result }
     ensures names { set.new.names ≡ set.old.names }
     ensures not_broken { IsErrOf result SetFault.Broken → ⊥ }
     ensures breaks { IsTrue set.new.broken ↔ IsErrOf result SetFault.Device }
-    ensures failed { IsErrOf result SetFault.Device → HasRisen (D.failures set.old.disk) (D.failures set.new.disk) }
-    ensures told { (IsErrOf result SetFault.Device → ⊥) → D.failures set.new.disk ≡ D.failures set.old.disk }
-    ensures failures { D.failures set.old.disk ≤ D.failures set.new.disk }
-    ensures honest { KeepsHonesty D.steady (D.honest set.old.disk) (D.honest set.new.disk) }
+    ensures accounts { Accounts D.steady D.honest D.failures set.old.disk set.new.disk
+        (IsErrOf result SetFault.Device) }
 {
     set.commit(changes)
 }

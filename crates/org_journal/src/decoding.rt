@@ -22,7 +22,8 @@ fn patches_of(
     count: u32,
     bytes: &[u8],
 ) -> Result<(Vec<Patch>, &[u8]), RecordFault>
-    ensures { Gives (λ x. (x.0.items, x.1.now)) result (patches_at 0 length (count == 1) count bytes.now) }
+    ensures { Gives (λ x. (x.0.items, x.1.now)) result
+        (patches_at 0 length (count == 1) count bytes.now) }
 {
     let mut patches = Vec::new(alloc);
     let mut place = 0;
@@ -136,10 +137,12 @@ fn record_of(alloc: Global, bytes: &[u8]) -> Result<Record, RecordFault>
 /// they do.
 pub fn decode(alloc: Global, bytes: &[u8]) -> Result<Record, RecordFault>
     ensures found { IfOk result (λ entries. BeginsWith bytes.now entries) }
-    ensures only { (entries : List Entry) → BeginsWith bytes.now entries → (result ≡ Ok entries) ⊎ (result ≡ Err RecordFault.OutOfMemory) }
+    ensures only { (entries : List Entry) → BeginsWith bytes.now entries
+        → (result ≡ Ok entries) ⊎ (result ≡ Err RecordFault.OutOfMemory) }
     // What was read, in either version, can be written in version 2.
     ensures writable { IfOk result (λ entries. IsWellFormed Two entries) }
-    ensures memory { IsErrOf result RecordFault.OutOfMemory → (entries : List Entry) × BeginsWith bytes.now entries }
+    ensures memory { IsErrOf result RecordFault.OutOfMemory
+        → (entries : List Entry) × BeginsWith bytes.now entries }
     ensures exact { Gives (λ entries. entries) result (journal_at bytes.now) }
 {
     if !well_formed(bytes) {

@@ -75,7 +75,8 @@ fn put_entry(out: &mut Vec<u8>, entry: &Entry) -> Result<(), AllocError>
 
 fn put_entries(out: &mut Vec<u8>, entries: &[Entry]) -> Result<(), AllocError>
     requires { AllByRecursion (IsEntry Two) entries.now }
-    ensures { OnOk result (out.new.items ≡ out.old.items ++ flat_map (entry_bytes Two) entries.now) }
+    ensures { OnOk result (out.new.items ≡ out.old.items ++ flat_map (entry_bytes Two)
+        entries.now) }
 {
     for entry in entries {
         put_entry(out, entry)?;
@@ -97,7 +98,8 @@ impl Record {
         requires { IsWellFormed Two self.now }
         ensures bytes { IfOk result (λ bytes. bytes.items ≡ journal_bytes Two self.now) }
         // The record is read again from them, whatever follows.
-        ensures read { IfOk result (λ bytes. (rest : List ℕ) → journal_at (bytes.items ++ rest) ≡ Some self.now) }
+        ensures read { IfOk result (λ bytes. (rest : List ℕ)
+            → journal_at (bytes.items ++ rest) ≡ Some self.now) }
     {
         let entries = self.entries();
         let mut out = Vec::new(alloc);

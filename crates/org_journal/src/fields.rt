@@ -112,7 +112,8 @@ pub(crate) fn patch_at(
     alone: bool,
     bytes: &[u8],
 ) -> Option<(PatchSlice<'_>, &[u8])>
-    ensures reads { Reads (λ x. (record { from = x.0.from; bytes = x.0.bytes.now }, x.1.now)) result (patch_at place size alone bytes.now) }
+    ensures reads { Reads (λ x. (record { from = x.0.from; bytes = x.0.bytes.now }, x.1.now)) result
+        (patch_at place size alone bytes.now) }
     ensures within { IfSome result (λ x. x.0.from + length x.0.bytes.now ≤ size) }
 {
     let (from, rest) = u64_at(bytes)?;
@@ -127,7 +128,9 @@ pub(crate) fn patch_at(
 #[tactic(auto, unfolding(crate::specs::Reading::old_entry_at))]
 pub(crate) fn old_entry_at(bytes: &[u8]) -> Option<(OldEntry<'_>, &[u8])>
     ensures accepted { IfSome result (λ x. IsTrue (is_file_name x.0.name.now)) }
-    ensures reads { Reads (λ x. (old_entry x.0.name.now x.0.length x.0.patch.from x.0.patch.bytes.now, x.1.now)) result (old_entry_at bytes.now) }
+    ensures reads { Reads
+        (λ x. (old_entry x.0.name.now x.0.length x.0.patch.from x.0.patch.bytes.now, x.1.now))
+        result (old_entry_at bytes.now) }
 {
     let (name, rest) = name_at(bytes)?;
     let (from, rest) = u64_at(rest)?;
@@ -153,7 +156,9 @@ pub(crate) fn old_entry_at(bytes: &[u8]) -> Option<(OldEntry<'_>, &[u8])>
 #[tactic(auto, unfolding(crate::specs::Reading::head_at))]
 pub(crate) fn head_at(bytes: &[u8]) -> Option<(EntryHead<'_>, &[u8])>
     ensures accepted { IfSome result (λ x. IsTrue (is_file_name x.0.name.now)) }
-    ensures reads { Reads (λ x. (record { name = x.0.name.now; final = x.0.length; count = x.0.count }, x.1.now)) result (head_at bytes.now) }
+    ensures reads { Reads
+        (λ x. (record { name = x.0.name.now; final = x.0.length; count = x.0.count }, x.1.now))
+        result (head_at bytes.now) }
 {
     let (name, rest) = name_at(bytes)?;
     let (length, rest) = u64_at(rest)?;

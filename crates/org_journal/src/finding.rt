@@ -1,7 +1,7 @@
 //! What a journal on a disk says: that nothing is to be done, or what a commit had still to do.
-ghost use Rattle.std.specs.Prelude.{◌≡◌, ◌≤◌, ◌<◌, ◌+◌, ◌^◌, ℕ, List, length, take, drop, Some, Ok, Err, IfOk, IfSome, OnErr, IsErrOf, IsTrue, IsFalse, OnOk};
+ghost use Rattle.std.specs.Prelude.{◌≡◌, ◌≤◌, ◌<◌, ◌+◌, ◌^◌, ℕ, List, length, take, drop, Some, Ok, Err, IfOk, IfSome, IsErr, IsErrOf, IsTrue, IsFalse};
 ghost use Rattle.std.specs.List.{AllByRecursion};
-ghost use Rattle.org_disk.specs.Disk.{HasRisen, Passes, AreImages, KeepsHonesty};
+ghost use Rattle.org_disk.specs.Accounts.{Accounts, Looks};
 ghost use Rattle.org_disk.specs.Names.{journal_name};
 ghost use Rattle.org_splice.specs.Patches.{AreWellFormed};
 ghost use Rattle.org_journal.specs.Record.{pairs, IsWellFormed};
@@ -36,12 +36,9 @@ pub enum Found {
 fn size_of<D: Disk>(disk: &mut D, journal: &FileName) -> Result<Option<u64>, FindFault>
     ensures found { D.honest disk.new → FindsSize (D.files disk.old journal.now).content result }
     ensures small { IfOk result (λ found. IfSome found (λ size. front_size + size < 2 ^ 64)) }
-    ensures same { D.honest disk.new → D.files disk.new ≡ D.files disk.old }
-    ensures any_moment { D.honest disk.new → Passes (D.moment disk.old) (D.moment disk.new) (D.left_since disk.old) (D.left_since disk.new) (AreImages (D.files disk.old)) }
-    ensures failed { IsErrOf result FindFault.Device → HasRisen (D.failures disk.old) (D.failures disk.new) }
-    ensures told { (IsErrOf result FindFault.Device → ⊥) → D.failures disk.new ≡ D.failures disk.old }
-    ensures failures { D.failures disk.old ≤ D.failures disk.new }
-    ensures honest { KeepsHonesty D.steady (D.honest disk.old) (D.honest disk.new) }
+    ensures looks { D.honest disk.new → Looks D.files D.moment D.left_since disk.old disk.new }
+    ensures accounts { Accounts D.steady D.honest D.failures disk.old disk.new
+        (IsErrOf result FindFault.Device) }
 {
     let length = disk.length(journal)?;
     if length < FRONT {
@@ -67,15 +64,14 @@ fn body_of<D: Disk>(
     size: u64,
 ) -> Result<Vec<u8>, FindFault>
     requires small { front_size + size < 2 ^ 64 }
-    requires within { D.honest disk.old → front_size + size ≤ length (D.files disk.old journal.now).content }
-    ensures bytes { IfOk result (λ body. D.honest disk.new → body.items ≡ take (15 + size) (drop 1 (D.files disk.old journal.now).content)) }
+    requires within { D.honest disk.old → front_size + size ≤ length
+        (D.files disk.old journal.now).content }
+    ensures bytes { IfOk result (λ body. D.honest disk.new
+        → body.items ≡ take (15 + size) (drop 1 (D.files disk.old journal.now).content)) }
     ensures bad { ¬ (IsErrOf result FindFault.BadJournal) }
-    ensures same { D.honest disk.new → D.files disk.new ≡ D.files disk.old }
-    ensures any_moment { D.honest disk.new → Passes (D.moment disk.old) (D.moment disk.new) (D.left_since disk.old) (D.left_since disk.new) (AreImages (D.files disk.old)) }
-    ensures failed { IsErrOf result FindFault.Device → HasRisen (D.failures disk.old) (D.failures disk.new) }
-    ensures told { (IsErrOf result FindFault.Device → ⊥) → D.failures disk.new ≡ D.failures disk.old }
-    ensures failures { D.failures disk.old ≤ D.failures disk.new }
-    ensures honest { KeepsHonesty D.steady (D.honest disk.old) (D.honest disk.new) }
+    ensures looks { D.honest disk.new → Looks D.files D.moment D.left_since disk.old disk.new }
+    ensures accounts { Accounts D.steady D.honest D.failures disk.old disk.new
+        (IsErrOf result FindFault.Device) }
 {
     let mut body = vec![in alloc; 0u8; 15 + size as usize]?;
     disk.read_at(journal, 1, &mut body)?;
@@ -95,12 +91,9 @@ fn record_of<D: Disk>(
     ensures found { D.honest disk.new → FindsRecord (D.files disk.old journal.now).content result }
     ensures patches { IfOk result (λ entries. HaveWellFormedPatches entries) }
     ensures writable { IfOk result (λ entries. IsWellFormed Two entries) }
-    ensures same { D.honest disk.new → D.files disk.new ≡ D.files disk.old }
-    ensures any_moment { D.honest disk.new → Passes (D.moment disk.old) (D.moment disk.new) (D.left_since disk.old) (D.left_since disk.new) (AreImages (D.files disk.old)) }
-    ensures failed { IsErrOf result FindFault.Device → HasRisen (D.failures disk.old) (D.failures disk.new) }
-    ensures told { (IsErrOf result FindFault.Device → ⊥) → D.failures disk.new ≡ D.failures disk.old }
-    ensures failures { D.failures disk.old ≤ D.failures disk.new }
-    ensures honest { KeepsHonesty D.steady (D.honest disk.old) (D.honest disk.new) }
+    ensures looks { D.honest disk.new → Looks D.files D.moment D.left_since disk.old disk.new }
+    ensures accounts { Accounts D.steady D.honest D.failures disk.old disk.new
+        (IsErrOf result FindFault.Device) }
 {
     let body = body_of(alloc, disk, journal, size)?;
     match decode(alloc, &body) {
@@ -128,13 +121,10 @@ fn fits(patches: &[Patch], length: u64, size: u64) -> bool
 // Whether each entry fits its file.
 fn all_fit<D: Disk>(disk: &mut D, entries: &[Entry]) -> Result<bool, DiskFault>
     requires { HaveWellFormedPatches entries.now }
-    ensures fit { IfOk result (λ answer. D.honest disk.new → answer ≡ all_fit entries.now (contents (D.files disk.old))) }
-    ensures same { D.honest disk.new → D.files disk.new ≡ D.files disk.old }
-    ensures any_moment { D.honest disk.new → Passes (D.moment disk.old) (D.moment disk.new) (D.left_since disk.old) (D.left_since disk.new) (AreImages (D.files disk.old)) }
-    ensures failed { OnErr result (HasRisen (D.failures disk.old) (D.failures disk.new)) }
-    ensures told { OnOk result (D.failures disk.new ≡ D.failures disk.old) }
-    ensures failures { D.failures disk.old ≤ D.failures disk.new }
-    ensures honest { KeepsHonesty D.steady (D.honest disk.old) (D.honest disk.new) }
+    ensures fit { IfOk result (λ answer. D.honest disk.new
+        → answer ≡ all_fit entries.now (contents (D.files disk.old))) }
+    ensures looks { D.honest disk.new → Looks D.files D.moment D.left_since disk.old disk.new }
+    ensures accounts { Accounts D.steady D.honest D.failures disk.old disk.new (IsErr result) }
 {
     for entry in entries {
         let size = disk.length(&entry.name)?;
@@ -154,12 +144,9 @@ pub fn find<D: Disk>(alloc: Global, disk: &mut D, journal: &FileName) -> Result<
     requires { journal.now ≡ journal_name }
     ensures found { D.honest disk.new → Finds (contents (D.files disk.old)) result }
     ensures writable { IfOk result (λ found. IsWritable found) }
-    ensures same { D.honest disk.new → D.files disk.new ≡ D.files disk.old }
-    ensures any_moment { D.honest disk.new → Passes (D.moment disk.old) (D.moment disk.new) (D.left_since disk.old) (D.left_since disk.new) (AreImages (D.files disk.old)) }
-    ensures failed { IsErrOf result FindFault.Device → HasRisen (D.failures disk.old) (D.failures disk.new) }
-    ensures told { (IsErrOf result FindFault.Device → ⊥) → D.failures disk.new ≡ D.failures disk.old }
-    ensures failures { D.failures disk.old ≤ D.failures disk.new }
-    ensures honest { KeepsHonesty D.steady (D.honest disk.old) (D.honest disk.new) }
+    ensures looks { D.honest disk.new → Looks D.files D.moment D.left_since disk.old disk.new }
+    ensures accounts { Accounts D.steady D.honest D.failures disk.old disk.new
+        (IsErrOf result FindFault.Device) }
 {
     let Some(size) = size_of(disk, journal)? else {
         return Ok(Found::Closed);

@@ -1,9 +1,10 @@
 //! The writes of the journal, in the order that lets a stop at any moment leave it whole: while its bytes are written
 //! the gate is closed on the disk, and the gate alone opens and closes it.
-ghost use Rattle.std.specs.Prelude.{◌≡◌, ◌≢◌, ◌≤◌, ◌<◌, List, ℕ, length, drop, ◌∷◌, OnOk, OnErr, IsTrue, is_some};
-ghost use Rattle.org_disk.specs.Disk.{IsStable, Passes, HasRisen, laid, KeepsHonesty};
+ghost use Rattle.std.specs.Prelude.{◌≤◌, ◌<◌, length, drop, ◌∷◌, OnOk, IsErr, IsTrue, is_some};
+ghost use Rattle.org_disk.specs.Disk.{IsStable, laid};
+ghost use Rattle.org_disk.specs.Accounts.{Accounts, PassesOver};
 ghost use Rattle.org_journal.specs.Reading.{journal_at};
-ghost use Rattle.org_journal.specs.Gate.{front_size, is_open, HasClosedGate, LeavesClosed, LeavesBody};
+ghost use Rattle.org_journal.specs.Gate.{front_size, is_open, HasClosedGate, LeavesClosed, LeavesBody, Puts};
 
 use org_disk::{Disk, DiskFault, FileName};
 
@@ -16,16 +17,14 @@ pub(crate) const OPEN: u8 = 1;
 /// call fails.
 pub fn prepare<D: Disk>(disk: &mut D, journal: &FileName) -> Result<(), DiskFault>
     requires stable { D.honest disk.old → IsStable (D.files disk.old journal.now) }
-    requires short { D.honest disk.old → length (D.files disk.old journal.now).content < front_size }
-    ensures any_moment { D.honest disk.new → Passes (D.moment disk.old) (D.moment disk.new) (D.left_since disk.old) (D.left_since disk.new)
+    requires short { D.honest disk.old → length (D.files disk.old journal.now).content <
+        front_size }
+    ensures any_moment { D.honest disk.new → PassesOver D.moment D.left_since disk.old disk.new
         (LeavesClosed journal.now (D.files disk.old)) }
-    ensures stable { OnOk result (D.honest disk.new → IsStable (D.files disk.new journal.now)) }
-    ensures content { OnOk result (D.honest disk.new → (D.files disk.new journal.now).content ≡ 0 ∷ drop 1 (D.files disk.old journal.now).content) }
-    ensures others { D.honest disk.new → (other : List ℕ) → other ≢ journal.now → D.files disk.new other ≡ D.files disk.old other }
-    ensures failed { OnErr result (HasRisen (D.failures disk.old) (D.failures disk.new)) }
-    ensures told { OnOk result (D.failures disk.new ≡ D.failures disk.old) }
-    ensures failures { D.failures disk.old ≤ D.failures disk.new }
-    ensures honest { KeepsHonesty D.steady (D.honest disk.old) (D.honest disk.new) }
+    ensures puts { D.honest disk.new → Puts journal.now
+        (0 ∷ drop 1 (D.files disk.old journal.now).content)
+        (D.files disk.old) (D.files disk.new) result }
+    ensures accounts { Accounts D.steady D.honest D.failures disk.old disk.new (IsErr result) }
 {
     set_gate(disk, journal, CLOSED)
 }
@@ -34,15 +33,12 @@ pub fn prepare<D: Disk>(disk: &mut D, journal: &FileName) -> Result<(), DiskFaul
 /// fails; bytes that stood behind the new ones stay.
 pub fn arm<D: Disk>(disk: &mut D, journal: &FileName, body: &[u8]) -> Result<(), DiskFault>
     requires { D.honest disk.old → HasClosedGate (D.files disk.old journal.now) }
-    ensures any_moment { D.honest disk.new → Passes (D.moment disk.old) (D.moment disk.new) (D.left_since disk.old) (D.left_since disk.new)
+    ensures any_moment { D.honest disk.new → PassesOver D.moment D.left_since disk.old disk.new
         (LeavesClosed journal.now (D.files disk.old)) }
-    ensures stable { OnOk result (D.honest disk.new → IsStable (D.files disk.new journal.now)) }
-    ensures content { OnOk result (D.honest disk.new → (D.files disk.new journal.now).content ≡ laid 1 body.now (D.files disk.old journal.now).content) }
-    ensures others { D.honest disk.new → (other : List ℕ) → other ≢ journal.now → D.files disk.new other ≡ D.files disk.old other }
-    ensures failed { OnErr result (HasRisen (D.failures disk.old) (D.failures disk.new)) }
-    ensures told { OnOk result (D.failures disk.new ≡ D.failures disk.old) }
-    ensures failures { D.failures disk.old ≤ D.failures disk.new }
-    ensures honest { KeepsHonesty D.steady (D.honest disk.old) (D.honest disk.new) }
+    ensures puts { D.honest disk.new → Puts journal.now
+        (laid 1 body.now (D.files disk.old journal.now).content)
+        (D.files disk.old) (D.files disk.new) result }
+    ensures accounts { Accounts D.steady D.honest D.failures disk.old disk.new (IsErr result) }
 {
     disk.write_at(journal, 1, body)?;
     disk.sync(journal)
@@ -52,16 +48,15 @@ pub fn arm<D: Disk>(disk: &mut D, journal: &FileName, body: &[u8]) -> Result<(),
 /// differs from what it was at its first byte alone, also where the call fails.
 pub fn open_gate<D: Disk>(disk: &mut D, journal: &FileName) -> Result<(), DiskFault>
     requires { D.honest disk.old → IsStable (D.files disk.old journal.now) }
-    ensures any_moment { D.honest disk.new → Passes (D.moment disk.old) (D.moment disk.new) (D.left_since disk.old) (D.left_since disk.new)
+    ensures any_moment { D.honest disk.new → PassesOver D.moment D.left_since disk.old disk.new
         (LeavesBody journal.now (D.files disk.old)) }
-    ensures stable { OnOk result (D.honest disk.new → IsStable (D.files disk.new journal.now)) }
-    ensures content { OnOk result (D.honest disk.new → (D.files disk.new journal.now).content ≡ 1 ∷ drop 1 (D.files disk.old journal.now).content) }
-    ensures opened { OnOk result (D.honest disk.new → IsTrue (is_some (journal_at (drop 1 (D.files disk.old journal.now).content))) → IsTrue (is_open (D.files disk.new journal.now).content)) }
-    ensures others { D.honest disk.new → (other : List ℕ) → other ≢ journal.now → D.files disk.new other ≡ D.files disk.old other }
-    ensures failed { OnErr result (HasRisen (D.failures disk.old) (D.failures disk.new)) }
-    ensures told { OnOk result (D.failures disk.new ≡ D.failures disk.old) }
-    ensures failures { D.failures disk.old ≤ D.failures disk.new }
-    ensures honest { KeepsHonesty D.steady (D.honest disk.old) (D.honest disk.new) }
+    ensures puts { D.honest disk.new → Puts journal.now
+        (1 ∷ drop 1 (D.files disk.old journal.now).content)
+        (D.files disk.old) (D.files disk.new) result }
+    ensures opened { D.honest disk.new → OnOk result
+        (IsTrue (is_some (journal_at (drop 1 (D.files disk.old journal.now).content)))
+        → IsTrue (is_open (D.files disk.new journal.now).content)) }
+    ensures accounts { Accounts D.steady D.honest D.failures disk.old disk.new (IsErr result) }
 {
     set_gate(disk, journal, OPEN)
 }
@@ -71,15 +66,12 @@ pub fn open_gate<D: Disk>(disk: &mut D, journal: &FileName) -> Result<(), DiskFa
 pub fn close_gate<D: Disk>(disk: &mut D, journal: &FileName) -> Result<(), DiskFault>
     requires stable { D.honest disk.old → IsStable (D.files disk.old journal.now) }
     requires nonempty { D.honest disk.old → 1 ≤ length (D.files disk.old journal.now).content }
-    ensures any_moment { D.honest disk.new → Passes (D.moment disk.old) (D.moment disk.new) (D.left_since disk.old) (D.left_since disk.new)
+    ensures any_moment { D.honest disk.new → PassesOver D.moment D.left_since disk.old disk.new
         (LeavesBody journal.now (D.files disk.old)) }
-    ensures stable { OnOk result (D.honest disk.new → IsStable (D.files disk.new journal.now)) }
-    ensures content { OnOk result (D.honest disk.new → (D.files disk.new journal.now).content ≡ 0 ∷ drop 1 (D.files disk.old journal.now).content) }
-    ensures others { D.honest disk.new → (other : List ℕ) → other ≢ journal.now → D.files disk.new other ≡ D.files disk.old other }
-    ensures failed { OnErr result (HasRisen (D.failures disk.old) (D.failures disk.new)) }
-    ensures told { OnOk result (D.failures disk.new ≡ D.failures disk.old) }
-    ensures failures { D.failures disk.old ≤ D.failures disk.new }
-    ensures honest { KeepsHonesty D.steady (D.honest disk.old) (D.honest disk.new) }
+    ensures puts { D.honest disk.new → Puts journal.now
+        (0 ∷ drop 1 (D.files disk.old journal.now).content)
+        (D.files disk.old) (D.files disk.new) result }
+    ensures accounts { Accounts D.steady D.honest D.failures disk.old disk.new (IsErr result) }
 {
     set_gate(disk, journal, CLOSED)
 }
@@ -87,15 +79,12 @@ pub fn close_gate<D: Disk>(disk: &mut D, journal: &FileName) -> Result<(), DiskF
 // Writes the gate alone, and syncs it.
 fn set_gate<D: Disk>(disk: &mut D, journal: &FileName, gate: u8) -> Result<(), DiskFault>
     requires { D.honest disk.old → IsStable (D.files disk.old journal.now) }
-    ensures any_moment { D.honest disk.new → Passes (D.moment disk.old) (D.moment disk.new) (D.left_since disk.old) (D.left_since disk.new)
+    ensures any_moment { D.honest disk.new → PassesOver D.moment D.left_since disk.old disk.new
         (LeavesBody journal.now (D.files disk.old)) }
-    ensures stable { OnOk result (D.honest disk.new → IsStable (D.files disk.new journal.now)) }
-    ensures content { OnOk result (D.honest disk.new → (D.files disk.new journal.now).content ≡ gate ∷ drop 1 (D.files disk.old journal.now).content) }
-    ensures others { D.honest disk.new → (other : List ℕ) → other ≢ journal.now → D.files disk.new other ≡ D.files disk.old other }
-    ensures failed { OnErr result (HasRisen (D.failures disk.old) (D.failures disk.new)) }
-    ensures told { OnOk result (D.failures disk.new ≡ D.failures disk.old) }
-    ensures failures { D.failures disk.old ≤ D.failures disk.new }
-    ensures honest { KeepsHonesty D.steady (D.honest disk.old) (D.honest disk.new) }
+    ensures puts { D.honest disk.new → Puts journal.now
+        (gate ∷ drop 1 (D.files disk.old journal.now).content)
+        (D.files disk.old) (D.files disk.new) result }
+    ensures accounts { Accounts D.steady D.honest D.failures disk.old disk.new (IsErr result) }
 {
     disk.write_at(journal, 0, &[gate])?;
     disk.sync(journal)

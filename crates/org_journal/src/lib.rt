@@ -20,6 +20,3 @@ pub use finding::{FRONT, Found, find};
 pub use gate::{arm, close_gate, open_gate, prepare};
 pub use reading::well_formed;
 pub use record::{Entry, Patch, Patches, Record};
-
-#[cfg(test)]
-mod tests;

@@ -14,7 +14,8 @@ pub(crate) const HEADER: usize = 15;
 
 // The bytes behind the patches of an entry of version 2.
 fn behind_patches(length: u64, count: u32, bytes: &[u8]) -> Option<&[u8]>
-    ensures { Reads (λ rest. rest.now) result (behind (patches_at 0 length (count == 1) count bytes.now)) }
+    ensures { Reads (λ rest. rest.now) result
+        (behind (patches_at 0 length (count == 1) count bytes.now)) }
 {
     let mut place = 0;
     let mut rest = bytes;
@@ -58,7 +59,8 @@ fn behind_entries(version: Version, count: u32, bytes: &[u8]) -> Option<&[u8]>
 
 // Whether one of the entries has this name.
 fn is_named(name: &str, version: Version, count: u32, bytes: &[u8]) -> bool
-    ensures { IfSome (entries_at version count bytes.now) (λ found. result ≡ is_named name.now found.0) }
+    ensures { IfSome (entries_at version count bytes.now)
+        (λ found. result ≡ is_named name.now found.0) }
 {
     let mut rest = bytes;
     for _ in 0..count {

@@ -1,3 +1,4 @@
+//! Readers and writers of std, as a source of lines and a sink of replies.
 ghost use Rattle.std.specs.Prelude.{◌≡◌};
 ghost use Rattle.org_disk.specs.Disk.{IsCounted};
 

@@ -1,3 +1,4 @@
+//! How serving ends.
 /// How serving ended.
 #[derive(Clone, Copy, Debug, PartialEq, Eq)]
 pub enum ServeEnd {

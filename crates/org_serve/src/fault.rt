@@ -1,3 +1,4 @@
+//! The faults of a line.
 ghost use Rattle.std.specs.Prelude.{◌≡◌};
 ghost use Rattle.org_serve.specs.declared.fault.LineFault.TheVariants.{OutOfMemory};
 

@@ -1,4 +1,4 @@
-// The fields of a command line.
+//! The fields of a command line.
 ghost use Rattle.std.specs.Prelude.{◌≡◌, ◌==◌, nat_lt, true, false, IfOk, MatchOption, map};
 ghost use Rattle.std.specs.List.{slice_split, count_by};
 ghost use Rattle.std.specs.Str.{bytes_eq, is_utf8};
@@ -79,7 +79,8 @@ pub fn text(alloc: Global, field: &[u8]) -> Result<Bytes, LineFault>
 
 #[tactic(auto, using(crate::proofs::Utf8::is_no_utf8, crate::proofs::Utf8::is_some_utf8))]
 fn utf8(bytes: &[u8]) -> Option<&str>
-    ensures { MatchOption result (is_utf8 bytes.now ≡ false) (λ text. (is_utf8 bytes.now ≡ true) × (text.now ≡ bytes.now)) }
+    ensures { MatchOption result (is_utf8 bytes.now ≡ false)
+        (λ text. (is_utf8 bytes.now ≡ true) × (text.now ≡ bytes.now)) }
 {
     match str::from_utf8(bytes) {
         Ok(text) => Some(text),

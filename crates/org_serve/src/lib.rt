@@ -23,6 +23,3 @@ pub use pipes::{PipeFault, Sink, Source};
 pub use reading::read_command;
 pub use serving::serve;
 pub use whole::{Served, Setup, serve_disk};
-
-#[cfg(test)]
-mod tests;

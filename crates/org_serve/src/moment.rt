@@ -1,4 +1,4 @@
-// MOMENT: a civil minute as `YYYY-MM-DD HH:MM`.
+//! MOMENT: a civil minute as `YYYY-MM-DD HH:MM`.
 ghost use Rattle.std.specs.Prelude.{◌≡◌};
 ghost use Rattle.org_serve.specs.Grammar.{digit_of, pair_of, year_of, date_of, time_of, moment_of};
 

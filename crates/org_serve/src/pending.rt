@@ -1,4 +1,4 @@
-// The start of a line whose newline hasn't come.
+//! The start of a line whose newline hasn't come.
 ghost use Rattle.std.specs.Prelude.{◌≡◌, ◌<◌, ◌≤◌, ◌++◌, List, ℕ, [], length, MatchOption, MatchResult};
 ghost use Rattle.org_serve.specs.Pending.{limit, IsCause, Stands};
 
@@ -43,7 +43,8 @@ impl Pending {
     /// The line, now that its newline has come.
     pub fn line(&self) -> Result<&[u8], LineFault>
         ensures { (part : List ℕ) → Stands self.now part
-            → MatchResult result (λ line. (line.now ≡ part) × (length part ≤ limit)) (λ fault. IsCause fault part) }
+            → MatchResult result (λ line. (line.now ≡ part) × (length part ≤ limit))
+            (λ fault. IsCause fault part) }
     {
         match self.fault {
             None => Ok(self.bytes.as_slice()),
@@ -53,7 +54,8 @@ impl Pending {
 
     /// What is answered where the input ends within a line.
     pub fn unended(&self) -> Option<LineFault>
-        ensures { (part : List ℕ) → Stands self.now part → MatchOption result (part ≡ []) (λ _. 0 < length part) }
+        ensures { (part : List ℕ) → Stands self.now part
+            → MatchOption result (part ≡ []) (λ _. 0 < length part) }
     {
         match self.fault {
             None if self.bytes.is_empty() => None,

@@ -1,4 +1,4 @@
-// Command lines.
+//! Command lines.
 ghost use Rattle.std.specs.Prelude.{map};
 ghost use Rattle.org_serve.specs.Grammar.{show_of, capture_of, command_of, command_of_fields};
 ghost use Rattle.org_serve.specs.Gives.{Gives};

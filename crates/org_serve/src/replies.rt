@@ -1,4 +1,4 @@
-// Replies, written line by line.
+//! Replies, written line by line.
 ghost use Rattle.std.specs.Prelude.{◌≡◌, ◌++◌, length, OnOk, OnErr, codes, decimal};
 ghost use Rattle.std.specs.Io.KnownBytes.{Appends};
 ghost use Rattle.org_store.specs.declared.command.RunFault.TheVariants.{Refused};
@@ -18,7 +18,8 @@ pub fn write_answer<W: Sink>(
     before: u64,
     safe: u64,
 ) -> Result<(), PipeFault>
-    ensures ok { OnOk result (Appends (W.written writer.old) (W.written writer.new) (answer_text answer.now before safe)) }
+    ensures ok { OnOk result (Appends (W.written writer.old) (W.written writer.new)
+        (answer_text answer.now before safe)) }
     ensures same { OnOk result (W.failures writer.new ≡ W.failures writer.old) }
     ensures err { OnErr result (HasRisen (W.failures writer.old) (W.failures writer.new)) }
 {
@@ -33,7 +34,8 @@ pub fn write_answer<W: Sink>(
 
 /// Writes why a line wasn't run, and flushes.
 pub fn write_unread<W: Sink>(writer: &mut W, fault: LineFault) -> Result<(), PipeFault>
-    ensures ok { OnOk result (Appends (W.written writer.old) (W.written writer.new) (fault_text fault)) }
+    ensures ok { OnOk result (Appends (W.written writer.old) (W.written writer.new)
+        (fault_text fault)) }
     ensures same { OnOk result (W.failures writer.new ≡ W.failures writer.old) }
     ensures err { OnErr result (HasRisen (W.failures writer.old) (W.failures writer.new)) }
 {
@@ -50,7 +52,8 @@ pub fn write_settled<W: Sink>(
     answer: Result<(), RunFault>,
     safe: u64,
 ) -> Result<(), PipeFault>
-    ensures ok { OnOk result (Appends (W.written writer.old) (W.written writer.new) (settled_text answer safe)) }
+    ensures ok { OnOk result (Appends (W.written writer.old) (W.written writer.new)
+        (settled_text answer safe)) }
     ensures same { OnOk result (W.failures writer.new ≡ W.failures writer.old) }
     ensures err { OnErr result (HasRisen (W.failures writer.old) (W.failures writer.new)) }
 {
@@ -77,7 +80,8 @@ fn write_done<W: Sink>(writer: &mut W, n: u64, before: u64, safe: u64) -> Result
 }
 
 fn write_safe<W: Sink>(writer: &mut W, safe: u64) -> Result<(), PipeFault>
-    ensures ok { OnOk result (Appends (W.written writer.old) (W.written writer.new) (safe_line safe)) }
+    ensures ok { OnOk result (Appends (W.written writer.old) (W.written writer.new)
+        (safe_line safe)) }
     ensures same { OnOk result (W.failures writer.new ≡ W.failures writer.old) }
     ensures err { OnErr result (HasRisen (W.failures writer.old) (W.failures writer.new)) }
 {
@@ -100,7 +104,8 @@ fn write_text<W: Sink>(writer: &mut W, bytes: &[u8]) -> Result<(), PipeFault>
 }
 
 fn write_fault<W: Sink>(writer: &mut W, fault: RunFault) -> Result<(), PipeFault>
-    ensures ok { OnOk result (Appends (W.written writer.old) (W.written writer.new) (fault_line fault)) }
+    ensures ok { OnOk result (Appends (W.written writer.old) (W.written writer.new)
+        (fault_line fault)) }
     ensures same { OnOk result (W.failures writer.new ≡ W.failures writer.old) }
     ensures err { OnErr result (HasRisen (W.failures writer.old) (W.failures writer.new)) }
 {
@@ -113,7 +118,8 @@ fn write_fault<W: Sink>(writer: &mut W, fault: RunFault) -> Result<(), PipeFault
 }
 
 fn write_refusal<W: Sink>(writer: &mut W, why: Refusal) -> Result<(), PipeFault>
-    ensures ok { OnOk result (Appends (W.written writer.old) (W.written writer.new) (fault_line (Refused why))) }
+    ensures ok { OnOk result (Appends (W.written writer.old) (W.written writer.new)
+        (fault_line (Refused why))) }
     ensures same { OnOk result (W.failures writer.new ≡ W.failures writer.old) }
     ensures err { OnErr result (HasRisen (W.failures writer.old) (W.failures writer.new)) }
 {

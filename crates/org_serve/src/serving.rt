@@ -1,7 +1,8 @@
-// Lines answered one by one, to the end of the input.
+//! Lines answered one by one, to the end of the input.
 ghost use Rattle.std.specs.Prelude.{◌≡◌, ◌≢◌, ◌⊎◌, ◌++◌, List, ℕ, [], OnOk, OnErr, MatchResult, IsFalse};
 ghost use Rattle.std.specs.Io.KnownBytes.{Appends};
-ghost use Rattle.org_disk.specs.Disk.{HasRisen, LeavesOnly, KeepsHonesty};
+ghost use Rattle.org_disk.specs.Disk.{HasRisen, KeepsHonesty};
+ghost use Rattle.org_disk.specs.Accounts.{LeavesOver};
 ghost use Rattle.org_journal.specs.Standing.{contents};
 ghost use Rattle.org_fileset.specs.Replay.{IsAtRest};
 ghost use Rattle.org_store.specs.Runs.{RunsOver, IsBetween, IsLeftOf};
@@ -53,26 +54,34 @@ pub fn serve<D: Disk, R: Source, W: Sink>(
     ensures read { D.honest store.new.disk → result ≡ ServeEnd.Read
         → ServesLines AnswersLine store.old.session store.new.session
         (R.left reader.old) (R.left reader.new) (W.written writer.old) (W.written writer.new) }
-    ensures read_cause { result ≡ ServeEnd.Read → HasRisen (R.failures reader.old) (R.failures reader.new)
+    ensures read_cause { result ≡ ServeEnd.Read
+        → HasRisen (R.failures reader.old) (R.failures reader.new)
         ⊎ HasRisenBy turns (R.reads reader.old) (R.reads reader.new) }
 
     ensures write { D.honest store.new.disk → result ≡ ServeEnd.Write
-        → RunsSome AnswersLine store.old.session store.new.session (R.left reader.old) (R.left reader.new)
-        ⊎ RunsAllAndSettles AnswersLine HasSettled store.old.session store.new.session (R.left reader.old) (R.left reader.new) }
-    ensures write_cause { result ≡ ServeEnd.Write → HasRisen (W.failures writer.old) (W.failures writer.new) }
+        → RunsSome AnswersLine store.old.session store.new.session (R.left reader.old)
+        (R.left reader.new)
+        ⊎ RunsAllAndSettles AnswersLine HasSettled store.old.session store.new.session
+        (R.left reader.old) (R.left reader.new) }
+    ensures write_cause { result ≡ ServeEnd.Write
+        → HasRisen (W.failures writer.old) (W.failures writer.new) }
 
     ensures calls { D.honest store.new.disk
-        → Runs (RunsLine D.files D.moment D.left_since) (HasSettledOver D.files D.moment D.left_since) store.old store.new result
+        → Runs (RunsLine D.files D.moment D.left_since)
+        (HasSettledOver D.files D.moment D.left_since) store.old store.new result
         (R.left reader.old) (R.left reader.new) (W.written writer.old) (W.written writer.new) }
-    ensures any_moment { D.honest store.new.disk → IsAtRest (D.files store.old.disk) → IsFalse store.old.session.broken
+    ensures any_moment { D.honest store.new.disk → IsAtRest (D.files store.old.disk)
+        → IsFalse store.old.session.broken
         → (run : Runs AnswersLine HasSettled store.old.session store.new.session result
         (R.left reader.old) (R.left reader.new) (W.written writer.old) (W.written writer.new))
-        × LeavesOnly (D.moment store.old.disk) (D.moment store.new.disk) (D.left_since store.old.disk) (D.left_since store.new.disk)
+        × LeavesOver D.moment D.left_since store.old.disk store.new.disk
         (IsLeftOf store.old.session (contents (D.files store.old.disk))
-        (λ mid. Reaches store.old.session run.ran run.out mid × IsBetween store.old.session store.new.session mid)) }
+        (λ mid. Reaches store.old.session run.ran run.out mid
+        × IsBetween store.old.session store.new.session mid)) }
     ensures disk { D.honest store.new.disk → KeepsDisk D.files store.old store.new }
 
-    ensures device { BreaksByFailure store.old.session store.new.session (D.failures store.old.disk) (D.failures store.new.disk) }
+    ensures device { BreaksByFailure store.old.session store.new.session (D.failures store.old.disk)
+        (D.failures store.new.disk) }
     ensures honest { KeepsHonesty D.steady (D.honest store.old.disk) (D.honest store.new.disk) }
 {
     store.settled_is_on_disk();
@@ -99,13 +108,17 @@ fn feed<D: Disk, W: Sink>(
     piece: &[u8],
     writer: &mut W,
 ) -> Result<(), PipeFault>
-    ensures fed { D.honest store.new.disk → (part : List ℕ) → (cut part).lines ≡ [] → Stands pending.old part
+    ensures fed { D.honest store.new.disk → (part : List ℕ) → (cut part).lines ≡ []
+        → Stands pending.old part
         → MatchResult result
-        (λ _. FeedOk (RunsLine D.files D.moment D.left_since) store.old (part ++ piece.now) store.new (W.written writer.old) (W.written writer.new) pending.new)
-        (λ _. FeedErr (RunsLine D.files D.moment D.left_since) store.old (part ++ piece.now) store.new) }
+        (λ _. FeedOk (RunsLine D.files D.moment D.left_since) store.old (part ++ piece.now)
+        store.new (W.written writer.old) (W.written writer.new) pending.new)
+        (λ _. FeedErr (RunsLine D.files D.moment D.left_since) store.old (part ++ piece.now)
+        store.new) }
     ensures same { OnOk result (W.failures writer.new ≡ W.failures writer.old) }
     ensures err { OnErr result (HasRisen (W.failures writer.old) (W.failures writer.new)) }
-    ensures device { BreaksByFailure store.old.session store.new.session (D.failures store.old.disk) (D.failures store.new.disk) }
+    ensures device { BreaksByFailure store.old.session store.new.session (D.failures store.old.disk)
+        (D.failures store.new.disk) }
     ensures honest { KeepsHonesty D.steady (D.honest store.old.disk) (D.honest store.new.disk) }
 {
     let mut rest = piece;
@@ -126,12 +139,14 @@ fn answer<D: Disk, W: Sink>(
     writer: &mut W,
 ) -> Result<(), PipeFault>
     ensures step { D.honest store.new.disk → (part : List ℕ) → Stands pending.old part
-        → (out : List ℕ) × RunsLine D.files D.moment D.left_since store.old (part ++ last.now) out store.new
+        → (out : List ℕ) × RunsLine D.files D.moment D.left_since store.old (part ++ last.now) out
+        store.new
         × OnOk result (Appends (W.written writer.old) (W.written writer.new) out) }
     ensures cleared { Stands pending.new [] }
     ensures same { OnOk result (W.failures writer.new ≡ W.failures writer.old) }
     ensures err { OnErr result (HasRisen (W.failures writer.old) (W.failures writer.new)) }
-    ensures device { BreaksByFailure store.old.session store.new.session (D.failures store.old.disk) (D.failures store.new.disk) }
+    ensures device { BreaksByFailure store.old.session store.new.session (D.failures store.old.disk)
+        (D.failures store.new.disk) }
     ensures honest { KeepsHonesty D.steady (D.honest store.old.disk) (D.honest store.new.disk) }
 {
     pending.add(last);
@@ -156,11 +171,14 @@ fn answer_read<D: Disk, W: Sink>(
     read: &Result<Command, LineFault>,
     writer: &mut W,
 ) -> Result<(), PipeFault>
-    ensures step { D.honest store.new.disk → (out : List ℕ) × AnswersReadBy (RunsOver D.files D.moment D.left_since) (λ kept. kept.session) store.old read.now out store.new
+    ensures step { D.honest store.new.disk → (out : List ℕ)
+        × AnswersReadBy (RunsOver D.files D.moment D.left_since) (λ kept. kept.session) store.old
+        read.now out store.new
         × OnOk result (Appends (W.written writer.old) (W.written writer.new) out) }
     ensures same { OnOk result (W.failures writer.new ≡ W.failures writer.old) }
     ensures err { OnErr result (HasRisen (W.failures writer.old) (W.failures writer.new)) }
-    ensures device { BreaksByFailure store.old.session store.new.session (D.failures store.old.disk) (D.failures store.new.disk) }
+    ensures device { BreaksByFailure store.old.session store.new.session (D.failures store.old.disk)
+        (D.failures store.new.disk) }
     ensures honest { KeepsHonesty D.steady (D.honest store.old.disk) (D.honest store.new.disk) }
 {
     match read {
@@ -175,13 +193,18 @@ fn answer_read<D: Disk, W: Sink>(
 
 // Ends serving at the end of the input.
 fn finish<D: Disk, W: Sink>(store: &mut Store<D>, pending: &Pending, writer: &mut W) -> ServeEnd
-    ensures told { D.honest store.new.disk → result ≢ ServeEnd.Write → (part : List ℕ) → Stands pending.now part
-        → EndsWith (FinishesOver D.files D.moment D.left_since) part store.old result store.new (W.written writer.old) (W.written writer.new) }
+    ensures told { D.honest store.new.disk → result ≢ ServeEnd.Write → (part : List ℕ)
+        → Stands pending.now part
+        → EndsWith (FinishesOver D.files D.moment D.left_since) part store.old result store.new
+        (W.written writer.old) (W.written writer.new) }
     ensures never { result ≢ ServeEnd.Read }
     ensures write { D.honest store.new.disk → result ≡ ServeEnd.Write
-        → (store.new ≡ store.old) ⊎ HasSettledOver D.files D.moment D.left_since store.old store.new }
-    ensures write_cause { result ≡ ServeEnd.Write → HasRisen (W.failures writer.old) (W.failures writer.new) }
-    ensures device { BreaksByFailure store.old.session store.new.session (D.failures store.old.disk) (D.failures store.new.disk) }
+        → (store.new ≡ store.old) ⊎ HasSettledOver D.files D.moment D.left_since store.old
+        store.new }
+    ensures write_cause { result ≡ ServeEnd.Write
+        → HasRisen (W.failures writer.old) (W.failures writer.new) }
+    ensures device { BreaksByFailure store.old.session store.new.session (D.failures store.old.disk)
+        (D.failures store.new.disk) }
     ensures honest { KeepsHonesty D.steady (D.honest store.old.disk) (D.honest store.new.disk) }
 {
     match answer_rest(pending, writer) {
@@ -193,7 +216,8 @@ fn finish<D: Disk, W: Sink>(store: &mut Store<D>, pending: &Pending, writer: &mu
 // Answers what stands behind the last newline.
 fn answer_rest<W: Sink>(pending: &Pending, writer: &mut W) -> Result<(), PipeFault>
     ensures rest { (part : List ℕ) → Stands pending.now part
-        → (last : List ℕ) × AnswersRest part last × OnOk result (Appends (W.written writer.old) (W.written writer.new) last) }
+        → (last : List ℕ) × AnswersRest part last
+        × OnOk result (Appends (W.written writer.old) (W.written writer.new) last) }
     ensures same { OnOk result (W.failures writer.new ≡ W.failures writer.old) }
     ensures err { OnErr result (HasRisen (W.failures writer.old) (W.failures writer.new)) }
 {
@@ -209,9 +233,12 @@ fn settle<D: Disk, W: Sink>(store: &mut Store<D>, writer: &mut W) -> ServeEnd
         × FinishesOver D.files D.moment D.left_since store.old result tail store.new
         × Appends (W.written writer.old) (W.written writer.new) tail }
     ensures never { result ≢ ServeEnd.Read }
-    ensures write { D.honest store.new.disk → result ≡ ServeEnd.Write → HasSettledOver D.files D.moment D.left_since store.old store.new }
-    ensures write_cause { result ≡ ServeEnd.Write → HasRisen (W.failures writer.old) (W.failures writer.new) }
-    ensures device { BreaksByFailure store.old.session store.new.session (D.failures store.old.disk) (D.failures store.new.disk) }
+    ensures write { D.honest store.new.disk → result ≡ ServeEnd.Write
+        → HasSettledOver D.files D.moment D.left_since store.old store.new }
+    ensures write_cause { result ≡ ServeEnd.Write
+        → HasRisen (W.failures writer.old) (W.failures writer.new) }
+    ensures device { BreaksByFailure store.old.session store.new.session (D.failures store.old.disk)
+        (D.failures store.new.disk) }
     ensures honest { KeepsHonesty D.steady (D.honest store.old.disk) (D.honest store.new.disk) }
 {
     if store.is_broken() {

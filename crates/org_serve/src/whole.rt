@@ -1,13 +1,14 @@
-// A whole run over a disk, from the opening to the end of the input.
+//! A whole run over a disk, from the opening to the end of the input.
 ghost use Rattle.std.specs.Prelude.{◌≡◌, ◌⊎◌, Ok, All, IfOk, IfErr, MatchResult};
-ghost use Rattle.org_disk.specs.Disk.{HasRisen, LeavesOnly, KeepsHonesty};
+ghost use Rattle.org_disk.specs.Disk.{HasRisen, KeepsHonesty};
+ghost use Rattle.org_disk.specs.Accounts.{LeavesOver};
 ghost use Rattle.org_journal.specs.Standing.{IsFit, contents};
 ghost use Rattle.org_disk.specs.Names.{IsOrgFile};
 ghost use Rattle.org_fileset.specs.Opening.{IsReason};
 ghost use Rattle.org_fileset.specs.Recovery.{EachStands, StandsAsBefore};
 ghost use Rattle.org_fileset.specs.declared.open.OpenFault.{OpenFault};
 ghost use Rattle.org_serve.specs.Counts.{HasRisenBy};
-ghost use Rattle.org_serve.specs.Group.{IsGroup};
+ghost use Rattle.org_store.specs.Group.{IsGroup};
 ghost use Rattle.org_serve.specs.Whole.{ServesOver, IsLeftServing};
 
 use crate::end::ServeEnd;
@@ -60,18 +61,27 @@ pub fn serve_disk<D: Disk, R: Source, W: Sink>(
     ensures served { D.honest result.disk → IfOk result.end (λ end.
         ServesOver setup.states setup.group setup.names.items (contents (D.files disk)) end
         (R.left reader.old) (R.left reader.new) (W.written writer.old) (W.written writer.new)) }
-    ensures any_moment { D.honest result.disk → IsFit (D.files disk) → EachStands (D.files disk) → MatchResult result.end
-        (λ end. (served : ServesOver setup.states setup.group setup.names.items (contents (D.files disk)) end
+    ensures any_moment { D.honest result.disk → IsFit (D.files disk) → EachStands (D.files disk)
+        → MatchResult result.end
+        (λ end. (served : ServesOver setup.states setup.group setup.names.items (contents
+        (D.files disk)) end
         (R.left reader.old) (R.left reader.new) (W.written writer.old) (W.written writer.new))
-        × LeavesOnly (D.moment disk) (D.moment result.disk) (D.left_since disk) (D.left_since result.disk) (IsLeftServing (D.files disk) served))
-        (λ fault. LeavesOnly (D.moment disk) (D.moment result.disk) (D.left_since disk) (D.left_since result.disk) (StandsAsBefore (D.files disk))) }
-    ensures fit { D.honest result.disk → IsFit (D.files disk) → EachStands (D.files disk) → IsFit (D.files result.disk) }
-    ensures read_cause { result.end ≡ Ok ServeEnd.Read → HasRisen (R.failures reader.old) (R.failures reader.new)
+        × LeavesOver D.moment D.left_since disk result.disk (IsLeftServing (D.files disk) served))
+        (λ fault. LeavesOver D.moment D.left_since disk result.disk
+        (StandsAsBefore (D.files disk))) }
+    ensures fit { D.honest result.disk → IsFit (D.files disk) → EachStands (D.files disk)
+        → IsFit (D.files result.disk) }
+    ensures read_cause { result.end ≡ Ok ServeEnd.Read
+        → HasRisen (R.failures reader.old) (R.failures reader.new)
         ⊎ HasRisenBy turns (R.reads reader.old) (R.reads reader.new) }
-    ensures write_cause { result.end ≡ Ok ServeEnd.Write → HasRisen (W.failures writer.old) (W.failures writer.new) }
-    ensures refused { IfErr result.end (IsReason setup.names.items (D.honest result.disk) (contents (D.files disk)) (contents (D.files result.disk))) }
-    ensures failed { IfErr result.end (λ fault. fault ≡ OpenFault.Device → HasRisen (D.failures disk) (D.failures result.disk)) }
-    ensures told { IfErr result.end (λ fault. (fault ≡ OpenFault.Device → ⊥) → D.failures result.disk ≡ D.failures disk) }
+    ensures write_cause { result.end ≡ Ok ServeEnd.Write
+        → HasRisen (W.failures writer.old) (W.failures writer.new) }
+    ensures refused { IfErr result.end (IsReason setup.names.items (D.honest result.disk)
+        (contents (D.files disk)) (contents (D.files result.disk))) }
+    ensures failed { IfErr result.end (λ fault. fault ≡ OpenFault.Device
+        → HasRisen (D.failures disk) (D.failures result.disk)) }
+    ensures told { IfErr result.end (λ fault. (fault ≡ OpenFault.Device → ⊥)
+        → D.failures result.disk ≡ D.failures disk) }
     ensures honest { KeepsHonesty D.steady (D.honest disk) (D.honest result.disk) }
 {
     let Setup {

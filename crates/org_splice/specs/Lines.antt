@@ -1,5 +1,5 @@
 -- Texts: lists of bytes, read as lines that end with a newline (Org Syntax, "Terminology and conventions").
-use Rattle.std.specs.Prelude.{◌≢◌, ℕ, ◌==◌, List, [], ◌∷◌, ◌++◌, if◌then◌else◌}
+use Rattle.std.specs.Prelude.{◌≢◌, ℕ, Bool, true, ◌==◌, List, [], ◌∷◌, ◌++◌, if◌then◌else◌}
 use Rattle.std.specs.List.{AllByRecursion}
 
 -- t with a newline at its end, where it has bytes and does not end in one
@@ -7,6 +7,12 @@ abbrev pub closed : List ℕ → List ℕ
 closed [] = []
 closed (b ∷ []) = if b == 10 then b ∷ [] else b ∷ 10 ∷ []
 closed (b ∷ c ∷ bs) = b ∷ closed (c ∷ bs)
+
+-- whether a text is closed: it is empty, or ends in a newline
+abbrev pub is_closed : List ℕ → Bool
+is_closed [] = true
+is_closed (b ∷ []) = b == 10
+is_closed (b ∷ c ∷ bs) = is_closed (c ∷ bs)
 
 -- the lines, each with its newline
 abbrev pub print_lines : List (List ℕ) → List ℕ

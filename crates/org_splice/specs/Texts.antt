@@ -1,7 +1,9 @@
 -- Edited texts: bytes, with the ranges in which they were changed since the text was last settled, or new.
-use Rattle.std.specs.Prelude.{◌≡◌, ℕ, ◌+◌, ◌-◌, ◌<◌, List, [], ◌∷◌, ◌++◌, map, length, take, drop, slice_get, slice_range}
+use Rattle.std.specs.Prelude.{◌≡◌, ℕ, ◌+◌, ◌-◌, ◌<◌, List, [], ◌∷◌, ◌++◌, map, length, take, drop, slice_get, slice_range, if◌then◌else◌}
 use Rattle.org_splice.specs.declared.Span.{Span}
+use Rattle.org_splice.specs.declared.edit.Edit.{Edit}
 use Rattle.org_splice.specs.declared.patch.Patch.{Patch}
+use Rattle.org_splice.specs.Lines.{is_closed}
 use Rattle.org_splice.specs.Ranges.{IsUnchanged, changed_by}
 
 pub record EditedText : Type 0 where
@@ -22,6 +24,15 @@ spliced at removed bytes text = record {
   bytes = take at text.bytes ++ bytes ++ drop (at + removed) text.bytes;
   changed = changed_by at removed (length bytes) (length text.bytes - removed + length bytes) text.changed;
 }
+
+-- a text with a newline put at its end, where it has bytes and doesn't end in one
+abbrev pub closed_text : EditedText → EditedText
+closed_text text = if is_closed text.bytes then text else spliced (length text.bytes) 0 (10 ∷ []) text
+
+-- a text with edits, one after another
+abbrev pub spliced_each : List Edit → EditedText → EditedText
+spliced_each [] text = text
+spliced_each (edit ∷ edits) text = spliced_each edits (spliced edit.at edit.removed edit.bytes text)
 
 -- the patch that writes a range
 abbrev pub patch_of : List ℕ → Span → ℕ × List ℕ

@@ -1,4 +1,7 @@
-//! One change of a text.
+//! One change of a text, and what several make of its size.
+ghost use Rattle.std.specs.Prelude.{◌≡◌, ◌+◌, ◌<◌, ◌^◌, List, ℕ, length, sum_by, IfSome, IsSome};
+ghost use Rattle.org_splice.specs.Edits.{CanApply, applied_each};
+
 use crate::bytes::Bytes;
 
 /// `removed` bytes from the byte position `at` on give way to `bytes`.
@@ -7,4 +10,21 @@ pub struct Edit {
     pub at: usize,
     pub removed: usize,
     pub bytes: Bytes,
+}
+
+/// How many bytes a text of this size has after edits, which can be made of it one after another. None comes only where
+/// it would have 2^64 bytes or more after one of them. Takes no memory.
+pub fn size_after(size: usize, edits: &[Edit]) -> Option<usize>
+    ensures size { (text : List ℕ) → length text ≡ size → CanApply edits.now text
+        → IfSome result (λ after. after ≡ length (applied_each edits.now text)) }
+    ensures some { (text : List ℕ) → length text ≡ size → CanApply edits.now text
+        → size + sum_by (λ edit. length edit.bytes) edits.now < 2 ^ 64 → IsSome result }
+{
+    let mut size = size;
+    for edit in edits {
+        size = size
+            .checked_sub(edit.removed)?
+            .checked_add(edit.bytes.len())?;
+    }
+    Some(size)
 }

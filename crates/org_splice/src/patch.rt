@@ -1,9 +1,49 @@
 //! What is to be written of a text.
+ghost use Rattle.std.specs.Prelude.{◌≡◌, length, map, IfOk, List, ℕ};
+ghost use Rattle.org_splice.specs.Patches.{AreWellFormed, LayTo};
+ghost use Rattle.org_splice.specs.Ranges.{AreChanged};
+ghost use Rattle.org_splice.specs.Texts.{IsEditOf, patches_of, pairs_of};
+ghost use Rattle.org_splice.specs.Versions.{text_of_parts};
+
+use crate::Span;
 use crate::bytes::Bytes;
+use std::alloc::{AllocError, Global};
 
 /// Bytes of a text, and the byte position from which on they stand there.
 #[derive(Debug, PartialEq, Eq, Drop)]
 pub struct Patch {
     pub from: usize,
     pub bytes: Bytes,
+}
+
+/// The patches of a text's changed ranges, and one empty patch where there is none.
+pub(crate) fn patches_of(
+    alloc: Global,
+    text: &[u8],
+    changed: &[Span],
+) -> Result<Vec<Patch>, AllocError>
+    requires { AreChanged (length text.now) changed.now }
+    ensures exact { IfOk result
+        (λ patches. pairs_of patches.items ≡ patches_of (text_of_parts text.now changed.now)) }
+    ensures well_formed { IfOk result
+        (λ patches. AreWellFormed (pairs_of patches.items) (length text.now)) }
+    ensures laid { IfOk result
+        (λ patches. (old : List ℕ) → IsEditOf old (text_of_parts text.now changed.now)
+        → LayTo (pairs_of patches.items) (length text.now) old text.now) }
+{
+    let mut patches = Vec::new(alloc);
+    for range in changed {
+        let bytes = Vec::from_slice(alloc, &text[range.start..range.end])?;
+        patches.push(Patch {
+            from: range.start,
+            bytes: Bytes::new(bytes),
+        })?;
+    }
+    if patches.is_empty() {
+        patches.push(Patch {
+            from: 0,
+            bytes: Bytes::new(Vec::new(alloc)),
+        })?;
+    }
+    Ok(patches)
 }

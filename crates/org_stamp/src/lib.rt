@@ -17,6 +17,3 @@ pub use durations::duration;
 pub use fault::RepeatFault;
 pub use moment::Moment;
 pub use stamp::Stamp;
-
-#[cfg(test)]
-mod tests;

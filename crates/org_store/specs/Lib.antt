@@ -10,3 +10,4 @@ pub mod Keeping
 pub mod Opening
 pub mod Runs
 pub mod Reopening
+pub mod Group

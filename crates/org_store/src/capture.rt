@@ -1,4 +1,4 @@
-// The entry of a template, and a text with it put in.
+//! The entry of a template, and a text with it put in.
 ghost use Rattle.std.specs.Prelude.{◌≡◌, ◌↔◌, IsTrue, List, ℕ, length, OnOk};
 ghost use Rattle.org_splice.specs.Lines.{closed};
 ghost use Rattle.org_splice.specs.Texts.{IsEditOf};
@@ -75,7 +75,8 @@ pub fn put_entry(
     requires entry { IsEntry entry.now }
     ensures name { draft.new.name ≡ draft.old.name }
     ensures edit { (old : List ℕ) → IsEditOf old draft.old.text → IsEditOf old draft.new.text }
-    ensures text { OnOk result ((node : Node) → entry.now ≡ print_node (shift_node 1 node) → draft.new.text.bytes ≡ captured target.now place node draft.old.text.bytes) }
+    ensures text { OnOk result ((node : Node) → entry.now ≡ print_node (shift_node 1 node)
+        → draft.new.text.bytes ≡ captured target.now place node draft.old.text.bytes) }
     ensures shut { OnOk result (closed draft.new.text.bytes ≡ draft.new.text.bytes) }
     ensures heads { OnOk result (draft.new.heads ≡ headings_of draft.new.text.bytes) }
 {

@@ -1,4 +1,4 @@
-// Commands, and what is answered to them.
+//! Commands, and what is answered to them.
 ghost use Rattle.std.specs.Prelude.{◌≡◌, codes};
 ghost use Rattle.org_store.specs.Refusals.{code_of, name_of};
 ghost use Rattle.org_store.specs.declared.command.RunFault.TheVariants.{OutOfMemory};

@@ -1,7 +1,8 @@
 //! What follows from the relation between a store before and after a call.
 ghost use Rattle.std.specs.Prelude.{◌≡◌, ◌<◌, ◌+◌, ◌++◌, ◌⊎◌, List, ℕ, None, Result, Ok, IsTrue, IsFalse};
 ghost use Rattle.std.specs.List.{All};
-ghost use Rattle.org_disk.specs.Disk.{HasRisen, LeavesOnly};
+ghost use Rattle.org_disk.specs.Disk.{HasRisen};
+ghost use Rattle.org_disk.specs.Accounts.{LeavesOver};
 ghost use Rattle.org_journal.specs.Standing.{Image, contents};
 ghost use Rattle.org_disk.specs.Names.{IsOrgFile};
 ghost use Rattle.org_fileset.specs.Names.{with_archives, AreSorted, AreFew, first_large};
@@ -25,25 +26,31 @@ use org_disk::Disk;
 
 /// An answer that is no fault is the only one, and so is the store after it.
 pub fn one_answer()
-    ensures { (old new other : Session) (command : Command) (answer second : Result Reply RunFault) → IsReply answer → IsReply second
-        → Step old command answer new → Step old command second other → (answer ≡ second) × (new ≡ other) }
+    ensures { (old new other : Session) (command : Command) (answer second : Result Reply RunFault)
+        → IsReply answer → IsReply second
+        → Step old command answer new → Step old command second other
+        → (answer ≡ second) × (new ≡ other) }
 {}
 
 /// Where a command is accepted, fewer commands than a group has are left without acknowledgement.
 pub fn few_unacknowledged()
-    ensures { (old new : Session) (command : Command) (n : ℕ) → 0 < old.group → Step old command (Ok (Done n)) new → new.accepted < new.acknowledged + new.group }
+    ensures { (old new : Session) (command : Command) (n : ℕ) → 0 < old.group
+        → Step old command (Ok (Done n)) new → new.accepted < new.acknowledged + new.group }
 {}
 
 /// No command changes the states, the names or the group.
 pub fn keeps_setting()
-    ensures { (old new : Session) (command : Command) (answer : Result Reply RunFault) → Step old command answer new
+    ensures { (old new : Session) (command : Command) (answer : Result Reply RunFault)
+        → Step old command answer new
         → (new.states ≡ old.states) × (new.names ≡ old.names) × (new.group ≡ old.group) }
 {}
 
 /// Commands after commands are one run.
 pub fn runs_join()
-    ensures { (old mid new : Session) (commands later : List Command) (answers more : List (Result Reply RunFault))
-        → Run old commands answers mid → Run mid later more new → Run old (commands ++ later) (answers ++ more) new }
+    ensures { (old mid new : Session) (commands later : List Command)
+        (answers more : List (Result Reply RunFault))
+        → Run old commands answers mid → Run mid later more new
+        → Run old (commands ++ later) (answers ++ more) new }
 {}
 
 /// Since a run of commands began, on a disk that was at rest and honest then, under a store that wasn't broken, a stop
@@ -52,43 +59,60 @@ pub fn runs_join()
 /// settled is on the disk is true of every store (`Store::settled_is_on_disk`); `RunsAllOver` is what `run` promises of
 /// each call where the disk is honest after it.
 pub fn stops_leave_a_prefix<D: Disk>()
-    ensures any_moment { (old new : Kept D) (commands : List Command) (answers : List (Result Reply RunFault)) → D.honest old.disk → IsAtRest (D.files old.disk)
-        → IsOnDisk old.session (contents (D.files old.disk)) → IsFalse old.session.broken → RunsAllOver D.files D.moment D.left_since old commands answers new
-        → LeavesOnly (D.moment old.disk) (D.moment new.disk) (D.left_since old.disk) (D.left_since new.disk)
-        (IsLeftOf old.session (contents (D.files old.disk)) (λ mid. Reaches old.session commands answers mid × IsBetween old.session new.session mid)) }
+    ensures any_moment { (old new : Kept D) (commands : List Command)
+        (answers : List (Result Reply RunFault)) → D.honest old.disk → IsAtRest (D.files old.disk)
+        → IsOnDisk old.session (contents (D.files old.disk)) → IsFalse old.session.broken
+        → RunsAllOver D.files D.moment D.left_since old commands answers new
+        → LeavesOver D.moment D.left_since old.disk new.disk
+        (IsLeftOf old.session (contents (D.files old.disk))
+        (λ mid. Reaches old.session commands answers mid × IsBetween old.session new.session mid)) }
     // A broken store leaves its disk as it is.
-    ensures broken { (old new : Kept D) (commands : List Command) (answers : List (Result Reply RunFault)) → IsTrue old.session.broken
+    ensures broken { (old new : Kept D) (commands : List Command)
+        (answers : List (Result Reply RunFault)) → IsTrue old.session.broken
         → RunsAllOver D.files D.moment D.left_since old commands answers new → new ≡ old }
 {}
 
 /// There is one way to put names in order, each once. So the given names are few or too many, and never both.
 pub fn one_sorting()
-    ensures { (given first second : List (List ℕ)) → AreSorted given first → AreSorted given second → first ≡ second }
+    ensures { (given first second : List (List ℕ)) → AreSorted given first → AreSorted given second
+        → first ≡ second }
 {}
 
 /// No text of a store's files is past the limit after an opening, nor after any command that is accepted.
 pub fn texts_stay_small()
-    ensures opened { (files : Image) (names : List (List ℕ)) → first_large files names ≡ None → AreSmall names (texts_of files names) }
-    ensures accepted { (s : Session) (command : Command) (files : List (List ℕ)) → AreSmall s.names s.files → outcome s command ≡ Accepts files → AreSmall s.names files }
+    ensures opened { (files : Image) (names : List (List ℕ)) → first_large files names ≡ None
+        → AreSmall names (texts_of files names) }
+    ensures accepted { (s : Session) (command : Command) (files : List (List ℕ))
+        → AreSmall s.names s.files → outcome s command ≡ Accepts files → AreSmall s.names files }
 {}
 
 /// Every image of a store's disk opens again, with the names that the store was opened with: over a disk that holds
 /// such an image, `Store::open` answers Ok, OutOfMemory, or Device with a counted failure, and nothing else.
 pub fn every_image_opens<D: Disk>()
     // what a refused opening of such an image tells
-    ensures faults { (given : List (List ℕ)) (disk now : D) (fault : OpenFault) → All IsOrgFile given → D.honest now → IsOpenable given (contents (D.files disk))
-        → IsReason given (D.honest now) (contents (D.files disk)) (contents (D.files now)) fault → (fault ≡ Device → HasRisen (D.failures disk) (D.failures now))
+    ensures faults { (given : List (List ℕ)) (disk now : D) (fault : OpenFault)
+        → All IsOrgFile given → D.honest now → IsOpenable given (contents (D.files disk))
+        → IsReason given (D.honest now) (contents (D.files disk)) (contents (D.files now)) fault
+        → (fault ≡ Device → HasRisen (D.failures disk) (D.failures now))
         → (fault ≡ OutOfMemory) ⊎ ((fault ≡ Device) × HasRisen (D.failures disk) (D.failures now)) }
     // what a stop left of a store's files is such an image, as long as no text of them was past the limit
-    ensures held { (given : List (List ℕ)) (s : Session) (others image : Image) (texts : List (List ℕ)) → AreFew given → AreSorted (with_archives given) s.names
+    ensures held { (given : List (List ℕ)) (s : Session) (others image : Image)
+        (texts : List (List ℕ)) → AreFew given → AreSorted (with_archives given) s.names
         → AreSmall s.names texts → Holds s others texts image → IsOpenable given image }
     // so is what a stop leaves while a command runs
-    ensures left { (given : List (List ℕ)) (s : Session) (others image : Image) (command : Command) (answer : Result Reply RunFault) (accepted : ℕ) → AreFew given → AreSorted (with_archives given) s.names
-        → AreSmall s.names s.settled → AreSmall s.names s.files → IsLeft s others command answer accepted image → IsOpenable given image }
+    ensures left { (given : List (List ℕ)) (s : Session) (others image : Image) (command : Command)
+        (answer : Result Reply RunFault) (accepted : ℕ) → AreFew given
+        → AreSorted (with_archives given) s.names
+        → AreSmall s.names s.settled → AreSmall s.names s.files
+        → IsLeft s others command answer accepted image → IsOpenable given image }
     // and what a stop leaves of a whole run of commands
-    ensures run { (given : List (List ℕ)) (old new : Session) (others image : Image) (commands : List Command) (answers : List (Result Reply RunFault)) → AreFew given
-        → AreSorted (with_archives given) old.names → AreSmall old.names old.settled → AreSmall old.names old.files
-        → IsLeftOf old others (λ mid. Reaches old commands answers mid × IsBetween old new mid) image → IsOpenable given image }
+    ensures run { (given : List (List ℕ)) (old new : Session) (others image : Image)
+        (commands : List Command) (answers : List (Result Reply RunFault)) → AreFew given
+        → AreSorted (with_archives given) old.names → AreSmall old.names old.settled
+        → AreSmall old.names old.files
+        → IsLeftOf old others (λ mid. Reaches old commands answers mid × IsBetween old new mid)
+        image → IsOpenable given image }
     // the names may be given in another order, and repeated
-    ensures names { (given more : List (List ℕ)) (image : Image) → AreSameNames given more → IsOpenable given image → IsOpenable more image }
+    ensures names { (given more : List (List ℕ)) (image : Image) → AreSameNames given more
+        → IsOpenable given image → IsOpenable more image }
 {}

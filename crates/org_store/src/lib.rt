@@ -9,8 +9,6 @@ mod capture;
 mod command;
 pub mod laws;
 mod store;
-#[cfg(test)]
-mod tests;
 
 pub use command::{Command, Refusal, Reply, RunFault, Target};
 pub use org_fileset::{OpenFault, OpenRefused};

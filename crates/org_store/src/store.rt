@@ -1,18 +1,18 @@
-// A store over a disk.
-ghost use Rattle.std.specs.Prelude.{◌≡◌, ◌≤◌, ◌<◌, ◌⊎◌, ◌↔◌, ◌+◌, ◌^◌, ◌-◌, true, false, Err, is_some, IsSomeAnd, IfOk, IfErr, IsErrOf, IsTrue, None, MatchResult};
+//! A store over a disk.
+ghost use Rattle.std.specs.Prelude.{◌≡◌, ◌≤◌, ◌<◌, ◌⊎◌, ◌↔◌, ◌+◌, ◌^◌, ◌-◌, true, false, Err, is_some, IfOk, IfErr, IsErrOf, IsTrue, None};
 ghost use Rattle.std.specs.List.{All};
-ghost use Rattle.org_disk.specs.Disk.{HasRisen, LeavesOnly, Passes, AreImages, KeepsHonesty};
+ghost use Rattle.org_disk.specs.Accounts.{Accounts, Looks};
 ghost use Rattle.org_disk.specs.Names.{IsOrgFile};
-ghost use Rattle.org_journal.specs.Standing.{SameFiles, IsFit, stands, contents};
+ghost use Rattle.org_journal.specs.Standing.{stands, contents};
 ghost use Rattle.org_fileset.specs.Names.{with_archives, AreSorted, AreFew, first_large};
-ghost use Rattle.org_fileset.specs.Opening.{IsReason};
-ghost use Rattle.org_fileset.specs.Recovery.{EachStands, StandsAsBefore};
-ghost use Rattle.org_fileset.specs.Replay.{IsAtRest};
+ghost use Rattle.org_fileset.specs.Opening.{IsDeviceRefusal, IsReason, disk_in};
+ghost use Rattle.org_fileset.specs.Recovery.{Reopens};
 ghost use Rattle.org_fileset.specs.declared.open.OpenFault.{OpenFault};
 ghost use Rattle.org_held.specs.Held.{Each, list_of};
 ghost use Rattle.org_held.specs.InOrder.{is_name, text_at, texts_of};
 ghost use Rattle.org_held.specs.Set.{IsDraft};
-ghost use Rattle.org_store.specs.Opening.{opened, disk_in};
+ghost use Rattle.org_store.specs.Group.{IsGroup};
+ghost use Rattle.org_store.specs.Opening.{opened};
 ghost use Rattle.org_store.specs.Reopening.{IsOpenable};
 ghost use Rattle.org_store.specs.Runs.{IsOnDisk, LeavesDisk};
 ghost use Rattle.org_store.specs.Outcome.{capture, show};
@@ -90,21 +90,24 @@ impl<D: Disk> Store<D> {
         states: States,
     ) -> Result<Store<D>, OpenRefused<D>>
         requires { All IsOrgFile names.items }
-        ensures session { IfOk result (λ store. store.session ≡ opened states store.session.names (texts_of (contents (D.files store.disk)) store.session.names)) }
-        ensures names { IfOk result (λ store. AreFew names.items × AreSorted (with_archives names.items) store.session.names) }
-        ensures contents { IfOk result (λ store. D.honest store.disk → IsSomeAnd (stands (contents (D.files disk))) (SameFiles (contents (D.files store.disk)))) }
-        ensures sizes { IfOk result (λ store. D.honest store.disk → first_large (contents (D.files store.disk)) store.session.names ≡ None) }
-        ensures refused { IfErr result (λ refused. IsReason names.items (D.honest refused.disk) (contents (D.files disk)) (contents (D.files refused.disk)) refused.fault) }
-        ensures again { IfErr result (λ refused. D.honest refused.disk → IsOpenable names.items (contents (D.files disk)) → (refused.fault ≡ OpenFault.OutOfMemory) ⊎ (refused.fault ≡ OpenFault.Device)) }
-        ensures unused { IfErr result (λ refused. refused.fault ≡ OpenFault.TooManyFiles → refused.disk ≡ disk) }
-        ensures any_moment { D.honest (disk_in result) → IsFit (D.files disk) → EachStands (D.files disk) →
-            LeavesOnly (D.moment disk) (D.moment (disk_in result)) (D.left_since disk) (D.left_since (disk_in result)) (StandsAsBefore (D.files disk)) }
-        ensures fit { D.honest (disk_in result) → IsFit (D.files disk) → EachStands (D.files disk) → IsFit (D.files (disk_in result)) }
-        ensures rest { IfOk result (λ store. D.honest store.disk → IsFit (D.files disk) → EachStands (D.files disk) → IsAtRest (D.files store.disk)) }
-        ensures failed { IfErr result (λ refused. refused.fault ≡ OpenFault.Device → HasRisen (D.failures disk) (D.failures refused.disk)) }
-        ensures told { MatchResult result (λ opened. D.failures opened.disk ≡ D.failures disk) (λ refused. (refused.fault ≡ OpenFault.Device → ⊥) → D.failures refused.disk ≡ D.failures disk) }
-        ensures failures { D.failures disk ≤ D.failures (disk_in result) }
-        ensures honest { KeepsHonesty D.steady (D.honest disk) (D.honest (disk_in result)) }
+        ensures session { IfOk result (λ store. store.session
+            ≡ opened states store.session.names
+            (texts_of (contents (D.files store.disk)) store.session.names)) }
+        ensures names { IfOk result (λ store. AreFew names.items
+            × AreSorted (with_archives names.items) store.session.names) }
+        ensures reopens { let now = disk_in result (λ store. store.disk) in D.honest now
+            → Reopens D.files D.moment D.left_since disk now result }
+        ensures sizes { IfOk result (λ store. D.honest store.disk
+            → first_large (contents (D.files store.disk)) store.session.names ≡ None) }
+        ensures refused { IfErr result (λ refused. IsReason names.items (D.honest refused.disk)
+            (contents (D.files disk)) (contents (D.files refused.disk)) refused.fault) }
+        ensures again { IfErr result (λ refused. D.honest refused.disk
+            → IsOpenable names.items (contents (D.files disk))
+            → (refused.fault ≡ OpenFault.OutOfMemory) ⊎ (refused.fault ≡ OpenFault.Device)) }
+        ensures unused { IfErr result (λ refused. refused.fault ≡ OpenFault.TooManyFiles
+            → refused.disk ≡ disk) }
+        ensures accounts { Accounts D.steady D.honest D.failures disk
+            (disk_in result (λ store. store.disk)) (IsDeviceRefusal result) }
     {
         match HeldSet::open(alloc, disk, names) {
             Ok(files) => Ok(Store {
@@ -149,8 +152,11 @@ impl<D: Disk> Store<D> {
 
     /// Sets how many commands are accepted before they are settled, from 1 to 1,000. It settles nothing by itself.
     pub fn set_group(&mut self, group: u32)
-        requires { (1 ≤ group) × (group ≤ 1000) }
-        ensures { self.new ≡ record self.old { session = record self.old.session { group = group } } }
+        requires { IsGroup group }
+        ensures { self.new ≡ record self.old {
+          session = record self.old.session
+              { group = group };
+        } }
     {
         self.group = group;
     }
@@ -171,16 +177,17 @@ impl<D: Disk> Store<D> {
     /// where it was broken before.
     pub fn settle(&mut self) -> Result<(), RunFault>
         ensures step { D.honest self.new.disk → Settles self.old.session result self.new.session }
-        ensures disk { D.honest self.new.disk → LeavesDisk D.files D.moment D.left_since self.old self.new
-            (IsLeftSettling self.old.session (contents (D.files self.old.disk)) result) (IsErrOf result RunFault.Device) }
+        ensures disk { D.honest self.new.disk
+            → LeavesDisk D.files D.moment D.left_since self.old self.new
+            (IsLeftSettling self.old.session (contents (D.files self.old.disk)) result)
+            (IsErrOf result RunFault.Device) }
         ensures counts { SettledCounts self.old.session result self.new.session }
-        ensures failed { IsErrOf result RunFault.Device → HasRisen (D.failures self.old.disk) (D.failures self.new.disk) }
-        ensures told { (IsErrOf result RunFault.Device → ⊥) → D.failures self.new.disk ≡ D.failures self.old.disk }
         ensures broken { IsErrOf result RunFault.Broken ↔ IsTrue self.old.session.broken }
         ensures untouched { IsErrOf result RunFault.Broken → self.new ≡ self.old }
-        ensures breaks { IsTrue self.new.session.broken ↔ (IsTrue self.old.session.broken ⊎ IsErrOf result RunFault.Device) }
-        ensures failures { D.failures self.old.disk ≤ D.failures self.new.disk }
-        ensures honest { KeepsHonesty D.steady (D.honest self.old.disk) (D.honest self.new.disk) }
+        ensures breaks { IsTrue self.new.session.broken
+            ↔ (IsTrue self.old.session.broken ⊎ IsErrOf result RunFault.Device) }
+        ensures accounts { Accounts D.steady D.honest D.failures self.old.disk self.new.disk
+            (IsErrOf result RunFault.Device) }
     {
         self.files.settle()?;
         self.acknowledged = self.accepted;
@@ -192,17 +199,20 @@ impl<D: Disk> Store<D> {
     // Accepts one more command that makes these drafts, and holds them in memory. Where it fills the group, all is settled.
     fn accept(&mut self, drafts: Drafts) -> Result<(), RunFault>
         requires unbroken { self.old.session.broken ≡ false }
-        requires drafts { Each (IsDraft self.old.session.names ((self.old.session.broken ≡ false) × D.honest self.old.disk) (contents (D.files self.old.disk))) (list_of drafts) }
+        requires drafts { Each (IsDraft self.old.session.names
+            ((self.old.session.broken ≡ false) × D.honest self.old.disk)
+            (contents (D.files self.old.disk))) (list_of drafts) }
         requires countable { self.old.session.accepted + 1 < 2 ^ 64 }
-        ensures keeps { D.honest self.new.disk → Keeps self.old.session (after self.old.session drafts) result self.new.session }
-        ensures disk { D.honest self.new.disk → LeavesDisk D.files D.moment D.left_since self.old self.new
-            (IsLeftKeeping self.old.session (contents (D.files self.old.disk)) (after self.old.session drafts) result) (IsErrOf result RunFault.Device) }
+        ensures keeps { D.honest self.new.disk
+            → Keeps self.old.session (after self.old.session drafts) result self.new.session }
+        ensures disk { D.honest self.new.disk
+            → LeavesDisk D.files D.moment D.left_since self.old self.new
+            (IsLeftKeeping self.old.session (contents (D.files self.old.disk))
+            (after self.old.session drafts) result) (IsErrOf result RunFault.Device) }
         ensures counts { KeepsCounts self.old.session result self.new.session }
-        ensures failed { IsErrOf result RunFault.Device → HasRisen (D.failures self.old.disk) (D.failures self.new.disk) }
-        ensures told { (IsErrOf result RunFault.Device → ⊥) → D.failures self.new.disk ≡ D.failures self.old.disk }
         ensures breaks { IsErrOf result RunFault.Device ↔ IsTrue self.new.session.broken }
-        ensures failures { D.failures self.old.disk ≤ D.failures self.new.disk }
-        ensures honest { KeepsHonesty D.steady (D.honest self.old.disk) (D.honest self.new.disk) }
+        ensures accounts { Accounts D.steady D.honest D.failures self.old.disk self.new.disk
+            (IsErrOf result RunFault.Device) }
     {
         if self.accepted + 1 - self.acknowledged < u64::from(self.group) {
             self.files.put(drafts)?;
@@ -234,22 +244,25 @@ impl<D: Disk> Store<D> {
     ) -> Result<Drafts, RunFault>
         requires unbroken { self.old.session.broken ≡ false }
         requires name { is_name self.old.session.names file.now ≡ true }
-        requires there { is_some (text_at self.old.session.names self.old.session.files file.now) ≡ true }
+        requires there { is_some (text_at self.old.session.names self.old.session.files file.now)
+            ≡ true }
         ensures plans { D.honest self.new.disk → Plans self.old.session
-            (capture self.old.session file.now target.now place template.now (text_at self.old.session.names self.old.session.files file.now)) result self.new.session }
-        ensures drafts { IfOk result (λ drafts. Each (IsDraft self.new.session.names ((self.new.session.broken ≡ false) × D.honest self.new.disk) (contents (D.files self.new.disk))) (list_of drafts)) }
+            (capture self.old.session file.now target.now place template.now
+            (text_at self.old.session.names self.old.session.files file.now)) result
+            self.new.session }
+        ensures drafts { IfOk result (λ drafts. Each
+            (IsDraft self.new.session.names ((self.new.session.broken ≡ false)
+            × D.honest self.new.disk) (contents (D.files self.new.disk))) (list_of drafts)) }
         ensures countable { IfOk result (λ drafts. self.new.session.accepted + 1 < 2 ^ 64) }
-        ensures any_moment { D.honest self.new.disk → Passes (D.moment self.old.disk) (D.moment self.new.disk)
-            (D.left_since self.old.disk) (D.left_since self.new.disk) (AreImages (D.files self.old.disk)) }
-        ensures same { D.honest self.new.disk → D.files self.new.disk ≡ D.files self.old.disk }
-        ensures settled { self.new.session.settled ≡ texts_of (contents (D.files self.new.disk)) self.new.session.names }
+        ensures looks { D.honest self.new.disk
+            → Looks D.files D.moment D.left_since self.old.disk self.new.disk }
+        ensures settled { self.new.session.settled
+            ≡ texts_of (contents (D.files self.new.disk)) self.new.session.names }
         ensures counts { SameCounts self.old.session self.new.session }
-        ensures failed { IsErrOf result RunFault.Device → HasRisen (D.failures self.old.disk) (D.failures self.new.disk) }
-        ensures told { (IsErrOf result RunFault.Device → ⊥) → D.failures self.new.disk ≡ D.failures self.old.disk }
         ensures not_broken { IsErrOf result RunFault.Broken → ⊥ }
         ensures breaks { IsErrOf result RunFault.Device ↔ IsTrue self.new.session.broken }
-        ensures failures { D.failures self.old.disk ≤ D.failures self.new.disk }
-        ensures honest { KeepsHonesty D.steady (D.honest self.old.disk) (D.honest self.new.disk) }
+        ensures accounts { Accounts D.steady D.honest D.failures self.old.disk self.new.disk
+            (IsErrOf result RunFault.Device) }
     {
         let alloc = self.alloc;
         let entry = entry_of(alloc, template, &self.states)?;
@@ -275,16 +288,20 @@ impl<D: Disk> Store<D> {
     ) -> Result<Reply, RunFault>
         requires unbroken { self.old.session.broken ≡ false }
         ensures does { D.honest self.new.disk → Does self.old.session
-            (capture self.old.session file.now target.now place template.now (text_at self.old.session.names self.old.session.files file.now)) result self.new.session }
-        ensures disk { D.honest self.new.disk → LeavesDisk D.files D.moment D.left_since self.old self.new
-            (IsLeftBy self.old.session (contents (D.files self.old.disk)) (capture self.old.session file.now target.now place template.now (text_at self.old.session.names self.old.session.files file.now)) result self.new.session.accepted) (IsErrOf result RunFault.Device) }
+            (capture self.old.session file.now target.now place template.now
+            (text_at self.old.session.names self.old.session.files file.now)) result
+            self.new.session }
+        ensures disk { D.honest self.new.disk
+            → LeavesDisk D.files D.moment D.left_since self.old self.new
+            (IsLeftBy self.old.session (contents (D.files self.old.disk))
+            (capture self.old.session file.now target.now place template.now
+            (text_at self.old.session.names self.old.session.files file.now)) result
+            self.new.session.accepted) (IsErrOf result RunFault.Device) }
         ensures counts { Counts self.old.session result self.new.session }
-        ensures failed { IsErrOf result RunFault.Device → HasRisen (D.failures self.old.disk) (D.failures self.new.disk) }
-        ensures told { (IsErrOf result RunFault.Device → ⊥) → D.failures self.new.disk ≡ D.failures self.old.disk }
         ensures not_broken { IsErrOf result RunFault.Broken → ⊥ }
         ensures breaks { IsErrOf result RunFault.Device ↔ IsTrue self.new.session.broken }
-        ensures failures { D.failures self.old.disk ≤ D.failures self.new.disk }
-        ensures honest { KeepsHonesty D.steady (D.honest self.old.disk) (D.honest self.new.disk) }
+        ensures accounts { Accounts D.steady D.honest D.failures self.old.disk self.new.disk
+            (IsErrOf result RunFault.Device) }
     {
         if !self.files.has(file) {
             return Err(RunFault::Refused(Refusal::NoSuchFile));
@@ -298,18 +315,17 @@ impl<D: Disk> Store<D> {
     fn show(&mut self, file: &FileName) -> Result<Reply, RunFault>
         requires unbroken { self.old.session.broken ≡ false }
         ensures does { D.honest self.new.disk → Does self.old.session
-            (show (text_at self.old.session.names self.old.session.files file.now)) result self.new.session }
-        ensures any_moment { D.honest self.new.disk → Passes (D.moment self.old.disk) (D.moment self.new.disk)
-            (D.left_since self.old.disk) (D.left_since self.new.disk) (AreImages (D.files self.old.disk)) }
-        ensures same { D.honest self.new.disk → D.files self.new.disk ≡ D.files self.old.disk }
-        ensures settled { self.new.session.settled ≡ texts_of (contents (D.files self.new.disk)) self.new.session.names }
+            (show (text_at self.old.session.names self.old.session.files file.now)) result
+            self.new.session }
+        ensures looks { D.honest self.new.disk
+            → Looks D.files D.moment D.left_since self.old.disk self.new.disk }
+        ensures settled { self.new.session.settled
+            ≡ texts_of (contents (D.files self.new.disk)) self.new.session.names }
         ensures counts { Counts self.old.session result self.new.session }
-        ensures failed { IsErrOf result RunFault.Device → HasRisen (D.failures self.old.disk) (D.failures self.new.disk) }
-        ensures told { (IsErrOf result RunFault.Device → ⊥) → D.failures self.new.disk ≡ D.failures self.old.disk }
         ensures not_broken { IsErrOf result RunFault.Broken → ⊥ }
         ensures breaks { IsErrOf result RunFault.Device ↔ IsTrue self.new.session.broken }
-        ensures failures { D.failures self.old.disk ≤ D.failures self.new.disk }
-        ensures honest { KeepsHonesty D.steady (D.honest self.old.disk) (D.honest self.new.disk) }
+        ensures accounts { Accounts D.steady D.honest D.failures self.old.disk self.new.disk
+            (IsErrOf result RunFault.Device) }
     {
         if !self.files.has(file) {
             return Err(RunFault::Refused(Refusal::NoSuchFile));
@@ -327,17 +343,19 @@ impl<D: Disk> Store<D> {
     /// is undone, and those before it stay pending. `Device` comes only where the disk counted a failure in this call,
     /// and breaks the store; `Broken` comes exactly where it was broken before.
     pub fn run(&mut self, command: &Command) -> Result<Reply, RunFault>
-        ensures step { D.honest self.new.disk → Step self.old.session command.now result self.new.session }
-        ensures disk { D.honest self.new.disk → LeavesDisk D.files D.moment D.left_since self.old self.new
-            (IsLeft self.old.session (contents (D.files self.old.disk)) command.now result self.new.session.accepted) (IsErrOf result RunFault.Device) }
+        ensures step { D.honest self.new.disk
+            → Step self.old.session command.now result self.new.session }
+        ensures disk { D.honest self.new.disk
+            → LeavesDisk D.files D.moment D.left_since self.old self.new
+            (IsLeft self.old.session (contents (D.files self.old.disk)) command.now result
+            self.new.session.accepted) (IsErrOf result RunFault.Device) }
         ensures counts { Counts self.old.session result self.new.session }
-        ensures failed { IsErrOf result RunFault.Device → HasRisen (D.failures self.old.disk) (D.failures self.new.disk) }
-        ensures told { (IsErrOf result RunFault.Device → ⊥) → D.failures self.new.disk ≡ D.failures self.old.disk }
         ensures broken { IsErrOf result RunFault.Broken ↔ IsTrue self.old.session.broken }
         ensures untouched { IsErrOf result RunFault.Broken → self.new ≡ self.old }
-        ensures breaks { IsTrue self.new.session.broken ↔ (IsTrue self.old.session.broken ⊎ IsErrOf result RunFault.Device) }
-        ensures failures { D.failures self.old.disk ≤ D.failures self.new.disk }
-        ensures honest { KeepsHonesty D.steady (D.honest self.old.disk) (D.honest self.new.disk) }
+        ensures breaks { IsTrue self.new.session.broken
+            ↔ (IsTrue self.old.session.broken ⊎ IsErrOf result RunFault.Device) }
+        ensures accounts { Accounts D.steady D.honest D.failures self.old.disk self.new.disk
+            (IsErrOf result RunFault.Device) }
     {
         if self.files.is_broken() {
             return Err(RunFault::Broken);

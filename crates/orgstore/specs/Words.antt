@@ -4,7 +4,7 @@ use Rattle.std.specs.Str.Parse.{IsNumeral, digits_value}
 use Rattle.clap.specs.Words.{App, Rule, Row, new_app, new_rule, with_rule, matches_of, first_of, all_of, fault_of}
 use Rattle.clap.specs.declared.builder.action.ArgAction.TheVariants.{Append}
 use Rattle.org_fileset.specs.declared.open.OpenFault.TheVariants.{OutOfMemory, Device, TooManyFiles, BadJournal, TooLarge}
-use Rattle.org_serve.specs.Group.{IsGroup}
+use Rattle.org_store.specs.Group.{IsGroup}
 use Rattle.orgstore.specs.declared.arguments.Arguments.{Arguments}
 use Rattle.orgstore.specs.declared.fault.Fault.{Fault}
 use Rattle.orgstore.specs.declared.fault.Fault.TheVariants.{Usage, BadName, BadStates, Open, Ended}

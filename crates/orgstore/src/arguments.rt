@@ -1,8 +1,8 @@
-// The command line. Nothing else of the program knows how its words are read.
+//! The command line. Nothing else of the program knows how its words are read.
 ghost use Rattle.std.specs.Prelude.{◌≡◌, ◌⊎◌, ℕ, List, map, string_bytes, IfOk, IfErr, SomeIff};
 ghost use Rattle.std.specs.Str.Parse.{digits_value};
 ghost use Rattle.clap.specs.Words.{kind_of, app_of};
-ghost use Rattle.org_serve.specs.Group.{IsGroup};
+ghost use Rattle.org_store.specs.Group.{IsGroup};
 ghost use Rattle.orgstore.specs.Words.{command_line, AreTaken, Tells, IsGroupText, IsFaultBy, IsFaultOfWords};
 
 use crate::fault::Fault;
@@ -51,7 +51,8 @@ pub fn read_words(alloc: Global, words: &[String]) -> Result<Arguments, Fault>
 
 fn parse(alloc: Global, words: &[String]) -> Result<Arguments, Error>
     ensures told { IfOk result (Tells (map string_bytes words.now)) }
-    ensures fault { IfErr result (λ error. (kind_of error ≡ ErrorKind.OutOfMemory) ⊎ (AreTaken (map string_bytes words.now) → ⊥)) }
+    ensures fault { IfErr result (λ error. (kind_of error ≡ ErrorKind.OutOfMemory)
+        ⊎ (AreTaken (map string_bytes words.now) → ⊥)) }
 {
     let mut command = command(alloc)?;
     let matches = command.try_get_matches_from_mut(words)?;
@@ -89,7 +90,8 @@ fn command<'a>(alloc: Global) -> Result<Command<'a>, AllocError>
 }
 
 fn owned(alloc: Global, words: &[&str]) -> Result<Vec<String>, AllocError>
-    ensures { IfOk result (λ owned. map string_bytes owned.items ≡ map (λ word. word.now) words.now) }
+    ensures { IfOk result (λ owned. map string_bytes owned.items
+        ≡ map (λ word. word.now) words.now) }
 {
     let mut owned = Vec::new(alloc);
     for word in words {

@@ -1,4 +1,4 @@
-// Why the program doesn't run to the end of its input: what it says on standard error, and its exit status.
+//! Why the program doesn't run to the end of its input: what it says on standard error, and its exit status.
 ghost use Rattle.std.specs.Prelude.{◌≡◌};
 ghost use Rattle.org_fileset.specs.declared.open.OpenFault.TheVariants.{OutOfMemory};
 ghost use Rattle.orgstore.specs.Causes.{listing, stating};

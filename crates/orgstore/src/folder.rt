@@ -1,4 +1,4 @@
-// Lines served over a folder.
+//! Lines served over a folder.
 ghost use Rattle.std.specs.Prelude.{◌≡◌, ◌⊎◌, Ok, IfOk, IfErr, MatchResult, All, []};
 ghost use Rattle.org_disk.specs.Disk.{HasRisen};
 ghost use Rattle.org_journal.specs.Standing.{Image, IsFit, contents};
@@ -8,7 +8,7 @@ ghost use Rattle.org_fileset.specs.Recovery.{EachStands, StandsAsBefore};
 ghost use Rattle.org_folder.specs.Calls.{files, AreRight, LeftSince};
 ghost use Rattle.org_folder.specs.FolderDisk.{record_of};
 ghost use Rattle.org_serve.specs.Counts.{HasRisenBy};
-ghost use Rattle.org_serve.specs.Group.{IsGroup};
+ghost use Rattle.org_store.specs.Group.{IsGroup};
 ghost use Rattle.org_serve.specs.Whole.{ServesOver, IsLeftServing};
 
 use org_folder::{FolderDisk, Start};
@@ -47,24 +47,35 @@ where
     F::File: FileExt,
     requires names { All IsOrgFile setup.names.items }
     requires group { IsGroup setup.group }
-    ensures served { IfOk result (λ served. AreRight S.world (record_of served.disk) → IfOk served.end (λ end.
+    ensures served { IfOk result (λ served. AreRight S.world (record_of served.disk)
+        → IfOk served.end (λ end.
         ServesOver setup.states setup.group setup.names.items (contents S.world.start) end
         (R.left reader.old) (R.left reader.new) (W.written writer.old) (W.written writer.new))) }
-    ensures any_moment { IfOk result (λ served. AreRight S.world (record_of served.disk) → IsFit S.world.start → EachStands S.world.start
+    ensures any_moment { IfOk result (λ served. AreRight S.world (record_of served.disk)
+        → IsFit S.world.start → EachStands S.world.start
         → MatchResult served.end
-        (λ end. (serves : ServesOver setup.states setup.group setup.names.items (contents S.world.start) end
+        (λ end. (serves : ServesOver setup.states setup.group setup.names.items (contents
+        S.world.start) end
         (R.left reader.old) (R.left reader.new) (W.written writer.old) (W.written writer.new))
-        × ((image : Image) → LeftSince S.world (record_of served.disk) 0 image → IsLeftServing S.world.start serves image))
-        (λ fault. (image : Image) → LeftSince S.world (record_of served.disk) 0 image → StandsAsBefore S.world.start image)) }
-    ensures fit { IfOk result (λ served. AreRight S.world (record_of served.disk) → IsFit S.world.start → EachStands S.world.start
+        × ((image : Image) → LeftSince S.world (record_of served.disk) 0 image
+        → IsLeftServing S.world.start serves image))
+        (λ fault. (image : Image) → LeftSince S.world (record_of served.disk) 0 image
+        → StandsAsBefore S.world.start image)) }
+    ensures fit { IfOk result (λ served. AreRight S.world (record_of served.disk)
+        → IsFit S.world.start → EachStands S.world.start
         → IsFit (files S.world (record_of served.disk))) }
-    ensures read_cause { IfOk result (λ served. served.end ≡ Ok ServeEnd.Read → HasRisen (R.failures reader.old) (R.failures reader.new)
+    ensures read_cause { IfOk result (λ served. served.end ≡ Ok ServeEnd.Read
+        → HasRisen (R.failures reader.old) (R.failures reader.new)
         ⊎ HasRisenBy 4294967295 (R.reads reader.old) (R.reads reader.new)) }
-    ensures write_cause { IfOk result (λ served. served.end ≡ Ok ServeEnd.Write → HasRisen (W.failures writer.old) (W.failures writer.new)) }
-    ensures refused { IfOk result (λ served. IfErr served.end (IsReason setup.names.items (AreRight S.world (record_of served.disk))
+    ensures write_cause { IfOk result (λ served. served.end ≡ Ok ServeEnd.Write
+        → HasRisen (W.failures writer.old) (W.failures writer.new)) }
+    ensures refused { IfOk result (λ served. IfErr served.end
+        (IsReason setup.names.items (AreRight S.world (record_of served.disk))
         (contents S.world.start) (contents (files S.world (record_of served.disk))))) }
-    ensures failed { IfOk result (λ served. IfErr served.end (λ fault. fault ≡ OpenFault.Device → HasRisen 0 served.disk.failures)) }
-    ensures told { IfOk result (λ served. IfErr served.end (λ fault. (fault ≡ OpenFault.Device → ⊥) → served.disk.failures ≡ 0)) }
+    ensures failed { IfOk result (λ served. IfErr served.end
+        (λ fault. fault ≡ OpenFault.Device → HasRisen 0 served.disk.failures)) }
+    ensures told { IfOk result (λ served. IfErr served.end
+        (λ fault. (fault ≡ OpenFault.Device → ⊥) → served.disk.failures ≡ 0)) }
 {
     let disk: FolderDisk<F, S> = FolderDisk::new(rt, alloc, path)?;
     Ok(serve_disk(alloc, disk, setup, reader, writer, TURNS))

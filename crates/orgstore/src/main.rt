@@ -6,7 +6,7 @@ ghost use Rattle.std.specs.Prelude.{◌≡◌, [], ◌∷◌, ◌++◌, ℕ, Lis
 ghost use Rattle.std.specs.Io.Buffered.{writer_buffer};
 ghost use Rattle.org_disk.specs.Names.{IsOrgFile};
 ghost use Rattle.org_fileset.specs.declared.open.OpenFault.TheVariants.{OutOfMemory};
-ghost use Rattle.org_serve.specs.Group.{IsGroup};
+ghost use Rattle.org_store.specs.Group.{IsGroup};
 ghost use Rattle.orgstore.specs.Causes.{told, IsCause};
 ghost use Rattle.orgstore.specs.declared.fault.Fault.TheVariants.{Open};
 
@@ -70,8 +70,10 @@ fn told(end: Result<ServeEnd, OpenFault>) -> Result<(), Fault>
 fn setup(rt: &HostRuntime, arguments: &Arguments) -> Result<Setup, Fault>
     requires { IsGroup arguments.now.group }
     ensures names { IfOk result (λ setup. All IsOrgFile setup.names.items) }
-    ensures new { IfOk result (λ setup. (listed : List (List ℕ)) × (setup.names.items ≡ map string_bytes arguments.now.new.items ++ listed)) }
-    ensures states { IfOk result (λ setup. setup.states ≡ record { active = codes "TODO" ∷ []; done = codes "DONE" ∷ [] }) }
+    ensures new { IfOk result (λ setup. (listed : List (List ℕ))
+        × (setup.names.items ≡ map string_bytes arguments.now.new.items ++ listed)) }
+    ensures states { IfOk result (λ setup. setup.states
+        ≡ record { active = codes "TODO" ∷ []; done = codes "DONE" ∷ [] }) }
     ensures group { IfOk result (λ setup. setup.group ≡ arguments.now.group) }
     ensures cause { IfErr result (IsCause (map string_bytes arguments.now.new.items)) }
 {

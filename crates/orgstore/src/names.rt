@@ -1,4 +1,4 @@
-// The names that the store is opened with.
+//! The names that the store is opened with.
 ghost use Rattle.std.specs.Prelude.{◌≡◌, ◌++◌, ℕ, List, map, string_bytes, IfOk, IfErr, All};
 ghost use Rattle.org_disk.specs.Names.{IsOrgFile};
 ghost use Rattle.orgstore.specs.Causes.{IsCause, IsCauseOf};
@@ -11,7 +11,8 @@ use org_store::OpenFault;
 /// The names given as new ones, each a file name in `.org`, and those of the folder's Org files.
 pub fn names(rt: &HostRuntime, folder: &str, new: &[String]) -> Result<Vec<FileName>, Fault>
     ensures openable { IfOk result (λ names. All IsOrgFile names.items) }
-    ensures new { IfOk result (λ names. (listed : List (List ℕ)) × (names.items ≡ map string_bytes new.now ++ listed)) }
+    ensures new { IfOk result (λ names. (listed : List (List ℕ))
+        × (names.items ≡ map string_bytes new.now ++ listed)) }
     ensures cause { IfErr result (IsCause (map string_bytes new.now)) }
 {
     let mut names = new_names(rt, new)?;

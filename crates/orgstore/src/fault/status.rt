@@ -1,3 +1,4 @@
+//! The exit status of each fault.
 ghost use Rattle.std.specs.Prelude.{◌≡◌};
 ghost use Rattle.orgstore.specs.Statuses.{status_of};
 

@@ -1,188 +1,118 @@
-use Rattle.std.proofs.Common.{◌≡◌, ◌≢◌, inl, inr, ◌∷◌, ℕ, List, drop, sym, ◌∙◌, subst}
+use Rattle.std.proofs.Common.{rules, ◌≡◌, ◌≢◌, inl, inr, ◌∷◌, ℕ, List, drop, Ok, IsErr, sym, ◌∙◌, subst}
+use Rattle.std.proofs.lemmas.Result.{on_ok_weaker}
 use Rattle.org_disk.specs.Disk.{IsStable, laid}
 use Rattle.org_disk.proofs.Moments.{passes_as, passes_then}
-use Rattle.org_journal.specs.Gate.{LeavesClosed, LeavesBody}
+use Rattle.org_journal.specs.Gate.{LeavesClosed, LeavesBody, Puts}
 use Rattle.org_journal.specs.Standing.{contents, replayed}
-use Rattle.org_fileset.specs.Replay.{IsReplayable}
+use Rattle.org_fileset.specs.Replay.{IsAtRest, IsReplayable}
 use Rattle.org_fileset.proofs.Starting.{since_start}
-use Rattle.org_fileset.proofs.Armed.{on_ok_one, on_err_one}
+use Rattle.org_fileset.proofs.Armed.{on_ok_never}
 use Rattle.org_fileset.proofs.Commits.{at_rest_stands, while_arming, while_opening, opened_over, opened_fits, opened_takes, opened_made}
 use Rattle.org_fileset.proofs.commit.commit_entries.Goals as goal
 
-pub returns-in_err-arm-clause-any_moment : goal.returns-in_err-arm-clause-any_moment
-returns-in_err-arm-clause-any_moment g c ended rest =
-    let honest = c.arm.ensures.honest.0 ended in
+pub returns-in_err-arm-clause-commits : goal.returns-in_err-arm-clause-commits
+returns-in_err-arm-clause-commits g c ended =
+    let honest = c.arm.ensures.accounts.was_honest ended in
     let files = g.D.Disk.files c.args.disk.now in
     let entries = c.args.entries.now in
-    let layable = (c.requires.layable honest) in
-    let gate = c.requires.gate honest in
-    let fit = c.requires.fits honest in
+    let mid = g.D.Disk.files c.arm.new.disk in
     let name_is = c.requires.journal in
-    let armed = passes_as (c.arm.ensures.any_moment ended) (λ image left.
-    while_arming entries files layable gate fit c.args.body.now c.requires.body c.requires.long rest image (subst (λ (n : List ℕ). LeavesClosed n files image) name_is left)) in
-    since_start armed files (g.met.D.Disk.only_now c.args.disk.now) honest (λ image left. inl (at_rest_stands files rest image left))
+    let others = subst (λ (n : List ℕ). (other : List ℕ) → other ≢ n → mid other ≡ files other) name_is (c.arm.ensures.puts ended).others in
+    let armed = λ (rest : IsAtRest files). passes_as (c.arm.ensures.any_moment ended) (λ image left.
+    while_arming entries files (c.requires.layable honest) (c.requires.gate honest) (c.requires.fits honest) c.args.body.now c.requires.body c.requires.long rest image
+    (subst (λ (n : List ℕ). LeavesClosed n files image) name_is left)) in
+    let failed : IsErr c.from_residual.result = search rules in
+    record {
+      done = on_ok_never _ c.from_residual.result failed;
+      any_moment = λ rest. since_start (armed rest) files (g.met.D.Disk.only_now c.args.disk.now) honest (λ image left. inl (at_rest_stands files rest image left));
+      fit = λ rest. inl (λ name not. subst IsStable (sym (others name not)) (rest.stable name));
+    }
 
-pub returns-in_err-open_gate-clause-any_moment : goal.returns-in_err-open_gate-clause-any_moment
-returns-in_err-open_gate-clause-any_moment g c ended rest =
-    let h1 = c.open_gate.ensures.honest.0 ended in
-    let honest = c.arm.ensures.honest.0 h1 in
+pub returns-in_err-open_gate-clause-commits : goal.returns-in_err-open_gate-clause-commits
+returns-in_err-open_gate-clause-commits g c ended =
+    let h1 = c.open_gate.ensures.accounts.was_honest ended in
+    let honest = c.arm.ensures.accounts.was_honest h1 in
     let files = g.D.Disk.files c.args.disk.now in
     let entries = c.args.entries.now in
-    let layable = (c.requires.layable honest) in
+    let layable = c.requires.layable honest in
     let gate = c.requires.gate honest in
     let fit = c.requires.fits honest in
     let name_is = c.requires.journal in
-    let armed = passes_as (c.arm.ensures.any_moment h1) (λ image left.
+    let armed = λ (rest : IsAtRest files). passes_as (c.arm.ensures.any_moment h1) (λ image left.
     while_arming entries files layable gate fit c.args.body.now c.requires.body c.requires.long rest image (subst (λ (n : List ℕ). LeavesClosed n files image) name_is left)) in
     let mid = g.D.Disk.files c.arm.new.disk in
-    let P : List ℕ → Type 0 = λ n. (mid n).content ≡ laid 1 c.args.body.now (files n).content in
-    let Q : List ℕ → Type 0 = λ n. (other : List ℕ) → other ≢ n → mid other ≡ files other in
-    let written = subst P name_is (c.in_ok-arm.ensures.content h1) in
-    let others = subst Q name_is (c.arm.ensures.others h1) in
-    let opening = passes_then armed (c.open_gate.ensures.any_moment ended) (λ image left.
-    while_opening entries files layable gate fit c.args.body.now c.requires.body c.requires.long mid written others rest image (subst (λ (n : List ℕ). LeavesBody n mid image) name_is left)) in
-    since_start opening files (g.met.D.Disk.only_now c.args.disk.now) honest (λ image left. inl (at_rest_stands files rest image left))
+    let put = subst (λ (n : List ℕ). Puts n (laid 1 c.args.body.now (files n).content) files mid (Ok tt)) name_is (c.in_ok-arm.ensures.puts h1) in
+    let opening = λ (rest : IsAtRest files). passes_then (armed rest) (c.open_gate.ensures.any_moment ended) (λ image left.
+    while_opening entries files layable gate fit c.args.body.now c.requires.body c.requires.long mid put.is put.others rest image (subst (λ (n : List ℕ). LeavesBody n mid image) name_is left)) in
+    let last = g.D.Disk.files c.open_gate.new.disk in
+    let others = subst (λ (n : List ℕ). (other : List ℕ) → other ≢ n → last other ≡ mid other) name_is (c.open_gate.ensures.puts ended).others in
+    let failed : IsErr c.from_residual-in_err-open_gate.result = search rules in
+    record {
+      done = on_ok_never _ c.from_residual-in_err-open_gate.result failed;
+      any_moment = λ rest. since_start (opening rest) files (g.met.D.Disk.only_now c.args.disk.now) honest (λ image left. inl (at_rest_stands files rest image left));
+      fit = λ rest. inl (λ name not. subst IsStable (sym (others name not ∙ put.others name not)) (rest.stable name));
+    }
 
 pub replay-requires-clause-opened : goal.replay-requires-clause-opened
 replay-requires-clause-opened g c ended =
-    let h1 = c.open_gate.ensures.honest.0 ended in
-    let honest = c.arm.ensures.honest.0 h1 in
+    let h1 = c.open_gate.ensures.accounts.was_honest ended in
+    let honest = c.arm.ensures.accounts.was_honest h1 in
     let files = g.D.Disk.files c.args.disk.now in
-    let entries = c.args.entries.now in
-    let layable = (c.requires.layable honest) in
-    let gate = c.requires.gate honest in
-    let fit = c.requires.fits honest in
-    let name_is = c.requires.journal in
     let mid = g.D.Disk.files c.arm.new.disk in
-    let P : List ℕ → Type 0 = λ n. (mid n).content ≡ laid 1 c.args.body.now (files n).content in
-    let Q : List ℕ → Type 0 = λ n. (other : List ℕ) → other ≢ n → mid other ≡ files other in
-    let written = subst P name_is (c.in_ok-arm.ensures.content h1) in
-    let others = subst Q name_is (c.arm.ensures.others h1) in
     let last = g.D.Disk.files c.open_gate.new.disk in
-    let S : List ℕ → Type 0 = λ n. (last n).content ≡ 1 ∷ drop 1 (mid n).content in
-    let T : List ℕ → Type 0 = λ n. IsStable (last n) in
-    opened_over entries files layable gate fit c.args.body.now c.requires.body c.requires.long mid written others last (subst T name_is (c.in_ok-open_gate.ensures.stable ended))
-    (subst S name_is (c.in_ok-open_gate.ensures.content ended))
+    let name_is = c.requires.journal in
+    let put = subst (λ (n : List ℕ). Puts n (laid 1 c.args.body.now (files n).content) files mid (Ok tt)) name_is (c.in_ok-arm.ensures.puts h1) in
+    let opened = subst (λ (n : List ℕ). Puts n (1 ∷ drop 1 (mid n).content) mid last (Ok tt)) name_is (c.in_ok-open_gate.ensures.puts ended) in
+    opened_over c.args.entries.now files (c.requires.layable honest) (c.requires.gate honest) (c.requires.fits honest) c.args.body.now c.requires.body c.requires.long
+    mid put.is put.others last opened.stable opened.is
 
 pub replay-requires-clause-fits : goal.replay-requires-clause-fits
 replay-requires-clause-fits g c ended =
-    let h1 = c.open_gate.ensures.honest.0 ended in
-    let honest = c.arm.ensures.honest.0 h1 in
+    let h1 = c.open_gate.ensures.accounts.was_honest ended in
+    let honest = c.arm.ensures.accounts.was_honest h1 in
     let files = g.D.Disk.files c.args.disk.now in
-    let entries = c.args.entries.now in
-    let layable = (c.requires.layable honest) in
-    let gate = c.requires.gate honest in
-    let fit = c.requires.fits honest in
-    let name_is = c.requires.journal in
     let mid = g.D.Disk.files c.arm.new.disk in
-    let P : List ℕ → Type 0 = λ n. (mid n).content ≡ laid 1 c.args.body.now (files n).content in
-    let Q : List ℕ → Type 0 = λ n. (other : List ℕ) → other ≢ n → mid other ≡ files other in
-    let written = subst P name_is (c.in_ok-arm.ensures.content h1) in
-    let others = subst Q name_is (c.arm.ensures.others h1) in
     let last = g.D.Disk.files c.open_gate.new.disk in
-    let R : List ℕ → Type 0 = λ n. (other : List ℕ) → other ≢ n → last other ≡ mid other in
-    let last_others = subst R name_is (c.open_gate.ensures.others ended) in
-    opened_fits entries files layable gate fit c.args.body.now c.requires.body c.requires.long mid written others last last_others
+    let name_is = c.requires.journal in
+    let put = subst (λ (n : List ℕ). Puts n (laid 1 c.args.body.now (files n).content) files mid (Ok tt)) name_is (c.in_ok-arm.ensures.puts h1) in
+    let opened = subst (λ (n : List ℕ). Puts n (1 ∷ drop 1 (mid n).content) mid last (Ok tt)) name_is (c.in_ok-open_gate.ensures.puts ended) in
+    opened_fits c.args.entries.now files (c.requires.layable honest) (c.requires.gate honest) (c.requires.fits honest) c.args.body.now c.requires.body c.requires.long
+    mid put.is put.others last opened.others
 
-pub returns-clause-any_moment : goal.returns-clause-any_moment
-returns-clause-any_moment g c ended rest =
-    let h2 = c.replay.ensures.honest.0 ended in
-    let h1 = c.open_gate.ensures.honest.0 h2 in
-    let honest = c.arm.ensures.honest.0 h1 in
+pub returns-clause-gate : goal.returns-clause-gate
+returns-clause-gate g c ended = on_ok_weaker c.replay.result (λ done. done.gate) (c.replay.ensures.replays ended).done
+
+pub returns-clause-commits : goal.returns-clause-commits
+returns-clause-commits g c ended =
+    let h2 = c.replay.ensures.accounts.was_honest ended in
+    let h1 = c.open_gate.ensures.accounts.was_honest h2 in
+    let honest = c.arm.ensures.accounts.was_honest h1 in
     let files = g.D.Disk.files c.args.disk.now in
     let entries = c.args.entries.now in
-    let layable = (c.requires.layable honest) in
+    let layable = c.requires.layable honest in
     let gate = c.requires.gate honest in
     let fit = c.requires.fits honest in
     let name_is = c.requires.journal in
-    let armed = passes_as (c.arm.ensures.any_moment h1) (λ image left.
+    let armed = λ (rest : IsAtRest files). passes_as (c.arm.ensures.any_moment h1) (λ image left.
     while_arming entries files layable gate fit c.args.body.now c.requires.body c.requires.long rest image (subst (λ (n : List ℕ). LeavesClosed n files image) name_is left)) in
     let mid = g.D.Disk.files c.arm.new.disk in
-    let P : List ℕ → Type 0 = λ n. (mid n).content ≡ laid 1 c.args.body.now (files n).content in
-    let Q : List ℕ → Type 0 = λ n. (other : List ℕ) → other ≢ n → mid other ≡ files other in
-    let written = subst P name_is (c.in_ok-arm.ensures.content h1) in
-    let others = subst Q name_is (c.arm.ensures.others h1) in
-    let opening = passes_then armed (c.open_gate.ensures.any_moment h2) (λ image left.
-    while_opening entries files layable gate fit c.args.body.now c.requires.body c.requires.long mid written others rest image (subst (λ (n : List ℕ). LeavesBody n mid image) name_is left)) in
+    let put = subst (λ (n : List ℕ). Puts n (laid 1 c.args.body.now (files n).content) files mid (Ok tt)) name_is (c.in_ok-arm.ensures.puts h1) in
+    let opening = λ (rest : IsAtRest files). passes_then (armed rest) (c.open_gate.ensures.any_moment h2) (λ image left.
+    while_opening entries files layable gate fit c.args.body.now c.requires.body c.requires.long mid put.is put.others rest image (subst (λ (n : List ℕ). LeavesBody n mid image) name_is left)) in
     let last = g.D.Disk.files c.open_gate.new.disk in
-    let R : List ℕ → Type 0 = λ n. (other : List ℕ) → other ≢ n → last other ≡ mid other in
-    let last_others = subst R name_is (c.open_gate.ensures.others h2) in
-    let can : IsReplayable entries last = record {
-      others = λ name not none. subst IsStable (sym (last_others name not ∙ others name not)) (rest.stable name);
+    let others = subst (λ (n : List ℕ). (other : List ℕ) → other ≢ n → last other ≡ mid other) name_is (c.open_gate.ensures.puts h2).others in
+    let can : IsAtRest files → IsReplayable entries last = λ rest. record {
+      others = λ name not none. subst IsStable (sym (others name not ∙ put.others name not)) (rest.stable name);
       texts = replayed entries (contents files);
-      takes = opened_takes entries files layable gate fit c.args.body.now c.requires.body c.requires.long mid written others rest last last_others;
+      takes = opened_takes entries files layable gate fit c.args.body.now c.requires.body c.requires.long mid put.is put.others rest last others;
     } in
-    since_start (passes_then opening (c.replay.ensures.any_moment ended can) (λ image stands. inr stands)) files (g.met.D.Disk.only_now c.args.disk.now) honest (λ image left. inl (at_rest_stands files rest image left))
-
-pub returns-clause-contents : goal.returns-clause-contents
-returns-clause-contents g c = on_ok_one c.replay.result c.replay.ensures.contents (λ done ended.
-    let h2 = c.replay.ensures.honest.0 ended in
-    let h1 = c.open_gate.ensures.honest.0 h2 in
-    let honest = c.arm.ensures.honest.0 h1 in
-    let files = g.D.Disk.files c.args.disk.now in
-    let entries = c.args.entries.now in
-    let layable = (c.requires.layable honest) in
-    let gate = c.requires.gate honest in
-    let fit = c.requires.fits honest in
-    let name_is = c.requires.journal in
-    let mid = g.D.Disk.files c.arm.new.disk in
-    let P : List ℕ → Type 0 = λ n. (mid n).content ≡ laid 1 c.args.body.now (files n).content in
-    let Q : List ℕ → Type 0 = λ n. (other : List ℕ) → other ≢ n → mid other ≡ files other in
-    let written = subst P name_is (c.in_ok-arm.ensures.content h1) in
-    let others = subst Q name_is (c.arm.ensures.others h1) in
-    let last = g.D.Disk.files c.open_gate.new.disk in
-    let R : List ℕ → Type 0 = λ n. (other : List ℕ) → other ≢ n → last other ≡ mid other in
-    let last_others = subst R name_is (c.open_gate.ensures.others h2) in
-    λ name not. done ended name not ∙ opened_made entries files layable gate fit c.args.body.now c.requires.body c.requires.long mid written others last last_others name not)
-
-pub returns-clause-rest : goal.returns-clause-rest
-returns-clause-rest g c = on_ok_one c.replay.result c.replay.ensures.rest (λ done ended rest.
-    let h2 = c.replay.ensures.honest.0 ended in
-    let h1 = c.open_gate.ensures.honest.0 h2 in
-    let honest = c.arm.ensures.honest.0 h1 in
-    let files = g.D.Disk.files c.args.disk.now in
-    let entries = c.args.entries.now in
-    let layable = (c.requires.layable honest) in
-    let gate = c.requires.gate honest in
-    let fit = c.requires.fits honest in
-    let name_is = c.requires.journal in
-    let mid = g.D.Disk.files c.arm.new.disk in
-    let P : List ℕ → Type 0 = λ n. (mid n).content ≡ laid 1 c.args.body.now (files n).content in
-    let Q : List ℕ → Type 0 = λ n. (other : List ℕ) → other ≢ n → mid other ≡ files other in
-    let written = subst P name_is (c.in_ok-arm.ensures.content h1) in
-    let others = subst Q name_is (c.arm.ensures.others h1) in
-    let last = g.D.Disk.files c.open_gate.new.disk in
-    let R : List ℕ → Type 0 = λ n. (other : List ℕ) → other ≢ n → last other ≡ mid other in
-    let last_others = subst R name_is (c.open_gate.ensures.others h2) in
-    let can : IsReplayable entries last = record {
-      others = λ name not none. subst IsStable (sym (last_others name not ∙ others name not)) (rest.stable name);
-      texts = replayed entries (contents files);
-      takes = opened_takes entries files layable gate fit c.args.body.now c.requires.body c.requires.long mid written others rest last last_others;
-    } in
-    done ended can)
-
-pub returns-clause-fit : goal.returns-clause-fit
-returns-clause-fit g c = on_err_one c.replay.result c.replay.ensures.fit (λ left ended rest.
-    let h2 = c.replay.ensures.honest.0 ended in
-    let h1 = c.open_gate.ensures.honest.0 h2 in
-    let honest = c.arm.ensures.honest.0 h1 in
-    let files = g.D.Disk.files c.args.disk.now in
-    let entries = c.args.entries.now in
-    let layable = (c.requires.layable honest) in
-    let gate = c.requires.gate honest in
-    let fit = c.requires.fits honest in
-    let name_is = c.requires.journal in
-    let mid = g.D.Disk.files c.arm.new.disk in
-    let P : List ℕ → Type 0 = λ n. (mid n).content ≡ laid 1 c.args.body.now (files n).content in
-    let Q : List ℕ → Type 0 = λ n. (other : List ℕ) → other ≢ n → mid other ≡ files other in
-    let written = subst P name_is (c.in_ok-arm.ensures.content h1) in
-    let others = subst Q name_is (c.arm.ensures.others h1) in
-    let last = g.D.Disk.files c.open_gate.new.disk in
-    let R : List ℕ → Type 0 = λ n. (other : List ℕ) → other ≢ n → last other ≡ mid other in
-    let last_others = subst R name_is (c.open_gate.ensures.others h2) in
-    let can : IsReplayable entries last = record {
-      others = λ name not none. subst IsStable (sym (last_others name not ∙ others name not)) (rest.stable name);
-      texts = replayed entries (contents files);
-      takes = opened_takes entries files layable gate fit c.args.body.now c.requires.body c.requires.long mid written others rest last last_others;
-    } in
-    left ended can)
+    let replays = c.replay.ensures.replays ended in
+    record {
+      done = on_ok_weaker c.replay.result (λ done. record {
+        made = λ name not. done.made name not ∙ opened_made entries files layable gate fit c.args.body.now c.requires.body c.requires.long mid put.is put.others last others name not;
+        rest = λ rest. done.rest (can rest);
+      }) replays.done;
+      any_moment = λ rest. since_start (passes_then (opening rest) (replays.any_moment (can rest)) (λ image stands. inr stands)) files
+          (g.met.D.Disk.only_now c.args.disk.now) honest (λ image left. inl (at_rest_stands files rest image left));
+      fit = λ rest. replays.fit (can rest);
+    }

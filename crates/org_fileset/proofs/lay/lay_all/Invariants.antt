@@ -1,6 +1,7 @@
-use Rattle.std.proofs.Common.{◌≡◌, ◌≤◌, List, ℕ}
+use Rattle.std.proofs.Common.{◌≡◌, List, ℕ}
 use Rattle.std.specs.Prelude.{IsFalse}
-use Rattle.org_disk.specs.Disk.{IsStable, KeepsHonesty}
+use Rattle.org_disk.specs.Disk.{IsStable}
+use Rattle.org_disk.specs.Accounts.{Accounts}
 use Rattle.org_disk.specs.Names.{journal_name}
 use Rattle.org_journal.specs.Record.{is_named}
 use Rattle.org_journal.specs.Standing.{Image, contents, replayed}
@@ -13,9 +14,7 @@ abbrev pub invariant-loop-entry : goal.invariant-loop-entry
 invariant-loop-entry g l =
     let disk = g.D.Disk in
     record {
-      honest : KeepsHonesty disk.steady (disk.honest l.fn.disk) (disk.honest l.disk);
-      failures : disk.failures l.fn.disk ≤ disk.failures l.disk;
-      told : disk.failures l.disk ≡ disk.failures l.fn.disk;
+      accounts : Accounts disk.steady disk.honest disk.failures l.fn.disk l.disk ⊥;
       replays : disk.honest l.disk → IsStable (disk.files l.fn.disk journal_name) → (texts : Image) → EachTakes l.entries texts (disk.files l.fn.disk)
           → Replays l.entries texts (disk.moment l.fn.disk) (disk.moment l.disk) (disk.left_since l.fn.disk) (disk.left_since l.disk) (disk.files l.fn.disk) (disk.files l.disk);
       have : disk.honest l.disk → HaveTexts l.entries (replayed l.entries (contents (disk.files l.fn.disk))) l.entry-index (disk.files l.disk);

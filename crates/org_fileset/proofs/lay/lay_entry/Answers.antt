@@ -3,13 +3,12 @@ use Rattle.org_disk.specs.Disk.{FileState, write, cut}
 use Rattle.org_journal.specs.Record.{pairs}
 use Rattle.org_fileset.proofs.Laying.{lays_none, lays_call, lays_read, takes_write, takes_cut}
 use Rattle.org_fileset.proofs.Steps.{pair_at, lay_each-more, next_within, next_small, long_enough}
+use Rattle.org_disk.proofs.Accounting.{accounts_none, accounts_then, accounts_call_ok}
 use Rattle.org_fileset.proofs.lay.lay_entry.Goals as goal
 
 pub loop-patch-init : goal.loop-patch-init
 loop-patch-init g c = record {
-  honest = (λ h. h, λ steady h. h);
-  failures = omega arith;
-  told = refl;
+  accounts = accounts_none g.D.Disk.steady g.D.Disk.honest g.D.Disk.failures c.args.disk.now;
   content = λ honest. refl;
   others = λ honest other apart. refl;
   lays = λ honest to takes. lays_none (g.D.Disk.moment c.args.disk.now) (g.D.Disk.left_since c.args.disk.now) (g.D.Disk.files c.args.disk.now) takes;
@@ -18,7 +17,7 @@ loop-patch-init g c = record {
 pub write_at-requires-clause-within : goal.write_at-requires-clause-within
 write_at-requires-clause-within g c h =
     let sofar = c.loop-patch.invariant in
-    let honest = sofar.honest.0 h in
+    let honest = sofar.accounts.was_honest h in
     let patches = pairs c.args.entry.now.patches in
     let is = pair_at c.as_slice-patch-items.result.now c.args.entry.now.patches c.loop-patch.patch-index c.patch-item.result c.as_slice.result.now
     c.as_slice-patch-items.ensures c.loop-patch-test.true c.patch-item.is c.as_slice.ensures in
@@ -28,7 +27,7 @@ write_at-requires-clause-within g c h =
 pub write_at-requires-clause-fits : goal.write_at-requires-clause-fits
 write_at-requires-clause-fits g c h =
     let sofar = c.loop-patch.invariant in
-    let honest = sofar.honest.0 h in
+    let honest = sofar.accounts.was_honest h in
     let patches = pairs c.args.entry.now.patches in
     let is = pair_at c.as_slice-patch-items.result.now c.args.entry.now.patches c.loop-patch.patch-index c.patch-item.result c.as_slice.result.now
     c.as_slice-patch-items.ensures c.loop-patch-test.true c.patch-item.is c.as_slice.ensures in
@@ -40,8 +39,8 @@ write_at-requires-clause-fits g c h =
 pub returns-in_err-write_at-clause-lays : goal.returns-in_err-write_at-clause-lays
 returns-in_err-write_at-clause-lays g c ended to takes =
     let sofar = c.loop-patch.invariant in
-    let h = c.write_at.ensures.honest.0 ended in
-    let honest = sofar.honest.0 h in
+    let h = c.write_at.ensures.accounts.was_honest ended in
+    let honest = sofar.accounts.was_honest h in
     let patches = pairs c.args.entry.now.patches in
     let name = c.args.entry.now.name in
     let mid = g.D.Disk.files c.loop-patch.disk in
@@ -66,11 +65,9 @@ loop-patch-preserved g c =
     let bytes = c.as_slice.result.now in
     let is = pair_at c.as_slice-patch-items.result.now c.args.entry.now.patches c.loop-patch.patch-index c.patch-item.result bytes
     c.as_slice-patch-items.ensures c.loop-patch-test.true c.patch-item.is c.as_slice.ensures in
-    let back = c.write_at.ensures.honest.0 in
+    let back = c.write_at.ensures.accounts.was_honest in
     record {
-      honest = (λ h. sofar.honest.0 (c.write_at.ensures.honest.0 h), λ steady h. c.write_at.ensures.honest.1 steady (sofar.honest.1 steady h));
-      failures = omega (arith, sofar.failures, c.in_ok-write_at.ensures.count_ok);
-      told = c.in_ok-write_at.ensures.count_ok ∙ sofar.told;
+      accounts = accounts_then sofar.accounts (accounts_call_ok c.in_ok-write_at.ensures.accounts);
       content = λ ended.
           let done = (c.in_ok-write_at.ensures.effect ended).ok in
           ap (λ (f : FileState). f.content) done
@@ -79,34 +76,34 @@ loop-patch-preserved g c =
       others = λ ended other apart. (c.write_at.ensures.effect ended).others other apart ∙ sofar.others (back ended) other apart;
       lays = λ ended to takes.
           let le = next_within patches c.args.entry.now.length c.loop-patch.patch-index from bytes (g.D.Disk.files c.args.disk.now name).content
-          (mid name).content (c.requires.formed (sofar.honest.0 (back ended))) (c.requires.fits (sofar.honest.0 (back ended))) is (sofar.content (back ended)) in
+          (mid name).content (c.requires.formed (sofar.accounts.was_honest (back ended))) (c.requires.fits (sofar.accounts.was_honest (back ended))) is (sofar.content (back ended)) in
           let now = sofar.lays (back ended) to takes in
           lays_call (write from bytes) c.write_at.result now
-          (takes_write (mid name) c.loop-patch.patch-index from bytes (c.requires.formed (sofar.honest.0 (back ended))) is le (g.met.D.Disk.content_is_image c.loop-patch.disk name (back ended)) now.takes)
+          (takes_write (mid name) c.loop-patch.patch-index from bytes (c.requires.formed (sofar.accounts.was_honest (back ended))) is le (g.met.D.Disk.content_is_image c.loop-patch.disk name (back ended)) now.takes)
           (c.write_at.ensures.effect ended) (c.write_at.ensures.time ended);
     }
 
 pub returns-in_err-length-clause-lays : goal.returns-in_err-length-clause-lays
 returns-in_err-length-clause-lays g c ended to takes =
     let sofar = c.loop-patch.invariant in
-    let h = c.length.ensures.honest.0 ended in
-    lays_read (sofar.lays h to takes) (c.length.ensures.same ended) (c.length.ensures.time ended)
+    let h = c.length.ensures.accounts.was_honest ended in
+    lays_read (sofar.lays h to takes) (c.length.ensures.looks ended).same (c.length.ensures.looks ended).time
 
 pub returns-in_err-cut-clause-lays : goal.returns-in_err-cut-clause-lays
 returns-in_err-cut-clause-lays g c ended to takes =
     let sofar = c.loop-patch.invariant in
-    let h1 = c.cut.ensures.honest.0 ended in
-    let h = c.length.ensures.honest.0 h1 in
-    let honest = sofar.honest.0 h in
+    let h1 = c.cut.ensures.accounts.was_honest ended in
+    let h = c.length.ensures.accounts.was_honest h1 in
+    let honest = sofar.accounts.was_honest h in
     let name = c.args.entry.now.name in
     let final = c.args.entry.now.length in
-    let read = lays_read (sofar.lays h to takes) (c.length.ensures.same h1) (c.length.ensures.time h1) in
+    let read = lays_read (sofar.lays h to takes) (c.length.ensures.looks h1).same (c.length.ensures.looks h1).time in
     let mid = g.D.Disk.files c.length.new.self in
     let enough : final ≤ length (mid name).content =
     let long : final ≤ length (g.D.Disk.files c.loop-patch.disk name).content =
     long_enough c.as_slice-patch-items.result.now c.args.entry.now.patches c.loop-patch.patch-index final (g.D.Disk.files c.args.disk.now name).content
     (g.D.Disk.files c.loop-patch.disk name).content (c.requires.formed honest) (c.requires.fits honest) c.as_slice-patch-items.ensures c.loop-patch-test.false (sofar.content h) in
-    subst (λ (f : List ℕ → FileState). final ≤ length (f name).content) (sym (c.length.ensures.same h1)) long in
+    subst (λ (f : List ℕ → FileState). final ≤ length (f name).content) (sym (c.length.ensures.looks h1).same) long in
     lays_call (cut final) c.cut.result read
     (takes_cut (mid name) (c.requires.formed honest) enough (g.met.D.Disk.content_is_image c.length.new.self name h1) read.takes)
     (c.cut.ensures.effect ended) (c.cut.ensures.time ended)
@@ -114,18 +111,18 @@ returns-in_err-cut-clause-lays g c ended to takes =
 pub returns-in_ok-cut-clause-lays : goal.returns-in_ok-cut-clause-lays
 returns-in_ok-cut-clause-lays g c ended to takes =
     let sofar = c.loop-patch.invariant in
-    let h1 = c.cut.ensures.honest.0 ended in
-    let h = c.length.ensures.honest.0 h1 in
-    let honest = sofar.honest.0 h in
+    let h1 = c.cut.ensures.accounts.was_honest ended in
+    let h = c.length.ensures.accounts.was_honest h1 in
+    let honest = sofar.accounts.was_honest h in
     let name = c.args.entry.now.name in
     let final = c.args.entry.now.length in
-    let read = lays_read (sofar.lays h to takes) (c.length.ensures.same h1) (c.length.ensures.time h1) in
+    let read = lays_read (sofar.lays h to takes) (c.length.ensures.looks h1).same (c.length.ensures.looks h1).time in
     let mid = g.D.Disk.files c.length.new.self in
     let enough : final ≤ length (mid name).content =
     let long : final ≤ length (g.D.Disk.files c.loop-patch.disk name).content =
     long_enough c.as_slice-patch-items.result.now c.args.entry.now.patches c.loop-patch.patch-index final (g.D.Disk.files c.args.disk.now name).content
     (g.D.Disk.files c.loop-patch.disk name).content (c.requires.formed honest) (c.requires.fits honest) c.as_slice-patch-items.ensures c.loop-patch-test.false (sofar.content h) in
-    subst (λ (f : List ℕ → FileState). final ≤ length (f name).content) (sym (c.length.ensures.same h1)) long in
+    subst (λ (f : List ℕ → FileState). final ≤ length (f name).content) (sym (c.length.ensures.looks h1).same) long in
     lays_call (cut final) c.cut.result read
     (takes_cut (mid name) (c.requires.formed honest) enough (g.met.D.Disk.content_is_image c.length.new.self name h1) read.takes)
     (c.cut.ensures.effect ended) (c.cut.ensures.time ended)
@@ -133,41 +130,41 @@ returns-in_ok-cut-clause-lays g c ended to takes =
 pub returns-else-length-entry-clause-lays : goal.returns-else-length-entry-clause-lays
 returns-else-length-entry-clause-lays g c ended to takes =
     let sofar = c.loop-patch.invariant in
-    let h = c.length.ensures.honest.0 ended in
-    lays_read (sofar.lays h to takes) (c.length.ensures.same ended) (c.length.ensures.time ended)
+    let h = c.length.ensures.accounts.was_honest ended in
+    lays_read (sofar.lays h to takes) (c.length.ensures.looks ended).same (c.length.ensures.looks ended).time
 
 pub returns-in_err-write_at-clause-others : goal.returns-in_err-write_at-clause-others
 returns-in_err-write_at-clause-others g c ended other apart =
     let sofar = c.loop-patch.invariant in
-    let h = c.write_at.ensures.honest.0 ended in
+    let h = c.write_at.ensures.accounts.was_honest ended in
     (c.write_at.ensures.effect ended).others other apart ∙ sofar.others h other apart
 
 pub returns-in_err-length-clause-others : goal.returns-in_err-length-clause-others
 returns-in_err-length-clause-others g c ended other apart =
     let sofar = c.loop-patch.invariant in
-    let h = c.length.ensures.honest.0 ended in
-    let same = ap (λ (f : List ℕ → FileState). f other) (c.length.ensures.same ended) ∙ sofar.others h other apart in
+    let h = c.length.ensures.accounts.was_honest ended in
+    let same = ap (λ (f : List ℕ → FileState). f other) (c.length.ensures.looks ended).same ∙ sofar.others h other apart in
     same
 
 pub returns-in_err-cut-clause-others : goal.returns-in_err-cut-clause-others
 returns-in_err-cut-clause-others g c ended other apart =
     let sofar = c.loop-patch.invariant in
-    let h1 = c.cut.ensures.honest.0 ended in
-    let h = c.length.ensures.honest.0 h1 in
-    let same = ap (λ (f : List ℕ → FileState). f other) (c.length.ensures.same h1) ∙ sofar.others h other apart in
+    let h1 = c.cut.ensures.accounts.was_honest ended in
+    let h = c.length.ensures.accounts.was_honest h1 in
+    let same = ap (λ (f : List ℕ → FileState). f other) (c.length.ensures.looks h1).same ∙ sofar.others h other apart in
     (c.cut.ensures.effect ended).others other apart ∙ same
 
 pub returns-in_ok-cut-clause-others : goal.returns-in_ok-cut-clause-others
 returns-in_ok-cut-clause-others g c ended other apart =
     let sofar = c.loop-patch.invariant in
-    let h1 = c.cut.ensures.honest.0 ended in
-    let h = c.length.ensures.honest.0 h1 in
-    let same = ap (λ (f : List ℕ → FileState). f other) (c.length.ensures.same h1) ∙ sofar.others h other apart in
+    let h1 = c.cut.ensures.accounts.was_honest ended in
+    let h = c.length.ensures.accounts.was_honest h1 in
+    let same = ap (λ (f : List ℕ → FileState). f other) (c.length.ensures.looks h1).same ∙ sofar.others h other apart in
     (c.cut.ensures.effect ended).others other apart ∙ same
 
 pub returns-else-length-entry-clause-others : goal.returns-else-length-entry-clause-others
 returns-else-length-entry-clause-others g c ended other apart =
     let sofar = c.loop-patch.invariant in
-    let h = c.length.ensures.honest.0 ended in
-    let same = ap (λ (f : List ℕ → FileState). f other) (c.length.ensures.same ended) ∙ sofar.others h other apart in
+    let h = c.length.ensures.accounts.was_honest ended in
+    let same = ap (λ (f : List ℕ → FileState). f other) (c.length.ensures.looks ended).same ∙ sofar.others h other apart in
     same

@@ -1,5 +1,5 @@
-use Rattle.std.proofs.Common.{◌≡◌, ◌≢◌, ◌≤◌, List, ℕ, take}
-use Rattle.org_disk.specs.Disk.{KeepsHonesty}
+use Rattle.std.proofs.Common.{◌≡◌, ◌≢◌, List, ℕ, take}
+use Rattle.org_disk.specs.Accounts.{Accounts}
 use Rattle.org_splice.specs.Patches.{lay_each}
 use Rattle.org_journal.specs.Record.{pairs}
 use Rattle.org_fileset.specs.Replay.{EachLaysTo, Lays}
@@ -11,9 +11,7 @@ invariant-loop-patch g l =
     let disk = g.D.Disk in
     let patches = pairs l.entry.patches in
     record {
-      honest : KeepsHonesty disk.steady (disk.honest l.fn.disk) (disk.honest l.disk);
-      failures : disk.failures l.fn.disk ≤ disk.failures l.disk;
-      told : disk.failures l.disk ≡ disk.failures l.fn.disk;
+      accounts : Accounts disk.steady disk.honest disk.failures l.fn.disk l.disk ⊥;
       content : disk.honest l.disk → (disk.files l.disk l.entry.name).content ≡ lay_each (take l.patch-index patches) (disk.files l.fn.disk l.entry.name).content;
       others : disk.honest l.disk → (other : List ℕ) → other ≢ l.entry.name → disk.files l.disk other ≡ disk.files l.fn.disk other;
       lays : disk.honest l.disk → (to : List ℕ) → EachLaysTo patches l.entry.length to (disk.files l.fn.disk l.entry.name)

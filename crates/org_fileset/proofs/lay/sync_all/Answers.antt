@@ -5,13 +5,12 @@ use Rattle.org_disk.proofs.Images.{is_stable}
 use Rattle.org_disk.proofs.Names.{name_cases}
 use Rattle.org_fileset.proofs.Takes.{named_apart}
 use Rattle.org_fileset.proofs.Replaying.{entry_takes, replays_none, replays_entry, lays_sync, stable_more, all_stable}
+use Rattle.org_disk.proofs.Accounting.{accounts_none, accounts_then, accounts_call_ok}
 use Rattle.org_fileset.proofs.lay.sync_all.Goals as goal
 
 pub loop-entry-init : goal.loop-entry-init
 loop-entry-init g c = record {
-  honest = (λ h. h, λ steady h. h);
-  failures = omega arith;
-  told = refl;
+  accounts = accounts_none g.D.Disk.steady g.D.Disk.honest g.D.Disk.failures c.args.disk.now;
   replays = λ honest stable texts takes. replays_none (g.D.Disk.moment c.args.disk.now) (g.D.Disk.left_since c.args.disk.now) (g.D.Disk.files c.args.disk.now) takes;
   contents = λ honest name. refl;
   others = λ honest name none. refl;
@@ -21,8 +20,8 @@ loop-entry-init g c = record {
 pub returns-in_err-sync-clause-replays : goal.returns-in_err-sync-clause-replays
 returns-in_err-sync-clause-replays g c ended stable texts takes =
     let sofar = c.loop-entry.invariant in
-    let h = c.sync.ensures.honest.0 ended in
-    let honest = sofar.honest.0 h in
+    let h = c.sync.ensures.accounts.was_honest ended in
+    let honest = sofar.accounts.was_honest h in
     let i = c.loop-entry.entry-index in
     let entry = c.entry-item.result in
     let is = slice_get_read c.args.entries.now (length c.args.entries.now) i entry refl c.loop-entry-test.true c.entry-item.is in
@@ -38,15 +37,13 @@ loop-entry-preserved g c =
     let entry = c.entry-item.result in
     let is = slice_get_read c.args.entries.now (length c.args.entries.now) i entry refl c.loop-entry-test.true c.entry-item.is in
     let mid = g.D.Disk.files c.loop-entry.disk in
-    let back = c.sync.ensures.honest.0 in
+    let back = c.sync.ensures.accounts.was_honest in
     record {
-      honest = (λ h. sofar.honest.0 (c.sync.ensures.honest.0 h), λ steady h. c.sync.ensures.honest.1 steady (sofar.honest.1 steady h));
-      failures = omega (arith, sofar.failures, c.in_ok-sync.ensures.count_ok);
-      told = c.in_ok-sync.ensures.count_ok ∙ sofar.told;
+      accounts = accounts_then sofar.accounts (accounts_call_ok c.in_ok-sync.ensures.accounts);
       replays = λ ended stable texts takes.
           let now = sofar.replays (back ended) stable texts takes in
-          replays_entry i entry (c.requires (sofar.honest.0 (back ended))) is stable now
-          (lays_sync c.sync.result (entry_takes c.args.entries.now texts mid i entry (c.requires (sofar.honest.0 (back ended))) is now.takes)
+          replays_entry i entry (c.requires (sofar.accounts.was_honest (back ended))) is stable now
+          (lays_sync c.sync.result (entry_takes c.args.entries.now texts mid i entry (c.requires (sofar.accounts.was_honest (back ended))) is now.takes)
           (g.met.D.Disk.content_is_image c.loop-entry.disk entry.name (back ended)) (c.sync.ensures.effect ended) (c.sync.ensures.time ended));
       contents = λ ended name.
           elim (name_cases name entry.name) [
@@ -69,7 +66,7 @@ returns-clause-stable g c ended name before =
 pub returns-in_err-sync-clause-others : goal.returns-in_err-sync-clause-others
 returns-in_err-sync-clause-others g c ended name none =
     let sofar = c.loop-entry.invariant in
-    let h = c.sync.ensures.honest.0 ended in
+    let h = c.sync.ensures.accounts.was_honest ended in
     let i = c.loop-entry.entry-index in
     let entry = c.entry-item.result in
     let is = slice_get_read c.args.entries.now (length c.args.entries.now) i entry refl c.loop-entry-test.true c.entry-item.is in

@@ -1,17 +1,31 @@
-use Rattle.std.proofs.Common.{List, ℕ}
+use Rattle.std.proofs.Common.{rules, List, ℕ, IsErr, sym, subst}
 use Rattle.org_disk.proofs.Moments.{passes_then}
+use Rattle.org_journal.specs.Standing.{IsFit}
+use Rattle.org_fileset.specs.Recovery.{IsReopened}
+use Rattle.org_fileset.proofs.Armed.{on_ok_always, on_ok_never}
 use Rattle.org_fileset.proofs.Starting.{since_start}
 use Rattle.org_fileset.proofs.Recovering.{as_before}
 use Rattle.org_fileset.proofs.Sorted.{left_after}
 use Rattle.org_fileset.proofs.open.make_ready.Goals as goal
 
-pub returns-clause-any_moment : goal.returns-clause-any_moment
-returns-clause-any_moment g c ended fit each =
-    let h1 = c.check_sizes.ensures.honest.0 ended in
-    let honest = c.recover.ensures.honest.0 h1 in
+pub returns-in_err-recover-clause-reopens : goal.returns-in_err-recover-clause-reopens
+returns-in_err-recover-clause-reopens g c ended =
+    let made = c.recover.ensures.reopens ended in
+    let failed : IsErr c.from_residual.result = search rules in
+    record { done = on_ok_never _ c.from_residual.result failed; any_moment = made.any_moment; fit = made.fit }
+
+pub returns-clause-reopens : goal.returns-clause-reopens
+returns-clause-reopens g c ended =
+    let h1 = c.check_sizes.ensures.accounts.was_honest ended in
+    let honest = c.recover.ensures.accounts.was_honest h1 in
     let old = g.D.Disk.files c.args.disk.now in
     let mid = g.D.Disk.files c.recover.new.disk in
-    let recovering = c.recover.ensures.any_moment h1 fit each in
+    let made = c.in_ok-recover.ensures.reopens h1 in
+    let looks = c.check_sizes.ensures.looks ended in
     let own = λ (name : List ℕ). g.met.D.Disk.content_is_image c.args.disk.now name honest in
-    since_start (passes_then recovering.passes (c.check_sizes.ensures.any_moment ended)
-    (left_after old mid own (c.in_ok-recover.ensures.contents h1) (c.in_ok-recover.ensures.rest h1 fit each))) old (g.met.D.Disk.only_now c.args.disk.now) honest (as_before old each)
+    record {
+      done = on_ok_always c.check_sizes.result (subst (IsReopened old) (sym looks.same) made.done);
+      any_moment = λ fit each. since_start (passes_then (made.any_moment fit each).passes looks.time (left_after old mid own made.done.stood (made.done.rest fit each)))
+          old (g.met.D.Disk.only_now c.args.disk.now) honest (as_before old each);
+      fit = λ fit each. subst IsFit (sym looks.same) (made.fit fit each);
+    }

@@ -1,367 +1,267 @@
-use Rattle.std.proofs.Common.{◌≡◌, ◌≢◌, inl, false, ◌≤◌, ◌∷◌, ℕ, List, length, drop, Ok, Err, sym, ◌∙◌, ap, subst, arith}
-use Rattle.org_disk.specs.Disk.{FileState, IsStable, AreImages, AreLeftBy, Changes, sync}
+use Rattle.std.proofs.Common.{rules, ◌≡◌, inl, false, ◌<◌, ◌≤◌, ◌∷◌, ℕ, List, length, drop, Ok, Err, IsErr, sym, ◌∙◌, ap, subst, arith}
+use Rattle.std.specs.Prelude.{IsSomeAnd}
+use Rattle.std.proofs.lemmas.Result.{err_from_is_err_and}
+use Rattle.org_disk.specs.Disk.{FileState, IsStable, AreLeftBy, Changes, sync}
 use Rattle.org_disk.specs.Names.{journal_name}
 use Rattle.org_disk.proofs.Moments.{Image, passes_as, passes_then}
 use Rattle.org_journal.specs.declared.record.Entry.{Entry}
-use Rattle.org_journal.specs.Gate.{front_size, is_open, LeavesClosed}
-use Rattle.org_journal.specs.Finding.{Finds, IsWritable}
-use Rattle.org_journal.specs.declared.finding.Found.{Found}
-use Rattle.org_journal.specs.declared.finding.Found.TheVariants.{Armed}
-use Rattle.org_journal.specs.Standing.{contents, stands, SameFiles}
-use Rattle.org_fileset.specs.Replay.{IsOpenOver, AreLayable, IsAtRest}
-use Rattle.std.specs.Prelude.{IsSomeAnd}
-use Rattle.std.proofs.lemmas.Result.{err_from_is_err_and}
 use Rattle.org_journal.specs.declared.fault.FindFault.{FindFault}
 use Rattle.org_journal.specs.declared.fault.FindFault.TheVariants.{BadJournal}
+use Rattle.org_journal.specs.declared.finding.Found.{Found}
+use Rattle.org_journal.specs.declared.finding.Found.TheVariants.{Armed}
+use Rattle.org_journal.specs.Gate.{front_size, is_open, HasClosedGate, LeavesClosed, Puts}
+use Rattle.org_journal.specs.Finding.{Finds, IsWritable}
+use Rattle.org_journal.specs.Standing.{contents, stands, SameFiles, IsFit}
+use Rattle.org_fileset.specs.Recovery.{closed_journal}
+use Rattle.org_fileset.specs.Replay.{IsOpenOver, AreLayable, IsAtRest}
 use Rattle.org_fileset.proofs.Starting.{since_start}
-use Rattle.org_fileset.proofs.Armed.{closed_after}
-use Rattle.org_fileset.proofs.Recovering.{as_before, sync_left, sync_fit, IsSynced, synced, armed_before, closed_before, formed_layable, fit_replayable, closed_stable, closed_rest, shut_gate}
+use Rattle.org_fileset.proofs.Armed.{closed_after, on_ok_never}
+use Rattle.org_fileset.proofs.Recovering.{as_before, sync_left, sync_fit, looked_at, armed_before, closed_before, formed_layable, fit_replayable, closed_stable, closed_rest, shut_gate, closed_open, closed_short, closed_shut, stood_closed}
 use Rattle.org_fileset.proofs.recover.recover.Goals as goal
 
-pub returns-in_err-sync-clause-any_moment : goal.returns-in_err-sync-clause-any_moment
-returns-in_err-sync-clause-any_moment g c ended fit each =
-    let honest = c.sync.ensures.honest.0 ended in
-    let old = g.D.Disk.files c.args.disk.now in
-    let own = g.met.D.Disk.content_is_image c.args.disk.now journal_name honest in
-    let syncing = passes_as (c.sync.ensures.time ended) (λ image left.
-    as_before old each image (sync_left journal_name old image own (subst (λ (n : List ℕ). AreLeftBy sync n old image) c.requires left))) in
-    since_start syncing old (g.met.D.Disk.only_now c.args.disk.now) honest (as_before old each)
-
-pub returns-in_err-sync-clause-fit : goal.returns-in_err-sync-clause-fit
-returns-in_err-sync-clause-fit g c ended fit each =
-    let honest = c.sync.ensures.honest.0 ended in
+pub returns-in_err-sync-clause-reopens : goal.returns-in_err-sync-clause-reopens
+returns-in_err-sync-clause-reopens g c ended =
+    let honest = c.sync.ensures.accounts.was_honest ended in
     let old = g.D.Disk.files c.args.disk.now in
     let mid = g.D.Disk.files c.sync.new.self in
     let own = g.met.D.Disk.content_is_image c.args.disk.now journal_name honest in
-    sync_fit old mid c.sync.result own (λ name. g.met.D.Disk.content_is_image c.sync.new.self name ended)
-    (subst (λ (n : List ℕ). Changes sync n old mid c.sync.result) c.requires (c.sync.ensures.effect ended)) fit
+    let failed : IsErr c.from_residual.result = search rules in
+    record {
+      done = on_ok_never _ c.from_residual.result failed;
+      any_moment = λ fit each. since_start (passes_as (c.sync.ensures.time ended) (λ image left.
+          as_before old each image (sync_left journal_name old image own (subst (λ (n : List ℕ). AreLeftBy sync n old image) c.requires left))))
+          old (g.met.D.Disk.only_now c.args.disk.now) honest (as_before old each);
+      fit = λ fit each. sync_fit old mid c.sync.result own (λ name. g.met.D.Disk.content_is_image c.sync.new.self name ended)
+          (subst (λ (n : List ℕ). Changes sync n old mid c.sync.result) c.requires (c.sync.ensures.effect ended)) fit;
+    }
 
 pub returns-in_err-record-clause-bad : goal.returns-in_err-record-clause-bad
 returns-in_err-record-clause-bad g c bad ended =
-    let h1 = c.find.ensures.honest.0 ended in
-    let honest = c.sync.ensures.honest.0 h1 in
-    let old = g.D.Disk.files c.args.disk.now in
-    let mid = g.D.Disk.files c.sync.new.self in
-    let own = g.met.D.Disk.content_is_image c.args.disk.now journal_name honest in
-    let now = g.D.Disk.files c.find.new.disk in
-    let is : IsSynced old now = synced old mid now own (λ name. g.met.D.Disk.content_is_image c.sync.new.self name h1)
-    (subst (λ (n : List ℕ). Changes sync n old mid (Ok tt)) c.requires (c.in_ok-sync.ensures.effect h1)) (c.find.ensures.same ended) in
+    let h1 = c.find.ensures.accounts.was_honest ended in
+    let d = g.D.Disk in
+    let mid = d.files c.sync.new.self in
+    let looks = c.find.ensures.looks ended in
+    let look = looked_at d.files d.moment d.left_since c.args.disk.now c.sync.new.self c.find.new.disk c.args.journal.now c.requires
+    (g.met.D.Disk.content_is_image c.args.disk.now journal_name (c.sync.ensures.accounts.was_honest h1)) (λ name. g.met.D.Disk.content_is_image c.sync.new.self name h1)
+    (c.in_ok-sync.ensures.effect h1) (c.sync.ensures.time h1) looks in
     let told = err_from_is_err_and c.from_residual-in_err-record.result c.from_residual-in_err-record.ensures.1 in
     let one : told.0 ≡ c.in_err-record.field-0.0 = told.2 in
     let both : Err told.0 ≡ Err BadJournal = sym told.1 ∙ bad in
     let fault : c.in_err-record.field-0.0 ≡ BadJournal = sym one ∙ cc in
     let found = subst (λ (e : FindFault). Finds (contents mid) (Err e)) fault (c.in_err-record.ensures.found ended) in
-    ap stands (sym is.same ∙ ap (λ (f : List ℕ → FileState). contents f) (c.find.ensures.same ended)) ∙ found.1
+    (ap stands (sym look.is.same ∙ ap (λ (f : List ℕ → FileState). contents f) looks.same) ∙ found.1, look.is.same)
 
-pub returns-in_err-record-clause-unchanged : goal.returns-in_err-record-clause-unchanged
-returns-in_err-record-clause-unchanged g c bad ended =
-    let h1 = c.find.ensures.honest.0 ended in
-    let honest = c.sync.ensures.honest.0 h1 in
-    let old = g.D.Disk.files c.args.disk.now in
-    let mid = g.D.Disk.files c.sync.new.self in
-    let own = g.met.D.Disk.content_is_image c.args.disk.now journal_name honest in
-    let is : IsSynced old (g.D.Disk.files c.find.new.disk) = synced old mid (g.D.Disk.files c.find.new.disk) own (λ name. g.met.D.Disk.content_is_image c.sync.new.self name h1)
-    (subst (λ (n : List ℕ). Changes sync n old mid (Ok tt)) c.requires (c.in_ok-sync.ensures.effect h1)) (c.find.ensures.same ended) in
-    is.same
-
-pub returns-in_err-record-clause-any_moment : goal.returns-in_err-record-clause-any_moment
-returns-in_err-record-clause-any_moment g c ended fit each =
-    let h1 = c.find.ensures.honest.0 ended in
-    let honest = c.sync.ensures.honest.0 h1 in
-    let old = g.D.Disk.files c.args.disk.now in
-    let mid = g.D.Disk.files c.sync.new.self in
-    let own = g.met.D.Disk.content_is_image c.args.disk.now journal_name honest in
-    let syncing = passes_as (c.sync.ensures.time h1) (λ image left.
-    as_before old each image (sync_left journal_name old image own (subst (λ (n : List ℕ). AreLeftBy sync n old image) c.requires left))) in
-    let now = g.D.Disk.files c.find.new.disk in
-    let is : IsSynced old now = synced old mid now own (λ name. g.met.D.Disk.content_is_image c.sync.new.self name h1)
-    (subst (λ (n : List ℕ). Changes sync n old mid (Ok tt)) c.requires (c.in_ok-sync.ensures.effect h1)) (c.find.ensures.same ended) in
-    let finding = passes_then syncing (c.find.ensures.any_moment ended) (λ image left.
-    as_before old each image (is.images image (subst (λ (f : List ℕ → FileState). AreImages f image) (sym (c.find.ensures.same ended)) left))) in
-    since_start finding old (g.met.D.Disk.only_now c.args.disk.now) honest (as_before old each)
-
-pub returns-in_err-record-clause-fit : goal.returns-in_err-record-clause-fit
-returns-in_err-record-clause-fit g c ended fit each =
-    let h1 = c.find.ensures.honest.0 ended in
-    let honest = c.sync.ensures.honest.0 h1 in
-    let old = g.D.Disk.files c.args.disk.now in
-    let mid = g.D.Disk.files c.sync.new.self in
-    let own = g.met.D.Disk.content_is_image c.args.disk.now journal_name honest in
-    let now = g.D.Disk.files c.find.new.disk in
-    let is : IsSynced old now = synced old mid now own (λ name. g.met.D.Disk.content_is_image c.sync.new.self name h1)
-    (subst (λ (n : List ℕ). Changes sync n old mid (Ok tt)) c.requires (c.in_ok-sync.ensures.effect h1)) (c.find.ensures.same ended) in
-    is.fit fit
+pub returns-in_err-record-clause-reopens : goal.returns-in_err-record-clause-reopens
+returns-in_err-record-clause-reopens g c ended =
+    let h1 = c.find.ensures.accounts.was_honest ended in
+    let honest = c.sync.ensures.accounts.was_honest h1 in
+    let d = g.D.Disk in
+    let old = d.files c.args.disk.now in
+    let look = looked_at d.files d.moment d.left_since c.args.disk.now c.sync.new.self c.find.new.disk c.args.journal.now c.requires
+    (g.met.D.Disk.content_is_image c.args.disk.now journal_name honest) (λ name. g.met.D.Disk.content_is_image c.sync.new.self name h1)
+    (c.in_ok-sync.ensures.effect h1) (c.sync.ensures.time h1) (c.find.ensures.looks ended) in
+    let failed : IsErr c.from_residual-in_err-record.result = search rules in
+    record {
+      done = on_ok_never _ c.from_residual-in_err-record.result failed;
+      any_moment = λ fit each. since_start (look.since each) old (g.met.D.Disk.only_now c.args.disk.now) honest (as_before old each);
+      fit = λ fit each. look.is.fit fit;
+    }
 
 pub replay-requires-clause-layable : goal.replay-requires-clause-layable
 replay-requires-clause-layable g c h2 =
     subst AreLayable (sym c.entries.ensures) (formed_layable c.in-Armed.record (subst IsWritable c.in-Armed.is c.in_ok-record.ensures.writable))
 
-pub returns-in_err-replay-in-Armed-clause-any_moment : goal.returns-in_err-replay-in-Armed-clause-any_moment
-returns-in_err-replay-in-Armed-clause-any_moment g c ended fit each =
-    let h2 = c.replay.ensures.honest.0 ended in
-    let h1 = c.find.ensures.honest.0 h2 in
-    let honest = c.sync.ensures.honest.0 h1 in
-    let old = g.D.Disk.files c.args.disk.now in
-    let mid = g.D.Disk.files c.sync.new.self in
-    let own = g.met.D.Disk.content_is_image c.args.disk.now journal_name honest in
-    let syncing = passes_as (c.sync.ensures.time h1) (λ image left.
-    as_before old each image (sync_left journal_name old image own (subst (λ (n : List ℕ). AreLeftBy sync n old image) c.requires left))) in
-    let now = g.D.Disk.files c.find.new.disk in
-    let is : IsSynced old now = synced old mid now own (λ name. g.met.D.Disk.content_is_image c.sync.new.self name h1)
-    (subst (λ (n : List ℕ). Changes sync n old mid (Ok tt)) c.requires (c.in_ok-sync.ensures.effect h1)) (c.find.ensures.same h2) in
-    let owns = λ (name : List ℕ). g.met.D.Disk.content_is_image c.find.new.disk name h2 in
-    let finding = passes_then syncing (c.find.ensures.any_moment h2) (λ image left.
-    as_before old each image (is.images image (subst (λ (f : List ℕ → FileState). AreImages f image) (sym (c.find.ensures.same h2)) left))) in
-    let entries = c.entries.result.now in
-    let whole = subst (λ (f : List ℕ → FileState). Finds (contents f) (Ok c.in_ok-record.field-0)) (sym (c.find.ensures.same h2)) (c.in_ok-record.ensures.found h2) in
-    let found : Finds (contents now) (Ok (Armed entries)) = subst (λ (x : Found). Finds (contents now) (Ok x)) (c.in-Armed.is ∙ ap (λ (l : List Entry). let x : Found = Armed l in x) (sym c.entries.ensures)) whole in
-    let layable = subst AreLayable (sym c.entries.ensures) (formed_layable c.in-Armed.record (subst IsWritable c.in-Armed.is c.in_ok-record.ensures.writable)) in
-    let over : IsOpenOver entries now = record { stable = is.stable; opened = found.0; found = found.1 } in
-    let can = fit_replayable now owns entries layable over found.2 (is.fit fit) in
-    since_start (passes_then finding (c.replay.ensures.any_moment ended can) (armed_before old now entries is owns layable over found.2 can)) old (g.met.D.Disk.only_now c.args.disk.now) honest (as_before old each)
-
-pub returns-in_ok-replay-in-Armed-clause-any_moment : goal.returns-in_ok-replay-in-Armed-clause-any_moment
-returns-in_ok-replay-in-Armed-clause-any_moment g c ended fit each =
-    let h2 = c.replay.ensures.honest.0 ended in
-    let h1 = c.find.ensures.honest.0 h2 in
-    let honest = c.sync.ensures.honest.0 h1 in
-    let old = g.D.Disk.files c.args.disk.now in
-    let mid = g.D.Disk.files c.sync.new.self in
-    let own = g.met.D.Disk.content_is_image c.args.disk.now journal_name honest in
-    let syncing = passes_as (c.sync.ensures.time h1) (λ image left.
-    as_before old each image (sync_left journal_name old image own (subst (λ (n : List ℕ). AreLeftBy sync n old image) c.requires left))) in
-    let now = g.D.Disk.files c.find.new.disk in
-    let is : IsSynced old now = synced old mid now own (λ name. g.met.D.Disk.content_is_image c.sync.new.self name h1)
-    (subst (λ (n : List ℕ). Changes sync n old mid (Ok tt)) c.requires (c.in_ok-sync.ensures.effect h1)) (c.find.ensures.same h2) in
-    let owns = λ (name : List ℕ). g.met.D.Disk.content_is_image c.find.new.disk name h2 in
-    let finding = passes_then syncing (c.find.ensures.any_moment h2) (λ image left.
-    as_before old each image (is.images image (subst (λ (f : List ℕ → FileState). AreImages f image) (sym (c.find.ensures.same h2)) left))) in
-    let entries = c.entries.result.now in
-    let whole = subst (λ (f : List ℕ → FileState). Finds (contents f) (Ok c.in_ok-record.field-0)) (sym (c.find.ensures.same h2)) (c.in_ok-record.ensures.found h2) in
-    let found : Finds (contents now) (Ok (Armed entries)) = subst (λ (x : Found). Finds (contents now) (Ok x)) (c.in-Armed.is ∙ ap (λ (l : List Entry). let x : Found = Armed l in x) (sym c.entries.ensures)) whole in
-    let layable = subst AreLayable (sym c.entries.ensures) (formed_layable c.in-Armed.record (subst IsWritable c.in-Armed.is c.in_ok-record.ensures.writable)) in
-    let over : IsOpenOver entries now = record { stable = is.stable; opened = found.0; found = found.1 } in
-    let can = fit_replayable now owns entries layable over found.2 (is.fit fit) in
-    since_start (passes_then finding (c.replay.ensures.any_moment ended can) (armed_before old now entries is owns layable over found.2 can)) old (g.met.D.Disk.only_now c.args.disk.now) honest (as_before old each)
-
-pub returns-in_err-replay-in-Armed-clause-fit : goal.returns-in_err-replay-in-Armed-clause-fit
-returns-in_err-replay-in-Armed-clause-fit g c ended fit each =
-    let h2 = c.replay.ensures.honest.0 ended in
-    let h1 = c.find.ensures.honest.0 h2 in
-    let honest = c.sync.ensures.honest.0 h1 in
-    let old = g.D.Disk.files c.args.disk.now in
-    let mid = g.D.Disk.files c.sync.new.self in
-    let own = g.met.D.Disk.content_is_image c.args.disk.now journal_name honest in
-    let now = g.D.Disk.files c.find.new.disk in
-    let is : IsSynced old now = synced old mid now own (λ name. g.met.D.Disk.content_is_image c.sync.new.self name h1)
-    (subst (λ (n : List ℕ). Changes sync n old mid (Ok tt)) c.requires (c.in_ok-sync.ensures.effect h1)) (c.find.ensures.same h2) in
+pub returns-in_err-replay-in-Armed-clause-reopens : goal.returns-in_err-replay-in-Armed-clause-reopens
+returns-in_err-replay-in-Armed-clause-reopens g c ended =
+    let h2 = c.replay.ensures.accounts.was_honest ended in
+    let h1 = c.find.ensures.accounts.was_honest h2 in
+    let honest = c.sync.ensures.accounts.was_honest h1 in
+    let d = g.D.Disk in
+    let old = d.files c.args.disk.now in
+    let now = d.files c.find.new.disk in
+    let looks = c.find.ensures.looks h2 in
+    let look = looked_at d.files d.moment d.left_since c.args.disk.now c.sync.new.self c.find.new.disk c.args.journal.now c.requires
+    (g.met.D.Disk.content_is_image c.args.disk.now journal_name honest) (λ name. g.met.D.Disk.content_is_image c.sync.new.self name h1)
+    (c.in_ok-sync.ensures.effect h1) (c.sync.ensures.time h1) looks in
     let owns = λ (name : List ℕ). g.met.D.Disk.content_is_image c.find.new.disk name h2 in
     let entries = c.entries.result.now in
-    let whole = subst (λ (f : List ℕ → FileState). Finds (contents f) (Ok c.in_ok-record.field-0)) (sym (c.find.ensures.same h2)) (c.in_ok-record.ensures.found h2) in
+    let whole = subst (λ (f : List ℕ → FileState). Finds (contents f) (Ok c.in_ok-record.field-0)) (sym looks.same) (c.in_ok-record.ensures.found h2) in
     let found : Finds (contents now) (Ok (Armed entries)) = subst (λ (x : Found). Finds (contents now) (Ok x)) (c.in-Armed.is ∙ ap (λ (l : List Entry). let x : Found = Armed l in x) (sym c.entries.ensures)) whole in
     let layable = subst AreLayable (sym c.entries.ensures) (formed_layable c.in-Armed.record (subst IsWritable c.in-Armed.is c.in_ok-record.ensures.writable)) in
-    let over : IsOpenOver entries now = record { stable = is.stable; opened = found.0; found = found.1 } in
-    let can = fit_replayable now owns entries layable over found.2 (is.fit fit) in
-    c.in_err-replay-in-Armed.ensures.fit ended can
+    let over : IsOpenOver entries now = record { stable = look.is.stable; opened = found.0; found = found.1 } in
+    let can = λ (fit : IsFit old). fit_replayable now owns entries layable over found.2 (look.is.fit fit) in
+    let replays = c.replay.ensures.replays ended in
+    let failed : IsErr c.from_residual-in_err-replay-in-Armed.result = search rules in
+    record {
+      done = on_ok_never _ c.from_residual-in_err-replay-in-Armed.result failed;
+      any_moment = λ fit each. since_start (passes_then (look.since each) (replays.any_moment (can fit)) (armed_before old now entries look.is owns layable over found.2 (can fit)))
+          old (g.met.D.Disk.only_now c.args.disk.now) honest (as_before old each);
+      fit = λ fit each. replays.fit (can fit);
+    }
 
-pub returns-in_ok-replay-in-Armed-clause-rest : goal.returns-in_ok-replay-in-Armed-clause-rest
-returns-in_ok-replay-in-Armed-clause-rest g c ended fit each =
-    let h2 = c.replay.ensures.honest.0 ended in
-    let h1 = c.find.ensures.honest.0 h2 in
-    let honest = c.sync.ensures.honest.0 h1 in
-    let old = g.D.Disk.files c.args.disk.now in
-    let mid = g.D.Disk.files c.sync.new.self in
-    let own = g.met.D.Disk.content_is_image c.args.disk.now journal_name honest in
-    let now = g.D.Disk.files c.find.new.disk in
-    let is : IsSynced old now = synced old mid now own (λ name. g.met.D.Disk.content_is_image c.sync.new.self name h1)
-    (subst (λ (n : List ℕ). Changes sync n old mid (Ok tt)) c.requires (c.in_ok-sync.ensures.effect h1)) (c.find.ensures.same h2) in
+pub returns-in_ok-replay-in-Armed-clause-reopens : goal.returns-in_ok-replay-in-Armed-clause-reopens
+returns-in_ok-replay-in-Armed-clause-reopens g c ended =
+    let h2 = c.replay.ensures.accounts.was_honest ended in
+    let h1 = c.find.ensures.accounts.was_honest h2 in
+    let honest = c.sync.ensures.accounts.was_honest h1 in
+    let d = g.D.Disk in
+    let old = d.files c.args.disk.now in
+    let now = d.files c.find.new.disk in
+    let looks = c.find.ensures.looks h2 in
+    let look = looked_at d.files d.moment d.left_since c.args.disk.now c.sync.new.self c.find.new.disk c.args.journal.now c.requires
+    (g.met.D.Disk.content_is_image c.args.disk.now journal_name honest) (λ name. g.met.D.Disk.content_is_image c.sync.new.self name h1)
+    (c.in_ok-sync.ensures.effect h1) (c.sync.ensures.time h1) looks in
     let owns = λ (name : List ℕ). g.met.D.Disk.content_is_image c.find.new.disk name h2 in
     let entries = c.entries.result.now in
-    let whole = subst (λ (f : List ℕ → FileState). Finds (contents f) (Ok c.in_ok-record.field-0)) (sym (c.find.ensures.same h2)) (c.in_ok-record.ensures.found h2) in
+    let whole = subst (λ (f : List ℕ → FileState). Finds (contents f) (Ok c.in_ok-record.field-0)) (sym looks.same) (c.in_ok-record.ensures.found h2) in
     let found : Finds (contents now) (Ok (Armed entries)) = subst (λ (x : Found). Finds (contents now) (Ok x)) (c.in-Armed.is ∙ ap (λ (l : List Entry). let x : Found = Armed l in x) (sym c.entries.ensures)) whole in
     let layable = subst AreLayable (sym c.entries.ensures) (formed_layable c.in-Armed.record (subst IsWritable c.in-Armed.is c.in_ok-record.ensures.writable)) in
-    let over : IsOpenOver entries now = record { stable = is.stable; opened = found.0; found = found.1 } in
-    let can = fit_replayable now owns entries layable over found.2 (is.fit fit) in
-    c.in_ok-replay-in-Armed.ensures.rest ended can
-
-pub returns-in_ok-replay-in-Armed-clause-fit : goal.returns-in_ok-replay-in-Armed-clause-fit
-returns-in_ok-replay-in-Armed-clause-fit g c ended fit each =
-    let h2 = c.replay.ensures.honest.0 ended in
-    let h1 = c.find.ensures.honest.0 h2 in
-    let honest = c.sync.ensures.honest.0 h1 in
-    let old = g.D.Disk.files c.args.disk.now in
-    let mid = g.D.Disk.files c.sync.new.self in
-    let own = g.met.D.Disk.content_is_image c.args.disk.now journal_name honest in
-    let now = g.D.Disk.files c.find.new.disk in
-    let is : IsSynced old now = synced old mid now own (λ name. g.met.D.Disk.content_is_image c.sync.new.self name h1)
-    (subst (λ (n : List ℕ). Changes sync n old mid (Ok tt)) c.requires (c.in_ok-sync.ensures.effect h1)) (c.find.ensures.same h2) in
-    let owns = λ (name : List ℕ). g.met.D.Disk.content_is_image c.find.new.disk name h2 in
-    let entries = c.entries.result.now in
-    let whole = subst (λ (f : List ℕ → FileState). Finds (contents f) (Ok c.in_ok-record.field-0)) (sym (c.find.ensures.same h2)) (c.in_ok-record.ensures.found h2) in
-    let found : Finds (contents now) (Ok (Armed entries)) = subst (λ (x : Found). Finds (contents now) (Ok x)) (c.in-Armed.is ∙ ap (λ (l : List Entry). let x : Found = Armed l in x) (sym c.entries.ensures)) whole in
-    let layable = subst AreLayable (sym c.entries.ensures) (formed_layable c.in-Armed.record (subst IsWritable c.in-Armed.is c.in_ok-record.ensures.writable)) in
-    let over : IsOpenOver entries now = record { stable = is.stable; opened = found.0; found = found.1 } in
-    let can = fit_replayable now owns entries layable over found.2 (is.fit fit) in
-    inl (λ name not. (c.in_ok-replay-in-Armed.ensures.rest ended can).stable name)
-
-pub returns-in_ok-replay-in-Armed-clause-contents : goal.returns-in_ok-replay-in-Armed-clause-contents
-returns-in_ok-replay-in-Armed-clause-contents g c ended =
-    let h2 = c.replay.ensures.honest.0 ended in
-    let h1 = c.find.ensures.honest.0 h2 in
-    let honest = c.sync.ensures.honest.0 h1 in
-    let old = g.D.Disk.files c.args.disk.now in
-    let mid = g.D.Disk.files c.sync.new.self in
-    let own = g.met.D.Disk.content_is_image c.args.disk.now journal_name honest in
-    let now = g.D.Disk.files c.find.new.disk in
-    let is : IsSynced old now = synced old mid now own (λ name. g.met.D.Disk.content_is_image c.sync.new.self name h1)
-    (subst (λ (n : List ℕ). Changes sync n old mid (Ok tt)) c.requires (c.in_ok-sync.ensures.effect h1)) (c.find.ensures.same h2) in
-    let entries = c.entries.result.now in
-    let whole = subst (λ (f : List ℕ → FileState). Finds (contents f) (Ok c.in_ok-record.field-0)) (sym (c.find.ensures.same h2)) (c.in_ok-record.ensures.found h2) in
-    let found : Finds (contents now) (Ok (Armed entries)) = subst (λ (x : Found). Finds (contents now) (Ok x)) (c.in-Armed.is ∙ ap (λ (l : List Entry). let x : Found = Armed l in x) (sym c.entries.ensures)) whole in
-    let new = contents (g.D.Disk.files c.replay.new.disk) in
+    let over : IsOpenOver entries now = record { stable = look.is.stable; opened = found.0; found = found.1 } in
+    let can = λ (fit : IsFit old). fit_replayable now owns entries layable over found.2 (look.is.fit fit) in
+    let replays = c.in_ok-replay-in-Armed.ensures.replays ended in
+    let new = contents (d.files c.replay.new.disk) in
     let opened = found.0 in
     let told = found.1 in
     let fits = found.2 in
-    let made : IsSomeAnd (stands (contents now)) (SameFiles new) = rw (opened, told, fits) (c.in_ok-replay-in-Armed.ensures.contents ended) in
-    subst (λ (f : Image). IsSomeAnd (stands f) (SameFiles new)) is.same made
+    let made : IsSomeAnd (stands (contents now)) (SameFiles new) = rw (opened, told, fits) replays.done.made in
+    record {
+      done = record {
+        stood = subst (λ (f : Image). IsSomeAnd (stands f) (SameFiles new)) look.is.same made;
+        journal = replays.done.journal ∙ sym (closed_open (contents now journal_name) opened) ∙ ap (λ (f : Image). closed_journal (f journal_name)) look.is.same;
+        gate = replays.done.gate;
+        rest = λ fit each. replays.done.rest (can fit);
+      };
+      any_moment = λ fit each. since_start (passes_then (look.since each) (replays.any_moment (can fit)) (armed_before old now entries look.is owns layable over found.2 (can fit)))
+          old (g.met.D.Disk.only_now c.args.disk.now) honest (as_before old each);
+      fit = λ fit each. replays.fit (can fit);
+    }
 
-pub returns-in_err-length-in-Closed-clause-any_moment : goal.returns-in_err-length-in-Closed-clause-any_moment
-returns-in_err-length-in-Closed-clause-any_moment g c ended fit each =
-    let h2 = c.length.ensures.honest.0 ended in
-    let h1 = c.find.ensures.honest.0 h2 in
-    let honest = c.sync.ensures.honest.0 h1 in
-    let old = g.D.Disk.files c.args.disk.now in
-    let mid = g.D.Disk.files c.sync.new.self in
-    let own = g.met.D.Disk.content_is_image c.args.disk.now journal_name honest in
-    let syncing = passes_as (c.sync.ensures.time h1) (λ image left.
-    as_before old each image (sync_left journal_name old image own (subst (λ (n : List ℕ). AreLeftBy sync n old image) c.requires left))) in
-    let now = g.D.Disk.files c.find.new.disk in
-    let is : IsSynced old now = synced old mid now own (λ name. g.met.D.Disk.content_is_image c.sync.new.self name h1)
-    (subst (λ (n : List ℕ). Changes sync n old mid (Ok tt)) c.requires (c.in_ok-sync.ensures.effect h1)) (c.find.ensures.same h2) in
-    let finding = passes_then syncing (c.find.ensures.any_moment h2) (λ image left.
-    as_before old each image (is.images image (subst (λ (f : List ℕ → FileState). AreImages f image) (sym (c.find.ensures.same h2)) left))) in
-    let asked = passes_then finding (c.length.ensures.time ended) (λ image left. as_before old each image (is.images image left)) in
-    since_start asked old (g.met.D.Disk.only_now c.args.disk.now) honest (as_before old each)
+pub returns-in_err-length-in-Closed-clause-reopens : goal.returns-in_err-length-in-Closed-clause-reopens
+returns-in_err-length-in-Closed-clause-reopens g c ended =
+    let h2 = c.length.ensures.accounts.was_honest ended in
+    let h1 = c.find.ensures.accounts.was_honest h2 in
+    let honest = c.sync.ensures.accounts.was_honest h1 in
+    let d = g.D.Disk in
+    let old = d.files c.args.disk.now in
+    let now = d.files c.find.new.disk in
+    let looks = c.find.ensures.looks h2 in
+    let look = looked_at d.files d.moment d.left_since c.args.disk.now c.sync.new.self c.find.new.disk c.args.journal.now c.requires
+    (g.met.D.Disk.content_is_image c.args.disk.now journal_name honest) (λ name. g.met.D.Disk.content_is_image c.sync.new.self name h1)
+    (c.in_ok-sync.ensures.effect h1) (c.sync.ensures.time h1) looks in
+    let again = (c.length.ensures.looks ended).same in
+    let failed : IsErr c.from_residual-in_err-length-in-Closed.result = search rules in
+    record {
+      done = on_ok_never _ c.from_residual-in_err-length-in-Closed.result failed;
+      any_moment = λ fit each. since_start (passes_then (look.since each) (c.length.ensures.looks ended).time (λ image left. as_before old each image (look.is.images image left)))
+          old (g.met.D.Disk.only_now c.args.disk.now) honest (as_before old each);
+      fit = λ fit each. subst IsFit (sym again) (look.is.fit fit);
+    }
 
-pub returns-else-branch-lt-FRONT-clause-any_moment : goal.returns-else-branch-lt-FRONT-clause-any_moment
-returns-else-branch-lt-FRONT-clause-any_moment g c ended fit each =
-    let h2 = c.length.ensures.honest.0 ended in
-    let h1 = c.find.ensures.honest.0 h2 in
-    let honest = c.sync.ensures.honest.0 h1 in
-    let old = g.D.Disk.files c.args.disk.now in
-    let mid = g.D.Disk.files c.sync.new.self in
-    let own = g.met.D.Disk.content_is_image c.args.disk.now journal_name honest in
-    let syncing = passes_as (c.sync.ensures.time h1) (λ image left.
-    as_before old each image (sync_left journal_name old image own (subst (λ (n : List ℕ). AreLeftBy sync n old image) c.requires left))) in
-    let now = g.D.Disk.files c.find.new.disk in
-    let is : IsSynced old now = synced old mid now own (λ name. g.met.D.Disk.content_is_image c.sync.new.self name h1)
-    (subst (λ (n : List ℕ). Changes sync n old mid (Ok tt)) c.requires (c.in_ok-sync.ensures.effect h1)) (c.find.ensures.same h2) in
-    let finding = passes_then syncing (c.find.ensures.any_moment h2) (λ image left.
-    as_before old each image (is.images image (subst (λ (f : List ℕ → FileState). AreImages f image) (sym (c.find.ensures.same h2)) left))) in
-    let asked = passes_then finding (c.length.ensures.time ended) (λ image left. as_before old each image (is.images image left)) in
-    since_start asked old (g.met.D.Disk.only_now c.args.disk.now) honest (as_before old each)
-
-pub returns-in_err-prepare-in-Closed-clause-any_moment : goal.returns-in_err-prepare-in-Closed-clause-any_moment
-returns-in_err-prepare-in-Closed-clause-any_moment g c ended fit each =
-    let h3 = c.prepare.ensures.honest.0 ended in
-    let h2 = c.length.ensures.honest.0 h3 in
-    let h1 = c.find.ensures.honest.0 h2 in
-    let honest = c.sync.ensures.honest.0 h1 in
-    let old = g.D.Disk.files c.args.disk.now in
-    let mid = g.D.Disk.files c.sync.new.self in
-    let own = g.met.D.Disk.content_is_image c.args.disk.now journal_name honest in
-    let syncing = passes_as (c.sync.ensures.time h1) (λ image left.
-    as_before old each image (sync_left journal_name old image own (subst (λ (n : List ℕ). AreLeftBy sync n old image) c.requires left))) in
-    let now = g.D.Disk.files c.find.new.disk in
-    let is : IsSynced old now = synced old mid now own (λ name. g.met.D.Disk.content_is_image c.sync.new.self name h1)
-    (subst (λ (n : List ℕ). Changes sync n old mid (Ok tt)) c.requires (c.in_ok-sync.ensures.effect h1)) (c.find.ensures.same h2) in
-    let owns = λ (name : List ℕ). g.met.D.Disk.content_is_image c.find.new.disk name h2 in
-    let finding = passes_then syncing (c.find.ensures.any_moment h2) (λ image left.
-    as_before old each image (is.images image (subst (λ (f : List ℕ → FileState). AreImages f image) (sym (c.find.ensures.same h2)) left))) in
-    let found = subst (λ (x : Found). Finds (contents now) (Ok x)) c.in-Closed.is
-    (subst (λ (f : List ℕ → FileState). Finds (contents f) (Ok c.in_ok-record.field-0)) (sym (c.find.ensures.same h2)) (c.in_ok-record.ensures.found h2)) in
-    let shut : is_open (contents now journal_name) ≡ false = found in
-    let others = closed_stable now shut (is.fit fit) in
-    let again = c.length.ensures.same h3 in
-    let last = g.D.Disk.files c.length.new.self in
-    let asked = passes_then finding (c.length.ensures.time h3) (λ image left. as_before old each image (is.images image left)) in
-    let prepared = passes_then asked (c.prepare.ensures.any_moment ended) (λ image left.
-    closed_before old now is owns shut others image (subst (λ (f : List ℕ → FileState). LeavesClosed journal_name f image) again (subst (λ (n : List ℕ). LeavesClosed n last image) c.requires left))) in
-    since_start prepared old (g.met.D.Disk.only_now c.args.disk.now) honest (as_before old each)
-
-pub returns-in_ok-prepare-in-Closed-clause-any_moment : goal.returns-in_ok-prepare-in-Closed-clause-any_moment
-returns-in_ok-prepare-in-Closed-clause-any_moment g c ended fit each =
-    let h3 = c.prepare.ensures.honest.0 ended in
-    let h2 = c.length.ensures.honest.0 h3 in
-    let h1 = c.find.ensures.honest.0 h2 in
-    let honest = c.sync.ensures.honest.0 h1 in
-    let old = g.D.Disk.files c.args.disk.now in
-    let mid = g.D.Disk.files c.sync.new.self in
-    let own = g.met.D.Disk.content_is_image c.args.disk.now journal_name honest in
-    let syncing = passes_as (c.sync.ensures.time h1) (λ image left.
-    as_before old each image (sync_left journal_name old image own (subst (λ (n : List ℕ). AreLeftBy sync n old image) c.requires left))) in
-    let now = g.D.Disk.files c.find.new.disk in
-    let is : IsSynced old now = synced old mid now own (λ name. g.met.D.Disk.content_is_image c.sync.new.self name h1)
-    (subst (λ (n : List ℕ). Changes sync n old mid (Ok tt)) c.requires (c.in_ok-sync.ensures.effect h1)) (c.find.ensures.same h2) in
-    let owns = λ (name : List ℕ). g.met.D.Disk.content_is_image c.find.new.disk name h2 in
-    let finding = passes_then syncing (c.find.ensures.any_moment h2) (λ image left.
-    as_before old each image (is.images image (subst (λ (f : List ℕ → FileState). AreImages f image) (sym (c.find.ensures.same h2)) left))) in
-    let found = subst (λ (x : Found). Finds (contents now) (Ok x)) c.in-Closed.is
-    (subst (λ (f : List ℕ → FileState). Finds (contents f) (Ok c.in_ok-record.field-0)) (sym (c.find.ensures.same h2)) (c.in_ok-record.ensures.found h2)) in
-    let shut : is_open (contents now journal_name) ≡ false = found in
-    let others = closed_stable now shut (is.fit fit) in
-    let again = c.length.ensures.same h3 in
-    let last = g.D.Disk.files c.length.new.self in
-    let asked = passes_then finding (c.length.ensures.time h3) (λ image left. as_before old each image (is.images image left)) in
-    let prepared = passes_then asked (c.prepare.ensures.any_moment ended) (λ image left.
-    closed_before old now is owns shut others image (subst (λ (f : List ℕ → FileState). LeavesClosed journal_name f image) again (subst (λ (n : List ℕ). LeavesClosed n last image) c.requires left))) in
-    since_start prepared old (g.met.D.Disk.only_now c.args.disk.now) honest (as_before old each)
-
-pub returns-in_ok-prepare-in-Closed-clause-rest : goal.returns-in_ok-prepare-in-Closed-clause-rest
-returns-in_ok-prepare-in-Closed-clause-rest g c ended fit each =
-    let h3 = c.prepare.ensures.honest.0 ended in
-    let h2 = c.length.ensures.honest.0 h3 in
-    let h1 = c.find.ensures.honest.0 h2 in
-    let honest = c.sync.ensures.honest.0 h1 in
-    let old = g.D.Disk.files c.args.disk.now in
-    let mid = g.D.Disk.files c.sync.new.self in
-    let own = g.met.D.Disk.content_is_image c.args.disk.now journal_name honest in
-    let now = g.D.Disk.files c.find.new.disk in
-    let is : IsSynced old now = synced old mid now own (λ name. g.met.D.Disk.content_is_image c.sync.new.self name h1)
-    (subst (λ (n : List ℕ). Changes sync n old mid (Ok tt)) c.requires (c.in_ok-sync.ensures.effect h1)) (c.find.ensures.same h2) in
-    let found = subst (λ (x : Found). Finds (contents now) (Ok x)) c.in-Closed.is
-    (subst (λ (f : List ℕ → FileState). Finds (contents f) (Ok c.in_ok-record.field-0)) (sym (c.find.ensures.same h2)) (c.in_ok-record.ensures.found h2)) in
-    let shut : is_open (contents now journal_name) ≡ false = found in
-    let others = closed_stable now shut (is.fit fit) in
-    let again = c.length.ensures.same h3 in
-    let last = g.D.Disk.files c.length.new.self in
-    let new = g.D.Disk.files c.prepare.new.disk in
-    let P : List ℕ → Type 0 = λ n. IsStable (new n) in
-    let Q : List ℕ → Type 0 = λ n. (new n).content ≡ 0 ∷ drop 1 (last n).content in
-    let R : List ℕ → Type 0 = λ n. (other : List ℕ) → other ≢ n → new other ≡ last other in
-    let only = subst P c.requires (c.in_ok-prepare-in-Closed.ensures.stable ended) in
-    let same = subst R c.requires (c.prepare.ensures.others ended) in
-    closed_rest new (closed_after (new journal_name) (drop 1 (last journal_name).content) only (subst Q c.requires (c.in_ok-prepare-in-Closed.ensures.content ended))) only
-    (λ name not. subst IsStable (sym (same name not ∙ ap (λ (f : List ℕ → FileState). f name) again)) (others name not))
-
-pub returns-else-branch-lt-FRONT-clause-rest : goal.returns-else-branch-lt-FRONT-clause-rest
-returns-else-branch-lt-FRONT-clause-rest g c ended fit each =
-    let h2 = c.length.ensures.honest.0 ended in
-    let h1 = c.find.ensures.honest.0 h2 in
-    let honest = c.sync.ensures.honest.0 h1 in
-    let old = g.D.Disk.files c.args.disk.now in
-    let mid = g.D.Disk.files c.sync.new.self in
-    let own = g.met.D.Disk.content_is_image c.args.disk.now journal_name honest in
-    let now = g.D.Disk.files c.find.new.disk in
-    let is : IsSynced old now = synced old mid now own (λ name. g.met.D.Disk.content_is_image c.sync.new.self name h1)
-    (subst (λ (n : List ℕ). Changes sync n old mid (Ok tt)) c.requires (c.in_ok-sync.ensures.effect h1)) (c.find.ensures.same h2) in
-    let found = subst (λ (x : Found). Finds (contents now) (Ok x)) c.in-Closed.is
-    (subst (λ (f : List ℕ → FileState). Finds (contents f) (Ok c.in_ok-record.field-0)) (sym (c.find.ensures.same h2)) (c.in_ok-record.ensures.found h2)) in
-    let shut : is_open (contents now journal_name) ≡ false = found in
-    let others = closed_stable now shut (is.fit fit) in
-    let again = c.length.ensures.same ended in
+pub returns-else-branch-lt-FRONT-clause-reopens : goal.returns-else-branch-lt-FRONT-clause-reopens
+returns-else-branch-lt-FRONT-clause-reopens g c ended =
+    let h2 = c.length.ensures.accounts.was_honest ended in
+    let h1 = c.find.ensures.accounts.was_honest h2 in
+    let honest = c.sync.ensures.accounts.was_honest h1 in
+    let d = g.D.Disk in
+    let old = d.files c.args.disk.now in
+    let now = d.files c.find.new.disk in
+    let looks = c.find.ensures.looks h2 in
+    let look = looked_at d.files d.moment d.left_since c.args.disk.now c.sync.new.self c.find.new.disk c.args.journal.now c.requires
+    (g.met.D.Disk.content_is_image c.args.disk.now journal_name honest) (λ name. g.met.D.Disk.content_is_image c.sync.new.self name h1)
+    (c.in_ok-sync.ensures.effect h1) (c.sync.ensures.time h1) looks in
+    let again = (c.length.ensures.looks ended).same in
+    let shut : is_open (contents now journal_name) ≡ false = subst (λ (x : Found). Finds (contents now) (Ok x)) c.in-Closed.is
+    (subst (λ (f : List ℕ → FileState). Finds (contents f) (Ok c.in_ok-record.field-0)) (sym looks.same) (c.in_ok-record.ensures.found h2)) in
+    let others = λ (fit : IsFit old). closed_stable now shut (look.is.fit fit) in
     let Q : List ℕ → Type 0 = λ n. front_size ≤ length (now n).content in
-    let asked : length (g.D.Disk.files c.find.new.disk c.args.journal.now).content ≡ _ = sym (c.in_ok-length-in-Closed.ensures.value ended) in
+    let asked : length (d.files c.find.new.disk c.args.journal.now).content ≡ _ = sym (c.in_ok-length-in-Closed.ensures.value ended) in
     let long : front_size ≤ length (now journal_name).content = subst Q c.requires (omega (arith, asked, c.if-branch-lt-FRONT.false)) in
-    let rest = closed_rest now (shut_gate (now journal_name) is.stable shut long) is.stable others in
-    subst IsAtRest (sym again) rest
+    let new = contents (d.files c.length.new.self) in
+    let read : new ≡ contents now = ap (λ (f : List ℕ → FileState). contents f) again in
+    let stood : IsSomeAnd (stands (contents now)) (SameFiles new) = stood_closed (contents now) new shut (λ name not. ap (λ (f : Image). f name) read) in
+    let gate = shut_gate (now journal_name) look.is.stable shut long in
+    record {
+      done = record {
+        stood = subst (λ (f : Image). IsSomeAnd (stands f) (SameFiles new)) look.is.same stood;
+        journal = ap (λ (f : Image). f journal_name) read ∙ sym (closed_shut (contents now journal_name) shut long) ∙ ap (λ (f : Image). closed_journal (f journal_name)) look.is.same;
+        gate = subst (λ (f : List ℕ → FileState). HasClosedGate (f journal_name)) (sym again) gate;
+        rest = λ fit each. subst IsAtRest (sym again) (closed_rest now gate look.is.stable (others fit));
+      };
+      any_moment = λ fit each. since_start (passes_then (look.since each) (c.length.ensures.looks ended).time (λ image left. as_before old each image (look.is.images image left)))
+          old (g.met.D.Disk.only_now c.args.disk.now) honest (as_before old each);
+      fit = λ fit each. subst IsFit (sym again) (look.is.fit fit);
+    }
+
+pub returns-in_err-prepare-in-Closed-clause-reopens : goal.returns-in_err-prepare-in-Closed-clause-reopens
+returns-in_err-prepare-in-Closed-clause-reopens g c ended =
+    let h3 = c.prepare.ensures.accounts.was_honest ended in
+    let h2 = c.length.ensures.accounts.was_honest h3 in
+    let h1 = c.find.ensures.accounts.was_honest h2 in
+    let honest = c.sync.ensures.accounts.was_honest h1 in
+    let d = g.D.Disk in
+    let old = d.files c.args.disk.now in
+    let now = d.files c.find.new.disk in
+    let looks = c.find.ensures.looks h2 in
+    let look = looked_at d.files d.moment d.left_since c.args.disk.now c.sync.new.self c.find.new.disk c.args.journal.now c.requires
+    (g.met.D.Disk.content_is_image c.args.disk.now journal_name honest) (λ name. g.met.D.Disk.content_is_image c.sync.new.self name h1)
+    (c.in_ok-sync.ensures.effect h1) (c.sync.ensures.time h1) looks in
+    let again = (c.length.ensures.looks h3).same in
+    let shut : is_open (contents now journal_name) ≡ false = subst (λ (x : Found). Finds (contents now) (Ok x)) c.in-Closed.is
+    (subst (λ (f : List ℕ → FileState). Finds (contents f) (Ok c.in_ok-record.field-0)) (sym looks.same) (c.in_ok-record.ensures.found h2)) in
+    let others = λ (fit : IsFit old). closed_stable now shut (look.is.fit fit) in
+    let owns = λ (name : List ℕ). g.met.D.Disk.content_is_image c.find.new.disk name h2 in
+    let last = d.files c.length.new.self in
+    let new = d.files c.prepare.new.disk in
+    let puts = subst (λ (n : List ℕ). Puts n (0 ∷ drop 1 (last n).content) last new c.prepare.result) c.requires (c.prepare.ensures.puts ended) in
+    let failed : IsErr c.from_residual-in_err-prepare-in-Closed.result = search rules in
+    record {
+      done = on_ok_never _ c.from_residual-in_err-prepare-in-Closed.result failed;
+      any_moment = λ fit each. since_start (passes_then (passes_then (look.since each) (c.length.ensures.looks h3).time (λ image left. as_before old each image (look.is.images image left)))
+          (c.prepare.ensures.any_moment ended) (λ image left. closed_before old now look.is owns shut (others fit) image
+          (subst (λ (f : List ℕ → FileState). LeavesClosed journal_name f image) again (subst (λ (n : List ℕ). LeavesClosed n last image) c.requires left))))
+          old (g.met.D.Disk.only_now c.args.disk.now) honest (as_before old each);
+      fit = λ fit each. inl (λ name not. subst IsStable (sym (puts.others name not ∙ ap (λ (f : List ℕ → FileState). f name) again)) (others fit name not));
+    }
+
+pub returns-in_ok-prepare-in-Closed-clause-reopens : goal.returns-in_ok-prepare-in-Closed-clause-reopens
+returns-in_ok-prepare-in-Closed-clause-reopens g c ended =
+    let h3 = c.prepare.ensures.accounts.was_honest ended in
+    let h2 = c.length.ensures.accounts.was_honest h3 in
+    let h1 = c.find.ensures.accounts.was_honest h2 in
+    let honest = c.sync.ensures.accounts.was_honest h1 in
+    let d = g.D.Disk in
+    let old = d.files c.args.disk.now in
+    let now = d.files c.find.new.disk in
+    let looks = c.find.ensures.looks h2 in
+    let look = looked_at d.files d.moment d.left_since c.args.disk.now c.sync.new.self c.find.new.disk c.args.journal.now c.requires
+    (g.met.D.Disk.content_is_image c.args.disk.now journal_name honest) (λ name. g.met.D.Disk.content_is_image c.sync.new.self name h1)
+    (c.in_ok-sync.ensures.effect h1) (c.sync.ensures.time h1) looks in
+    let again = (c.length.ensures.looks h3).same in
+    let shut : is_open (contents now journal_name) ≡ false = subst (λ (x : Found). Finds (contents now) (Ok x)) c.in-Closed.is
+    (subst (λ (f : List ℕ → FileState). Finds (contents f) (Ok c.in_ok-record.field-0)) (sym looks.same) (c.in_ok-record.ensures.found h2)) in
+    let others = λ (fit : IsFit old). closed_stable now shut (look.is.fit fit) in
+    let owns = λ (name : List ℕ). g.met.D.Disk.content_is_image c.find.new.disk name h2 in
+    let last = d.files c.length.new.self in
+    let new = d.files c.prepare.new.disk in
+    let puts = subst (λ (n : List ℕ). Puts n (0 ∷ drop 1 (last n).content) last new (Ok tt)) c.requires (c.in_ok-prepare-in-Closed.ensures.puts ended) in
+    let journal : (last journal_name).content ≡ contents now journal_name = ap (λ (f : List ℕ → FileState). (f journal_name).content) again in
+    let Q : List ℕ → Type 0 = λ n. length (now n).content < front_size in
+    let asked : length (d.files c.find.new.disk c.args.journal.now).content ≡ _ = sym (c.in_ok-length-in-Closed.ensures.value h3) in
+    let short : length (now journal_name).content < front_size = subst Q c.requires (omega (arith, asked, c.if-branch-lt-FRONT.true)) in
+    let stood : IsSomeAnd (stands (contents now)) (SameFiles (contents new)) = stood_closed (contents now) (contents new) shut (λ name not.
+    ap (λ (f : FileState). f.content) (puts.others name not) ∙ ap (λ (f : List ℕ → FileState). (f name).content) again) in
+    let gate = closed_after (new journal_name) (drop 1 (last journal_name).content) puts.stable puts.is in
+    record {
+      done = record {
+        stood = subst (λ (f : Image). IsSomeAnd (stands f) (SameFiles (contents new))) look.is.same stood;
+        journal = puts.is ∙ ap (λ (l : List ℕ). 0 ∷ drop 1 l) journal ∙ sym (closed_short (contents now journal_name) short) ∙ ap (λ (f : Image). closed_journal (f journal_name)) look.is.same;
+        gate = gate;
+        rest = λ fit each. closed_rest new gate puts.stable
+            (λ name not. subst IsStable (sym (puts.others name not ∙ ap (λ (f : List ℕ → FileState). f name) again)) (others fit name not));
+      };
+      any_moment = λ fit each. since_start (passes_then (passes_then (look.since each) (c.length.ensures.looks h3).time (λ image left. as_before old each image (look.is.images image left)))
+          (c.prepare.ensures.any_moment ended) (λ image left. closed_before old now look.is owns shut (others fit) image
+          (subst (λ (f : List ℕ → FileState). LeavesClosed journal_name f image) again (subst (λ (n : List ℕ). LeavesClosed n last image) c.requires left))))
+          old (g.met.D.Disk.only_now c.args.disk.now) honest (as_before old each);
+      fit = λ fit each. inl (λ name not. subst IsStable (sym (puts.others name not ∙ ap (λ (f : List ℕ → FileState). f name) again)) (others fit name not));
+    }

@@ -2,11 +2,10 @@ use Rattle.std.proofs.Common.{◌≤◌, ◌∙◌, List, ℕ, length, ap, subst
 use Rattle.std.specs.List.{Contains}
 use Rattle.org_splice.specs.Texts.{IsEditOf}
 use Rattle.org_journal.specs.Standing.{SameFiles, contents}
-use Rattle.org_fileset.specs.Entries.{changed}
 use Rattle.org_fileset.specs.Names.{limit}
 use Rattle.org_held.specs.InOrder.{texts_of, with_texts}
 use Rattle.org_held.proofs.InOrder.{named}
-use Rattle.org_held.proofs.Results.{on_ok_weaker}
+use Rattle.org_held.proofs.Results.{on_ok_under}
 use Rattle.org_held.proofs.Committing.{Change, all_of, leaves_as, left_by_commit, texts_committed, others_committed}
 use Rattle.org_held.proofs.set.commit_texts.Goals as goal
 
@@ -25,18 +24,25 @@ commit-requires-clause-edits g c = λ unbroken honest.
 
 pub returns-clause-any_moment : goal.returns-clause-any_moment
 returns-clause-any_moment g c ended rest =
-    leaves_as (c.commit.ensures.any_moment ended rest)
+    leaves_as ((c.commit.ensures.commits ended).any_moment rest)
     (left_by_commit c.args.set.now.names c.args.changes.now (contents (g.D.Disk.files c.args.set.now.disk)) (λ change there. (c.requires.each change there).named))
+
+pub returns-clause-contents : goal.returns-clause-contents
+returns-clause-contents g c = on_ok_under c.commit.result (λ ended. (c.commit.ensures.commits ended).done) (λ ended done. done.made)
+
+pub returns-clause-rest : goal.returns-clause-rest
+returns-clause-rest g c = on_ok_under c.commit.result (λ ended. (c.commit.ensures.commits ended).done) (λ ended done. done.rest)
+
+pub returns-clause-fit : goal.returns-clause-fit
+returns-clause-fit g c fell ended = (c.commit.ensures.commits ended).fit
 
 pub returns-clause-texts : goal.returns-clause-texts
 returns-clause-texts g c =
     let old = contents (g.D.Disk.files c.args.set.now.disk) in
     let new = contents (g.D.Disk.files c.commit.new.self.disk) in
     let changes = c.args.changes.now in
-    on_ok_weaker c.commit.result
-    (λ (same : g.D.Disk.honest c.commit.new.self.disk → SameFiles new (changed changes old)) (ended : g.D.Disk.honest c.commit.new.self.disk).
-    ap (texts_of new) c.commit.ensures.names ∙ texts_committed c.args.set.now.names changes old new c.requires.apart (same ended))
-    c.commit.ensures.contents
+    on_ok_under c.commit.result (λ ended. (c.commit.ensures.commits ended).done)
+    (λ ended done. ap (texts_of new) c.commit.ensures.set.same_names ∙ texts_committed c.args.set.now.names changes old new c.requires.apart done.made)
 
 pub returns-clause-others : goal.returns-clause-others
 returns-clause-others g c =
@@ -44,8 +50,6 @@ returns-clause-others g c =
     let old = contents (g.D.Disk.files c.args.set.now.disk) in
     let new = contents (g.D.Disk.files c.commit.new.self.disk) in
     let changes = c.args.changes.now in
-    on_ok_weaker c.commit.result
-    (λ (same : g.D.Disk.honest c.commit.new.self.disk → SameFiles new (changed changes old)) (ended : g.D.Disk.honest c.commit.new.self.disk).
-    subst (λ (n : List (List ℕ)). SameFiles new (with_texts n (texts_of new n) old)) (sym c.commit.ensures.names)
-    (others_committed names changes old new (λ change there. (c.requires.each change there).named) (same ended)))
-    c.commit.ensures.contents
+    on_ok_under c.commit.result (λ ended. (c.commit.ensures.commits ended).done)
+    (λ ended done. subst (λ (n : List (List ℕ)). SameFiles new (with_texts n (texts_of new n) old)) (sym c.commit.ensures.set.same_names)
+    (others_committed names changes old new (λ change there. (c.requires.each change there).named) done.made))

@@ -4,7 +4,7 @@ use Rattle.org_journal.proofs.finding.record_of.Goals as goal
 
 pub returns-in-Ok-clause-found : goal.returns-in-Ok-clause-found
 returns-in-Ok-clause-found g c ended =
-    let before = c.body_of.ensures.honest.0 ended in
+    let before = c.body_of.ensures.accounts.was_honest ended in
     journal_of_body (g.D.Disk.files c.args.disk.now c.args.journal.now).content c.deref.result.now c.args.size (c.requires.size before) (c.requires.within before) (c.deref.ensures.value ∙ c.in_ok-body.ensures.bytes ended) ∙ c.in-Ok.ensures.exact
 
 pub returns-in-Ok-clause-patches : goal.returns-in-Ok-clause-patches
@@ -12,5 +12,5 @@ returns-in-Ok-clause-patches g c = begins_patches c.deref.result.now c.in-Ok.rec
 
 pub returns-in-Err-Malformed-clause-found : goal.returns-in-Err-Malformed-clause-found
 returns-in-Err-Malformed-clause-found g c ended =
-    let before = c.body_of.ensures.honest.0 ended in
+    let before = c.body_of.ensures.accounts.was_honest ended in
     journal_of_body (g.D.Disk.files c.args.disk.now c.args.journal.now).content c.deref.result.now c.args.size (c.requires.size before) (c.requires.within before) (c.deref.ensures.value ∙ c.in_ok-body.ensures.bytes ended) ∙ (rw c.in-Err-Malformed.field-0-is at c.in-Err-Malformed.ensures.exact)

@@ -13,7 +13,7 @@ returns-in-Ok-clause-served g c = λ honest.
     let now : d.honest c.serve-end.new.store.disk = rw (← c.close.ensures) honest in
     let then = of_disk d.files setup.states setup.group setup.names.items c.args.disk store begun c.set_group.ensures opens (λ k. d.honest k → d.honest store.disk) (λ h. h)
     (c.serve-end.ensures.honest.0 now) in
-    serves d.files setup.states setup.group setup.names.items c.args.disk store begun c.set_group.ensures opens c.in-Ok.ensures.names.1 (c.in-Ok.ensures.contents then)
+    serves d.files setup.states setup.group setup.names.items c.args.disk store begun c.set_group.ensures opens c.in-Ok.ensures.names.1 (c.in-Ok.ensures.reopens then).done.stood
     c.serve-end.new.store.session (session_of_runs d.files d.moment d.left_since (c.serve-end.ensures.calls now)) (c.serve-end.ensures.end now)
 
 pub returns-in-Ok-clause-any_moment : goal.returns-in-Ok-clause-any_moment
@@ -26,11 +26,11 @@ returns-in-Ok-clause-any_moment g c = λ honest fit each.
     let here = of_disk d.files setup.states setup.group setup.names.items c.args.disk store begun c.set_group.ensures opens in
     let now : d.honest c.serve-end.new.store.disk = rw (← c.close.ensures) honest in
     let then = here (λ k. d.honest k → d.honest store.disk) (λ h. h) (c.serve-end.ensures.honest.0 now) in
-    let rest = here (λ k. IsAtRest (d.files k)) (c.in-Ok.ensures.rest then fit each) in
+    let rest = here (λ k. IsAtRest (d.files k)) ((c.in-Ok.ensures.reopens then).done.rest fit each) in
     let sound = is_sound d.files setup.states setup.group setup.names.items c.args.disk store begun c.set_group.ensures opens in
     let run = c.serve-end.ensures.any_moment now rest sound in
     leaves d.files setup.states setup.group setup.names.items c.args.disk store begun c.set_group.ensures opens d.moment d.left_since c.in-Ok.ensures.names.1
-    (c.in-Ok.ensures.contents then) (c.in-Ok.ensures.any_moment then fit each) c.serve-end.new.store.session c.close.result c.serve-end.new.store.disk c.close.ensures
+    (c.in-Ok.ensures.reopens then).done.stood ((c.in-Ok.ensures.reopens then).any_moment fit each) c.serve-end.new.store.session c.close.result c.serve-end.new.store.disk c.close.ensures
     (c.serve-end.ensures.end now) run.0 run.1
 
 pub returns-in-Ok-clause-fit : goal.returns-in-Ok-clause-fit
@@ -43,5 +43,8 @@ returns-in-Ok-clause-fit g c = λ honest fit each.
     let here = of_disk d.files setup.states setup.group setup.names.items c.args.disk store begun c.set_group.ensures opens in
     let now : d.honest c.serve-end.new.store.disk = rw (← c.close.ensures) honest in
     let then = here (λ k. d.honest k → d.honest store.disk) (λ h. h) (c.serve-end.ensures.honest.0 now) in
-    let rest = here (λ k. IsAtRest (d.files k)) (c.in-Ok.ensures.rest then fit each) in
+    let rest = here (λ k. IsAtRest (d.files k)) ((c.in-Ok.ensures.reopens then).done.rest fit each) in
     rw c.close.ensures ((c.serve-end.ensures.disk now).fit rest)
+
+pub returns-in-Err-clause-any_moment : goal.returns-in-Err-clause-any_moment
+returns-in-Err-clause-any_moment g c ended = (c.in-Err.ensures.reopens ended).any_moment

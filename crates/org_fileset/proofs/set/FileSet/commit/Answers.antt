@@ -1,14 +1,15 @@
-use Rattle.std.proofs.Common.{List, sym, ◌∙◌, subst}
+use Rattle.std.proofs.Common.{List, Ok, Err, sym, ◌∙◌, subst}
 use Rattle.std.specs.Prelude.{IsTrue}
 use Rattle.std.proofs.lemmas.Bool.{false≢true}
-use Rattle.org_disk.specs.Disk.{LeavesOnly}
+use Rattle.org_disk.specs.declared.disk.DiskFault.{DiskFault}
 use Rattle.org_journal.specs.declared.record.Entry.{Entry}
 use Rattle.org_journal.specs.declared.record.Version.TheVariants.{Two}
 use Rattle.org_journal.specs.Record.{IsWellFormed}
-use Rattle.org_journal.specs.Standing.{contents, all_fit, replayed, SameFiles}
-use Rattle.org_fileset.specs.Replay.{AreLayable, IsBeforeOrAfter}
-use Rattle.org_fileset.proofs.Recorded.{changes_layable, changes_fit, changes_made}
-use Rattle.org_fileset.proofs.Committing.{committable, all_edits, changes_formed, only_before, changes_left}
+use Rattle.org_journal.specs.Standing.{contents, all_fit, replayed}
+use Rattle.org_fileset.specs.Replay.{AreLayable, Commits}
+use Rattle.org_fileset.specs.declared.fault.SetFault.TheVariants.{Device}
+use Rattle.org_fileset.proofs.Recorded.{changes_layable, changes_fit}
+use Rattle.org_fileset.proofs.Committing.{committable, all_edits, changes_formed, commits_none, commits_changes}
 use Rattle.org_fileset.proofs.set.FileSet.commit.Goals as goal
 
 pub encode-requires : goal.encode-requires
@@ -32,45 +33,30 @@ commit_entries-requires-clause-fits g c honest =
     subst (λ (l : List Entry). IsTrue (all_fit l files)) (sym (c.entries.ensures ∙ c.new-record.ensures))
     (changes_fit c.args.changes.now c.in_ok-entries_of.field-0.items files c.in_ok-entries_of.ensures.entries (all_edits files c.args.changes.now (edits c.if-self.false honest)))
 
-pub returns-in_err-body-clause-any_moment : goal.returns-in_err-body-clause-any_moment
-returns-in_err-body-clause-any_moment g c = rw (← c.self.view_is) (λ honest rest.
-    let disk = c.self.inside.disk in
-    only_before c.args.changes.now (g.D.Disk.files disk) (g.D.Disk.moment disk) (g.D.Disk.left_since disk) rest
-    (λ image left. g.met.D.Disk.only_now disk image honest left))
-
-pub returns-in-Ok-clause-any_moment : goal.returns-in-Ok-clause-any_moment
-returns-in-Ok-clause-any_moment g c = rw (← c.self.view_is) (λ ended rest.
-    let honest = c.commit_entries.ensures.honest.0 ended in
+pub returns-in-Ok-clause-commits : goal.returns-in-Ok-clause-commits
+returns-in-Ok-clause-commits g c = rw (← c.self.view_is) (λ ended.
+    let honest = c.commit_entries.ensures.accounts.was_honest ended in
     let edits = rw (← c.self.view_is) at c.requires.edits in
+    let d = g.D.Disk in
     let disk = c.self.inside.disk in
     let after = c.commit_entries.new.disk in
-    let files = contents (g.D.Disk.files disk) in
-    let same = c.entries.ensures ∙ c.new-record.ensures in
-    changes_left c.args.changes.now c.in_ok-entries_of.field-0.items files (g.D.Disk.moment disk) (g.D.Disk.moment after) (g.D.Disk.left_since disk) (g.D.Disk.left_since after)
-    c.in_ok-entries_of.ensures.entries (all_edits files c.args.changes.now (edits c.if-self.false honest))
-    (subst (λ (l : List Entry). LeavesOnly (g.D.Disk.moment disk) (g.D.Disk.moment after) (g.D.Disk.left_since disk) (g.D.Disk.left_since after) (IsBeforeOrAfter l files)) same
-    (c.commit_entries.ensures.any_moment ended rest)))
+    let entries = c.in_ok-entries_of.field-0.items in
+    let files = contents (d.files disk) in
+    let made : Commits {A = Unit {0}} {E = DiskFault} d.files d.moment d.left_since (replayed entries files) disk after (Ok tt) =
+    subst (λ (l : List Entry). Commits {A = Unit {0}} {E = DiskFault} d.files d.moment d.left_since (replayed l files) disk after (Ok tt)) (c.entries.ensures ∙ c.new-record.ensures) (c.in-Ok.ensures.commits ended) in
+    commits_changes d.files d.moment d.left_since c.args.changes.now entries disk after (Ok tt) (Ok tt) c.in_ok-entries_of.ensures.entries
+    (all_edits files c.args.changes.now (edits c.if-self.false honest)) made made.done)
 
-pub returns-in-Ok-clause-contents : goal.returns-in-Ok-clause-contents
-returns-in-Ok-clause-contents g c = rw (← c.self.view_is) (λ ended.
-    let honest = c.commit_entries.ensures.honest.0 ended in
+pub returns-clause-commits : goal.returns-clause-commits
+returns-clause-commits g c = rw (← c.self.view_is) (λ ended.
+    let honest = c.commit_entries.ensures.accounts.was_honest ended in
     let edits = rw (← c.self.view_is) at c.requires.edits in
-    let files = contents (g.D.Disk.files c.self.inside.disk) in
-    let same = c.entries.ensures ∙ c.new-record.ensures in
-    let done : SameFiles (contents (g.D.Disk.files c.commit_entries.new.disk)) (replayed c.in_ok-entries_of.field-0.items files) =
-    subst (λ (l : List Entry). SameFiles (contents (g.D.Disk.files c.commit_entries.new.disk)) (replayed l files)) same (c.in-Ok.ensures.contents ended) in
-    λ name not. done name not ∙ changes_made c.args.changes.now c.in_ok-entries_of.field-0.items files name c.in_ok-entries_of.ensures.entries
-    (all_edits files c.args.changes.now (edits c.if-self.false honest)))
-
-pub returns-clause-any_moment : goal.returns-clause-any_moment
-returns-clause-any_moment g c = rw (← c.self.view_is) (λ ended rest.
-    let honest = c.commit_entries.ensures.honest.0 ended in
-    let edits = rw (← c.self.view_is) at c.requires.edits in
+    let d = g.D.Disk in
     let disk = c.self.inside.disk in
     let after = c.commit_entries.new.disk in
-    let files = contents (g.D.Disk.files disk) in
-    let same = c.entries.ensures ∙ c.new-record.ensures in
-    changes_left c.args.changes.now c.in_ok-entries_of.field-0.items files (g.D.Disk.moment disk) (g.D.Disk.moment after) (g.D.Disk.left_since disk) (g.D.Disk.left_since after)
-    c.in_ok-entries_of.ensures.entries (all_edits files c.args.changes.now (edits c.if-self.false honest))
-    (subst (λ (l : List Entry). LeavesOnly (g.D.Disk.moment disk) (g.D.Disk.moment after) (g.D.Disk.left_since disk) (g.D.Disk.left_since after) (IsBeforeOrAfter l files)) same
-    (c.commit_entries.ensures.any_moment ended rest)))
+    let entries = c.in_ok-entries_of.field-0.items in
+    let files = contents (d.files disk) in
+    let made : Commits {A = Unit {0}} {E = DiskFault} d.files d.moment d.left_since (replayed entries files) disk after c.commit_entries.result =
+    subst (λ (l : List Entry). Commits {A = Unit {0}} {E = DiskFault} d.files d.moment d.left_since (replayed l files) disk after c.commit_entries.result) (c.entries.ensures ∙ c.new-record.ensures) (c.commit_entries.ensures.commits ended) in
+    commits_changes d.files d.moment d.left_since c.args.changes.now entries disk after c.commit_entries.result (Err Device) c.in_ok-entries_of.ensures.entries
+    (all_edits files c.args.changes.now (edits c.if-self.false honest)) made tt)

@@ -4,7 +4,22 @@ use Rattle.org_fileset.proofs.Starting.{since_start}
 use Rattle.org_fileset.proofs.Recovering.{as_before}
 use Rattle.org_fileset.proofs.set.FileSet.open.Goals as goal
 
-pub returns-in-Err-clause-any_moment : goal.returns-in-Err-clause-any_moment
-returns-in-Err-clause-any_moment g c honest fit each =
+pub returns-in-Err-clause-reopens : goal.returns-in-Err-clause-reopens
+returns-in-Err-clause-reopens g c honest =
     let old = g.D.Disk.files c.args.disk in
-    since_start (passes_none (g.D.Disk.moment c.args.disk) (g.D.Disk.left_since c.args.disk) (StandsAsBefore old)) old (g.met.D.Disk.only_now c.args.disk) honest (as_before old each)
+    record {
+      done = tt;
+      any_moment = λ fit each. since_start (passes_none (g.D.Disk.moment c.args.disk) (g.D.Disk.left_since c.args.disk) (StandsAsBefore old))
+          old (g.met.D.Disk.only_now c.args.disk) honest (as_before old each);
+      fit = λ fit each. fit;
+    }
+
+pub returns-in-Ok-make_ready-clause-reopens : goal.returns-in-Ok-make_ready-clause-reopens
+returns-in-Ok-make_ready-clause-reopens g c ended =
+    let made = c.in-Ok-make_ready.ensures.reopens ended in
+    record { done = made.done; any_moment = made.any_moment; fit = made.fit }
+
+pub returns-in-Err-make_ready-clause-reopens : goal.returns-in-Err-make_ready-clause-reopens
+returns-in-Err-make_ready-clause-reopens g c ended =
+    let made = c.in-Err-make_ready.ensures.reopens ended in
+    record { done = tt; any_moment = made.any_moment; fit = made.fit }

@@ -1,4 +1,4 @@
-use Rattle.std.proofs.Common.{◌≡◌, ◌∙◌, ap, false, refl, Err, subst, sym, rules, List, ℕ}
+use Rattle.std.proofs.Common.{◌≡◌, ◌∙◌, ap, false, refl, Ok, Err, subst, sym, rules, List, ℕ}
 use Rattle.org_disk.proofs.Moments.{Image, passes_none, leaves_only}
 use Rattle.org_journal.specs.Standing.{contents}
 use Rattle.org_fileset.specs.Entries.{changed}
@@ -7,6 +7,7 @@ use Rattle.org_held.specs.Held.{held_over, list_of, with_drafts}
 use Rattle.org_held.specs.Set.{IsSound}
 use Rattle.org_held.specs.InOrder.{HoldsEither, texts_of, with_all}
 use Rattle.org_held.proofs.Committing.{left_at_rest}
+use Rattle.org_held.proofs.Results.{keeps_unbroken}
 use Rattle.org_held.proofs.Sound.{agree_put, committable_with, moments_told, no_memory, pending_put, sound_committed, sound_still, texts_more, texts_told}
 use Rattle.org_held.proofs.set.HeldSet.commit.Goals as goal
 
@@ -56,7 +57,7 @@ invariant_of-self-in_err-commit_texts g c =
     old (contents (g.D.Disk.files commit.new.set.disk)) inside.kept.items inside.kept.items c.changes_with.new.pending.items before commit.ensures.names
     (λ n.
     let same = commit.ensures.memory (no_memory commit.result c.in_err-commit_texts.field-0.0 commit.new.set.broken c.in_err-commit_texts.was commit.ensures.not_broken commit.ensures.breaks n.0) in
-    ((unbroken, commit.ensures.honest.0 n.1), rw same refl))
+    ((unbroken, commit.ensures.accounts.was_honest n.1), rw same refl))
     (λ each. each) (λ live name kept. kept)
 
 pub returns-in_err-commit_texts-clause-any_moment : goal.returns-in_err-commit_texts-clause-any_moment
@@ -95,7 +96,7 @@ invariant_of-self-2 g c =
     sound_committed inside.set.names commit.new.set.names ((inside.set.broken ≡ false) × g.D.Disk.honest inside.set.disk) ((commit.new.set.broken ≡ false) × g.D.Disk.honest commit.new.set.disk)
     (contents (g.D.Disk.files inside.set.disk)) (contents (g.D.Disk.files commit.new.set.disk)) inside.kept.items c.keep_all.new.kept.items c.put_drafts.new.texts.items c.keep_all.new.pending.items
     inside.pending.items c.in_ok-changes.changes c.self.invariant commit.ensures.names agree
-    (λ n. ((unbroken, commit.ensures.honest.0 n.1), c.in_ok-commit_texts.ensures.contents n.1))
+    (λ n. ((unbroken, commit.ensures.accounts.was_honest n.1), c.in_ok-commit_texts.ensures.contents n.1))
     c.keep_all.ensures.each c.keep_all.ensures.over c.keep_all.ensures.none
 
 pub returns-clause-any_moment : goal.returns-clause-any_moment
@@ -122,3 +123,17 @@ returns-clause-texts g c =
 
 pub returns-clause-others : goal.returns-clause-others
 returns-clause-others g c = rw (← c.self.view_is, c.keep_all.ensures.none) (λ ended. c.in_ok-commit_texts.ensures.others ended)
+
+pub returns-in_err-commit_texts-clause-set : goal.returns-in_err-commit_texts-clause-set
+returns-in_err-commit_texts-clause-set g c =
+    let commit = c.commit_texts in
+    let unbroken : c.self.inside.set.broken ≡ false = search rules in
+    let given : c.from_residual-in_err-commit_texts.result ≡ Err c.in_err-commit_texts.field-0.0 = search rules in
+    let answered : c.from_residual-in_err-commit_texts.result ≡ commit.result = given ∙ sym c.in_err-commit_texts.was in
+    rw (← c.self.view_is, answered) (keeps_unbroken _ _ _ _ commit.result unbroken commit.ensures.names commit.ensures.not_broken commit.ensures.breaks)
+
+pub returns-clause-set : goal.returns-clause-set
+returns-clause-set g c =
+    let commit = c.in_ok-commit_texts in
+    let unbroken : c.self.inside.set.broken ≡ false = search rules in
+    rw (← c.self.view_is) (keeps_unbroken _ _ _ _ (Ok tt) unbroken c.commit_texts.ensures.names commit.ensures.not_broken commit.ensures.breaks)

@@ -48,7 +48,7 @@ invariant_of-self g c =
     let unbroken : inside.set.broken ≡ false = search rules in
     sound_still inside.set.names read.new.set.names ((inside.set.broken ≡ false) × g.D.Disk.honest inside.set.disk) ((read.new.set.broken ≡ false) × g.D.Disk.honest read.new.set.disk)
     old (contents (g.D.Disk.files read.new.set.disk)) inside.kept.items read.new.kept.items inside.pending.items c.self.invariant read.ensures.names
-    (λ n. ((unbroken, read.ensures.honest.0 n.1), ap contents (read.ensures.same n.1)))
+    (λ n. ((unbroken, read.ensures.accounts.was_honest n.1), ap contents ((read.ensures.looks n.1).same)))
     read.ensures.each (λ n. read.ensures.over n.1)
 
 pub returns-clause-text : goal.returns-clause-text

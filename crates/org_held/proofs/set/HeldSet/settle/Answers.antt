@@ -43,7 +43,7 @@ invariant_of-self g c =
     (contents (g.D.Disk.files inside.set.disk)) (contents (g.D.Disk.files commit.new.set.disk)) inside.kept.items inside.kept.items inside.pending.items c.self.invariant commit.ensures.names
     (λ n.
     let same = commit.ensures.memory (no_memory commit.result c.in_err-commit_texts.field-0.0 commit.new.set.broken c.in_err-commit_texts.was commit.ensures.not_broken commit.ensures.breaks n.0) in
-    ((unbroken, commit.ensures.honest.0 n.1), rw same refl))
+    ((unbroken, commit.ensures.accounts.was_honest n.1), rw same refl))
     (λ each. each) (λ live name kept. kept)
 
 pub returns-in_err-commit_texts-clause-any_moment : goal.returns-in_err-commit_texts-clause-any_moment
@@ -74,7 +74,7 @@ invariant_of-self-2 g c =
     sound_committed inside.set.names commit.new.set.names ((inside.set.broken ≡ false) × g.D.Disk.honest inside.set.disk) ((commit.new.set.broken ≡ false) × g.D.Disk.honest commit.new.set.disk)
     (contents (g.D.Disk.files inside.set.disk)) (contents (g.D.Disk.files commit.new.set.disk)) inside.kept.items c.keep_all.new.kept.items inside.pending.items c.keep_all.new.pending.items
     inside.pending.items c.in_ok-changes.changes c.self.invariant commit.ensures.names agree
-    (λ n. ((unbroken, commit.ensures.honest.0 n.1), c.in_ok-commit_texts.ensures.contents n.1))
+    (λ n. ((unbroken, commit.ensures.accounts.was_honest n.1), c.in_ok-commit_texts.ensures.contents n.1))
     c.keep_all.ensures.each c.keep_all.ensures.over c.keep_all.ensures.none
 
 pub returns-clause-any_moment : goal.returns-clause-any_moment

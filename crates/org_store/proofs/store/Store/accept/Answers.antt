@@ -43,7 +43,7 @@ returns-in-Err-Device-clause-keeps g c = λ honest.
     let new = c.commit.new.self in
     let fell : new.broken ≡ true = search rules in
     let full : fills c.args.self.now.session ≡ true = search rules in
-    (full, (new.texts, texts_of (contents (g.D.Disk.files new.disk)) new.names, rw (← c.self.view_is, c.commit.ensures.names, fell) refl))
+    (full, (new.texts, texts_of (contents (g.D.Disk.files new.disk)) new.names, rw (← c.self.view_is, c.commit.ensures.set.same_names, fell) refl))
 
 pub returns-in-Err-OutOfMemory-clause-disk : goal.returns-in-Err-OutOfMemory-clause-disk
 returns-in-Err-OutOfMemory-clause-disk g c = λ honest.

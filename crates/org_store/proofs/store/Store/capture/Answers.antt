@@ -35,15 +35,15 @@ returns-in_err-drafts-clause-disk g c = λ ended.
     let files = contents (d.files old.disk) in
     let outcome = capture s c.args.file.now c.args.target.now c.args.place c.args.template.now (text_at s.names s.files c.args.file.now) in
     let own : s.settled ≡ texts_of files s.names = rw (← c.self.view_is) refl in
-    leaves_same d.files d.moment d.left_since old (IsLeftBy s files outcome c.from_residual.result new.session.accepted) _ (λ image left. g.met.D.Disk.only_now old.disk image (e.honest.0 ended) left) own
-    (λ image holds. left_quiet s files outcome c.from_residual.result new.session.accepted image holds) new (e.any_moment ended) (e.same ended) e.settled
+    leaves_same d.files d.moment d.left_since old (IsLeftBy s files outcome c.from_residual.result new.session.accepted) _ (λ image left. g.met.D.Disk.only_now old.disk image (e.accounts.was_honest ended) left) own
+    (λ image holds. left_quiet s files outcome c.from_residual.result new.session.accepted image holds) new (e.looks ended).time (e.looks ended).same e.settled
 
 pub returns-in_err-accept-clause-disk : goal.returns-in_err-accept-clause-disk
 returns-in_err-accept-clause-disk g c = λ ended.
     let d = g.D.Disk in
     let e = c.plan_capture.ensures in
     let fault = c.in_err-accept.field-0.0 in
-    let planned_honest = c.accept.ensures.honest.0 ended in
+    let planned_honest = c.accept.ensures.accounts.was_honest ended in
     let old = c.args.self.now in
     let mid = c.plan_capture.new.self in
     let new = c.accept.new.self in
@@ -53,7 +53,7 @@ returns-in_err-accept-clause-disk g c = λ ended.
     let outcome = capture s c.args.file.now c.args.target.now c.args.place c.args.template.now (text_at s.names s.files c.args.file.now) in
     let own : s.settled ≡ texts_of files s.names = rw (← c.self.view_is) refl in
     let planned = c.in_ok-drafts.ensures.plans planned_honest in
-    let same = e.same planned_honest in
+    let same = (e.looks planned_honest).same in
     let answer = c.from_residual-in_err-accept.result in
     let given : answer ≡ Err fault = search rules in
     let weaker = λ (image : Image) (left : IsLeftKeeping mid.session (contents (d.files mid.disk)) (after mid.session drafts) c.accept.result image).
@@ -62,14 +62,14 @@ returns-in_err-accept-clause-disk g c = λ ended.
     (left_by_accept s mid.session new.session (d.files old.disk) (d.files mid.disk) drafts outcome c.accept.result 0 image planned.1 same planned.0 c.accept.ensures.counts left)) in
     let failed = λ (fell : IsErrOf c.accept.result Device).
     let same : Err fault ≡ Err Device = sym c.in_err-accept.was ∙ fell in given ∙ same_fault fault Device same in
-    leaves_after d.files d.moment d.left_since old (IsLeftBy s files outcome answer new.session.accepted) (IsErrOf answer Device) (λ image left. g.met.D.Disk.only_now old.disk image (e.honest.0 planned_honest) left) own
-    (λ image holds. left_quiet s files outcome answer new.session.accepted image holds) mid new _ (IsErrOf c.accept.result Device) (e.any_moment planned_honest) same (c.accept.ensures.disk ended) weaker failed
+    leaves_after d.files d.moment d.left_since old (IsLeftBy s files outcome answer new.session.accepted) (IsErrOf answer Device) (λ image left. g.met.D.Disk.only_now old.disk image (e.accounts.was_honest planned_honest) left) own
+    (λ image holds. left_quiet s files outcome answer new.session.accepted image holds) mid new _ (IsErrOf c.accept.result Device) (e.looks planned_honest).time same (c.accept.ensures.disk ended) weaker failed
 
 pub returns-clause-disk : goal.returns-clause-disk
 returns-clause-disk g c = λ ended.
     let d = g.D.Disk in
     let e = c.plan_capture.ensures in
-    let planned_honest = c.accept.ensures.honest.0 ended in
+    let planned_honest = c.accept.ensures.accounts.was_honest ended in
     let old = c.args.self.now in
     let mid = c.plan_capture.new.self in
     let new = c.accept.new.self in
@@ -79,14 +79,14 @@ returns-clause-disk g c = λ ended.
     let outcome = capture s c.args.file.now c.args.target.now c.args.place c.args.template.now (text_at s.names s.files c.args.file.now) in
     let own : s.settled ≡ texts_of files s.names = rw (← c.self.view_is) refl in
     let planned = c.in_ok-drafts.ensures.plans planned_honest in
-    let same = e.same planned_honest in
+    let same = (e.looks planned_honest).same in
     let answer : Result Reply RunFault = Ok (Done c.self-2.inside.accepted) in
     let weaker = λ (image : Image) (left : IsLeftKeeping mid.session (contents (d.files mid.disk)) (after mid.session drafts) c.accept.result image).
     match_ok (λ fault. IsLeftBy s files outcome (Err fault) new.session.accepted image) c.accept.result tt c.in_ok-accept.was
     (left_by_accept s mid.session new.session (d.files old.disk) (d.files mid.disk) drafts outcome c.accept.result c.self-2.inside.accepted image planned.1 same planned.0 c.accept.ensures.counts left) in
     let failed = λ (fell : IsErrOf c.accept.result Device). let no : Ok tt ≡ Err Device = sym c.in_ok-accept.was ∙ fell in absurd (cc) in
-    leaves_after d.files d.moment d.left_since old (IsLeftBy s files outcome answer new.session.accepted) (IsErrOf answer Device) (λ image left. g.met.D.Disk.only_now old.disk image (e.honest.0 planned_honest) left) own
-    (λ image holds. left_quiet s files outcome answer new.session.accepted image holds) mid new _ (IsErrOf c.accept.result Device) (e.any_moment planned_honest) same (c.accept.ensures.disk ended) weaker failed
+    leaves_after d.files d.moment d.left_since old (IsLeftBy s files outcome answer new.session.accepted) (IsErrOf answer Device) (λ image left. g.met.D.Disk.only_now old.disk image (e.accounts.was_honest planned_honest) left) own
+    (λ image holds. left_quiet s files outcome answer new.session.accepted image holds) mid new _ (IsErrOf c.accept.result Device) (e.looks planned_honest).time same (c.accept.ensures.disk ended) weaker failed
 
 pub returns-clause-counts : goal.returns-clause-counts
 returns-clause-counts g c =

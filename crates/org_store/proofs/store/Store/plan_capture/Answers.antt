@@ -25,8 +25,8 @@ returns-then-bytes-gt-LIMIT-clause-plans g c = λ honest.
       | then-bytes-gt-LIMIT-via-else-bytes-gt-LIMIT+then-self w ↦ inr (search rules)
     ] in
     let still : read.new.self.broken ≡ inside.files.broken = search rules in
-    let same = session_still (λ disk. contents (g.D.Disk.files disk)) inside.states inside.files read.new.self inside.accepted inside.acknowledged inside.group read.ensures.names (read.ensures.texts honest)
-    (ap contents (read.ensures.same honest)) still in
+    let same = session_still (λ disk. contents (g.D.Disk.files disk)) inside.states inside.files read.new.self inside.accepted inside.acknowledged inside.group read.ensures.set.same_names (read.ensures.texts honest)
+    (ap contents (read.ensures.looks honest).same) still in
     let own : session_over (λ disk. contents (g.D.Disk.files disk)) inside.states inside.files inside.accepted inside.acknowledged inside.group ≡ s = rw (← c.self.view_is) refl in
     (c.requires.unbroken, refuses_large s c.args.file.now c.args.target.now c.args.place c.args.template.now c.in_ok-held.held.text.bytes made.0 text there made.1 bytes large, same ∙ own)
 
@@ -45,7 +45,7 @@ returns-clause-plans g c = λ honest.
     let small : nat_lt limit (length draft.text.bytes) ≡ false = search rules in
     let countable : (s.accepted == 2 ^ 64 - 1) ≡ false = search rules in
     let still : read.new.self.broken ≡ inside.files.broken = search rules in
-    let same = session_still (λ disk. contents (g.D.Disk.files disk)) inside.states inside.files read.new.self inside.accepted inside.acknowledged inside.group read.ensures.names (read.ensures.texts honest)
-    (ap contents (read.ensures.same honest)) still in
+    let same = session_still (λ disk. contents (g.D.Disk.files disk)) inside.states inside.files read.new.self inside.accepted inside.acknowledged inside.group read.ensures.set.same_names (read.ensures.texts honest)
+    (ap contents (read.ensures.looks honest).same) still in
     let own : session_over (λ disk. contents (g.D.Disk.files disk)) inside.states inside.files inside.accepted inside.acknowledged inside.group ≡ s = rw (← c.self.view_is) refl in
     (accepts_entry s c.args.file.now c.args.target.now c.args.place c.args.template.now c.in_ok-held.held.text.bytes made.0 draft there made.1 bytes named small countable, same ∙ own)

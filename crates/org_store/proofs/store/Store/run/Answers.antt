@@ -28,5 +28,5 @@ returns-in-Show-clause-disk g c = λ ended.
     let files = contents (d.files old.disk) in
     let own : s.settled ≡ texts_of files s.names = rw (← c.self.view_is) refl in
     leaves_same d.files d.moment d.left_since old (IsLeft s files c.args.command.now c.show.result new.session.accepted) _
-    (λ image left. g.met.D.Disk.only_now old.disk image (e.honest.0 ended) left) own
-    (λ image holds. left_quiet s files (outcome s c.args.command.now) c.show.result new.session.accepted image holds) new (e.any_moment ended) (e.same ended) e.settled
+    (λ image left. g.met.D.Disk.only_now old.disk image (e.accounts.was_honest ended) left) own
+    (λ image holds. left_quiet s files (outcome s c.args.command.now) c.show.result new.session.accepted image holds) new (e.looks ended).time (e.looks ended).same e.settled

@@ -12,7 +12,7 @@ returns-in_err-settle-clause-step g c =
     let made = c.settle.ensures in
     let fault = c.in_err-settle.field-0.0 in
     let fails : Fails inside.files c.settle.new.self c.settle.result fault =
-    record { is = c.in_err-settle.was; memory = made.memory; broken = made.broken; untouched = made.untouched; breaks = made.breaks; names = made.names } in
+    record { is = c.in_err-settle.was; memory = made.memory; broken = made.set.refuses; untouched = made.set.untouched; breaks = made.set.breaks; names = made.set.same_names } in
     let given : c.from_residual.result ≡ Err (fault_of_set fault) = search rules in
     rw (← c.self.view_is, given) (λ honest.
     settle_failed (λ disk. contents (g.D.Disk.files disk)) inside.states inside.files c.settle.new.self inside.accepted inside.acknowledged inside.group c.settle.result fault fails)
@@ -24,9 +24,9 @@ returns-in_err-settle-clause-disk g c =
     let made = c.settle.ensures in
     let fault = c.in_err-settle.field-0.0 in
     let fails : Fails inside.files c.settle.new.self c.settle.result fault =
-    record { is = c.in_err-settle.was; memory = made.memory; broken = made.broken; untouched = made.untouched; breaks = made.breaks; names = made.names } in
+    record { is = c.in_err-settle.was; memory = made.memory; broken = made.set.refuses; untouched = made.set.untouched; breaks = made.set.breaks; names = made.set.same_names } in
     let given : c.from_residual.result ≡ Err (fault_of_set fault) = search rules in
     let fell : fault ≡ set.Device → c.settle.result ≡ Err set.Device = λ is. c.in_err-settle.was ∙ ap (λ (f : SetFault). Err f) is in
     rw (← c.self.view_is, given) (λ ended.
     settle_leaves d.files d.moment d.left_since inside.states inside.files c.settle.new.self inside.accepted inside.acknowledged inside.group
-    (λ image left. g.met.D.Disk.only_now inside.files.disk image (made.honest.0 ended) left) c.settle.result fault fails (made.any_moment ended) (λ is. made.fit (fell is) ended))
+    (λ image left. g.met.D.Disk.only_now inside.files.disk image (made.accounts.was_honest ended) left) c.settle.result fault fails (made.any_moment ended) (λ is. made.fit (fell is) ended))

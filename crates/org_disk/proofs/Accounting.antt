@@ -1,0 +1,83 @@
+-- The accounts of calls, one after another.
+use Rattle.std.proofs.Common.{◌≡◌, refl, sym, true, false, true≢false, ◌∙◌, subst, ℕ, List, arith, inl, inr, ⊎_elim}
+use Rattle.std.specs.Prelude.{Result, Ok, Err, IsErr, ◌≤◌}
+use Rattle.org_disk.specs.declared.disk.DiskFault.{DiskFault}
+use Rattle.org_disk.specs.Disk.{FileState, AreImages, HasRisen, IsCounted}
+use Rattle.org_disk.specs.Accounts.{Accounts, AccountsOfCall, Looks}
+use Rattle.org_disk.proofs.Moments.{passes_none, passes_then}
+
+-- no call
+pub accounts_none : {D : Type 0} (steady : Type 0) (honest : D → Type 0) (failures : D → ℕ) (disk : D)
+    → Accounts steady honest failures disk disk ⊥
+accounts_none steady honest failures disk = record {
+  was_honest = λ h. h;
+  stays_honest = λ steady h. h;
+  no_less = omega arith;
+  risen = λ none. absurd none;
+  equal = λ fine. refl;
+}
+
+-- a count after one more is no less, and has risen
+counted_up : {before now : ℕ} → IsCounted before now → (before ≤ now) × HasRisen before now
+counted_up {before} {now} counted = ⊎_elim {C = (before ≤ now) × HasRisen before now} (λ more. (omega (arith, more), inl (omega (arith, more))))
+    (λ full. (omega (arith, full.1), inr (omega (arith, full.0, full.1)))) counted
+
+-- one call
+pub accounts_call : {D : Type 0} {A : Type 0} {steady : Type 0} {honest : D → Type 0} {failures : D → ℕ} {old new : D} (result : Result A DiskFault)
+    → AccountsOfCall steady honest failures old new result → Accounts steady honest failures old new (IsErr result)
+accounts_call (Ok done) call = record {
+  was_honest = call.was_honest;
+  stays_honest = call.stays_honest;
+  no_less = omega (arith, call.kept);
+  risen = λ failed. absurd (true≢false (sym failed));
+  equal = λ fine. call.kept;
+}
+accounts_call (Err fault) call = record {
+  was_honest = call.was_honest;
+  stays_honest = call.stays_honest;
+  no_less = (counted_up call.counted).0;
+  risen = λ failed. (counted_up call.counted).1;
+  equal = λ fine. absurd (fine refl);
+}
+
+-- a call that didn't fail
+pub accounts_fine : {D : Type 0} {steady : Type 0} {honest : D → Type 0} {failures : D → ℕ} {old new : D} {Failed : Type 0} → (Failed → ⊥)
+    → Accounts steady honest failures old new Failed → Accounts steady honest failures old new ⊥
+accounts_fine fine call = record {
+  was_honest = call.was_honest;
+  stays_honest = call.stays_honest;
+  no_less = call.no_less;
+  risen = λ none. absurd none;
+  equal = λ none. call.equal fine;
+}
+
+-- the same by the test of an answer that is Ok
+pub accounts_ok : {D : Type 0} {steady : Type 0} {honest : D → Type 0} {failures : D → ℕ} {old new : D}
+    → Accounts steady honest failures old new (false ≡ true) → Accounts steady honest failures old new ⊥
+accounts_ok call = accounts_fine (λ failed. true≢false (sym failed)) call
+
+pub accounts_call_ok : {D : Type 0} {A : Type 0} {x : A} {steady : Type 0} {honest : D → Type 0} {failures : D → ℕ} {old new : D}
+    → AccountsOfCall steady honest failures old new (Ok x) → Accounts steady honest failures old new ⊥
+accounts_call_ok {x = x} call = accounts_ok (accounts_call (Ok x) call)
+
+-- calls that didn't fail, and others after them
+pub accounts_then : {D : Type 0} {steady : Type 0} {honest : D → Type 0} {failures : D → ℕ} {old mid new : D} {Failed : Type 0}
+    → Accounts steady honest failures old mid ⊥ → Accounts steady honest failures mid new Failed → Accounts steady honest failures old new Failed
+accounts_then {failures = failures} {new = new} first second = record {
+  was_honest = λ h. first.was_honest (second.was_honest h);
+  stays_honest = λ steady h. second.stays_honest steady (first.stays_honest steady h);
+  no_less = omega (arith, first.no_less, second.no_less);
+  risen = λ failed. subst (λ (n : ℕ). HasRisen n (failures new)) (first.equal (λ none. none)) (second.risen failed);
+  equal = λ fine. second.equal fine ∙ first.equal (λ none. none);
+}
+
+pub looks_none : {D : Type 0} (files : D → List ℕ → FileState) (moment : D → ℕ) (left_since : D → ℕ → (List ℕ → List ℕ) → Type 0) (disk : D)
+    → Looks files moment left_since disk disk
+looks_none files moment left_since disk = record { same = refl; time = passes_none (moment disk) (left_since disk) (AreImages (files disk)) }
+
+pub looks_then : {D : Type 0} {files : D → List ℕ → FileState} {moment : D → ℕ} {left_since : D → ℕ → (List ℕ → List ℕ) → Type 0} {old mid new : D}
+    → Looks files moment left_since old mid → Looks files moment left_since mid new → Looks files moment left_since old new
+looks_then first second = record {
+  same = second.same ∙ first.same;
+  time = passes_then first.time second.time (λ image left. subst (λ (f : List ℕ → FileState). AreImages f image) first.same left);
+}

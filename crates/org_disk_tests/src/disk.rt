@@ -1,0 +1,30 @@
+// What no clause says: which image an outcome picks, which call fails, and that each call can succeed.
+mod failures;
+mod names;
+mod stops;
+
+use org_disk::{Disk, DiskFault, FileName, MemoryDisk};
+use org_fixtures::bytes_of;
+use std::alloc::Global;
+use std::test::Fail;
+
+fn holds<D: Disk>(disk: &mut D, alloc: Global, name: &FileName, text: &str) -> Result<bool, Fail> {
+    let bytes = bytes_of(alloc, disk, name)?;
+    Ok(bytes.as_slice() == text.as_bytes())
+}
+
+// Whether the disk's image holds this text.
+fn leaves(disk: &MemoryDisk, alloc: Global, name: &FileName, text: &str) -> Result<bool, Fail> {
+    let mut image = disk.image(alloc)?;
+    holds(&mut image, alloc, name, text)
+}
+
+// From nothing: `abc` on the disk, then `aXY`, `aX`.
+fn sync_write_cut<D: Disk>(disk: &mut D, name: &FileName) -> Result<(), DiskFault> {
+    disk.cut(name, 0)?;
+    disk.write_at(name, 0, b"abc")?;
+    disk.sync(name)?;
+    disk.write_at(name, 1, b"XY")?;
+    disk.cut(name, 2)?;
+    disk.sync(name)
+}

@@ -1,0 +1,153 @@
+// What a stop leaves of a disk in memory.
+ghost use Rattle.std.specs.Prelude.{◌≡◌, codes};
+ghost use Rattle.org_disk.specs.Disk.{stable};
+
+use super::{leaves, sync_write_cut};
+use org_disk::{Disk, DiskFault, FileName, MemoryDisk, Outcome};
+use std::alloc::Global;
+use std::test::Fail;
+
+// From `abcdef`: `abXYef`, `abXYe`, `abXYPQRS`.
+fn write_cut_write<D: Disk>(disk: &mut D, name: &FileName) -> Result<(), DiskFault>
+    requires { D.honest disk.old → D.files disk.old name.now ≡ stable (codes "abcdef") }
+{
+    disk.write_at(name, 2, b"XY")?;
+    disk.cut(name, 5)?;
+    disk.write_at(name, 4, b"PQRS")
+}
+
+// Whether a stop at the third call leaves this text.
+fn stops_write(alloc: Global, name: &FileName, outcome: Outcome, left: &str) -> Result<bool, Fail> {
+    let mut disk = MemoryDisk::new(alloc);
+    disk.stop_at(3, outcome);
+    disk.set(name, b"abcdef")?;
+    let made = write_cut_write(&mut disk, name);
+    Ok(made.is_err() && leaves(&disk, alloc, name, left)?)
+}
+
+#[test]
+fn stopped_write(rt: HostRuntime) -> Result<(), Fail> {
+    let alloc = rt.alloc();
+    let a = FileName::new(alloc, "a.org")?;
+    for (outcome, left) in [
+        (Outcome::All, "abXYPQRS"),
+        (Outcome::None, "abcdef"),
+        (Outcome::Front(0), "abXYe"),
+        (Outcome::Front(1), "abXYP"),
+        (Outcome::Front(2), "abXYPQ"),
+        (Outcome::Front(9), "abXYPQRS"),
+        (Outcome::Fill(b'-'), "ab------"),
+    ] {
+        assert!(rt; stops_write(alloc, &a, outcome, left)?, "{left}");
+    }
+    Ok(())
+}
+
+// From `abcdef`: `XYcdef`, `XYc`.
+fn write_cut<D: Disk>(disk: &mut D, name: &FileName) -> Result<(), DiskFault>
+    requires { D.honest disk.old → D.files disk.old name.now ≡ stable (codes "abcdef") }
+{
+    disk.write_at(name, 0, b"XY")?;
+    disk.cut(name, 3)
+}
+
+// Whether a stop at the second call leaves this text.
+fn stops_cut(alloc: Global, name: &FileName, outcome: Outcome, left: &str) -> Result<bool, Fail> {
+    let mut disk = MemoryDisk::new(alloc);
+    disk.stop_at(2, outcome);
+    disk.set(name, b"abcdef")?;
+    let made = write_cut(&mut disk, name);
+    Ok(made.is_err() && leaves(&disk, alloc, name, left)?)
+}
+
+#[test]
+fn stopped_cut(rt: HostRuntime) -> Result<(), Fail> {
+    let alloc = rt.alloc();
+    let a = FileName::new(alloc, "a.org")?;
+    for (outcome, left) in [
+        (Outcome::All, "XYc"),
+        (Outcome::None, "abcdef"),
+        (Outcome::Front(1), "XYcdef"),
+        (Outcome::Fill(b'-'), "--c---"),
+    ] {
+        assert!(rt; stops_cut(alloc, &a, outcome, left)?, "{left}");
+    }
+    Ok(())
+}
+
+#[test]
+fn stopped_sync(rt: HostRuntime) -> Result<(), Fail> {
+    let alloc = rt.alloc();
+    let a = FileName::new(alloc, "a.org")?;
+    for (k, outcome, left) in [
+        (3, Outcome::All, "abc"),
+        (3, Outcome::None, ""),
+        (3, Outcome::Front(0), "abc"),
+        (3, Outcome::Fill(b'-'), "---"),
+        (6, Outcome::All, "aX"),
+        (6, Outcome::None, "abc"),
+        (6, Outcome::Front(0), "aX"),
+        (6, Outcome::Fill(b'-'), "a--"),
+    ] {
+        let mut disk = MemoryDisk::new(alloc);
+        disk.stop_at(k, outcome);
+        let made = sync_write_cut(&mut disk, &a);
+        assert!(rt; made.is_err() && leaves(&disk, alloc, &a, left)?, "{left}");
+    }
+    Ok(())
+}
+
+// Whether the six calls are made and leave `aX`, also after a seventh, which answers this length.
+fn goes_on(
+    disk: &mut MemoryDisk,
+    alloc: Global,
+    name: &FileName,
+    length: Result<u64, DiskFault>,
+) -> Result<bool, Fail> {
+    let made = sync_write_cut(disk, name);
+    if made.is_err() || disk.calls() != 6 || !leaves(disk, alloc, name, "aX")? {
+        return Ok(false);
+    }
+    Ok(disk.length(name) == length && leaves(disk, alloc, name, "aX")?)
+}
+
+#[test]
+fn no_stop(rt: HostRuntime) -> Result<(), Fail> {
+    let alloc = rt.alloc();
+    let a = FileName::new(alloc, "a.org")?;
+    for (k, length) in [(0, Ok(2)), (7, Err(DiskFault))] {
+        let mut disk = MemoryDisk::new(alloc);
+        disk.stop_at(1, Outcome::None);
+        disk.stop_at(k, Outcome::None);
+        assert!(rt; goes_on(&mut disk, alloc, &a, length)?, "to stop at {k}");
+    }
+    Ok(())
+}
+
+// Whether a write, a cut and a sync fail.
+fn is_stopped(disk: &mut MemoryDisk, name: &FileName) -> bool {
+    disk.write_at(name, 0, b"Q").is_err() && disk.cut(name, 0).is_err() && disk.sync(name).is_err()
+}
+
+// Whether a stop at the first call leaves this text, whatever calls follow.
+fn stops_all(alloc: Global, name: &FileName, outcome: Outcome, left: &str) -> Result<bool, Fail> {
+    let mut disk = MemoryDisk::new(alloc);
+    disk.stop_at(1, outcome);
+    disk.set(name, b"abcdef")?;
+    let made = write_cut(&mut disk, name);
+    Ok(made.is_err() && is_stopped(&mut disk, name) && leaves(&disk, alloc, name, left)?)
+}
+
+#[test]
+fn nothing_counts_after_a_stop(rt: HostRuntime) -> Result<(), Fail> {
+    let alloc = rt.alloc();
+    let a = FileName::new(alloc, "a.org")?;
+    for (outcome, left) in [
+        (Outcome::All, "XYcdef"),
+        (Outcome::None, "abcdef"),
+        (Outcome::Front(1), "Xbcdef"),
+    ] {
+        assert!(rt; stops_all(alloc, &a, outcome, left)?, "{left}");
+    }
+    Ok(())
+}

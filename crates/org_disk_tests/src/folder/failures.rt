@@ -1,0 +1,208 @@
+// Calls of the system of which one fails.
+use super::{empty, name, remove, text};
+use org_disk::{Disk, DiskFault, FileName};
+use org_folder::{FolderDisk, Unknown};
+use std::alloc::{Alloc, Allocator, Global};
+use std::cell::Cell;
+use std::fs::{File, FileTimes, Files, Metadata, OpenFile, OpenOptions, Permissions};
+use std::io::{Error, ErrorKind, Read, Seek, SeekFrom, Write};
+use std::os::unix::fs::FileExt;
+use std::path::PathBuf;
+use std::rc::Rc;
+use std::test::Fail;
+use std::{fs, io};
+
+// Counts a call of the system, which may be the one that fails.
+fn count(fails_in: &Rc<Cell<u64>>) -> io::Result<()> {
+    let left = fails_in.get();
+    fails_in.set(left.saturating_sub(1));
+    if left == 1 {
+        Err(Error::from(ErrorKind::Other))
+    } else {
+        Ok(())
+    }
+}
+
+// The file system, of which one call fails without effect.
+#[derive(Drop)]
+struct Failing {
+    rt: HostRuntime,
+    // the call that fails, counted from 1; 0 for none
+    fails_in: Rc<Cell<u64>>,
+}
+
+// A file of it.
+#[derive(Drop)]
+struct FailingFile {
+    file: File,
+    fails_in: Rc<Cell<u64>>,
+}
+
+impl Alloc for Failing {
+    type A = Global;
+
+    fn alloc(&self) -> Global {
+        self.rt.alloc()
+    }
+}
+
+impl Files for Failing {
+    type File = FailingFile;
+
+    type Dir = <HostRuntime as Files>::Dir;
+
+    fn open_file(&self, how: &OpenOptions, path: &str) -> io::Result<FailingFile> {
+        count(&self.fails_in)?;
+        Ok(FailingFile {
+            file: self.rt.open_file(how, path)?,
+            fails_in: self.fails_in.clone()?,
+        })
+    }
+
+    fn open_dir(&self, path: &str) -> io::Result<<HostRuntime as Files>::Dir> {
+        self.rt.open_dir(path)
+    }
+
+    fn metadata(&self, path: &str) -> io::Result<Metadata> {
+        self.rt.metadata(path)
+    }
+
+    fn symlink_metadata(&self, path: &str) -> io::Result<Metadata> {
+        self.rt.symlink_metadata(path)
+    }
+
+    fn copy(&self, from: &str, to: &str) -> io::Result<u64> {
+        self.rt.copy(from, to)
+    }
+
+    fn rename(&self, from: &str, to: &str) -> io::Result<()> {
+        self.rt.rename(from, to)
+    }
+
+    fn remove_file(&self, path: &str) -> io::Result<()> {
+        self.rt.remove_file(path)
+    }
+
+    fn create_dir(&self, path: &str) -> io::Result<()> {
+        self.rt.create_dir(path)
+    }
+
+    fn remove_dir(&self, path: &str) -> io::Result<()> {
+        self.rt.remove_dir(path)
+    }
+
+    fn remove_dir_all<B: Allocator>(&self, alloc: B, path: &str) -> io::Result<()> {
+        self.rt.remove_dir_all(alloc, path)
+    }
+
+    fn canonicalize<B: Allocator>(&self, alloc: B, path: &str) -> io::Result<PathBuf<B>> {
+        count(&self.fails_in)?;
+        self.rt.canonicalize(alloc, path)
+    }
+}
+
+impl OpenFile for FailingFile {
+    fn metadata(&self) -> io::Result<Metadata> {
+        count(&self.fails_in)?;
+        self.file.metadata()
+    }
+
+    fn set_len(&self, size: u64) -> io::Result<()> {
+        count(&self.fails_in)?;
+        self.file.set_len(size)
+    }
+
+    fn sync_all(&self) -> io::Result<()> {
+        count(&self.fails_in)?;
+        self.file.sync_all()
+    }
+
+    fn sync_data(&self) -> io::Result<()> {
+        count(&self.fails_in)?;
+        self.file.sync_data()
+    }
+}
+
+impl FileExt for FailingFile {
+    fn read_at(&self, buf: &mut [u8], offset: u64) -> io::Result<usize> {
+        count(&self.fails_in)?;
+        self.file.read_at(buf, offset)
+    }
+
+    fn write_at(&self, buf: &[u8], offset: u64) -> io::Result<usize> {
+        count(&self.fails_in)?;
+        self.file.write_at(buf, offset)
+    }
+}
+
+// A disk reads, writes and seeks at no place that the file itself keeps.
+impl Read for FailingFile {
+    fn read(&mut self, _buf: &mut [u8]) -> io::Result<usize> {
+        Err(Error::from(ErrorKind::Unsupported))
+    }
+}
+
+impl Write for FailingFile {
+    fn write(&mut self, _buf: &[u8]) -> io::Result<usize> {
+        Err(Error::from(ErrorKind::Unsupported))
+    }
+
+    fn flush(&mut self) -> io::Result<()> {
+        Ok(())
+    }
+}
+
+impl Seek for FailingFile {
+    fn seek(&mut self, _to: SeekFrom) -> io::Result<u64> {
+        Err(Error::from(ErrorKind::Unsupported))
+    }
+}
+
+// Every kind of call on a file. Made again, it leaves the same, wherever it was broken off.
+fn work<D: Disk>(disk: &mut D, name: &FileName) -> Result<(), DiskFault> {
+    disk.write_at(name, 0, b"* A\n* B\n")?;
+    disk.sync(name)?;
+    disk.cut(name, 6)?;
+    disk.write_at(name, 6, b"C\n")?;
+    disk.sync(name)?;
+    let mut bytes = [0; 8];
+    disk.read_at(name, 0, &mut bytes)?;
+    disk.length(name)?;
+    Ok(())
+}
+
+// How many failures a disk counts over the work, of which the call of the system with this number fails, and over the
+// work once more.
+fn failed_work(rt: &HostRuntime, a: &FileName, fails_in: u64) -> Result<[u64; 2], Fail> {
+    let failing = Failing {
+        rt: rt.clone()?,
+        fails_in: Rc::new(rt.alloc(), Cell::new(fails_in))?,
+    };
+    let mut disk: FolderDisk<Failing, Unknown> = FolderDisk::new(failing, rt.alloc(), "one_fails")?;
+    if work(&mut disk, a).is_ok() {
+        return Err("no call fails")?;
+    }
+    let failures = disk.failures();
+    work(&mut disk, a)?;
+    Ok([failures, disk.failures()])
+}
+
+// The work makes 11 calls of the system: the file is made and written; its folder is looked for, opened and synced, and
+// the file synced; it is cut, written, synced, read and measured.
+#[test]
+fn each_call_of_the_system_fails_once(rt: HostRuntime) -> Result<(), Fail> {
+    let a = name(&rt, "a.org")?;
+    for fails_in in 1..12u64 {
+        empty(&rt, "one_fails")?;
+        assert!(rt;
+            failed_work(&rt, &a, fails_in)? == [1, 1],
+            "call {fails_in}"
+        );
+        let text = text(&rt, "one_fails/a.org")?;
+        assert!(rt;
+            text.as_slice() == b"* A\n* C\n".as_slice(),
+            "call {fails_in}"
+        );
+    }
+    remove(&rt, "one_fails")
+}

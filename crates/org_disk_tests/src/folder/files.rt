@@ -1,0 +1,154 @@
+// What calls of a disk do to the files of a folder.
+use super::{
+    Folder, append, disk, done, empty, is_there, length, link, make, make_empty, name, put, remove,
+    sync, take, text, write,
+};
+use org_disk::{Disk, DiskFault, FileName};
+use org_folder::{FolderDisk, Start};
+use std::alloc::AllocError;
+use std::io;
+use std::test::Fail;
+
+// Each call on a file that does nothing to it, and its length.
+fn do_nothing(disk: &mut impl Disk, name: &FileName) -> Result<u64, DiskFault> {
+    let length = disk.length(name)?;
+    disk.read_at(name, 0, &mut [])?;
+    disk.write_at(name, 0, b"")?;
+    disk.cut(name, 0)?;
+    disk.sync(name)?;
+    Ok(length)
+}
+
+// What a disk does to no file makes none.
+#[test]
+fn absent_and_empty_are_the_same(rt: HostRuntime) -> Result<(), Fail> {
+    empty(&rt, "absent")?;
+    let mut disk = disk(&rt, "absent")?;
+    assert_eq!(rt; do_nothing(&mut disk, &name(&rt, "a.org")?)?, 0);
+    assert!(rt; !is_there(&rt, "absent/a.org"));
+    remove(&rt, "absent")
+}
+
+// Each file is supposed to hold one byte at first.
+#[derive(Drop)]
+struct OneByte;
+
+impl Start for OneByte {
+    ghost use Rattle.std.specs.Prelude.{[], ◌∷◌};
+    ghost use Rattle.org_disk.specs.Disk.{stable};
+
+    ghost world = { record { start = λ _. stable (42 ∷ []); left = λ _. [] } };
+}
+
+fn cut_fails(rt: &HostRuntime, name: &FileName) -> Result<bool, AllocError> {
+    let mut disk: FolderDisk<HostRuntime, OneByte> = FolderDisk::new(
+        rt.clone()?,
+        rt.alloc(),
+        "supposed",
+    )?;
+    Ok(disk.cut(name, 1).is_err())
+}
+
+fn read_fails(rt: &HostRuntime, name: &FileName) -> Result<bool, AllocError> {
+    let mut disk: FolderDisk<HostRuntime, OneByte> = FolderDisk::new(
+        rt.clone()?,
+        rt.alloc(),
+        "supposed",
+    )?;
+    Ok(disk.read_at(name, 0, &mut [0]).is_err())
+}
+
+// A call that goes past the end of a file fails: the file isn't what it was supposed to be.
+#[test]
+fn absent_where_a_byte_is_supposed(rt: HostRuntime) -> Result<(), Fail> {
+    empty(&rt, "supposed")?;
+    let a = name(&rt, "a.org")?;
+    assert!(rt; cut_fails(&rt, &a)?);
+    assert!(rt; read_fails(&rt, &a)?);
+    assert!(rt; !is_there(&rt, "supposed/a.org"));
+    remove(&rt, "supposed")
+}
+
+// The length after two writes, and three bytes of what a cut leaves.
+fn write_and_cut(disk: &mut impl Disk, name: &FileName) -> Result<(u64, [u8; 3]), DiskFault> {
+    disk.write_at(name, 0, b"* A\n* B\n")?;
+    disk.write_at(name, 6, b"CC\n")?;
+    disk.sync(name)?;
+    let length = disk.length(name)?;
+    disk.cut(name, 7)?;
+    disk.sync(name)?;
+    let mut bytes = [0; 3];
+    disk.read_at(name, 4, &mut bytes)?;
+    Ok((length, bytes))
+}
+
+// Whether a read fails where another program makes the file shorter.
+fn fails_shortened(rt: &HostRuntime, disk: &mut Folder, name: &FileName) -> Result<bool, Fail> {
+    disk.write_at(name, 0, b"* A\n* C")?;
+    done(put(rt, "written/a.org", b"* A\n* "))?;
+    Ok(disk.read_at(name, 4, &mut [0; 3]).is_err())
+}
+
+#[test]
+fn writes_cuts_and_reads(rt: HostRuntime) -> Result<(), Fail> {
+    empty(&rt, "written")?;
+    let mut disk = disk(&rt, "written")?;
+    let a = name(&rt, "a.org")?;
+    let (length, bytes) = write_and_cut(&mut disk, &a)?;
+    assert_eq!(rt; length, 9);
+    assert!(rt; bytes.as_slice() == b"* C".as_slice());
+    let text = text(&rt, "written/a.org")?;
+    assert!(rt; text.as_slice() == b"* A\n* C".as_slice());
+    assert!(rt; fails_shortened(&rt, &mut disk, &a)?);
+    remove(&rt, "written")
+}
+
+fn make_linked(rt: &HostRuntime) -> io::Result<()> {
+    make_empty(rt, "linked")?;
+    make(rt, "linked/folder.org")?;
+    link(rt, "folder.org/target", "linked/link.org")
+}
+
+#[test]
+fn links_and_folders(rt: HostRuntime) -> Result<(), Fail> {
+    done(make_linked(&rt))?;
+    let mut disk = disk(&rt, "linked")?;
+    assert!(rt; length(&mut disk, &name(&rt, "folder.org")?).is_err());
+    let link = name(&rt, "link.org")?;
+    assert_eq!(rt; length(&mut disk, &link)?, 0);
+    write(&mut disk, &link, b"* A\n")?;
+    sync(&mut disk, &link)?;
+    let text = text(&rt, "linked/folder.org/target")?;
+    assert!(rt; text.as_slice() == b"* A\n".as_slice());
+    remove(&rt, "linked")
+}
+
+// Writes two files, and syncs the second. Both are taken out of the folder then.
+fn write_and_take(
+    rt: &HostRuntime,
+    disk: &mut Folder,
+    a: &FileName,
+    b: &FileName,
+) -> Result<(), Fail> {
+    write(disk, a, b"* A\n")?;
+    write(disk, b, b"* B\n")?;
+    sync(disk, b)?;
+    done(take(rt, "entered/a.org"))?;
+    done(take(rt, "entered/b.org"))
+}
+
+// The first sync of a file looks for its folder, which it syncs, and a later one doesn't.
+#[test]
+fn first_sync_takes_the_folder(rt: HostRuntime) -> Result<(), Fail> {
+    empty(&rt, "entered")?;
+    let mut disk = disk(&rt, "entered")?;
+    let a = name(&rt, "a.org")?;
+    let b = name(&rt, "b.org")?;
+    write_and_take(&rt, &mut disk, &a, &b)?;
+    append(&mut disk, &b, b"* C\n")?;
+    sync(&mut disk, &b)?;
+    assert_eq!(rt; disk.failures(), 0);
+    assert!(rt; sync(&mut disk, &a).is_err());
+    assert_eq!(rt; disk.failures(), 1);
+    remove(&rt, "entered")
+}

@@ -1,7 +1,0 @@
-use Rattle.org_disk.specs.Memory.{memory_files}
-use Rattle.org_journal.specs.Standing.{contents}
-use Rattle.org_fileset.specs.Set.{AreCommittable}
-use Rattle.org_fileset.proofs.tests.commit.Given as goal
-
-abbrev pub invariant-loop-edit : goal.invariant-loop-edit
-invariant-loop-edit l = AreCommittable l.set.names (contents (memory_files l.set.disk)) l.changes

@@ -1,0 +1,42 @@
+use Rattle.std.proofs.Common.{◌≡◌, ◌<◌, ◌≤◌, ℕ, List, length, get_or, sym, subst, arith}
+use Rattle.std.proofs.lemmas.Grind.{common_steps}
+use Rattle.org_splice.specs.declared.Span.{Span}
+use Rattle.org_splice.specs.Patches.{AreWellFormed, LayTo}
+use Rattle.org_splice.specs.Ranges.{AreChanged}
+use Rattle.org_splice.specs.Texts.{patches_of, pairs_of}
+use Rattle.org_splice.specs.Versions.{text_of_parts}
+use Rattle.org_splice.proofs.Apart.{LieApart-at}
+use Rattle.org_splice.proofs.Written.{AreWellFormed-patches_of, LayTo-patches_of}
+use Rattle.org_splice.proofs.patch.patches_of.Goals as goal
+
+-- a changed range lies in its text
+in_text : (size : ℕ) (ranges : List Span) (i : ℕ) (none : Span) → AreChanged size ranges → i < length ranges → ((get_or ranges i none).start < (get_or ranges i none).end) × ((get_or ranges i none).end ≤ size)
+in_text size ranges i none are within = LieApart-at 0 size ranges i none are.apart within
+
+pub slice_bounds-from_slice-count : goal.slice_bounds-from_slice-count
+slice_bounds-from_slice-count c =
+    let bounds = in_text (length c.args.text.now) c.args.changed.now c.loop-range.range-index (record { start = 0; end = 0 }) c.requires (omega arith) in
+    omega (arith, bounds.0)
+
+pub slice_bounds-from_slice-start : goal.slice_bounds-from_slice-start
+slice_bounds-from_slice-start c =
+    let bounds = in_text (length c.args.text.now) c.args.changed.now c.loop-range.range-index (record { start = 0; end = 0 }) c.requires (omega arith) in
+    omega (arith, bounds.0)
+
+pub slice_bounds-from_slice-end : goal.slice_bounds-from_slice-end
+slice_bounds-from_slice-end c =
+    let bounds = in_text (length c.args.text.now) c.args.changed.now c.loop-range.range-index (record { start = 0; end = 0 }) c.requires (omega arith) in
+    omega (arith, bounds.0, bounds.1)
+
+pub returns-clause-exact : goal.returns-clause-exact
+returns-clause-exact c = grind (arith, common_steps)
+
+pub returns-clause-well_formed : goal.returns-clause-well_formed
+returns-clause-well_formed c =
+    let exact : pairs_of c.if-is_empty.patches.items ≡ patches_of (text_of_parts c.args.text.now c.args.changed.now) = returns-clause-exact c in
+    subst (λ (ps : List (ℕ × List ℕ)). AreWellFormed ps (length c.args.text.now)) (sym exact) (AreWellFormed-patches_of c.args.text.now c.args.changed.now c.requires)
+
+pub returns-clause-laid : goal.returns-clause-laid
+returns-clause-laid c = λ old edit.
+    let exact : pairs_of c.if-is_empty.patches.items ≡ patches_of (text_of_parts c.args.text.now c.args.changed.now) = returns-clause-exact c in
+    subst (λ (ps : List (ℕ × List ℕ)). LayTo ps (length c.args.text.now) old c.args.text.now) (sym exact) (LayTo-patches_of old c.args.text.now c.args.changed.now c.requires edit)

@@ -1,7 +1,0 @@
-use Rattle.std.proofs.Common.{◌≡◌, map, take}
-use Rattle.org_splice.specs.Texts.{patch_of, pairs_of}
-use Rattle.org_splice.proofs.text.Text.patches.Given as goal
-
--- the patches of the ranges so far
-abbrev pub invariant-loop-range : goal.invariant-loop-range
-invariant-loop-range l = pairs_of l.patches.items ≡ map (patch_of l.self.bytes) (take l.range-index l.self.changed)

@@ -1,0 +1,228 @@
+// Input that comes in pieces, and pipes that fail.
+ghost use Rattle.org_serve.specs.Group.{IsGroup};
+
+use super::{serve_over, served};
+use org_disk::MemoryDisk;
+use org_fixtures::two_files;
+use org_serve::{PipeFault, ServeEnd, Served, Sink, Source};
+use std::alloc::Global;
+use std::process::Abort;
+use std::test::Fail;
+
+// Gives its bytes in pieces of this size, and fails at one of its reads, if that is not 0.
+#[derive(Drop)]
+pub struct Pieces<'a> {
+    bytes: &'a [u8],
+    size: usize,
+    pub fails_at: u64,
+    reads: u64,
+    failures: u64,
+}
+
+impl Source for Pieces<'_> {
+    ghost use Rattle.std.specs.Prelude.{None};
+
+    ghost left = { λ _. None };
+
+    ghost reads = { λ p. p.reads };
+
+    ghost failures = { λ p. p.failures };
+
+    fn read(&mut self, into: &mut [u8]) -> Result<usize, PipeFault> {
+        self.reads = self.reads.saturating_add(1);
+        if self.reads == self.fails_at {
+            self.failures = self.failures.saturating_add(1);
+            return Err(PipeFault);
+        }
+        let n = self.size.min(self.bytes.len()).min(into.len());
+        let (piece, rest) = self.bytes.split_at(n);
+        into[..n].copy_from_slice(piece);
+        self.bytes = rest;
+        Ok(n)
+    }
+}
+
+pub fn in_pieces(bytes: &[u8], size: usize) -> Pieces<'_> {
+    Pieces {
+        bytes,
+        size,
+        fails_at: 0,
+        reads: 0,
+        failures: 0,
+    }
+}
+
+// Keeps what is written, and fails at one of its calls, if that is not 0.
+#[derive(Drop)]
+pub struct Page {
+    pub bytes: Vec<u8>,
+    fails_at: u64,
+    calls: u64,
+    failures: u64,
+}
+
+impl Page {
+    pub fn new(alloc: Global) -> Page {
+        Page {
+            bytes: Vec::new(alloc),
+            fails_at: 0,
+            calls: 0,
+            failures: 0,
+        }
+    }
+}
+
+impl Sink for Page {
+    ghost use Rattle.std.specs.Prelude.{None};
+
+    ghost written = { λ _. None };
+
+    ghost failures = { λ p. p.failures };
+
+    fn write(&mut self, bytes: &[u8]) -> Result<(), PipeFault> {
+        self.calls = self.calls.saturating_add(1);
+        if self.calls == self.fails_at || self.bytes.extend_from_slice(bytes).is_err() {
+            self.failures = self.failures.saturating_add(1);
+            return Err(PipeFault);
+        }
+        Ok(())
+    }
+
+    fn flush(&mut self) -> Result<(), PipeFault> {
+        self.calls = self.calls.saturating_add(1);
+        if self.calls == self.fails_at {
+            self.failures = self.failures.saturating_add(1);
+            return Err(PipeFault);
+        }
+        Ok(())
+    }
+}
+
+// Serves these pieces over a disk, in groups of this size: how it ends, and the disk then.
+pub fn pipe(
+    alloc: Global,
+    disk: MemoryDisk,
+    group: u32,
+    reader: &mut Pieces<'_>,
+    writer: &mut Page,
+    turns: u64,
+) -> Result<(ServeEnd, MemoryDisk), Fail>
+    requires { IsGroup group }
+{
+    let Served { disk, end } = serve_over(alloc, disk, group, reader, writer, turns)?;
+    Ok((end?, disk))
+}
+
+// Serves these pieces over a disk, in groups of one: how it ends, and what is written.
+fn paged(
+    alloc: Global,
+    disk: MemoryDisk,
+    reader: &mut Pieces<'_>,
+    writer: Page,
+    turns: u64,
+) -> Result<(ServeEnd, Vec<u8>), Fail> {
+    let mut writer = writer;
+    let (end, _) = pipe(alloc, disk, 1, reader, &mut writer, turns)?;
+    Ok((end, writer.bytes))
+}
+
+// Many lines, longer than one piece, and the start of one more.
+fn many_lines(alloc: Global) -> Result<Vec<u8>, Fail> {
+    let mut input = Vec::new(alloc);
+    for _ in 0..100 {
+        input.extend_from_slice(
+            b"capture\ta.org\ttop\tlast\t2026-07-01 10:00\t* N\t\nshow\tb.org\n\n",
+        )?;
+    }
+    input.extend_from_slice(b"show\ta.org\nshow\ta.org")?;
+    Ok(input)
+}
+
+// In pieces of this size the input is answered so.
+fn answers_pieces(
+    rt: &(impl Abort + AllocGlobal),
+    size: usize,
+    input: &[u8],
+    wanted: &[u8],
+) -> Result<(), Fail> {
+    let alloc = rt.alloc();
+    let disk = two_files(alloc, b"", b"* Z\n")?;
+    let mut reader = in_pieces(input, size);
+    let (end, written) = paged(alloc, disk, &mut reader, Page::new(alloc), 100_000)?;
+    assert!(rt; end == ServeEnd::End && written.as_slice() == wanted);
+    Ok(())
+}
+
+#[test]
+fn any_pieces_give_one_output(rt: HostRuntime) -> Result<(), Fail> {
+    let input = many_lines(rt.alloc())?;
+    let disk = two_files(rt.alloc(), b"", b"* Z\n")?;
+    let wanted = served(rt.alloc(), disk, 1, &input)?;
+    assert!(rt; wanted.starts_with(b"ok 1\nsafe 1\ntext 4\n* Z\n\nrefused 20 BadLine\nok 2\n"));
+    assert!(rt; wanted.ends_with(b"* N\n* N\n\nrefused 20 BadLine\n"));
+    for size in [1, 7, 4095, 4096, 4097] {
+        answers_pieces(&rt, size, &input, &wanted)?;
+    }
+    Ok(())
+}
+
+// Where a read fails, or the turns are used up, the lines that were read whole are answered.
+fn ends_by_reading(rt: &(impl Abort + AllocGlobal), fails_at: u64, turns: u64) -> Result<(), Fail> {
+    let alloc = rt.alloc();
+    let disk = two_files(alloc, b"", b"* Z\n")?;
+    let mut reader = in_pieces(b"show\tb.org\nshow\ta.org", 11);
+    reader.fails_at = fails_at;
+    let (end, written) = paged(alloc, disk, &mut reader, Page::new(alloc), turns)?;
+    assert!(rt; end == ServeEnd::Read && written.as_slice() == b"text 4\n* Z\n\n".as_slice());
+    Ok(())
+}
+
+#[test]
+fn a_read_that_fails(rt: HostRuntime) -> Result<(), Fail> {
+    ends_by_reading(&rt, 3, 100)?;
+    ends_by_reading(&rt, 0, 2)
+}
+
+// An input of one piece, served in so many turns, ends so.
+fn ends_in(rt: &(impl Abort + AllocGlobal), turns: u64, wanted: ServeEnd) -> Result<(), Fail> {
+    let alloc = rt.alloc();
+    let disk = two_files(alloc, b"", b"")?;
+    let mut reader = in_pieces(b"show\ta.org\n", 100);
+    let (end, _) = paged(alloc, disk, &mut reader, Page::new(alloc), turns)?;
+    assert!(rt; end == wanted && reader.reads == turns);
+    Ok(())
+}
+
+#[test]
+fn turns(rt: HostRuntime) -> Result<(), Fail> {
+    ends_in(&rt, 0, ServeEnd::Read)?;
+    ends_in(&rt, 1, ServeEnd::Read)?;
+    ends_in(&rt, 2, ServeEnd::End)
+}
+
+// How serving ends where this call of the writer fails, if it isn't 0, and what was written by then.
+fn written_until(alloc: Global, fails_at: u64) -> Result<(ServeEnd, Vec<u8>), Fail> {
+    let disk = two_files(alloc, b"", b"* Z\n")?;
+    let mut reader = in_pieces(
+        b"show\tb.org\ncapture\ta.org\ttop\tlast\t2026-07-01 10:00\t* N\t\n\nshow\ta.org",
+        4096,
+    );
+    let mut writer = Page::new(alloc);
+    writer.fails_at = fails_at;
+    paged(alloc, disk, &mut reader, writer, 100)
+}
+
+// A text takes five writes, a change and its settling six, a bad line one; each line is flushed.
+#[test]
+fn a_write_that_fails(rt: HostRuntime) -> Result<(), Fail> {
+    let (end, whole) = written_until(rt.alloc(), 0)?;
+    assert_eq!(rt; end, ServeEnd::End);
+    for fails_at in 1..18 {
+        let (end, written) = written_until(rt.alloc(), fails_at)?;
+        assert_eq!(rt; end, ServeEnd::Write);
+        assert!(rt; whole.starts_with(written.as_slice()));
+    }
+    let (end, _) = written_until(rt.alloc(), 18)?;
+    assert_eq!(rt; end, ServeEnd::End);
+    Ok(())
+}

@@ -1,0 +1,121 @@
+// A store over a disk in memory.
+ghost use Rattle.std.specs.List.{All};
+ghost use Rattle.org_disk.specs.Names.{IsOrgFile};
+
+mod captures;
+mod failures;
+mod groups;
+mod limits;
+mod stops;
+
+use org_disk::{FileName, MemoryDisk};
+use org_fixtures::{org_names, two_files};
+use org_outline::{Place, States};
+use org_splice::Bytes;
+use org_stamp::Moment;
+use org_store::{Command, OpenRefused, Reply, RunFault, Store, Target};
+use std::alloc::Global;
+use std::test::Fail;
+
+// A store over a disk, or why it wasn't opened.
+fn opened(
+    alloc: Global,
+    disk: MemoryDisk,
+    names: Vec<FileName>,
+) -> Result<Result<Store<MemoryDisk>, OpenRefused<MemoryDisk>>, Fail>
+    requires { All IsOrgFile names.items }
+{
+    let states = States::new(alloc, &["TODO"], &["DONE"])?;
+    Ok(Store::open(alloc, disk, names, states))
+}
+
+// A store over the two files of a disk.
+fn open(alloc: Global, disk: MemoryDisk) -> Result<Store<MemoryDisk>, Fail> {
+    match opened(alloc, disk, org_names(alloc, &["b.org", "a.org"])?)? {
+        Ok(store) => Ok(store),
+        Err(refused) => Err(refused.fault)?,
+    }
+}
+
+fn capture(alloc: Global, file: &str, template: &[u8]) -> Result<Command, Fail> {
+    Ok(Command::Capture {
+        file: FileName::new(alloc, file)?,
+        target: Target::Top,
+        place: Place::Last,
+        moment: Moment::new(2026, 7, 1, 10, 0).ok_or("no moment")?,
+        template: Bytes::new(template.to_vec(alloc)?),
+        initial: Bytes::new(Vec::new(alloc)),
+    })
+}
+
+fn show(alloc: Global, file: &str) -> Result<Command, Fail> {
+    Ok(Command::Show {
+        file: FileName::new(alloc, file)?,
+    })
+}
+
+// What a show of the file answers.
+fn shown(alloc: Global, store: &mut Store<MemoryDisk>, file: &str) -> Result<Vec<u8>, Fail> {
+    match store.run(&show(alloc, file)?)? {
+        Reply::Text(text) => Ok(text.into_vec()),
+        _ => Err("no text")?,
+    }
+}
+
+// The texts of both files, as the store shows them.
+fn both(alloc: Global, store: &mut Store<MemoryDisk>) -> Result<(Vec<u8>, Vec<u8>), Fail> {
+    let a = shown(alloc, store, "a.org")?;
+    Ok((a, shown(alloc, store, "b.org")?))
+}
+
+// The texts of both files, as a store over this disk shows them.
+fn left_on(alloc: Global, disk: MemoryDisk) -> Result<(Vec<u8>, Vec<u8>), Fail> {
+    let mut store = open(alloc, disk)?;
+    both(alloc, &mut store)
+}
+
+// Whether a show of the file answers this text.
+fn shows(
+    alloc: Global,
+    store: &mut Store<MemoryDisk>,
+    file: &str,
+    text: &[u8],
+) -> Result<bool, Fail> {
+    let shown = shown(alloc, store, file)?;
+    Ok(shown.as_slice() == text)
+}
+
+// Whether shows of both files answer these texts.
+fn shows_both(
+    alloc: Global,
+    store: &mut Store<MemoryDisk>,
+    a: &[u8],
+    b: &[u8],
+) -> Result<bool, Fail> {
+    Ok(shows(alloc, store, "a.org", a)? && shows(alloc, store, "b.org", b)?)
+}
+
+// What a capture is answered: its number, or why there is none.
+fn captured(
+    alloc: Global,
+    store: &mut Store<MemoryDisk>,
+    file: &str,
+    template: &[u8],
+) -> Result<Result<u64, RunFault>, Fail> {
+    match store.run(&capture(alloc, file, template)?) {
+        Ok(Reply::Done(number)) => Ok(Ok(number)),
+        Ok(_) => Err("no number")?,
+        Err(fault) => Ok(Err(fault)),
+    }
+}
+
+// Whether so many commands are accepted, and so many of them on the disk.
+fn has_counts(store: &Store<MemoryDisk>, accepted: u64, acknowledged: u64) -> bool {
+    store.accepted() == accepted && store.acknowledged() == acknowledged
+}
+
+// How many calls of the disk an opening makes.
+fn calls_of_opening(alloc: Global) -> Result<u64, Fail> {
+    let store = open(alloc, two_files(alloc, b"* A\n", b"")?)?;
+    Ok(store.close().calls())
+}

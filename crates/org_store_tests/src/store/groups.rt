@@ -1,0 +1,81 @@
+// Captures that are settled together.
+use super::{captured, has_counts, open, shows_both};
+use org_disk::MemoryDisk;
+use org_fixtures::two_files;
+use org_store::{Command, Reply, Store};
+use std::alloc::Global;
+use std::process::Abort;
+use std::test::Fail;
+
+// Makes a capture, and tells whether it is the one of this number, and so many are on the disk then.
+fn captures_as(
+    alloc: Global,
+    store: &mut Store<MemoryDisk>,
+    (file, template): (&str, &[u8]),
+    number: u64,
+    acknowledged: u64,
+) -> Result<bool, Fail> {
+    let captured = captured(alloc, store, file, template)?;
+    Ok(matches!(captured, Ok(n) if n == number) && has_counts(store, number, acknowledged))
+}
+
+fn capture_in_threes(
+    rt: &impl Abort,
+    alloc: Global,
+    store: &mut Store<MemoryDisk>,
+) -> Result<(), Fail> {
+    store.set_group(3);
+    assert!(rt; captures_as(alloc, store, ("a.org", b"* B"), 1, 0)?);
+    assert!(rt; captures_as(alloc, store, ("b.org", b"* C"), 2, 0)?);
+    assert!(rt; shows_both(alloc, store, b"* A\n* B\n", b"* Z\n* C\n")?);
+    assert!(rt; captures_as(alloc, store, ("a.org", b"* D"), 3, 3)?);
+    assert!(rt; captures_as(alloc, store, ("b.org", b"* E"), 4, 3)?);
+    Ok(())
+}
+
+// Whether the files of a disk have these texts, as a store over it shows them.
+fn has_left(alloc: Global, disk: MemoryDisk, a: &[u8], b: &[u8]) -> Result<bool, Fail> {
+    let mut store = open(alloc, disk)?;
+    shows_both(alloc, &mut store, a, b)
+}
+
+// What is accepted is shown, and is on the disk once the group is full; what isn't is given up by a close.
+#[test]
+fn a_group_of_three(rt: HostRuntime) -> Result<(), Fail> {
+    let alloc = rt.alloc();
+    let mut store = open(alloc, two_files(alloc, b"* A", b"* Z")?)?;
+    capture_in_threes(&rt, alloc, &mut store)?;
+    assert!(rt; has_left(alloc, store.close(), b"* A\n* B\n* D\n", b"* Z\n* C\n")?);
+    Ok(())
+}
+
+// How many commands a settling tells to be safe.
+fn safe(store: &mut Store<MemoryDisk>) -> Option<u64> {
+    match store.run(&Command::Settle) {
+        Ok(Reply::Safe(safe)) => Some(safe),
+        _ => None,
+    }
+}
+
+fn settle_by_command(
+    rt: &impl Abort,
+    alloc: Global,
+    store: &mut Store<MemoryDisk>,
+) -> Result<(), Fail> {
+    assert!(rt; matches!(safe(store), Some(0)));
+    assert!(rt; captures_as(alloc, store, ("a.org", b"* B"), 1, 1)?);
+    assert!(rt; matches!(safe(store), Some(1)));
+    store.set_group(1000);
+    assert!(rt; captures_as(alloc, store, ("a.org", b"* C"), 2, 1)?);
+    assert!(rt; matches!(safe(store), Some(2)));
+    Ok(())
+}
+
+#[test]
+fn settles_by_command(rt: HostRuntime) -> Result<(), Fail> {
+    let alloc = rt.alloc();
+    let mut store = open(alloc, two_files(alloc, b"", b"")?)?;
+    settle_by_command(&rt, alloc, &mut store)?;
+    assert!(rt; has_left(alloc, store.close(), b"* B\n* C\n", b"")?);
+    Ok(())
+}

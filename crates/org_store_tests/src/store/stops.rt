@@ -1,0 +1,110 @@
+// A disk that stops at a call, and what opening it again finds.
+ghost use Rattle.std.specs.Prelude.{◌≤◌};
+
+use super::{calls_of_opening, captured, left_on, opened};
+use org_disk::{MemoryDisk, Outcome};
+use org_fixtures::{OUTCOMES, org_names, two_files};
+use org_store::Store;
+use std::alloc::Global;
+use std::process::Abort;
+use std::test::Fail;
+
+// A capture into each of two files.
+fn capture_twice(alloc: Global, store: &mut Store<MemoryDisk>) -> Result<(), Fail> {
+    let _ = captured(alloc, store, "a.org", b"* B")?;
+    let _ = captured(alloc, store, "b.org", b"* C")?;
+    Ok(())
+}
+
+// Makes two captures, in groups, and tells how many were acknowledged and how many accepted, and the disk then.
+fn captured_twice(
+    alloc: Global,
+    store: Store<MemoryDisk>,
+    group: u32,
+) -> Result<(u64, u64, MemoryDisk), Fail>
+    requires { (1 ≤ group) × (group ≤ 1000) }
+{
+    let mut store = store;
+    store.set_group(group);
+    capture_twice(alloc, &mut store)?;
+    let (acknowledged, accepted) = (store.acknowledged(), store.accepted());
+    Ok((acknowledged, accepted, store.close()))
+}
+
+// A disk that stops at this call.
+fn stopping_disk(alloc: Global, call: u64, outcome: Outcome) -> Result<MemoryDisk, Fail> {
+    let mut disk = two_files(alloc, b"* A\n", b"* Z")?;
+    disk.stop_at(call, outcome);
+    Ok(disk)
+}
+
+// Makes two captures, in groups, over a disk that stops on the way, and tells how many were acknowledged, how many
+// accepted, and how many are in the files that the stop left.
+fn stopped(alloc: Global, group: u32, call: u64, outcome: Outcome) -> Result<(u64, u64, u64), Fail>
+    requires { (1 ≤ group) × (group ≤ 1000) }
+{
+    let names = org_names(alloc, &["a.org", "b.org"])?;
+    let opened = opened(alloc, stopping_disk(alloc, call, outcome)?, names)?;
+    let (acknowledged, accepted, disk) = match opened {
+        Err(refused) => (0, 0, refused.disk),
+        Ok(store) => captured_twice(alloc, store, group)?,
+    };
+    Ok((acknowledged, accepted, prefix_in(alloc, &disk)?))
+}
+
+// How many of the two captures are in files with these texts.
+fn prefix_of(a: &[u8], b: &[u8]) -> Option<u64> {
+    let is_old = b == b"* Z".as_slice();
+    if a == b"* A\n".as_slice() && is_old {
+        Some(0)
+    } else if a == b"* A\n* B\n".as_slice() && is_old {
+        Some(1)
+    } else if a == b"* A\n* B\n".as_slice() && b == b"* Z\n* C\n".as_slice() {
+        Some(2)
+    } else {
+        None
+    }
+}
+
+// How many of the two captures are in the files that are left of a disk.
+fn prefix_in(alloc: Global, disk: &MemoryDisk) -> Result<u64, Fail> {
+    let (a, b) = left_on(alloc, disk.image(alloc)?)?;
+    Ok(prefix_of(&a, &b).ok_or("no prefix")?)
+}
+
+// Stops the two captures at a call in each way: what is left is one of the states between those that were acknowledged
+// and those that were accepted.
+fn stop_at(rt: &impl Abort, alloc: Global, group: u32, call: u64) -> Result<(), Fail>
+    requires { (1 ≤ group) × (group ≤ 1000) }
+{
+    for outcome in OUTCOMES {
+        let (acknowledged, accepted, prefix) = stopped(alloc, group, call, outcome)?;
+        assert!(rt; acknowledged <= prefix && prefix <= accepted);
+    }
+    Ok(())
+}
+
+// Stops the two captures at each of so many calls behind the opening. After all calls both are there.
+fn stop_each_call(rt: &impl Abort, alloc: Global, group: u32, calls: u64) -> Result<(), Fail>
+    requires { (1 ≤ group) × (group ≤ 1000) }
+{
+    let end = calls_of_opening(alloc)?.wrapping_add(calls);
+    for call in 1..end {
+        stop_at(rt, alloc, group, call)?;
+    }
+    assert!(rt; stopped(alloc, group, end, Outcome::None)? == (2, 2, 2));
+    Ok(())
+}
+
+// Each capture reads a length and a text, and makes nine calls to be settled.
+#[test]
+fn stopped_at_every_call(rt: HostRuntime) -> Result<(), Fail> {
+    stop_each_call(&rt, rt.alloc(), 1, 23)
+}
+
+// The captures read two calls each. They are settled in one: the record and the gate with a sync each, a write and a
+// length for each file, a sync of each, and the gate with its sync.
+#[test]
+fn a_group_stopped_at_every_call(rt: HostRuntime) -> Result<(), Fail> {
+    stop_each_call(&rt, rt.alloc(), 2, 17)
+}

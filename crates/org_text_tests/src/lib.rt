@@ -1,0 +1,9 @@
+//! Tests of the crates that know texts and no disk. This crate has nothing else.
+#![tactic(auto)]
+
+#[cfg(test)]
+mod outline;
+#[cfg(test)]
+mod splice;
+#[cfg(test)]
+mod stamp;

@@ -1,0 +1,109 @@
+// Where headings, their subtrees and their sections lie, and where subtrees go in.
+ghost use Rattle.std.specs.Prelude.{◌<◌};
+ghost use Rattle.org_outline.specs.Tree.{node_count, tree};
+
+use org_outline::{Heads, Node, Outline, Place, States, shift};
+use org_splice::Span;
+use std::process::Abort;
+use std::test::Fail;
+
+#[test]
+fn skipped_levels(rt: HostRuntime) -> Result<(), Fail> {
+    let text = b"before\n* a\nx\n*** b\n** c\n*bold*\n* d\n";
+    let states = States::new(rt.alloc(), &["TODO"], &["DONE"])?;
+    let outline = Outline::read(rt.alloc(), text, &states)?;
+    assert_skips_levels(&rt, &outline);
+    Ok(())
+}
+
+fn assert_skips_levels(rt: &impl Abort, outline: &Outline<'_>) {
+    assert!(rt; outline.count() == 4);
+    let a = outline.node(0);
+    assert!(rt; outline.level(a) == 1);
+    assert!(rt; outline.subtree(a) == Span { start: 7, end: 31 });
+    assert!(rt; outline.section(a) == Span { start: 11, end: 13 });
+    assert!(rt; outline.parent(outline.node(2)) == Some(a) && outline.parent(a).is_none());
+    assert!(rt; outline.place(None, Place::First) == 7);
+    assert!(rt; outline.place(None, Place::Last) == 35);
+}
+
+#[test]
+fn numbers_of_headings(rt: HostRuntime) -> Result<(), Fail> {
+    let states = States::new(rt.alloc(), &["TODO"], &["DONE"])?;
+    let outline = Outline::read(rt.alloc(), b"* a\n** b\n*** c\n** d\n* e\n", &states)?;
+    assert_numbers(&rt, &outline);
+    Ok(())
+}
+
+fn assert_numbers(rt: &impl Abort, outline: &Outline<'_>) {
+    assert!(rt; outline.count() == 5);
+    let b = outline.node(1);
+    assert!(rt; b.number() == 1);
+    assert!(rt; outline.rest(b) == b" b".as_slice());
+    assert!(rt; outline.size(b) == 2);
+    assert!(rt; outline.lies_in(outline.node(2), b));
+    assert_goes_without(rt, outline, b, outline.node(0), Place::First, 4);
+    assert_goes_without(rt, outline, b, outline.node(0), Place::Last, 9);
+    assert_goes_without(rt, outline, b, outline.node(4), Place::Last, 13);
+}
+
+/// Asserts where a subtree goes in below a heading once another one is taken out.
+fn assert_goes_without(
+    rt: &impl Abort,
+    outline: &Outline<'_>,
+    taken: Node,
+    parent: Node,
+    place: Place,
+    at: usize,
+)
+    requires taken { taken < node_count (tree outline.now.text) }
+    requires parent { parent < node_count (tree outline.now.text) }
+{
+    assert!(rt; !outline.lies_in(parent, taken));
+    assert!(rt; outline.place_without(taken, Some(parent), place) == at);
+}
+
+#[test]
+fn shifted(rt: HostRuntime) -> Result<(), Fail> {
+    let moved = shift(rt.alloc(), b"* a\nx\n*** b\n", 3)?;
+    assert!(rt; moved.as_slice() == b"*** a\nx\n***** b\n".as_slice());
+    Ok(())
+}
+
+#[test]
+fn first_among_deeper_children(rt: HostRuntime) -> Result<(), Fail> {
+    let states = States::new(rt.alloc(), &["TODO"], &["DONE"])?;
+    let mixed = Outline::read(rt.alloc(), b"* A\n*** X\n** Y\n", &states)?;
+    assert_places(&rt, &mixed, 3, 10, 15);
+    let deeper = Outline::read(rt.alloc(), b"* A\n*** X\n", &states)?;
+    assert_places(&rt, &deeper, 2, 10, 10);
+    Ok(())
+}
+
+/// Asserts how many nodes there are, and the places below the first.
+fn assert_places(rt: &impl Abort, outline: &Outline<'_>, count: usize, first: usize, last: usize) {
+    assert!(rt; outline.count() == count && count > 0);
+    let a = outline.node(0);
+    assert!(rt; outline.place(Some(a), Place::First) == first);
+    assert!(rt; outline.place(Some(a), Place::Last) == last);
+}
+
+#[test]
+fn headings_in_blocks(rt: HostRuntime) -> Result<(), Fail> {
+    let text = b"*\n*\tA\n#+BEGIN_SRC\n* A\n#+END_SRC\n";
+    let states = States::new(rt.alloc(), &["TODO"], &["DONE"])?;
+    let heads = Heads::read(rt.alloc(), text)?;
+    assert_one_in_block(&rt, &Outline::over(text, &heads, &states));
+    Ok(())
+}
+
+fn assert_one_in_block(rt: &impl Abort, outline: &Outline<'_>) {
+    assert!(rt; outline.count() == 1);
+    let node = outline.node(0);
+    assert!(rt; outline.subtree(node) == Span { start: 18, end: 32 });
+    assert!(rt; outline.headed(b"A") == Ok(Some(node)));
+    assert!(rt; outline.text().len() == 32);
+    let states = outline.states();
+    assert!(rt; states.is_active(b"TODO") && !states.is_active(b"DONE"));
+    assert!(rt; states.is_done(b"DONE") && states.first_active() == "TODO");
+}
