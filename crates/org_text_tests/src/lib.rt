@@ -4,6 +4,8 @@
 #[cfg(test)]
 mod outline;
 #[cfg(test)]
+mod sections;
+#[cfg(test)]
 mod splice;
 #[cfg(test)]
 mod stamp;

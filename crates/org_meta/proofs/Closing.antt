@@ -1,0 +1,66 @@
+-- Open clock lines in their sections, and closed ones in their place.
+use Rattle.std.proofs.Common.{◌≡◌, ℕ, ◌+◌, ◌-◌, ◌≤◌, true, Option, Some, None, Result, Ok, Err, List, [], ◌∷◌, ◌++◌, length, take, drop, refl, sym, ap, subst, ◌∙◌, arith, append_assoc, length-append, take-append-drop}
+use Rattle.std.specs.Prelude.{MatchResult}
+use Rattle.std.proofs.lemmas.List.{take_at, drop_at, length-drop, length-take-le}
+use Rattle.org_splice.specs.Lines.{closed, print_lines, lines_of}
+use Rattle.org_splice.specs.declared.Span.{Span}
+use Rattle.org_splice.specs.declared.edit.Edit.{Edit}
+use Rattle.org_splice.proofs.Lines.{print_lines-append}
+use Rattle.org_stamp.specs.Calendar.{CivilMinute}
+use Rattle.org_meta.specs.declared.clock.Running.{Running}
+use Rattle.org_meta.specs.declared.fault.ClockFault.{ClockFault}
+use Rattle.org_meta.specs.declared.fault.ClockFault.TheVariants.{ClockBackwards}
+use Rattle.org_meta.specs.Edits.{Gives}
+use Rattle.org_meta.specs.Clocks.{running_clock, is_open, minutes_between, IsOpenAt, HasOpenAt}
+use Rattle.org_meta.specs.Clocking.{closing_text, closed_after, closed_clock, closed_line, Closes}
+use Rattle.org_meta.proofs.Walk.{print_lines-closed}
+use Rattle.org_meta.proofs.Puts.{gives_at}
+
+module _ (section : List ℕ) (span : Span) (before : List (List ℕ)) (line : List ℕ) (after : List (List ℕ)) (whole : closed section ≡ section) (is : IsOpenAt section span before line after) where
+  -- the bytes of the section round the line
+  pub round_line : section ≡ print_lines before ++ (line ++ 10 ∷ print_lines after)
+  round_line = sym (print_lines-closed section whole) ∙ ap print_lines is.lines ∙ print_lines-append before (line ∷ after)
+
+  pub ends_within : span.end ≤ length section
+  ends_within = omega (arith, is.end, ap length round_line, length-append (print_lines before) (line ++ 10 ∷ print_lines after), length-append line (10 ∷ print_lines after))
+
+  -- the line's bytes are those of its span, without the newline
+  pub line_at : take (span.end - 1 - span.start) (drop span.start section) ≡ line
+  line_at =
+      let left : drop span.start section ≡ line ++ 10 ∷ print_lines after =
+      ap (λ n. drop n section) is.start ∙ ap (λ (t : List ℕ). drop (length (print_lines before)) t) round_line
+      ∙ drop_at (print_lines before) (line ++ 10 ∷ print_lines after) (length (print_lines before)) refl in
+      let long : span.end - 1 - span.start ≡ length line = omega (arith, is.start, is.end) in
+      ap (λ n. take n (drop span.start section)) long ∙ ap (λ (t : List ℕ). take (length line) t) left ∙ take_at line (10 ∷ print_lines after) (length line) refl
+
+  module _ (now : CivilMinute) (running : Running) (text : List ℕ) (same : text ≡ take (span.end - 1 - span.start) (drop span.start section)) (runs : Some running ≡ running_clock text) where
+    clock_here : running_clock line ≡ Some running
+    clock_here = ap running_clock (sym (same ∙ line_at)) ∙ sym runs
+
+    pub closes_backwards : None ≡ minutes_between running.start now → closed_line now line ≡ Err ClockBackwards
+    closes_backwards none = ap (closed_clock now line) clock_here ∙ ap (closed_after now (take running.head line)) (sym none)
+
+    pub closes_at : (e : Edit) (minutes : ℕ) → Some minutes ≡ minutes_between running.start now → running.head ≤ length text → e.at ≡ span.start + running.head → e.removed ≡ length text - running.head → e.bytes ≡ closing_text now minutes
+        → MatchResult (closed_line now line) (λ closed. Gives e section (before ++ (closed ∷ after))) (λ fault. ⊥)
+    closes_at e minutes some within at removed bytes =
+        let w = closing_text now minutes in
+        let a = print_lines before ++ take running.head line in
+        let b = drop running.head line in
+        let c = 10 ∷ print_lines after in
+        let closed_is : closed_line now line ≡ Ok (take running.head line ++ w) = ap (closed_clock now line) clock_here ∙ ap (closed_after now (take running.head line)) (sym some) in
+        let long : length text ≡ length line = ap length (same ∙ line_at) in
+        let front : length (take running.head line) ≡ running.head = length-take-le running.head line (omega arith) in
+        let shape : print_lines before ++ ((take running.head line ++ drop running.head line) ++ c) ≡ a ++ (b ++ c) = simp append_assoc in
+        let parts : section ≡ a ++ (b ++ c) =
+        round_line ∙ ap (λ (t : List ℕ). print_lines before ++ (t ++ c)) (sym (take-append-drop running.head line)) ∙ shape in
+        let here : e.at ≡ length a = omega (arith, is.start, length-append (print_lines before) (take running.head line)) in
+        let gone : e.removed ≡ length b = omega (arith, length-drop running.head line) in
+        let back : print_lines before ++ ((take running.head line ++ w) ++ c) ≡ a ++ (w ++ c) = simp append_assoc in
+        let print : print_lines (before ++ ((take running.head line ++ w) ∷ after)) ≡ a ++ (w ++ c) = print_lines-append before ((take running.head line ++ w) ∷ after) ∙ back in
+        let P : Result (List ℕ) ClockFault → Type 0 = λ r. MatchResult r (λ closed. Gives e section (before ++ (closed ∷ after))) (λ fault. ⊥) in
+        subst P (sym closed_is) (gives_at e section a b c w (before ++ ((take running.head line ++ w) ∷ after)) parts here gone bytes print)
+
+-- ---- as the code says it
+
+pub line_runs : (section : List ℕ) (span : Span) (text : List ℕ) → closed section ≡ section → HasOpenAt section span → text ≡ take (span.end - 1 - span.start) (drop span.start section) → is_open text ≡ true
+line_runs section span text whole h same = ap is_open (same ∙ line_at section span h.before h.line h.after whole h.is) ∙ h.is.runs

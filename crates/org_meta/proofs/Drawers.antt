@@ -1,0 +1,158 @@
+-- Walks over the lines of a drawer.
+use Rattle.std.proofs.Common.{◌≡◌, ℕ, suc, ◌+◌, true, false, Option, Some, None, List, [], ◌∷◌, ◌++◌, length, take, drop, ◌-◌, Bor, refl, sym, ap, ◌∙◌, arith, length-append}
+use Rattle.std.specs.List.{AllByRecursion}
+use Rattle.std.specs.Option.{option_map, option_map_or, unwrap_or}
+use Rattle.org_splice.specs.Lines.{closed, lines_of, print_lines, IsLine}
+use Rattle.org_meta.specs.Lines.{BeginsWith, behind_lines}
+use Rattle.org_meta.specs.declared.parts.Sections.{Sections}
+use Rattle.org_meta.specs.Sections.{AreSections, split, is_planning, planning_size, is_drawer_start, drawer_size, is_end, NodeProperty, property_of, size_to_end, value_named, value_before_end}
+use Rattle.org_splice.proofs.Lines.{closed-print_lines, lines_of-lines, lines_of-print_lines}
+use Rattle.org_meta.proofs.AllLines.{AllByRecursion-take, AllByRecursion-drop}
+use Rattle.org_meta.proofs.Walk.{Passed, passed_none, passed_line, passed_rest, behind_none, front_lines, print_lines-closed}
+
+-- ---- the end of a drawer
+
+-- the end of the whole is that of what is left, as many lines later as were passed
+pub record EndsLater (whole text : List ℕ) : Type 0 where
+  pub passed : Passed whole text
+  pub size : size_to_end (lines_of whole) ≡ option_map (λ n. length passed.before + n) (size_to_end (lines_of text))
+
+plus_none : (o : Option ℕ) → o ≡ option_map (λ n. 0 + n) o
+plus_none None = refl
+plus_none (Some n) = ap (λ n. Some n) (omega arith)
+
+plus_one : (k : ℕ) (ls : List (List ℕ)) (l : List ℕ) (o : Option ℕ) → length ls ≡ k → option_map (λ n. k + n) (option_map suc o) ≡ option_map (λ n. length (ls ++ l ∷ []) + n) o
+plus_one k ls l None long = refl
+plus_one k ls l (Some n) long = ap (λ n. Some n) (omega (arith, length-append ls (l ∷ [])))
+
+pub ends_none : (whole : List ℕ) → closed whole ≡ whole → EndsLater whole whole
+unfolding passed_none
+ends_none whole is = record { passed = passed_none whole is; size = plus_none (size_to_end (lines_of whole)) }
+
+pub ends_line : (whole text line rest : List ℕ) → EndsLater whole text → BeginsWith text line rest → is_end line ≡ false → (p : NodeProperty) → Some p ≡ property_of line → EndsLater whole rest
+unfolding passed_line
+ends_line whole text line rest e b other p property = record {
+  passed = passed_line whole text line rest e.passed b;
+  size =
+      let next : size_to_end (lines_of text) ≡ option_map suc (size_to_end (lines_of rest)) = ap size_to_end b.lines ∙ rw (other, ← property) refl in
+      e.size ∙ ap (option_map (λ n. length e.passed.before + n)) next
+      ∙ plus_one (length e.passed.before) e.passed.before line (size_to_end (lines_of rest)) refl;
+}
+
+pub ends_found : (whole text line rest : List ℕ) → EndsLater whole text → BeginsWith text line rest → is_end line ≡ true → Some rest ≡ option_map (behind_lines whole) (size_to_end (lines_of whole))
+unfolding passed_line
+ends_found whole text line rest e b found =
+    let next : size_to_end (lines_of text) ≡ Some 1 = ap size_to_end b.lines ∙ rw found refl in
+    let here : size_to_end (lines_of whole) ≡ Some (length e.passed.before + 1) = e.size ∙ ap (option_map (λ n. length e.passed.before + n)) next in
+    let p = passed_line whole text line rest e.passed b in
+    sym (ap (option_map (behind_lines whole)) here ∙ ap (λ (t : List ℕ). Some t) (passed_rest whole rest p (length e.passed.before + 1) (length-append e.passed.before (line ∷ []))))
+
+pub ends_other : (whole text line rest : List ℕ) → EndsLater whole text → BeginsWith text line rest → is_end line ≡ false → property_of line ≡ None → None ≡ option_map (behind_lines whole) (size_to_end (lines_of whole))
+ends_other whole text line rest e b other none =
+    let next : size_to_end (lines_of text) ≡ None = ap size_to_end b.lines ∙ rw (other, none) refl in
+    sym (ap (option_map (behind_lines whole)) (e.size ∙ ap (option_map (λ n. length e.passed.before + n)) next))
+
+pub ends_nowhere : (whole text : List ℕ) → EndsLater whole text → text ≡ [] → None ≡ option_map (behind_lines whole) (size_to_end (lines_of whole))
+ends_nowhere whole text e none =
+    let next : size_to_end (lines_of text) ≡ None = ap (λ (t : List ℕ). size_to_end (lines_of t)) none in
+    sym (ap (option_map (behind_lines whole)) (e.size ∙ ap (option_map (λ n. length e.passed.before + n)) next))
+
+-- ---- a value
+
+pub record ValueLater (name whole text : List ℕ) : Type 0 where
+  pub closed_text : closed text ≡ text
+  pub value : value_before_end name (lines_of whole) ≡ value_before_end name (lines_of text)
+
+pub value_line : (name whole text line rest : List ℕ) → ValueLater name whole text → BeginsWith text line rest → is_end line ≡ false → value_named name line ≡ None → ValueLater name whole rest
+value_line name whole text line rest v b other none = record {
+  closed_text = b.closed_rest;
+  value = v.value ∙ ap (value_before_end name) b.lines ∙ rw (other, none) refl;
+}
+
+pub value_found : (name whole text line rest value : List ℕ) → ValueLater name whole text → BeginsWith text line rest → is_end line ≡ false → Some value ≡ value_named name line → Some value ≡ value_before_end name (lines_of whole)
+value_found name whole text line rest value v b other found =
+    sym (v.value ∙ ap (value_before_end name) b.lines ∙ rw (other, ← found) refl)
+
+pub value_end : (name whole text line rest : List ℕ) → ValueLater name whole text → BeginsWith text line rest → is_end line ≡ true → None ≡ value_before_end name (lines_of whole)
+value_end name whole text line rest v b end = sym (v.value ∙ ap (value_before_end name) b.lines ∙ rw end refl)
+
+pub value_nowhere : (name whole text : List ℕ) → ValueLater name whole text → text ≡ [] → None ≡ value_before_end name (lines_of whole)
+value_nowhere name whole text v none = sym (v.value ∙ ap (λ (t : List ℕ). value_before_end name (lines_of t)) none)
+
+-- ---- the parts
+
+pub behind_other : (text line rest : List ℕ) → closed text ≡ text → BeginsWith text line rest → is_drawer_start line ≡ false → text ≡ behind_lines text (drawer_size (lines_of text))
+behind_other text line rest whole b other =
+    let none : drawer_size (lines_of text) ≡ 0 = ap drawer_size b.lines ∙ rw other refl in
+    behind_none text whole ∙ ap (behind_lines text) (sym none)
+
+size_behind : (text line rest : List ℕ) (o : Option ℕ) (r : Option (List ℕ)) → closed text ≡ text → BeginsWith text line rest → r ≡ option_map (behind_lines rest) o → unwrap_or r text ≡ behind_lines text (option_map_or suc o 0)
+size_behind text line rest None r whole b is = rw is (behind_none text whole)
+size_behind text line rest (Some n) r whole b is =
+    rw is (sym (ap (λ (ls : List (List ℕ)). print_lines (drop (suc n) ls)) b.lines))
+
+behind_drawer : (text line rest : List ℕ) (r : Option (List ℕ)) → closed text ≡ text → BeginsWith text line rest → is_drawer_start line ≡ true → r ≡ option_map (behind_lines rest) (size_to_end (lines_of rest))
+    → unwrap_or r text ≡ behind_lines text (drawer_size (lines_of text))
+behind_drawer text line rest r whole b start is =
+    let size : drawer_size (lines_of text) ≡ option_map_or suc (size_to_end (lines_of rest)) 0 = ap drawer_size b.lines ∙ rw start refl in
+    size_behind text line rest (size_to_end (lines_of rest)) r whole b is ∙ ap (behind_lines text) (sym size)
+
+now_or : (r : Option (Bor (List ℕ))) (d : Bor (List ℕ)) → (unwrap_or r d).now ≡ unwrap_or (option_map (λ x. x.now) r) d.now
+now_or None d = refl
+now_or (Some x) d = refl
+
+pub behind_drawer_now : (text line rest : List ℕ) (found : Option (Bor (List ℕ))) (or answer : Bor (List ℕ)) → or.now ≡ text → answer ≡ unwrap_or found or → closed text ≡ text → BeginsWith text line rest → is_drawer_start line ≡ true
+    → option_map (λ x. x.now) found ≡ option_map (behind_lines rest) (size_to_end (lines_of rest))
+    → answer.now ≡ behind_lines text (drawer_size (lines_of text))
+behind_drawer_now text line rest found or answer is_text is whole b start behind =
+    ap (λ (a : Bor (List ℕ)). a.now) is ∙ now_or found or ∙ ap (unwrap_or (option_map (λ (x : Bor (List ℕ)). x.now) found)) is_text
+    ∙ behind_drawer text line rest (option_map (λ x. x.now) found) whole b start behind
+
+pub planning_here : (text line rest : List ℕ) → BeginsWith text line rest → is_planning line ≡ true → rest ≡ behind_lines text (planning_size (lines_of text))
+planning_here text line rest b here =
+    let size : planning_size (lines_of text) ≡ 1 = ap planning_size b.lines ∙ rw here refl in
+    sym (ap (behind_lines text) size ∙ ap (λ (ls : List (List ℕ)). print_lines (drop 1 ls)) b.lines ∙ print_lines-closed rest b.closed_rest)
+
+pub planning_other : (text line rest : List ℕ) → closed text ≡ text → BeginsWith text line rest → is_planning line ≡ false → text ≡ behind_lines text (planning_size (lines_of text))
+planning_other text line rest whole b other =
+    let size : planning_size (lines_of text) ≡ 0 = ap planning_size b.lines ∙ rw other refl in
+    behind_none text whole ∙ ap (behind_lines text) (sym size)
+
+-- the lines of a part
+pub part_lines : (ls : List (List ℕ)) (text : List ℕ) → AllByRecursion IsLine ls → text ≡ print_lines ls → lines_of text ≡ ls
+part_lines ls text p is = ap lines_of is ∙ lines_of-print_lines ls p
+
+-- the three slices of a section, from where the second and the third begin
+pub are_sections : (section below rest : List ℕ) (slices : Sections) → closed section ≡ section → below ≡ behind_lines section (planning_size (lines_of section))
+    → rest ≡ behind_lines below (drawer_size (lines_of below))
+    → slices.planning.now ≡ take (length section - length below) section → slices.drawer.now ≡ take (length below - length rest) below → slices.rest.now ≡ rest
+    → AreSections slices (split (lines_of section))
+are_sections section below rest slices whole is_below is_rest planning drawer last =
+    let n = planning_size (lines_of section) in
+    let lines : lines_of below ≡ drop n (lines_of section) =
+    part_lines (drop n (lines_of section)) below (AllByRecursion-drop IsLine n (lines_of section) (lines_of-lines section)) is_below in
+    let closed_below : closed below ≡ below = ap closed is_below ∙ closed-print_lines (drop n (lines_of section)) ∙ sym is_below in
+    record {
+      planning = planning ∙ front_lines section below n whole is_below;
+      drawer = drawer ∙ front_lines below rest (drawer_size (lines_of below)) closed_below is_rest ∙ ap (λ (ls : List (List ℕ)). print_lines (take (drawer_size ls) ls)) lines;
+      rest = last ∙ is_rest ∙ ap (λ (ls : List (List ℕ)). print_lines (drop (drawer_size ls) ls)) lines;
+    }
+
+pub drawer_lines : (section : List ℕ) → AllByRecursion IsLine (split (lines_of section)).drawer
+drawer_lines section =
+    AllByRecursion-take IsLine _ _ (AllByRecursion-drop IsLine (planning_size (lines_of section)) (lines_of section) (lines_of-lines section))
+
+-- the lines behind the drawer's first
+pub property_lines : (section drawer line rest : List ℕ) → drawer ≡ print_lines (split (lines_of section)).drawer → BeginsWith drawer line rest → lines_of rest ≡ drop 1 (split (lines_of section)).drawer
+property_lines section drawer line rest is b =
+    let lines : line ∷ lines_of rest ≡ (split (lines_of section)).drawer = sym b.lines ∙ part_lines (split (lines_of section)).drawer drawer (drawer_lines section) is in
+    ap (λ (ls : List (List ℕ)). drop 1 ls) lines
+
+pub no_drawer : (section drawer : List ℕ) → drawer ≡ print_lines (split (lines_of section)).drawer → drawer ≡ [] → (split (lines_of section)).drawer ≡ []
+no_drawer section drawer is none = sym (part_lines (split (lines_of section)).drawer drawer (drawer_lines section) is) ∙ ap lines_of none
+
+pub drawer_closed : (section : List ℕ) (slices : Sections) → AreSections slices (split (lines_of section)) → closed slices.drawer.now ≡ slices.drawer.now
+drawer_closed section slices are = ap closed are.drawer ∙ closed-print_lines (split (lines_of section)).drawer ∙ sym are.drawer
+
+pub drawer_is : (section : List ℕ) (slices : Sections) → AreSections slices (split (lines_of section)) → lines_of slices.drawer.now ≡ (split (lines_of section)).drawer
+drawer_is section slices are = part_lines (split (lines_of section)).drawer slices.drawer.now (drawer_lines section) are.drawer

@@ -1,0 +1,102 @@
+-- What holds of every line of a section holds of it edited.
+use Rattle.std.proofs.Common.{◌≡◌, ℕ, true, false, ◌&&◌, Option, Some, None, List, [], ◌∷◌, drop, refl, subst, inl, inr}
+use Rattle.std.specs.Prelude.{is_some, codes}
+use Rattle.std.specs.List.{AllByRecursion, list_any}
+use Rattle.std.specs.Option.{option_map, unwrap_or}
+use Rattle.org_stamp.specs.Calendar.{CivilMinute}
+use Rattle.org_meta.specs.Clocking.{is_logbook, in_logbook, logged, clock_line, opened}
+use Rattle.std.proofs.lemmas.Bool.{cases_Bool}
+use Rattle.org_meta.specs.Sections.{split, joined, is_end, value_named, put_before_end, put_in_drawer, planning_size, drawer_size}
+use Rattle.org_meta.specs.Notes.{with_note}
+use Rattle.org_meta.specs.Resplits.{with_drawer_line}
+use Rattle.org_meta.proofs.AllLines.{AllByRecursion-append, AllByRecursion-take, AllByRecursion-drop}
+
+module _ (P : List ℕ → Type 0) (name line : List ℕ) (own : P line) where
+  at_end : (l : List ℕ) (ls : List (List ℕ)) → is_end l ≡ true → line ∷ l ∷ ls ≡ put_before_end name line (l ∷ ls)
+  at_end l ls end = rw end refl
+
+  found : (l : List ℕ) (ls : List (List ℕ)) → is_end l ≡ false → is_some (value_named name l) ≡ true → line ∷ ls ≡ put_before_end name line (l ∷ ls)
+  found l ls other here = rw (other, here) refl
+
+  passed : (l : List ℕ) (ls : List (List ℕ)) → is_end l ≡ false → is_some (value_named name l) ≡ false → l ∷ put_before_end name line ls ≡ put_before_end name line (l ∷ ls)
+  passed l ls other none = rw (other, none) refl
+
+  All-put : (ls : List (List ℕ)) → AllByRecursion P ls → AllByRecursion P (put_before_end name line ls)
+  All-put [] p = (own, tt)
+  All-put (l ∷ ls) p =
+      elim (cases_Bool (is_end l)) [
+        | inl end ↦ subst (AllByRecursion P) (at_end l ls end) (own, (p.0, p.1))
+        | inr other ↦
+            elim (cases_Bool (is_some (value_named name l))) [
+              | inl here ↦ subst (AllByRecursion P) (found l ls other here) (own, p.1)
+              | inr none ↦ subst (AllByRecursion P) (passed l ls other none) (p.0, All-put ls p.1)
+            ]
+      ]
+
+  All-drawer : P (codes ":PROPERTIES:") → P (codes ":END:") → (ls : List (List ℕ)) → AllByRecursion P ls → AllByRecursion P (put_in_drawer name line ls)
+  All-drawer first last [] p = (first, (own, (last, tt)))
+  All-drawer first last (l ∷ ls) p = (p.0, All-put ls p.1)
+
+  pub keeps_put : P (codes ":PROPERTIES:") → P (codes ":END:") → (ls : List (List ℕ)) → AllByRecursion P ls → AllByRecursion P (joined (with_drawer_line name line (split ls)))
+  keeps_put first last ls p =
+      let below = AllByRecursion-drop P (planning_size ls) ls p in
+      AllByRecursion-append P _ _ (AllByRecursion-take P (planning_size ls) ls p)
+      (AllByRecursion-append P _ _ (All-drawer first last (split ls).drawer (AllByRecursion-take P (drawer_size (drop (planning_size ls) ls)) (drop (planning_size ls) ls) below))
+      (AllByRecursion-drop P (drawer_size (drop (planning_size ls) ls)) (drop (planning_size ls) ls) below))
+
+pub keeps_note : (P : List ℕ → Type 0) (note : List ℕ) (ls : List (List ℕ)) → P note → AllByRecursion P ls → AllByRecursion P (joined (with_note note (split ls)))
+keeps_note P note ls own p =
+    let below = AllByRecursion-drop P (planning_size ls) ls p in
+    AllByRecursion-append P _ _ (AllByRecursion-take P (planning_size ls) ls p)
+    (AllByRecursion-append P _ _ (AllByRecursion-take P (drawer_size (drop (planning_size ls) ls)) (drop (planning_size ls) ls) below)
+    (own, AllByRecursion-drop P (drawer_size (drop (planning_size ls) ls)) (drop (planning_size ls) ls) below))
+
+pub keeps_planning : (P : List ℕ → Type 0) (planning ls : List (List ℕ)) → AllByRecursion P planning → AllByRecursion P ls → AllByRecursion P (joined (record (split ls) { planning = planning }))
+keeps_planning P planning ls own p =
+    let below = AllByRecursion-drop P (planning_size ls) ls p in
+    AllByRecursion-append P _ _ own
+    (AllByRecursion-append P _ _ (AllByRecursion-take P (drawer_size (drop (planning_size ls) ls)) (drop (planning_size ls) ls) below)
+    (AllByRecursion-drop P (drawer_size (drop (planning_size ls) ls)) (drop (planning_size ls) ls) below))
+
+-- ---- a line in the LOGBOOK drawer
+
+module _ (P : List ℕ → Type 0) (line : List ℕ) (own : P line) where
+  -- the lines, where there are any
+  AllIn : Option (List (List ℕ)) → Type 0
+  AllIn None = Unit {0}
+  AllIn (Some ls) = AllByRecursion P ls
+
+  log_here : (l : List ℕ) (ls : List (List ℕ)) → (is_logbook l && list_any is_end ls) ≡ true → Some (l ∷ line ∷ ls) ≡ in_logbook line (l ∷ ls)
+  log_here l ls here = rw here refl
+
+  log_later : (l : List ℕ) (ls : List (List ℕ)) → (is_logbook l && list_any is_end ls) ≡ false → option_map (λ ms. l ∷ ms) (in_logbook line ls) ≡ in_logbook line (l ∷ ls)
+  log_later l ls other = rw other refl
+
+  in_front : (l : List ℕ) (o : Option (List (List ℕ))) → P l → AllIn o → AllIn (option_map (λ ms. l ∷ ms) o)
+  unfolding AllIn
+  in_front l None p all = tt
+  in_front l (Some ls) p all = (p, all)
+
+  All-log : (ls : List (List ℕ)) → AllByRecursion P ls → AllIn (in_logbook line ls)
+  unfolding AllIn
+  All-log [] p = tt
+  All-log (l ∷ ls) p =
+      elim (cases_Bool (is_logbook l && list_any is_end ls)) [
+        | inl here ↦ subst AllIn (log_here l ls here) (p.0, (own, p.1))
+        | inr other ↦ subst AllIn (log_later l ls other) (in_front l (in_logbook line ls) p.0 (All-log ls p.1))
+      ]
+
+  or_new : (o : Option (List (List ℕ))) (ls : List (List ℕ)) → AllIn o → AllByRecursion P ls → AllByRecursion P (unwrap_or o ls)
+  unfolding AllIn
+  or_new None ls all new = new
+  or_new (Some ms) ls all new = all
+
+  pub All-logged : P (codes ":LOGBOOK:") → P (codes ":END:") → (ls : List (List ℕ)) → AllByRecursion P ls → AllByRecursion P (logged line ls)
+  All-logged first last ls p = or_new (in_logbook line ls) (codes ":LOGBOOK:" ∷ line ∷ codes ":END:" ∷ ls) (All-log ls p) (first, (own, (last, p)))
+
+pub keeps_opened : (P : List ℕ → Type 0) (now : CivilMinute) (ls : List (List ℕ)) → P (clock_line now) → P (codes ":LOGBOOK:") → P (codes ":END:") → AllByRecursion P ls → AllByRecursion P (joined (opened now (split ls)))
+keeps_opened P now ls own first last p =
+    let below = AllByRecursion-drop P (planning_size ls) ls p in
+    AllByRecursion-append P _ _ (AllByRecursion-take P (planning_size ls) ls p)
+    (AllByRecursion-append P _ _ (AllByRecursion-take P (drawer_size (drop (planning_size ls) ls)) (drop (planning_size ls) ls) below)
+    (All-logged P (clock_line now) own first last (drop (drawer_size (drop (planning_size ls) ls)) (drop (planning_size ls) ls)) (AllByRecursion-drop P (drawer_size (drop (planning_size ls) ls)) (drop (planning_size ls) ls) below)))

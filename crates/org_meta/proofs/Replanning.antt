@@ -1,0 +1,182 @@
+-- Other planning lines in a section.
+use Rattle.std.proofs.Common.{◌≡◌, ◌+◌, ◌≤◌, ℕ, true, false, Option, Some, None, Result, Ok, Err, List, [], ◌∷◌, ◌++◌, length, take, refl, sym, ap, subst, ◌∙◌, append_assoc, inl, inr, arith}
+use Rattle.std.specs.Prelude.{◌⊎◌}
+use Rattle.std.specs.Option.{option_map_or}
+use Rattle.std.proofs.lemmas.Bool.{cases_Bool}
+use Rattle.org_splice.specs.Edits.{edited}
+use Rattle.org_splice.specs.Lines.{closed, print_lines, IsLine, lines_of}
+use Rattle.org_splice.specs.declared.edit.Edit.{Edit}
+use Rattle.org_stamp.specs.Calendar.{CivilMinute}
+use Rattle.org_meta.specs.declared.parts.Sections.{Sections}
+use Rattle.org_meta.specs.declared.fault.PlanningFault.{PlanningFault}
+use Rattle.org_meta.specs.declared.fault.PlanningFault.TheVariants.{OddPlanning, OutOfMemory}
+use Rattle.org_meta.specs.Lines.{BeginsWith}
+use Rattle.org_meta.specs.Edits.{Gives, ChangesNothing}
+use Rattle.org_meta.specs.Sections.{SectionParts, AreSections, split, joined, is_planning, planning_size}
+use Rattle.org_meta.specs.Planning.{PlanningEntry, PlanningLine, planning_of, has_repeater, AreRepeated, replanned, replanned_line, closed_text, kept_text, has_closed, has_closed_entry, has_others, without_closed, with_closed, clear_closed}
+use Rattle.org_meta.specs.Replans.{GivesOk, FaultIn, PutsAllRepeated, HasNoRepeater, FaultRepeated, GivesRepeated, GivesRepeatedIn, repeated_line}
+use Rattle.org_splice.proofs.Lines.{print_lines-append, closed-print_lines, lines_of-lines}
+use Rattle.org_meta.proofs.AllLines.{AllByRecursion-take}
+use Rattle.org_meta.proofs.Drawers.{part_lines}
+use Rattle.org_meta.proofs.Walk.{print_lines-closed}
+use Rattle.org_meta.proofs.PlanningText.{nothing_goes}
+use Rattle.org_meta.proofs.Puts.{gives_at, section_bytes, joined_split}
+
+planning_is : (section : List ℕ) (slices : Sections) → AreSections slices (split (lines_of section)) → lines_of slices.planning.now ≡ (split (lines_of section)).planning
+planning_is section slices are = part_lines (split (lines_of section)).planning slices.planning.now (AllByRecursion-take IsLine (planning_size (lines_of section)) (lines_of section) (lines_of-lines section)) are.planning
+
+-- other lines in the place of the planning
+planning_gives : (e : Edit) (section : List ℕ) (slices : Sections) (new : List (List ℕ)) → closed section ≡ section → AreSections slices (split (lines_of section)) → e.at ≡ 0 → e.removed ≡ length slices.planning.now → e.bytes ≡ print_lines new
+    → Gives e section (joined (record (split (lines_of section)) { planning = new }))
+planning_gives e section slices new whole are at removed bytes =
+    let p = split (lines_of section) in
+    let c = slices.drawer.now ++ slices.rest.now in
+    let print : print_lines (new ++ (p.drawer ++ p.rest)) ≡ [] ++ (print_lines new ++ c) =
+    print_lines-append new (p.drawer ++ p.rest) ∙ ap (λ (t : List ℕ). print_lines new ++ t) (print_lines-append p.drawer p.rest)
+    ∙ ap (λ (t : List ℕ). print_lines new ++ (t ++ print_lines p.rest)) (sym are.drawer)
+    ∙ ap (λ (t : List ℕ). print_lines new ++ (slices.drawer.now ++ t)) (sym are.rest) in
+    gives_at e section [] slices.planning.now c (print_lines new) (new ++ (p.drawer ++ p.rest)) (section_bytes section slices whole are) at removed bytes print
+
+with_gives : (section : List ℕ) (e : Edit) (r : Result SectionParts PlanningFault) (parts : SectionParts) → r ≡ Ok parts → Gives e section (joined parts) → GivesOk r section e
+with_gives section e r parts is gives = let P : Result SectionParts PlanningFault → Type 0 = λ r. GivesOk r section e in subst P (sym is) gives
+
+pub planning_closed : (section : List ℕ) (slices : Sections) → AreSections slices (split (lines_of section)) → closed slices.planning.now ≡ slices.planning.now
+planning_closed section slices are = ap closed are.planning ∙ closed-print_lines (split (lines_of section)).planning ∙ sym are.planning
+
+module _ (section : List ℕ) (slices : Sections) (whole : closed section ≡ section) (are : AreSections slices (split (lines_of section))) (none : List (List ℕ)) (some : PlanningLine → List (List ℕ)) where
+  pub plan_none : (e : Edit) → slices.planning.now ≡ [] → e.at ≡ 0 → e.removed ≡ 0 → e.bytes ≡ print_lines none → GivesOk (replanned none some (split (lines_of section)) (split (lines_of section)).planning) section e
+  plan_none e empty at removed bytes =
+      let p = split (lines_of section) in
+      let no : p.planning ≡ [] = sym (planning_is section slices are) ∙ ap lines_of empty in
+      with_gives section e _ (record p { planning = none }) (ap (replanned none some p) no) (planning_gives e section slices none whole are at (removed ∙ sym (ap length empty)) bytes)
+
+  pub plan_line : (e : Edit) (line rest : List ℕ) (plan : PlanningLine) → BeginsWith slices.planning.now line rest → planning_of line ≡ Some plan → e.at ≡ 0 → e.removed ≡ length slices.planning.now → e.bytes ≡ print_lines (some plan)
+      → GivesOk (replanned none some (split (lines_of section)) (split (lines_of section)).planning) section e
+  plan_line e line rest plan b is at removed bytes =
+      let p = split (lines_of section) in
+      let first : p.planning ≡ line ∷ lines_of rest = sym (planning_is section slices are) ∙ b.lines in
+      with_gives section e _ (record p { planning = some plan }) (ap (replanned none some p) first ∙ ap (replanned_line some p) is) (planning_gives e section slices (some plan) whole are at removed bytes)
+
+  pub plan_odd : (line rest : List ℕ) → BeginsWith slices.planning.now line rest → planning_of line ≡ None → replanned none some (split (lines_of section)) (split (lines_of section)).planning ≡ Err OddPlanning
+  plan_odd line rest b is =
+      let p = split (lines_of section) in
+      let first : p.planning ≡ line ∷ lines_of rest = sym (planning_is section slices are) ∙ b.lines in
+      ap (replanned none some p) first ∙ ap (replanned_line some p) is
+
+  pub plan_fault : (line rest : List ℕ) (fault : PlanningFault) → BeginsWith slices.planning.now line rest → (fault ≡ OutOfMemory) ⊎ ((fault ≡ OddPlanning) × (planning_of line ≡ None))
+      → FaultIn (replanned none some (split (lines_of section)) (split (lines_of section)).planning) fault
+  plan_fault line rest fault b (inl is) = inl is
+  plan_fault line rest fault b (inr is) = inr (plan_odd line rest b is.1 ∙ ap (λ f. Err f) (sym is.0))
+
+-- ---- a planning line without a CLOSED entry
+
+nothing_there : {l : List ℕ} {ls : List (List ℕ)} → [] ≡ l ∷ ls → ⊥
+nothing_there e = cc
+
+planning_one : (l : List ℕ) (ls : List (List ℕ)) → is_planning l ≡ true → planning_size (l ∷ ls) ≡ 1
+planning_one l ls here = rw here refl
+
+planning_none : (l : List ℕ) (ls : List (List ℕ)) → is_planning l ≡ false → planning_size (l ∷ ls) ≡ 0
+planning_none l ls other = rw other refl
+
+first_same : (line : List ℕ) (more : List (List ℕ)) (l : List ℕ) → line ∷ more ≡ l ∷ [] → l ≡ line
+first_same line more l e = cc
+
+rest_none : (line : List ℕ) (more : List (List ℕ)) (l : List ℕ) → line ∷ more ≡ l ∷ [] → more ≡ []
+rest_none line more l e = cc
+
+-- the planning of a section is one planning line, if any
+pub planning_alone : (ls : List (List ℕ)) (line : List ℕ) (more : List (List ℕ)) → take (planning_size ls) ls ≡ line ∷ more → (is_planning line ≡ true) × (more ≡ [])
+planning_alone [] line more e = absurd (nothing_there e)
+planning_alone (l ∷ ls) line more e =
+    elim (cases_Bool (is_planning l)) [
+      | inl here ↦
+          let only : line ∷ more ≡ l ∷ [] = sym e ∙ ap (λ n. take n (l ∷ ls)) (planning_one l ls here) in
+          (sym (ap is_planning (first_same line more l only)) ∙ here, rest_none line more l only)
+      | inr other ↦ absurd (nothing_there (sym (ap (λ n. take n (l ∷ ls)) (planning_none l ls other)) ∙ e))
+    ]
+
+-- the edit that changes nothing gives the lines that there are
+nothing_gives : (e : Edit) (section : List ℕ) → closed section ≡ section → ChangesNothing e → Gives e section (lines_of section)
+nothing_gives e section whole same = record {
+  within = omega (arith, same.at, same.removed);
+  gives =
+      ap (λ n. edited n e.removed e.bytes section) same.at ∙ ap (λ n. edited 0 n e.bytes section) same.removed
+      ∙ ap (λ (t : List ℕ). edited 0 0 t section) same.bytes ∙ sym (print_lines-closed section whole);
+}
+
+module _ (section : List ℕ) (slices : Sections) (whole : closed section ≡ section) (are : AreSections slices (split (lines_of section))) where
+  pub none_cleared : (e : Edit) → slices.planning.now ≡ [] → ChangesNothing e → GivesOk (clear_closed (split (lines_of section))) section e
+  none_cleared e empty same = plan_none section slices whole are [] without_closed e empty same.at same.removed same.bytes
+
+  pub nothing_cleared : (e : Edit) (line rest : List ℕ) (plan : PlanningLine) → BeginsWith slices.planning.now line rest → planning_of line ≡ Some plan → has_closed plan.entries ≡ false → ChangesNothing e
+      → GivesOk (clear_closed (split (lines_of section))) section e
+  nothing_cleared e line rest plan b is none same =
+      let p = split (lines_of section) in
+      let first : p.planning ≡ line ∷ lines_of rest = sym (planning_is section slices are) ∙ b.lines in
+      let alone = planning_alone (lines_of section) line (lines_of rest) first in
+      let stays : without_closed plan ≡ p.planning = nothing_goes line plan alone.0 is none ∙ sym (first ∙ ap (λ (ls : List (List ℕ)). line ∷ ls) alone.1) in
+      let all : lines_of section ≡ joined (record p { planning = without_closed plan }) =
+      sym (joined_split (lines_of section)) ∙ ap (λ (ls : List (List ℕ)). ls ++ (p.drawer ++ p.rest)) (sym stays) in
+      let P : List (List ℕ) → Type 0 = λ ls. Gives e section ls in
+      with_gives section e _ (record p { planning = without_closed plan }) (ap (replanned [] without_closed p) first ∙ ap (replanned_line without_closed p) is) (subst P all (nothing_gives e section whole same))
+
+  -- where the line has a CLOSED entry, the planning has
+  pub closed_there : (line rest : List ℕ) (plan : PlanningLine) → BeginsWith slices.planning.now line rest → planning_of line ≡ Some plan → has_closed_entry (split (lines_of section)).planning ≡ has_closed plan.entries
+  closed_there line rest plan b is =
+      let first : (split (lines_of section)).planning ≡ line ∷ lines_of rest = sym (planning_is section slices are) ∙ b.lines in
+      ap has_closed_entry first ∙ ap (λ (o : Option PlanningLine). option_map_or (λ p. has_closed p.entries) o false) is
+
+pub with_closed_bytes : (o0 o1 o2 o3 o4 o5 o6 : List ℕ) (now : CivilMinute) (p : PlanningLine) → o1 ≡ o0 ++ p.indentation → o2 ≡ o1 ++ closed_text now → o3 ≡ o2 ++ 32 ∷ [] → o4 ≡ o3 ++ kept_text p.entries → o5 ≡ o4 ++ p.tail
+    → o6 ≡ o5 ++ 10 ∷ [] → has_others p.entries ≡ true → o6 ≡ o0 ++ (with_closed now p ++ 10 ∷ [])
+with_closed_bytes o0 o1 o2 o3 o4 o5 o6 now p e1 e2 e3 e4 e5 e6 others =
+    let a3 : o3 ≡ o0 ++ p.indentation ++ closed_text now ++ 32 ∷ [] =
+    e3 ∙ ap (λ (t : List ℕ). t ++ 32 ∷ []) (e2 ∙ ap (λ (t : List ℕ). t ++ closed_text now) e1) in
+    let a6 : o6 ≡ o3 ++ kept_text p.entries ++ p.tail ++ 10 ∷ [] =
+    e6 ∙ ap (λ (t : List ℕ). t ++ 10 ∷ []) (e5 ∙ ap (λ (t : List ℕ). t ++ p.tail) e4) in
+    let line : with_closed now p ≡ p.indentation ++ (closed_text now ++ (32 ∷ (kept_text p.entries ++ p.tail))) = rw others refl in
+    let shape : o0 ++ p.indentation ++ closed_text now ++ 32 ∷ [] ++ kept_text p.entries ++ p.tail ++ 10 ∷ [] ≡ o0 ++ ((p.indentation ++ (closed_text now ++ (32 ∷ (kept_text p.entries ++ p.tail)))) ++ 10 ∷ []) = simp append_assoc in
+    a6 ∙ ap (λ (t : List ℕ). t ++ kept_text p.entries ++ p.tail ++ 10 ∷ []) a3 ∙ shape ∙ ap (λ (t : List ℕ). o0 ++ (t ++ 10 ∷ [])) (sym line)
+
+-- ---- repetition
+
+module _ (section : List ℕ) (slices : Sections) (whole : closed section ≡ section) (are : AreSections slices (split (lines_of section))) (now : CivilMinute) where
+  pub repeat_none : slices.planning.now ≡ [] → HasNoRepeater (split (lines_of section)).planning
+  repeat_none empty = subst HasNoRepeater (sym (sym (planning_is section slices are) ∙ ap lines_of empty)) tt
+
+  pub repeat_odd : (line rest : List ℕ) (fault : PlanningFault) → BeginsWith slices.planning.now line rest → (fault ≡ OutOfMemory) ⊎ ((fault ≡ OddPlanning) × (planning_of line ≡ None))
+      → (fault ≡ OutOfMemory) ⊎ FaultRepeated now (split (lines_of section)).planning fault
+  repeat_odd line rest fault b (inl memory) = inl memory
+  repeat_odd line rest fault b (inr odd) =
+      let P : List (List ℕ) → Type 0 = λ ls. FaultRepeated now ls fault in
+      inr (subst P (sym b.lines ∙ planning_is section slices are) (inl odd))
+
+  pub repeat_nothing : (line rest : List ℕ) (plan : PlanningLine) → BeginsWith slices.planning.now line rest → planning_of line ≡ Some plan → has_repeater plan.entries ≡ false → HasNoRepeater (split (lines_of section)).planning
+  repeat_nothing line rest plan b is none = subst HasNoRepeater (sym b.lines ∙ planning_is section slices are) (plan, is, none)
+
+  pub repeat_fault : (line rest : List ℕ) (plan : PlanningLine) (es : List PlanningEntry) (fault : PlanningFault) → BeginsWith slices.planning.now line rest → planning_of line ≡ Some plan → es ≡ plan.entries → has_repeater es ≡ true
+      → (fault ≡ OutOfMemory) ⊎ AreRepeated es now (Err fault) → (fault ≡ OutOfMemory) ⊎ FaultRepeated now (split (lines_of section)).planning fault
+  repeat_fault line rest plan es fault b is same some (inl memory) = inl memory
+  repeat_fault line rest plan es fault b is same some (inr wrong) =
+      let P : List (List ℕ) → Type 0 = λ ls. FaultRepeated now ls fault in
+      let Q : List PlanningEntry → Type 0 = λ es. AreRepeated es now (Err fault) in
+      inr (subst P (sym b.lines ∙ planning_is section slices are) (inr (plan, is, sym (ap has_repeater same) ∙ some, subst Q same wrong)))
+
+  pub repeat_gives : (e : Edit) (line rest : List ℕ) (plan : PlanningLine) (es : List PlanningEntry) (o1 o2 o3 : List ℕ) → BeginsWith slices.planning.now line rest → planning_of line ≡ Some plan → es ≡ plan.entries → has_repeater es ≡ true
+      → o1 ≡ plan.indentation → PutsAllRepeated es now o1 o2 → o3 ≡ o2 ++ plan.tail → e.at ≡ 0 → e.removed ≡ length slices.planning.now → e.bytes ≡ o3 ++ 10 ∷ []
+      → GivesRepeated now (split (lines_of section)) section (Some e)
+  repeat_gives e line rest plan es o1 o2 o3 b is same some first puts last at removed bytes =
+      let p = split (lines_of section) in
+      let Q : List PlanningEntry → Type 0 = λ es. AreRepeated es now (Ok puts.text) in
+      let shape : o1 ++ puts.text ++ plan.tail ++ 10 ∷ [] ≡ (o1 ++ (puts.text ++ plan.tail)) ++ 10 ∷ [] = simp append_assoc in
+      let all : e.bytes ≡ repeated_line plan puts.text ++ 10 ∷ [] =
+      bytes ∙ ap (λ (t : List ℕ). t ++ 10 ∷ []) (last ∙ ap (λ (t : List ℕ). t ++ plan.tail) puts.bytes) ∙ shape ∙ ap (λ (t : List ℕ). (t ++ (puts.text ++ plan.tail)) ++ 10 ∷ []) first in
+      let P : List (List ℕ) → Type 0 = λ ls. GivesRepeatedIn now p section e ls in
+      subst P (sym b.lines ∙ planning_is section slices are) (record {
+        planning = plan;
+        text = puts.text;
+        well_formed = is;
+        repeats = sym (ap has_repeater same) ∙ some;
+        are = subst Q same puts.are;
+        gives = planning_gives e section slices (repeated_line plan puts.text ∷ []) whole are at removed all;
+      })

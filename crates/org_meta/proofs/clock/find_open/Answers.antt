@@ -1,0 +1,17 @@
+use Rattle.std.proofs.Common.{sym, ◌∙◌}
+use Rattle.org_meta.proofs.Walks.{open_none, open_line_passed, open_found, open_there}
+use Rattle.org_meta.proofs.clock.find_open.Goals as goal
+
+pub loop-line-init : goal.loop-line-init
+loop-line-init c = open_none _ c.requires
+
+pub returns-then-is_open : goal.returns-then-is_open
+returns-then-is_open c =
+    let found = sym c.is_open.ensures ∙ c.if-is_open.true in
+    record {
+      first = open_found _ _ _ _ c.loop-line.invariant c.in-Some.ensures.some found;
+      stands = open_there _ _ _ _ c.loop-line.invariant c.in-Some.ensures.some found;
+    }
+
+pub loop-line-preserved : goal.loop-line-preserved
+loop-line-preserved c = open_line_passed _ _ _ _ c.loop-line.invariant c.in-Some.ensures.some (sym c.is_open.ensures ∙ c.if-is_open.false)

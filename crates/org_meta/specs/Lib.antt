@@ -1,0 +1,10 @@
+pub mod Lines
+pub mod Edits
+pub mod Moments
+pub mod Sections
+pub mod Planning
+pub mod Replans
+pub mod Notes
+pub mod Clocks
+pub mod Clocking
+pub mod Resplits

@@ -1,0 +1,133 @@
+// Clocking in and out: edits of LOGBOOK drawers (Org manual, "Clocking Work Time").
+ghost use Rattle.std.specs.Prelude.{◌≡◌, ℕ, List, IfOk, IfErr, IfSome, IfNone, OnOk, None, [], ◌∷◌, ◌++◌};
+ghost use Rattle.std.specs.List.{list_any};
+ghost use Rattle.org_splice.specs.Lines.{closed, lines_of};
+ghost use Rattle.org_meta.specs.Edits.{GivesParts, IsPlaceFor};
+ghost use Rattle.org_meta.specs.Sections.{is_end, parts_of};
+ghost use Rattle.org_meta.specs.Clocks.{HasOpenAt};
+ghost use Rattle.org_meta.specs.Clocking.{clock_line, in_logbook, logged, opened, closing_text, Closes, ClosesNot};
+
+use crate::clock::{minutes_between, running_clock};
+use crate::fault::ClockFault;
+use crate::lines::{Place, first_line};
+use crate::moments::push_moment;
+use crate::split::{is_end, is_mark, sections};
+use org_splice::{Bytes, Edit, Span};
+use org_stamp::{Moment, duration};
+use std::alloc::{AllocError, Global};
+
+/// Whether a line is `:END:`.
+fn has_end(text: &[u8]) -> bool
+    requires { closed text.now ≡ text.now }
+    ensures { result ≡ list_any is_end (lines_of text.now) }
+{
+    let mut left = text;
+    while let Some((line, rest)) = first_line(left) {
+        if is_end(line) {
+            return true;
+        }
+        left = rest;
+    }
+    false
+}
+
+/// The place for a line first in the LOGBOOK drawer, where the text has one.
+fn log_place(text: &[u8]) -> Option<Place<'_>>
+    requires { closed text.now ≡ text.now }
+    ensures some { IfSome result (λ place.
+        IsPlaceFor (λ line. logged line (lines_of text.now)) text.now place) }
+    ensures none { IfNone result ((line : List ℕ) → in_logbook line (lines_of text.now) ≡ None) }
+{
+    let mut left = text;
+    while let Some((line, rest)) = first_line(left) {
+        if is_mark(line, b":LOGBOOK:") {
+            if !has_end(rest) {
+                return None;
+            }
+            return Some(Place {
+                left: rest,
+                removed: 0,
+            });
+        }
+        left = rest;
+    }
+    None
+}
+
+/// `CLOCK: [stamp]`, with its newline.
+fn push_clock(out: &mut Vec<u8>, now: Moment) -> Result<(), AllocError>
+    ensures { OnOk result (out.new.items ≡ out.old.items ++ clock_line now ++ 10 ∷ []) }
+{
+    out.extend_from_slice(b"CLOCK: ")?;
+    push_moment(out, now)?;
+    out.push(b'\n')?;
+    Ok(())
+}
+
+/// The edit that puts an open clock line first into the section's LOGBOOK drawer, or into a new one
+/// before the rest (Org manual, "Clocking commands").
+pub fn open_clock(alloc: Global, section: &[u8], now: Moment) -> Result<Edit, AllocError>
+    requires { closed section.now ≡ section.now }
+    ensures { IfOk result (λ edit.
+        GivesParts edit section.now (opened now (parts_of section.now))) }
+{
+    let rest = sections(section).rest;
+    let mut bytes = Vec::new(alloc);
+    let Some(place) = log_place(rest) else {
+        bytes.extend_from_slice(b":LOGBOOK:\n")?;
+        push_clock(&mut bytes, now)?;
+        bytes.extend_from_slice(b":END:\n")?;
+        return Ok(Edit {
+            at: section.len() - rest.len(),
+            removed: 0,
+            bytes: Bytes::new(bytes),
+        });
+    };
+    push_clock(&mut bytes, now)?;
+    Ok(Edit {
+        at: section.len() - place.left.len(),
+        removed: place.removed,
+        bytes: Bytes::new(bytes),
+    })
+}
+
+/// `--[stamp] => H:MM`, which closes an open clock line.
+fn push_closing(out: &mut Vec<u8>, now: Moment, minutes: u64) -> Result<(), AllocError>
+    ensures { OnOk result (out.new.items ≡ out.old.items ++ closing_text now minutes) }
+{
+    out.extend_from_slice(b"--")?;
+    push_moment(out, now)?;
+    out.extend_from_slice(b" => ")?;
+    let duration = duration(*out.allocator(), minutes, 2)?;
+    out.extend_from_slice(&duration)
+}
+
+/// The edit that closes an open clock line of the section, as `find_open` answers it: `--`, the
+/// moment's timestamp and the duration take the place of all that follows the line's own timestamp
+/// (Org manual, "Clocking commands"). ClockBackwards where the moment is before the clock's start.
+pub fn close_clock(
+    alloc: Global,
+    section: &[u8],
+    line: Span,
+    now: Moment,
+) -> Result<Edit, ClockFault>
+    requires closed { closed section.now ≡ section.now }
+    requires stands { HasOpenAt section.now line }
+    ensures ok { IfOk result (Closes now section.now line) }
+    ensures err { IfErr result (ClosesNot now section.now line) }
+{
+    let text = &section[line.start..line.end - 1];
+    let Some(running) = running_clock(text) else {
+        unreachable!();
+    };
+    let Some(minutes) = minutes_between(running.start, now) else {
+        return Err(ClockFault::ClockBackwards);
+    };
+    let mut bytes = Vec::new(alloc);
+    push_closing(&mut bytes, now, minutes)?;
+    Ok(Edit {
+        at: line.start + running.head,
+        removed: text.len() - running.head,
+        bytes: Bytes::new(bytes),
+    })
+}

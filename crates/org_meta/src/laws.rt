@@ -1,0 +1,66 @@
+//! What holds of the definitions, for all values: each law is the contract of a function with
+//! nothing to do.
+ghost use Rattle.std.specs.Prelude.{◌≡◌, ◌++◌, ◌∷◌, [], ℕ, Bool, List, Some, Ok, true, codes, IsTrue};
+ghost use Rattle.org_splice.specs.Blanks.{trimmed};
+ghost use Rattle.org_stamp.specs.Calendar.{CivilMinute};
+ghost use Rattle.org_meta.specs.Sections.{SectionParts, split, joined, is_planning, is_property_name, property, property_line, put};
+ghost use Rattle.org_meta.specs.Planning.{PlanningLine, planning_of, entries_text, has_repeater, AreRepeated};
+ghost use Rattle.org_meta.specs.Replans.{repeated_line};
+ghost use Rattle.org_meta.specs.Notes.{note_line, with_note};
+ghost use Rattle.org_meta.specs.Clocking.{clock_line, opened};
+ghost use Rattle.org_meta.specs.Lines.{AllPass};
+
+/// The parts of a section are all of it.
+pub fn parts_are_all()
+    ensures { (lines : List (List ℕ)) → joined (split lines) ≡ lines }
+{}
+
+/// A property that was put is read, without the blanks round its value.
+pub fn put_is_read()
+    ensures { (name value : List ℕ) (parts : SectionParts) → is_property_name name ≡ true
+        → property name (put name value parts) ≡ Some (trimmed value) }
+{}
+
+/// A well formed planning line is its indentation, the bytes of its entries and its tail.
+pub fn planning_is_its_line()
+    ensures { (line : List ℕ) (p : PlanningLine) → planning_of line ≡ Some p
+        → p.indentation ++ (entries_text p.entries ++ p.tail) ≡ line }
+{}
+
+/// A section with a note, with a property put, or with another planning line, is split as it was
+/// edited.
+pub fn edited_parts()
+    ensures note { (new old : List ℕ) (now : CivilMinute) (lines : List (List ℕ))
+        → split (joined (with_note (note_line new old now) (split lines)))
+        ≡ with_note (note_line new old now) (split lines) }
+    ensures put { (name value : List ℕ) (lines : List (List ℕ)) → is_property_name name ≡ true
+        → split (joined (put name value (split lines))) ≡ put name value (split lines) }
+    ensures planning { (line : List ℕ) (lines : List (List ℕ)) → is_planning line ≡ true
+        → split (joined (record (split lines) { planning = line ∷ [] }))
+        ≡ record (split lines) { planning = line ∷ [] } }
+{}
+
+/// A planning line whose entries were repeated is a planning line, so by `edited_parts` the section
+/// is split again as it was edited.
+pub fn repeats_stay_planning()
+    ensures { (line text : List ℕ) (p : PlanningLine) (now : CivilMinute)
+        → planning_of line ≡ Some p → has_repeater p.entries ≡ true
+        → AreRepeated p.entries now (Ok text) → is_planning (repeated_line p text) ≡ true }
+{}
+
+/// What holds of every line of a section, and of those that are put into it, holds of every line of
+/// the section edited.
+pub fn keeps_lines()
+    ensures put { (test : List ℕ → Bool) (name value : List ℕ) (lines : List (List ℕ))
+        → AllPass test (property_line name value ∷ codes ":PROPERTIES:" ∷ codes ":END:" ∷ [])
+        → AllPass test lines → AllPass test (joined (put name value (split lines))) }
+    ensures note { (test : List ℕ → Bool) (note : List ℕ) (lines : List (List ℕ))
+        → IsTrue (test note) → AllPass test lines
+        → AllPass test (joined (with_note note (split lines))) }
+    ensures planning { (test : List ℕ → Bool) (planning lines : List (List ℕ))
+        → AllPass test planning → AllPass test lines
+        → AllPass test (joined (record (split lines) { planning = planning })) }
+    ensures opened { (test : List ℕ → Bool) (now : CivilMinute) (lines : List (List ℕ))
+        → AllPass test (clock_line now ∷ codes ":LOGBOOK:" ∷ codes ":END:" ∷ [])
+        → AllPass test lines → AllPass test (joined (opened now (split lines))) }
+{}

@@ -1,0 +1,64 @@
+// Notes of repetitions (Org manual, "Tracking TODO state changes").
+ghost use Rattle.std.specs.Prelude.{◌≡◌, ◌∷◌, [], ◌++◌, IfOk, OnOk};
+ghost use Rattle.org_splice.specs.Lines.{closed};
+ghost use Rattle.org_meta.specs.Edits.{GivesParts};
+ghost use Rattle.org_meta.specs.Notes.{quoted, note_line, with_note};
+ghost use Rattle.org_meta.specs.Sections.{parts_of};
+
+use crate::moments::push_moment;
+use crate::split::sections;
+use org_splice::{Bytes, Edit};
+use org_stamp::Moment;
+use std::alloc::{AllocError, Global};
+
+/// The state in quotes, in 12 columns at least.
+fn push_quoted(out: &mut Vec<u8>, state: &[u8]) -> Result<(), AllocError>
+    ensures { OnOk result (out.new.items ≡ out.old.items ++ quoted state.now) }
+{
+    out.push(b'"')?;
+    out.extend_from_slice(state)?;
+    out.push(b'"')?;
+    for _ in 0..10usize.saturating_sub(state.len()) {
+        out.push(b' ')?;
+    }
+    Ok(())
+}
+
+/// `- State "DONE"       from "TODO"       [stamp]`, with its newline.
+fn push_note(out: &mut Vec<u8>, new: &[u8], old: &[u8], now: Moment) -> Result<(), AllocError>
+    ensures { OnOk result (out.new.items
+        ≡ out.old.items ++ (note_line new.now old.now now ++ 10 ∷ [])) }
+{
+    out.extend_from_slice(b"- State ")?;
+    push_quoted(out, new)?;
+    out.extend_from_slice(b" from ")?;
+    push_quoted(out, old)?;
+    out.push(b' ')?;
+    push_moment(out, now)?;
+    out.push(b'\n')?;
+    Ok(())
+}
+
+/// The edit that puts the note of a repetition first into the rest of the section (Org manual,
+/// "Repeated tasks"): `- State`, the new state, `from`, the old one, each in quotes and padded to 12
+/// columns, and the moment. A heading without a state has the empty one.
+pub fn add_note(
+    alloc: Global,
+    section: &[u8],
+    new: &[u8],
+    old: &[u8],
+    now: Moment,
+) -> Result<Edit, AllocError>
+    requires { closed section.now ≡ section.now }
+    ensures { IfOk result (λ edit.
+        GivesParts edit section.now
+        (with_note (note_line new.now old.now now) (parts_of section.now))) }
+{
+    let mut bytes = Vec::new(alloc);
+    push_note(&mut bytes, new, old, now)?;
+    Ok(Edit {
+        at: section.len() - sections(section).rest.len(),
+        removed: 0,
+        bytes: Bytes::new(bytes),
+    })
+}

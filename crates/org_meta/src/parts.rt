@@ -1,0 +1,12 @@
+// What a section is split into.
+
+/// The parts of a section, each a closed text that begins where the one before ends (Org Syntax,
+/// "Headings").
+#[derive(Clone, Copy, Debug)]
+pub struct Sections<'a> {
+    /// The planning line, or nothing.
+    pub planning: &'a [u8],
+    /// The property drawer, from `:PROPERTIES:` to `:END:`, or nothing.
+    pub drawer: &'a [u8],
+    pub rest: &'a [u8],
+}

@@ -1,0 +1,285 @@
+// Edits of the planning line (Org manual, "Closing items", "Repeated tasks").
+ghost use Rattle.std.specs.Prelude.{◌≡◌, ◌⊎◌, ◌<◌, ◌≤◌, length, None, Some, Ok, Err, IfOk, IfErr, OnOk, true, false, [], ◌∷◌, ◌++◌};
+ghost use Rattle.org_splice.specs.Lines.{closed, print_lines, lines_of};
+ghost use Rattle.org_meta.specs.Edits.{ChangesNothing};
+ghost use Rattle.org_meta.specs.Sections.{parts_of, split};
+ghost use Rattle.org_meta.specs.declared.fault.PlanningFault.TheVariants.{OddPlanning, OutOfMemory};
+ghost use Rattle.org_meta.specs.Planning.{entries_at, each_once, planning_of, is_closed, has_closed_entry, entry_text, kept_text, closed_text, without_closed, with_closed, clear_closed, set_closed, is_repeating, has_repeater, AreRepeated, IsRepeatedEntry};
+ghost use Rattle.org_meta.specs.Replans.{GivesOk, FaultIn, PutsRepeated, PutsAllRepeated, GivesRepeated, FaultRepeated};
+
+use crate::entry::{
+    Entry, Planning, Word, entry_at, has_closed, has_others, is_closed, is_line_end, is_once,
+    split_blanks, word_text,
+};
+use crate::fault::PlanningFault;
+use crate::lines::first_line;
+use crate::moments::push_moment;
+use crate::split::sections;
+use org_splice::{Bytes, Edit};
+use org_stamp::Moment;
+use std::alloc::{AllocError, Global};
+
+/// The entries of a planning line from its first word on, at most three, and what is left of the
+/// line: blanks and carriage returns, unless the line is odd.
+fn read_entries<'a>(
+    alloc: Global,
+    text: &'a [u8],
+) -> Result<(Vec<Entry<'a>>, &'a [u8]), PlanningFault>
+    ensures ok { IfOk result (λ r. entries_at 3 text.now ≡ Some (r.0.items, r.1.now)) }
+    ensures err { IfErr result (λ fault.
+        (fault ≡ OutOfMemory) ⊎ ((fault ≡ OddPlanning) × (entries_at 3 text.now ≡ None))) }
+{
+    let mut entries = Vec::new(alloc);
+    let mut left = text;
+    for _ in 0..3usize {
+        if is_line_end(left) {
+            return Ok((entries, left));
+        }
+        let Some((entry, rest)) = entry_at(left) else {
+            return Err(PlanningFault::OddPlanning);
+        };
+        entries.push(entry)?;
+        left = rest;
+    }
+    if is_line_end(left) {
+        Ok((entries, left))
+    } else {
+        Err(PlanningFault::OddPlanning)
+    }
+}
+
+/// The planning line, if it is well formed.
+fn read_planning(alloc: Global, line: &[u8]) -> Result<Planning<'_>, PlanningFault>
+    ensures ok { IfOk result (λ p. planning_of line.now ≡ Some p) }
+    ensures err { IfErr result (λ fault.
+        (fault ≡ OutOfMemory) ⊎ ((fault ≡ OddPlanning) × (planning_of line.now ≡ None))) }
+{
+    let (indentation, text) = split_blanks(line);
+    let (entries, tail) = read_entries(alloc, text)?;
+    if !each_once(&entries) {
+        return Err(PlanningFault::OddPlanning);
+    }
+    Ok(Planning {
+        indentation,
+        entries,
+        tail,
+    })
+}
+
+/// Whether each word stands at most once.
+fn each_once(entries: &[Entry]) -> bool
+    ensures { result ≡ each_once entries.now }
+{
+    is_once(Word::Closed, entries)
+        && is_once(Word::Deadline, entries)
+        && is_once(Word::Scheduled, entries)
+}
+
+/// The entry's text.
+fn push_entry(out: &mut Vec<u8>, entry: &Entry) -> Result<(), AllocError>
+    ensures { OnOk result (out.new.items ≡ out.old.items ++ entry_text entry.now) }
+{
+    out.extend_from_slice(word_text(entry.word))?;
+    out.extend_from_slice(entry.gap)?;
+    out.extend_from_slice(entry.text)?;
+    out.extend_from_slice(entry.after)
+}
+
+/// The texts of all entries but CLOSED.
+fn push_kept(out: &mut Vec<u8>, entries: &[Entry]) -> Result<(), AllocError>
+    ensures { OnOk result (out.new.items ≡ out.old.items ++ kept_text entries.now) }
+{
+    for entry in entries {
+        if !is_closed(entry) {
+            push_entry(out, entry)?;
+        }
+    }
+    Ok(())
+}
+
+/// `CLOSED:` and the moment's stamp.
+fn push_closed(out: &mut Vec<u8>, now: Moment) -> Result<(), AllocError>
+    ensures { OnOk result (out.new.items ≡ out.old.items ++ closed_text now) }
+{
+    out.extend_from_slice(b"CLOSED: ")?;
+    push_moment(out, now)
+}
+
+/// The planning line without its CLOSED entry, if anything is left of it, with its newline.
+fn push_without_closed(out: &mut Vec<u8>, planning: &Planning) -> Result<(), AllocError>
+    ensures { OnOk result (out.new.items
+        ≡ out.old.items ++ print_lines (without_closed planning.now)) }
+{
+    if has_others(&planning.entries) {
+        out.extend_from_slice(planning.indentation)?;
+        push_kept(out, &planning.entries)?;
+        out.extend_from_slice(planning.tail)?;
+        out.push(b'\n')?;
+    }
+    Ok(())
+}
+
+/// The planning line with the moment's CLOSED entry first, with its newline.
+fn push_with_closed(out: &mut Vec<u8>, planning: &Planning, now: Moment) -> Result<(), AllocError>
+    ensures { OnOk result (out.new.items
+        ≡ out.old.items ++ (with_closed now planning.now ++ 10 ∷ [])) }
+{
+    if !has_others(&planning.entries) {
+        push_closed(out, now)?;
+        out.push(b'\n')?;
+        return Ok(());
+    }
+    out.extend_from_slice(planning.indentation)?;
+    push_closed(out, now)?;
+    out.push(b' ')?;
+    push_kept(out, &planning.entries)?;
+    out.extend_from_slice(planning.tail)?;
+    out.push(b'\n')?;
+    Ok(())
+}
+
+/// Whether the entry has an active SCHEDULED or DEADLINE stamp whose repeater isn't 0.
+fn is_repeating(entry: &Entry) -> bool
+    ensures { result ≡ is_repeating entry.now }
+{
+    !is_closed(entry) && entry.stamp.is_active() && entry.stamp.repeats()
+}
+
+/// The entry's text at its next repetition; one that doesn't repeat stays, and CLOSED has none.
+fn push_repeated(out: &mut Vec<u8>, entry: &Entry, now: Moment) -> Result<(), PlanningFault>
+    ensures ok { OnOk result (PutsRepeated entry.now now out.old.items out.new.items) }
+    ensures err { IfErr result (λ fault.
+        (fault ≡ OutOfMemory) ⊎ IsRepeatedEntry entry.now now (Err fault)) }
+{
+    if is_closed(entry) {
+        return Ok(());
+    }
+    if !is_repeating(entry) {
+        push_entry(out, entry)?;
+        return Ok(());
+    }
+    let stamp = entry.stamp.repeat(now)?;
+    let text = stamp.print(*out.allocator())?;
+    out.extend_from_slice(word_text(entry.word))?;
+    out.extend_from_slice(entry.gap)?;
+    out.extend_from_slice(&text)?;
+    out.extend_from_slice(entry.after)?;
+    Ok(())
+}
+
+/// The texts of all entries at their next repetition.
+fn push_all_repeated(out: &mut Vec<u8>, entries: &[Entry], now: Moment) -> Result<(), PlanningFault>
+    ensures ok { OnOk result (PutsAllRepeated entries.now now out.old.items out.new.items) }
+    ensures err { IfErr result (λ fault.
+        (fault ≡ OutOfMemory) ⊎ AreRepeated entries.now now (Err fault)) }
+{
+    for entry in entries {
+        push_repeated(out, entry, now)?;
+    }
+    Ok(())
+}
+
+/// The edit that changes nothing.
+fn nothing(alloc: Global) -> Edit
+    ensures { ChangesNothing result }
+{
+    Edit {
+        at: 0,
+        removed: 0,
+        bytes: Bytes::new(Vec::new(alloc)),
+    }
+}
+
+/// The edit that takes the CLOSED entry away, with the blanks behind it; a planning line left without
+/// entries goes whole. Where there is none, the edit changes nothing. OddPlanning where the planning
+/// line isn't well formed (Org Syntax, "Planning").
+pub fn clear_closed(alloc: Global, section: &[u8]) -> Result<Edit, PlanningFault>
+    requires { closed section.now ≡ section.now }
+    ensures ok { IfOk result (GivesOk (clear_closed (parts_of section.now)) section.now) }
+    ensures nothing { IfOk result (λ edit.
+        has_closed_entry (parts_of section.now).planning ≡ false → ChangesNothing edit) }
+    ensures err { IfErr result (FaultIn (clear_closed (parts_of section.now))) }
+{
+    let line = sections(section).planning;
+    let Some((text, _rest)) = first_line(line) else {
+        return Ok(nothing(alloc));
+    };
+    let planning = read_planning(alloc, text)?;
+    if !has_closed(&planning.entries) {
+        return Ok(nothing(alloc));
+    }
+    let mut bytes = Vec::new(alloc);
+    push_without_closed(&mut bytes, &planning)?;
+    Ok(Edit {
+        at: 0,
+        removed: line.len(),
+        bytes: Bytes::new(bytes),
+    })
+}
+
+/// The edit that puts `CLOSED: [stamp]` first in the planning line, in the place of the CLOSED entry
+/// that it has, or as a new planning line (Org manual, "Closing items"). OddPlanning where the planning
+/// line isn't well formed.
+pub fn set_closed(alloc: Global, section: &[u8], now: Moment) -> Result<Edit, PlanningFault>
+    requires { closed section.now ≡ section.now }
+    ensures ok { IfOk result (GivesOk (set_closed now (parts_of section.now)) section.now) }
+    ensures err { IfErr result (FaultIn (set_closed now (parts_of section.now))) }
+{
+    let line = sections(section).planning;
+    let mut bytes = Vec::new(alloc);
+    let Some((text, _rest)) = first_line(line) else {
+        push_closed(&mut bytes, now)?;
+        bytes.push(b'\n')?;
+        return Ok(Edit {
+            at: 0,
+            removed: 0,
+            bytes: Bytes::new(bytes),
+        });
+    };
+    let planning = read_planning(alloc, text)?;
+    push_with_closed(&mut bytes, &planning, now)?;
+    Ok(Edit {
+        at: 0,
+        removed: line.len(),
+        bytes: Bytes::new(bytes),
+    })
+}
+
+/// The edit that repeats each SCHEDULED or DEADLINE stamp that has a repeater, and takes the CLOSED
+/// entry away (Org manual, "Repeated tasks"); None where no stamp repeats. OddPlanning where the planning
+/// line isn't well formed; else BadRepeat or DateRange, of several faults the first entry's.
+pub fn repeat_planning(
+    alloc: Global,
+    section: &[u8],
+    now: Moment,
+) -> Result<Option<Edit>, PlanningFault>
+    requires { closed section.now ≡ section.now }
+    ensures ok { IfOk result (GivesRepeated now (parts_of section.now) section.now) }
+    ensures err { IfErr result (λ fault.
+        (fault ≡ OutOfMemory) ⊎ FaultRepeated now (parts_of section.now).planning fault) }
+{
+    let line = sections(section).planning;
+    let Some((text, _rest)) = first_line(line) else {
+        return Ok(None);
+    };
+    let planning = read_planning(alloc, text)?;
+    if !has_repeater(&planning.entries) {
+        return Ok(None);
+    }
+    let mut bytes = Vec::from_slice(alloc, planning.indentation)?;
+    push_all_repeated(&mut bytes, &planning.entries, now)?;
+    bytes.extend_from_slice(planning.tail)?;
+    bytes.push(b'\n')?;
+    Ok(Some(Edit {
+        at: 0,
+        removed: line.len(),
+        bytes: Bytes::new(bytes),
+    }))
+}
+
+/// Whether a stamp repeats.
+fn has_repeater(entries: &[Entry]) -> bool
+    ensures { result ≡ has_repeater entries.now }
+{
+    entries.iter().any(|entry| is_repeating(entry))
+}

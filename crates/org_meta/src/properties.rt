@@ -1,0 +1,123 @@
+// Properties (Org manual, "Property Syntax").
+ghost use Rattle.std.specs.Prelude.{◌≡◌, ℕ, ◌≤◌, ◌+◌, length, IfOk, OnOk, [], ◌∷◌, ◌++◌};
+ghost use Rattle.std.specs.Option.{option_map};
+ghost use Rattle.org_splice.specs.Lines.{closed, lines_of};
+ghost use Rattle.org_meta.specs.Edits.{GivesParts, IsPlaceFor};
+ghost use Rattle.org_meta.specs.Sections.{value_named, value_before_end, put_before_end, property, property_line, put, parts_of, split, joined};
+
+use crate::lines::{Place, first_line};
+use crate::names::same_name;
+use crate::split::{is_end, property_of, sections};
+use org_splice::{Bytes, Edit};
+use std::alloc::{AllocError, Global};
+
+/// The value, where the line is a property of this name.
+fn value_named<'a>(line: &'a [u8], name: &[u8]) -> Option<&'a [u8]>
+    ensures { option_map (λ value. value.now) result ≡ value_named name.now line.now }
+{
+    let property = property_of(line)?;
+    if same_name(property.name, name) {
+        Some(property.value)
+    } else {
+        None
+    }
+}
+
+/// The first value of that name before the `:END:`.
+fn value_before_end<'a>(text: &'a [u8], name: &[u8]) -> Option<&'a [u8]>
+    requires { closed text.now ≡ text.now }
+    ensures { option_map (λ value. value.now) result
+        ≡ value_before_end name.now (lines_of text.now) }
+{
+    let mut left = text;
+    while let Some((line, rest)) = first_line(left) {
+        if is_end(line) {
+            return None;
+        }
+        if let Some(value) = value_named(line, name) {
+            return Some(value);
+        }
+        left = rest;
+    }
+    None
+}
+
+/// The value of the first property of that name in the section's drawer (Org manual, "Property
+/// Syntax"); ASCII case doesn't count. Takes no memory.
+pub fn property<'a>(section: &'a [u8], name: &[u8]) -> Option<&'a [u8]>
+    requires { closed section.now ≡ section.now }
+    ensures { option_map (λ value. value.now) result ≡ property name.now (parts_of section.now) }
+{
+    let (_start, properties) = first_line(sections(section).drawer)?;
+    value_before_end(properties, name)
+}
+
+/// The place of the first property of that name, or else before the `:END:`.
+fn place_of<'a>(text: &'a [u8], name: &[u8]) -> Place<'a>
+    requires { closed text.now ≡ text.now }
+    ensures { IsPlaceFor (λ line. put_before_end name.now line (lines_of text.now))
+        text.now result }
+{
+    let mut left = text;
+    while let Some((line, rest)) = first_line(left) {
+        if is_end(line) {
+            return Place { left, removed: 0 };
+        }
+        if value_named(line, name).is_some() {
+            let removed = left.len() - rest.len();
+            return Place { left, removed };
+        }
+        left = rest;
+    }
+    Place { left, removed: 0 }
+}
+
+/// `:NAME: VALUE`, or `:NAME:` where the value is empty, with its newline.
+fn push_property(out: &mut Vec<u8>, name: &[u8], value: &[u8]) -> Result<(), AllocError>
+    ensures { OnOk result (out.new.items
+        ≡ out.old.items ++ property_line name.now value.now ++ 10 ∷ []) }
+{
+    out.push(b':')?;
+    out.extend_from_slice(name)?;
+    out.push(b':')?;
+    if !value.is_empty() {
+        out.push(b' ')?;
+        out.extend_from_slice(value)?;
+    }
+    out.push(b'\n')?;
+    Ok(())
+}
+
+/// The edit that puts a property into the section (Org manual, "Property Syntax"): its line in the
+/// place of the first of that name, or before the `:END:` of the drawer, or in a new drawer below the
+/// planning line. What is put is read again where the name is nonblank bytes and not END.
+pub fn put_property(
+    alloc: Global,
+    section: &[u8],
+    name: &[u8],
+    value: &[u8],
+) -> Result<Edit, AllocError>
+    requires { closed section.now ≡ section.now }
+    ensures { IfOk result (λ edit.
+        GivesParts edit section.now (put name.now value.now (parts_of section.now))) }
+{
+    let parts = sections(section);
+    let mut bytes = Vec::new(alloc);
+    let Some((_start, properties)) = first_line(parts.drawer) else {
+        bytes.extend_from_slice(b":PROPERTIES:\n")?;
+        push_property(&mut bytes, name, value)?;
+        bytes.extend_from_slice(b":END:\n")?;
+        return Ok(Edit {
+            at: parts.planning.len(),
+            removed: 0,
+            bytes: Bytes::new(bytes),
+        });
+    };
+    let place = place_of(properties, name);
+    push_property(&mut bytes, name, value)?;
+    Ok(Edit {
+        at: section.len() - parts.rest.len() - place.left.len(),
+        removed: place.removed,
+        bytes: Bytes::new(bytes),
+    })
+}
