@@ -2,6 +2,8 @@
 #![tactic(auto)]
 
 #[cfg(test)]
+mod captures;
+#[cfg(test)]
 mod outline;
 #[cfg(test)]
 mod sections;

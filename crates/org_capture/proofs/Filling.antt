@@ -1,0 +1,44 @@
+-- Templates filled in, piece by piece.
+use Rattle.std.proofs.Common.{◌≡◌, ℕ, ◌+◌, ◌<◌, true, false, List, [], ◌∷◌, ◌++◌, length, take, get_or, eqb, Option, Some, None, Result, Ok, Err, refl, sym, ◌∙◌, ap, append_assoc, inl, inr}
+use Rattle.std.proofs.lemmas.Bool.{cases_Bool}
+use Rattle.std.proofs.lemmas.List.{append-nil, take_more}
+use Rattle.org_stamp.specs.Calendar.{CivilMinute}
+use Rattle.org_capture.specs.declared.piece.Piece.{Piece}
+use Rattle.org_capture.specs.declared.fault.CaptureFault.TheVariants.{BadTemplate}
+use Rattle.org_capture.specs.Template.{pieces_of, last_line, with_prefix, text_of, filled}
+
+pub with_prefix-append : (prefix xs ys : List ℕ) → with_prefix prefix (xs ++ ys) ≡ with_prefix prefix xs ++ with_prefix prefix ys
+with_prefix-append prefix [] ys = refl
+with_prefix-append prefix (b ∷ xs) ys =
+    elim (cases_Bool (eqb b 10)) [
+      | inl e ↦ rw e (ap (λ (l : List ℕ). b ∷ l) (ap (λ l. prefix ++ l) (with_prefix-append prefix xs ys) ∙ sym (append_assoc prefix (with_prefix prefix xs) (with_prefix prefix ys))))
+      | inr e ↦ rw e (ap (λ (l : List ℕ). b ∷ l) (with_prefix-append prefix xs ys))
+    ]
+
+-- one byte more
+more_is : (prefix bytes : List ℕ) (i b : ℕ) → i < length bytes → get_or bytes i 0 ≡ b → with_prefix prefix (take (i + 1) bytes) ≡ with_prefix prefix (take i bytes) ++ with_prefix prefix (b ∷ [])
+more_is prefix bytes i b lt is =
+    ap (with_prefix prefix) (take_more bytes i 0 lt ∙ ap (λ b. take i bytes ++ b ∷ []) is) ∙ with_prefix-append prefix (take i bytes) (b ∷ [])
+
+pub pushed_plain : (start prefix bytes old new : List ℕ) (i b : ℕ) → i < length bytes → get_or bytes i 0 ≡ b → eqb b 10 ≡ false → old ≡ start ++ with_prefix prefix (take i bytes) → new ≡ old ++ b ∷ []
+    → new ≡ start ++ with_prefix prefix (take (i + 1) bytes)
+pushed_plain start prefix bytes old new i b lt is e was put =
+    let one : with_prefix prefix (b ∷ []) ≡ b ∷ [] = rw e refl in
+    put ∙ ap (λ l. l ++ b ∷ []) was ∙ append_assoc start (with_prefix prefix (take i bytes)) (b ∷ [])
+    ∙ ap (λ l. start ++ (with_prefix prefix (take i bytes) ++ l)) (sym one) ∙ ap (λ l. start ++ l) (sym (more_is prefix bytes i b lt is))
+
+pub pushed_newline : (start prefix bytes old new : List ℕ) (i b : ℕ) → i < length bytes → get_or bytes i 0 ≡ b → eqb b 10 ≡ true → old ≡ start ++ with_prefix prefix (take i bytes) → new ≡ (old ++ b ∷ []) ++ prefix
+    → new ≡ start ++ with_prefix prefix (take (i + 1) bytes)
+pushed_newline start prefix bytes old new i b lt is e was put =
+    let one : with_prefix prefix (b ∷ []) ≡ b ∷ prefix = rw e (ap (λ (l : List ℕ). b ∷ l) (append-nil prefix)) in
+    put ∙ append_assoc old (b ∷ []) prefix ∙ ap (λ l. l ++ (b ∷ prefix)) was ∙ append_assoc start (with_prefix prefix (take i bytes)) (b ∷ prefix)
+    ∙ ap (λ l. start ++ (with_prefix prefix (take i bytes) ++ l)) (sym one) ∙ ap (λ l. start ++ l) (sym (more_is prefix bytes i b lt is))
+
+-- ---- a piece more
+
+pub fills : (m : CivilMinute) (initial old more new : List ℕ) (pieces rest : List Piece) (piece : Piece) → pieces ≡ piece ∷ rest → text_of m initial (last_line old) piece ≡ Some more → new ≡ old ++ more
+    → filled m initial old pieces ≡ filled m initial new rest
+fills m initial old more new pieces rest piece is said put = rw (is, said) (ap (λ t. filled m initial t rest) (sym put))
+
+pub fills_badly : (m : CivilMinute) (initial old : List ℕ) (pieces rest : List Piece) (piece : Piece) → pieces ≡ piece ∷ rest → text_of m initial (last_line old) piece ≡ None → filled m initial old pieces ≡ Err BadTemplate
+fills_badly m initial old pieces rest piece is said = rw (is, said) refl

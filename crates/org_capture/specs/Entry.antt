@@ -1,0 +1,34 @@
+-- Entries: texts that are one heading with what lies below it (Org manual, "Template elements": type `entry`).
+use Rattle.std.specs.Prelude.{◌≡◌, ℕ, List, [], ◌∷◌, Option, Some, None, Result, Ok, Err}
+use Rattle.org_splice.specs.Lines.{closed}
+use Rattle.org_outline.specs.Tree.{Forest, Empty, Tree, Node, Document, tree}
+use Rattle.org_capture.specs.declared.fault.CaptureFault.{CaptureFault}
+use Rattle.org_capture.specs.declared.fault.CaptureFault.TheVariants.{BadEntry}
+
+-- the one tree of a forest
+abbrev pub one_root : Forest → Option Node
+one_root Empty = None
+one_root (Tree n r s kids Empty) = Some (record { level = n; rest = r; section = s; children = kids })
+one_root (Tree n r s kids (Tree m q t more later)) = None
+
+-- the one tree of a document that has no line before it
+abbrev pub only_root : List (List ℕ) → Forest → Option Node
+only_root [] forest = one_root forest
+only_root (line ∷ lines) forest = None
+
+-- the heading that a text is, with what lies below it
+abbrev pub entry_in : List ℕ → Option Node
+entry_in text = only_root (tree text).preamble (tree text).forest
+
+-- the closed text of an entry
+abbrev pub closed_if_one : Option Node → List ℕ → Result (List ℕ) CaptureFault
+closed_if_one None text = Err BadEntry
+closed_if_one (Some node) text = Ok (closed text)
+
+abbrev pub entry_text : List ℕ → Result (List ℕ) CaptureFault
+entry_text text = closed_if_one (entry_in text) text
+
+-- a closed text that is this entry
+pub record IsEntry (text : List ℕ) (node : Node) : Type 0 where
+  pub shut : closed text ≡ text
+  pub one : entry_in text ≡ Some node

@@ -1,0 +1,6 @@
+pub mod Answers
+pub mod Template
+pub mod Lengths
+pub mod Entry
+pub mod Dates
+pub mod Capture

@@ -1,0 +1,75 @@
+//! Entries put into a text.
+ghost use Rattle.std.specs.Prelude.{◌≡◌, ◌<◌, IfOk};
+ghost use Rattle.std.specs.Option.{ForSome};
+ghost use Rattle.org_outline.specs.Tree.{Node as NodeOf, node_count, tree};
+ghost use Rattle.org_outline.specs.Paths.{titles_of};
+ghost use Rattle.org_capture.specs.Entry.{IsEntry};
+ghost use Rattle.org_capture.specs.Capture.{captured, date_base};
+ghost use Rattle.org_capture.specs.Answers.{AnswersEdit};
+
+use crate::date_trees::dated_insertion;
+use crate::dates::DateKind;
+use crate::fault::CaptureFault;
+use crate::inserting::insertion;
+use crate::made_heads::{can_be_title, made_head};
+use crate::target::Target;
+use org_outline::{Node, Outline, PathFault, Place};
+use org_splice::Edit;
+use org_stamp::Moment;
+use std::alloc::Global;
+
+/// The heading below which a date tree stands; none at top level.
+fn date_base(outline: &Outline<'_>, path: &[Vec<u8>]) -> Result<Option<Node>, PathFault>
+    ensures value { result
+        ≡ date_base outline.now.states (tree outline.now.text) (titles_of path.now) }
+    ensures within { IfOk result (λ base.
+        ForSome base (λ node. node < node_count (tree outline.now.text))) }
+{
+    if path.is_empty() {
+        return Ok(None);
+    }
+    Ok(Some(outline.find(path)?))
+}
+
+/// The one edit of a text that puts an entry below its target, with the headings that are made for
+/// it: it removes nothing (Org manual, "Template elements"). The entry is one that `entry` answers;
+/// it goes one level below the target, and its descendants move with it.
+///
+/// NotFound where no heading is at the path, or a heading made with the title would read back with
+/// another title, a keyword, a priority or tags. NotUnique where several headings have a title.
+pub fn capture(
+    alloc: Global,
+    outline: &Outline<'_>,
+    target: &Target,
+    place: Place,
+    moment: Moment,
+    entry: &[u8],
+) -> Result<Edit, CaptureFault>
+    requires { (node : NodeOf) × IsEntry entry.now node }
+    ensures { (node : NodeOf) → IsEntry entry.now node
+        → AnswersEdit (captured outline.now.states target.now place moment node
+        (tree outline.now.text)) outline.now.text result }
+{
+    match target {
+        Target::Top => insertion(alloc, outline, None, place, entry),
+        Target::Head(title) => {
+            let title = title.as_slice();
+            if let Some(node) = outline.headed(title)? {
+                return insertion(alloc, outline, Some(node), place, entry);
+            }
+            if !can_be_title(alloc, title, outline.states())? {
+                return Err(CaptureFault::NotFound);
+            }
+            Ok(made_head(alloc, outline, title, place, entry)?)
+        }
+        Target::Path(path) => {
+            let node = outline.find(path.as_slice())?;
+            insertion(alloc, outline, Some(node), place, entry)
+        }
+        Target::Date(path) => {
+            let base = date_base(outline, path.as_slice())?;
+            let kinds = [DateKind::Year, DateKind::Month, DateKind::Day];
+            dated_insertion(alloc, outline, &base, &kinds, place, moment, entry)
+        }
+    }
+}

@@ -1,0 +1,70 @@
+//! Entries put below a heading that is there.
+ghost use Rattle.std.specs.Prelude.{◌≡◌, ◌<◌, ◌≤◌, ◌^◌, ◌++◌, ◌∷◌, [], OnOk, Ok};
+ghost use Rattle.std.specs.Option.{ForSome};
+ghost use Rattle.org_outline.specs.Text.{heading_line};
+ghost use Rattle.org_outline.specs.Tree.{Node as NodeOf, node_count, tree};
+ghost use Rattle.org_outline.specs.Moves.{insert, level_below};
+ghost use Rattle.org_capture.specs.Entry.{IsEntry};
+ghost use Rattle.org_capture.specs.Capture.{rest_of};
+ghost use Rattle.org_capture.specs.Answers.{AnswersEdit};
+
+use crate::fault::CaptureFault;
+use org_outline::{Node, Outline, Place, shift};
+use org_splice::{Bytes, Edit};
+use std::alloc::{AllocError, Global};
+
+/// The level of what goes below a heading, or at top level.
+pub(crate) fn level_below(outline: &Outline<'_>, parent: Option<Node>) -> usize
+    requires { ForSome parent (λ node. node < node_count (tree outline.now.text)) }
+    ensures value { result ≡ level_below parent (tree outline.now.text) }
+    ensures low { 1 ≤ result }
+    ensures high { result < 2 ^ 63 }
+{
+    match parent {
+        None => 1,
+        Some(node) => {
+            let level = outline.level(node);
+            prove!(level < outline.text().len());
+            level + 1
+        }
+    }
+}
+
+/// The edit that puts an entry below a heading, or at top level.
+pub(crate) fn insertion(
+    alloc: Global,
+    outline: &Outline<'_>,
+    parent: Option<Node>,
+    place: Place,
+    entry: &[u8],
+) -> Result<Edit, CaptureFault>
+    requires parent { ForSome parent (λ node. node < node_count (tree outline.now.text)) }
+    requires entry { (node : NodeOf) × IsEntry entry.now node }
+    ensures { (node : NodeOf) → IsEntry entry.now node
+        → AnswersEdit (Ok (insert parent place node (tree outline.now.text)))
+        outline.now.text result }
+{
+    let level = level_below(outline, parent);
+    let at = outline.place(parent, place);
+    prove!(at <= outline.text().len());
+    let bytes = Bytes::new(shift(alloc, entry, level)?);
+    Ok(Edit {
+        at,
+        removed: 0,
+        bytes,
+    })
+}
+
+/// Puts the line of a heading with a title behind a text.
+pub(crate) fn push_heading(text: &mut Vec<u8>, level: usize, title: &[u8]) -> Result<(), AllocError>
+    ensures { OnOk result (text.new.items
+        ≡ text.old.items ++ (heading_line level (rest_of title.now) ++ 10 ∷ [])) }
+{
+    for _ in 0..level {
+        text.push(b'*')?;
+    }
+    text.push(b' ')?;
+    text.extend_from_slice(title)?;
+    text.push(b'\n')?;
+    Ok(())
+}

@@ -1,0 +1,87 @@
+//! Templates filled in.
+ghost use Rattle.std.specs.Prelude.{◌≡◌, ◌++◌, ◌≤◌, length, not, ◌==◌, OnOk};
+ghost use Rattle.std.specs.List.{suffix_len};
+ghost use Rattle.org_capture.specs.Template.{expanded, last_line, text_of, with_prefix};
+ghost use Rattle.org_capture.specs.Answers.{Adds, AnswersBytes};
+
+use crate::fault::CaptureFault;
+use crate::piece::{Piece, first_piece};
+use org_stamp::{Moment, Stamp};
+use std::alloc::{AllocError, Global};
+
+/// How many bytes stand behind the last newline.
+pub(crate) fn last_line_len(text: &[u8]) -> usize
+    ensures count { result ≡ suffix_len (λ b. not (b == 10)) text.now }
+    ensures within { result ≤ length text.now }
+{
+    text.iter().rev().take_while(|byte| **byte != b'\n').count()
+}
+
+/// What stands behind the last newline.
+fn last_line(text: &[u8]) -> &[u8]
+    ensures { result.now ≡ last_line text.now }
+{
+    text.split_at(text.len() - last_line_len(text)).1
+}
+
+/// Puts bytes behind a text, with a prefix repeated behind each newline of theirs.
+fn push_with_prefix(text: &mut Vec<u8>, prefix: &[u8], bytes: &[u8]) -> Result<(), AllocError>
+    ensures { OnOk result (text.new.items ≡ text.old.items ++ with_prefix prefix.now bytes.now) }
+{
+    for byte in bytes {
+        text.push(*byte)?;
+        if *byte == b'\n' {
+            text.extend_from_slice(prefix)?;
+        }
+    }
+    Ok(())
+}
+
+/// Puts what a piece stands for behind the text.
+fn push_piece(
+    alloc: Global,
+    text: &mut Vec<u8>,
+    piece: Piece,
+    moment: Moment,
+    initial_text: &[u8],
+) -> Result<(), CaptureFault>
+    ensures { Adds (text_of moment initial_text.now (last_line text.old.items) piece)
+        text.old.items text.new.items result }
+{
+    match piece {
+        Piece::Byte(byte) => text.extend_from_slice(&[byte])?,
+        Piece::Stamp { active, timed } => {
+            let stamp = Stamp::at(moment, active, timed).print(alloc)?;
+            text.extend_from_slice(stamp.as_slice())?;
+        }
+        Piece::Initial => {
+            let prefix = last_line(text.as_slice()).to_vec(alloc)?;
+            push_with_prefix(text, prefix.as_slice(), initial_text)?;
+        }
+        Piece::Cursor => {}
+        Piece::Unknown => return Err(CaptureFault::BadTemplate),
+    }
+    Ok(())
+}
+
+/// What a template stands for at a moment (Org manual, "Template expansion"): `%t` and `%T` are the
+/// moment's active timestamp without and with the time, `%u` and `%U` the inactive one, `%i` is the
+/// initial text, with what stands before it on its line repeated before each further line, and `%?`,
+/// the place of the cursor, is left out. A percent sign before another letter, or before one of
+/// `( [ < ^ : * \`, is BadTemplate; any other stays. What was put in isn't read for escapes.
+pub fn expand(
+    alloc: Global,
+    template: &[u8],
+    moment: Moment,
+    initial_text: &[u8],
+) -> Result<Vec<u8>, CaptureFault>
+    ensures { AnswersBytes (expanded template.now moment initial_text.now) result }
+{
+    let mut text = Vec::new(alloc);
+    let mut rest = template;
+    while let Some((piece, behind)) = first_piece(rest) {
+        push_piece(alloc, &mut text, piece, moment, initial_text)?;
+        rest = behind;
+    }
+    Ok(text)
+}
