@@ -6,6 +6,8 @@ mod captures;
 #[cfg(test)]
 mod outline;
 #[cfg(test)]
+mod refiles;
+#[cfg(test)]
 mod sections;
 #[cfg(test)]
 mod splice;

@@ -1,0 +1,126 @@
+-- The edits of a refile make the documents that are defined.
+use Rattle.std.proofs.Common.{◌≡◌, ℕ, ◌+◌, ◌<◌, ◌≤◌, leb, ltb, Bool, true, false, true≢false, inl, inr, List, [], ◌∷◌, ◌++◌, length, Some, Ok, refl, sym, ap, subst, ◌∙◌, arith, replicate, length-append}
+use Rattle.std.specs.Prelude.{Result, IsTrue, ◌↔◌, slice_range}
+use Rattle.std.proofs.lemmas.Bool.{cases_Bool}
+use Rattle.std.proofs.lemmas.List.{length-replicate}
+use Rattle.std.proofs.lemmas.Bool.Decides.{nat_tests}
+use Rattle.org_splice.specs.Lines.{closed, print_lines}
+use Rattle.org_splice.specs.Edits.{AreEdits}
+use Rattle.org_splice.specs.declared.edit.Edit.{Edit}
+use Rattle.org_outline.specs.declared.moves.Place.{Place}
+use Rattle.org_outline.specs.declared.paths.PathFault.{PathFault}
+use Rattle.org_outline.specs.States.{Keywords}
+use Rattle.org_outline.specs.Text.{heading_line}
+use Rattle.org_outline.specs.Tree.{Document, Node, lines, print, print_node, tree, node_at, node_count}
+use Rattle.org_outline.specs.Moves.{IsPrinted, InsertsAt, insert, level_below, shift_node, take}
+use Rattle.org_outline.specs.Numbers.{LiesIn, size_of, parent_without}
+use Rattle.org_outline.specs.Paths.{find_path}
+use Rattle.org_outline.proofs.AsEdits.{inserts_edit, takes_edit}
+use Rattle.org_outline.proofs.Changes.{take_local}
+use Rattle.org_outline.proofs.Sections.{node-valid}
+use Rattle.org_outline.proofs.Trees.{tree-is}
+use Rattle.org_outline.proofs.TwoEdits.{one_edit, two_edits}
+use Rattle.org_outline.proofs.Valid.{node-print}
+use Rattle.org_move.specs.Edits.{removal, insertion}
+use Rattle.org_move.specs.Refile.{is_inside, moved, refile_within, Moved, refile_across}
+
+-- ---- nodes of a text
+
+prints : (t : List ℕ) → closed t ≡ t → print (tree t) ≡ t
+prints t shut = (tree-is t).prints ∙ shut
+
+-- the stars of a heading line aren't the whole text
+pub level_less : (t u : List ℕ) (i level : ℕ) → u ≡ t → closed t ≡ t → i < node_count (tree t) → level ≡ (node_at (tree t) i).node.level → level < length u
+level_less t u i level same shut lt is =
+    let node : Node = (node_at (tree t) i).node in
+    let at = take_local i (tree t) lt in
+    let whole : length (print (tree t)) ≡ length at.front + (length (print_node node) + length at.back) =
+    ap length at.is ∙ length-append at.front (print_node node ++ at.back) ∙ ap (λ n. length at.front + n) (length-append (print_node node) at.back) in
+    let more : List ℕ = print_lines (node.section ++ lines node.children) in
+    let line : length (print_node node) ≡ node.level + length node.rest + (length more + 1) =
+    omega (arith, length-append (heading_line node.level node.rest) (10 ∷ more), length-append (replicate node.level 42) node.rest, length-replicate {A = ℕ} node.level 42) in
+    omega (arith, is, whole, line, ap length (prints t shut), ap length same)
+
+-- the bytes of a subtree are the print of its node
+pub printed : (t u : List ℕ) (i start end : ℕ) → u ≡ t → i < node_count (tree t) → slice_range t start end ≡ print_node (node_at (tree t) i).node
+    → IsPrinted (slice_range u start end)
+printed t u i start end same lt is =
+    let whole : slice_range u start end ≡ print_node (node_at (tree t) i).node = ap (λ u. slice_range u start end) same ∙ is in
+    subst (λ b. IsPrinted b) (sym whole) (node-print (node_at (tree t) i).node (node-valid t i lt)).1
+
+-- and they are shifted as it is
+pub shifted_is : (t u out : List ℕ) (i level start end : ℕ) → u ≡ t → i < node_count (tree t) → slice_range t start end ≡ print_node (node_at (tree t) i).node
+    → out ≡ print_node (shift_node level (node_at (tree (slice_range u start end)) 0).node) → out ≡ print_node (shift_node level (node_at (tree t) i).node)
+shifted_is t u out i level start end same lt is made =
+    let node : Node = (node_at (tree t) i).node in
+    let whole : slice_range u start end ≡ print_node node = ap (λ u. slice_range u start end) same ∙ is in
+    let root : (node_at (tree (slice_range u start end)) 0).node ≡ node = ap (λ b. (node_at (tree b) 0).node) whole ∙ (node-print node (node-valid t i lt)).0 in
+    made ∙ ap (λ (n : Node). print_node (shift_node level n)) root
+
+-- ---- within a text
+
+inside_is : (d : Document) (top i : ℕ) (b : Bool) → (IsTrue b ↔ LiesIn d top i) → is_inside d top i ≡ b
+inside_is d top i true lies =
+    let inside = lies.0 refl in
+    let low : top ≤ i = inside.low in
+    let high : i < top + size_of d top = inside.high in
+    let e : leb top i ≡ true = grind (arith, nat_tests) in
+    let f : ltb i (top + size_of d top) ≡ true = grind (arith, nat_tests) in
+    rw (e, f) refl
+inside_is d top i false lies =
+    elim (cases_Bool (leb top i)) [
+      | inl e ↦ elim (cases_Bool (ltb i (top + size_of d top))) [
+        | inl f ↦
+            let low : top ≤ i = grind (arith, nat_tests) in
+            let high : i < top + size_of d top = grind (arith, nat_tests) in
+            absurd (true≢false (sym (lies.1 (record { low = low; high = high }))))
+        | inr f ↦ rw (e, f) refl
+      ]
+      | inr e ↦ rw e refl
+    ]
+
+pub within_made : (states : Keywords) (path to : List (List ℕ)) (place : Place) (t : List ℕ) (r s : Result ℕ PathFault) (i p at level : ℕ) (b : Bool) (out into : Edit)
+    → closed t ≡ t → r ≡ find_path states (tree t) path → r ≡ Ok i → s ≡ find_path states (tree t) to → s ≡ Ok p → i < node_count (tree t)
+    → (IsTrue b ↔ LiesIn (tree t) i p) → b ≡ false
+    → ((node : Node) → InsertsAt (print (take i (tree t))) (insert (parent_without i (size_of (tree t) i) (Some p)) place node (take i (tree t))) at (shift_node (level_below (Some p) (tree t)) node))
+    → level ≡ level_below (Some p) (tree t) → out ≡ removal i (tree t) → into ≡ insertion at (shift_node level (node_at (tree t) i).node)
+    → (new : Document) × (refile_within states path to place (tree t) ≡ Ok new) × AreEdits (out ∷ into ∷ []) t (print new)
+within_made states path to place t r s i p at level b out into shut r_is found s_is found_to lt lies outside goes level_is out_is into_is =
+    let d : Document = tree t in
+    let node : Node = (node_at d i).node in
+    let test : is_inside d i p ≡ false = inside_is d i p b lies ∙ outside in
+    let first : find_path states d path ≡ Ok i = sym r_is ∙ found in
+    let second : find_path states d to ≡ Ok p = sym s_is ∙ found_to in
+    let edits : AreEdits (removal i d ∷ insertion at (shift_node (level_below (Some p) d) node) ∷ []) (print d) (print (moved i p place d)) =
+    two_edits i at (shift_node (level_below (Some p) d) node) d (moved i p place d) lt (goes node) in (
+      moved i p place d,
+      rw (first, second, test) refl,
+      rw (out_is, into_is, level_is) (subst (λ t. AreEdits (removal i d ∷ insertion at (shift_node (level_below (Some p) d) node) ∷ []) t (print (moved i p place d))) (prints t shut) edits),
+    )
+
+-- ---- across two texts
+
+pub across_made : (states : Keywords) (path : List (List ℕ)) (t : List ℕ) (there : Keywords) (to : List (List ℕ)) (u : List ℕ) (place : Place) (r s : Result ℕ PathFault) (i p at level : ℕ) (out into : Edit)
+    → closed t ≡ t → closed u ≡ u → r ≡ find_path states (tree t) path → r ≡ Ok i → s ≡ find_path there (tree u) to → s ≡ Ok p → i < node_count (tree t)
+    → ((node : Node) → InsertsAt u (insert (Some p) place node (tree u)) at (shift_node (level_below (Some p) (tree u)) node))
+    → level ≡ level_below (Some p) (tree u) → out ≡ removal i (tree t) → into ≡ insertion at (shift_node level (node_at (tree t) i).node)
+    → (new : Moved) × (refile_across states path (tree t) there to (tree u) place ≡ Ok new) × (AreEdits (out ∷ []) t (print new.source) × AreEdits (into ∷ []) u (print new.target))
+across_made states path t there to u place r s i p at level out into shut shut_target r_is found s_is found_to lt goes level_is out_is into_is =
+    let d : Document = tree t in
+    let e : Document = tree u in
+    let node : Node = shift_node (level_below (Some p) e) (node_at d i).node in
+    let new : Moved = record { source = take i d; target = insert (Some p) place (node_at d i).node e } in
+    let first : find_path states d path ≡ Ok i = sym r_is ∙ found in
+    let second : find_path there e to ≡ Ok p = sym s_is ∙ found_to in
+    let taken = takes_edit (print d) (print (take i d)) (node_at d i).at (print_node (node_at d i).node) (take_local i d lt) in
+    let left : AreEdits (removal i d ∷ []) (print d) (print new.source) = one_edit (removal i d) d (take i d) taken.0 taken.1 in
+    let whole : print e ≡ u = prints u shut_target in
+    let put = inserts_edit (print e) (print new.target) at (print_node node) (subst (λ u. InsertsAt u new.target at node) (sym whole) (goes (node_at d i).node)) in
+    let gained : AreEdits (insertion at node ∷ []) (print e) (print new.target) = one_edit (insertion at node) e new.target (omega (arith, put.0)) put.1 in (
+      new,
+      rw (first, second) refl,
+      (
+        rw out_is (subst (λ t. AreEdits (removal i d ∷ []) t (print new.source)) (prints t shut) left),
+        rw (into_is, level_is) (subst (λ u. AreEdits (insertion at node ∷ []) u (print new.target)) whole gained),
+      ),
+    )

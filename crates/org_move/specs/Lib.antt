@@ -1,0 +1,6 @@
+pub mod Answers
+pub mod Counts
+pub mod Edits
+pub mod Inherited
+pub mod Location
+pub mod Refile

@@ -1,0 +1,491 @@
+// Refiles through the public calls: rows worked by hand from the rules of refiling, and chains of many levels.
+use org_move::{MoveFault, refile_across, refile_within};
+use org_outline::{Outline, Place, States, is_closed};
+use org_splice::{Edit, Text};
+use std::alloc::{AllocError, Global};
+use std::process::Abort;
+use std::test::Fail;
+
+/// A text, the path of a heading, the path of its new parent, and the text after the refile.
+type Within = (
+    &'static str,
+    &'static [&'static str],
+    &'static [&'static str],
+    Place,
+    Result<&'static str, MoveFault>,
+);
+
+/// The texts of source and target, the two paths, and the texts after the refile.
+type Across = (
+    [&'static str; 2],
+    &'static [&'static str],
+    &'static [&'static str],
+    Place,
+    Result<(&'static str, &'static str), MoveFault>,
+);
+
+/// The titles of a path.
+fn titles(alloc: Global, path: &[&str]) -> Result<Vec<Vec<u8>>, AllocError> {
+    let mut titles = Vec::new(alloc);
+    for title in path {
+        titles.push(Vec::from_slice(alloc, title.as_bytes())?)?;
+    }
+    Ok(titles)
+}
+
+/// Makes an edit, which has to lie in the text.
+fn make(rt: &impl Abort, text: &mut Text, edit: &Edit) -> Result<(), AllocError> {
+    let size = text.bytes().len();
+    assert!(rt; edit.at <= size && edit.removed <= size - edit.at);
+    text.apply(edit)
+}
+
+/// The text after a refile within it.
+fn within(
+    rt: &(impl Abort + AllocGlobal),
+    states: &States,
+    text: &[u8],
+    path: &[&str],
+    to: &[&str],
+    place: Place,
+) -> Result<Vec<u8>, MoveFault> {
+    assert!(rt; is_closed(text));
+    let alloc = rt.alloc();
+    let path = titles(alloc, path)?;
+    let to = titles(alloc, to)?;
+    let outline = Outline::read(alloc, text, states)?;
+    let edits = refile_within(alloc, &outline, path.as_slice(), to.as_slice(), place)?;
+    let mut after = Text::new(Vec::from_slice(alloc, text)?);
+    make(rt, &mut after, &edits[0])?;
+    make(rt, &mut after, &edits[1])?;
+    Ok(after.into_bytes())
+}
+
+/// The texts after a refile across them.
+fn across(
+    rt: &(impl Abort + AllocGlobal),
+    states: &States,
+    texts: [&[u8]; 2],
+    path: &[&str],
+    to: &[&str],
+    place: Place,
+) -> Result<(Vec<u8>, Vec<u8>), MoveFault> {
+    let [from, into] = texts;
+    assert!(rt; is_closed(from) && is_closed(into));
+    let alloc = rt.alloc();
+    let path = titles(alloc, path)?;
+    let to = titles(alloc, to)?;
+    let source = Outline::read(alloc, from, states)?;
+    let target = Outline::read(alloc, into, states)?;
+    let (taken, put) = refile_across(
+        alloc,
+        &source,
+        &target,
+        path.as_slice(),
+        to.as_slice(),
+        place,
+    )?;
+    let mut left = Text::new(Vec::from_slice(alloc, from)?);
+    let mut gained = Text::new(Vec::from_slice(alloc, into)?);
+    make(rt, &mut left, &taken)?;
+    make(rt, &mut gained, &put)?;
+    Ok((left.into_bytes(), gained.into_bytes()))
+}
+
+/// Asserts what each row's refile within a text makes, or why it is refused.
+fn assert_within(rt: &(impl Abort + AllocGlobal), rows: &[Within]) -> Result<(), Fail> {
+    let states = States::new(rt.alloc(), &["TODO"], &["DONE"])?;
+    for (text, path, to, place, expected) in rows {
+        match (
+            within(rt, &states, text.as_bytes(), path, to, *place),
+            expected,
+        ) {
+            (Ok(after), Ok(expected)) => {
+                assert!(rt; after.as_slice() == expected.as_bytes(), "{text}");
+            }
+            (Err(fault), Err(expected)) => assert!(rt; fault == *expected, "{text}"),
+            _ => assert!(rt; false, "{text}"),
+        }
+    }
+    Ok(())
+}
+
+/// Asserts what each row's refile across two texts makes, or why it is refused.
+fn assert_across(rt: &(impl Abort + AllocGlobal), rows: &[Across]) -> Result<(), Fail> {
+    let states = States::new(rt.alloc(), &["TODO"], &["DONE"])?;
+    for ([from, into], path, to, place, expected) in rows {
+        let texts = [from.as_bytes(), into.as_bytes()];
+        match (across(rt, &states, texts, path, to, *place), expected) {
+            (Ok((left, gained)), Ok((source, target))) => {
+                assert!(rt; left.as_slice() == source.as_bytes(), "{from}");
+                assert!(rt; gained.as_slice() == target.as_bytes(), "{into}");
+            }
+            (Err(fault), Err(expected)) => assert!(rt; fault == *expected, "{from}"),
+            _ => assert!(rt; false, "{from}"),
+        }
+    }
+    Ok(())
+}
+
+#[test]
+fn moves_with_its_descendants(rt: HostRuntime) -> Result<(), Fail> {
+    let deep = "* S\n** B\n**** C\n* T\n** U\n*** V\n";
+    assert_within(
+        &rt,
+        &[
+            (
+                deep,
+                &["S", "B"],
+                &["T", "U", "V"],
+                Place::Last,
+                Ok("* S\n* T\n** U\n*** V\n**** B\n****** C\n"),
+            ),
+            (
+                deep,
+                &["T", "U"],
+                &["S"],
+                Place::First,
+                Ok("* S\n** U\n*** V\n** B\n**** C\n* T\n"),
+            ),
+            // To an ancestor, and so up.
+            (
+                deep,
+                &["T", "U", "V"],
+                &["T"],
+                Place::Last,
+                Ok("* S\n** B\n**** C\n* T\n** U\n** V\n"),
+            ),
+            // Descendants at skipped levels move by as much as the root.
+            (
+                "* T\n* E\n**** D\n*** F\n",
+                &["E"],
+                &["T"],
+                Place::Last,
+                Ok("* T\n** E\n***** D\n**** F\n"),
+            ),
+        ],
+    )
+}
+
+#[test]
+fn below_its_own_parent(rt: HostRuntime) -> Result<(), Fail> {
+    let text = "* T\n** A\n** B\nb\n** C\n* Z\n";
+    assert_within(
+        &rt,
+        &[
+            (
+                text,
+                &["T", "B"],
+                &["T"],
+                Place::First,
+                Ok("* T\n** B\nb\n** A\n** C\n* Z\n"),
+            ),
+            (
+                text,
+                &["T", "B"],
+                &["T"],
+                Place::Last,
+                Ok("* T\n** A\n** C\n** B\nb\n* Z\n"),
+            ),
+            (text, &["T", "A"], &["T"], Place::First, Ok(text)),
+            (text, &["T", "C"], &["T"], Place::Last, Ok(text)),
+            // A child at a skipped level comes up, to where its root's level says.
+            (
+                "* T\n*** X\n** Y\n",
+                &["T", "X"],
+                &["T"],
+                Place::First,
+                Ok("* T\n** X\n** Y\n"),
+            ),
+        ],
+    )
+}
+
+#[test]
+fn beside_its_new_parent(rt: HostRuntime) -> Result<(), Fail> {
+    let text = "pre\n* A\n* B\n*bold*\n* C\n";
+    assert_within(
+        &rt,
+        &[
+            (
+                text,
+                &["B"],
+                &["A"],
+                Place::Last,
+                Ok("pre\n* A\n** B\n*bold*\n* C\n"),
+            ),
+            (
+                text,
+                &["B"],
+                &["C"],
+                Place::First,
+                Ok("pre\n* A\n* C\n** B\n*bold*\n"),
+            ),
+            (
+                text,
+                &["C"],
+                &["B"],
+                Place::First,
+                Ok("pre\n* A\n* B\n*bold*\n** C\n"),
+            ),
+        ],
+    )
+}
+
+#[test]
+fn below_skipped_levels(rt: HostRuntime) -> Result<(), Fail> {
+    let text = "* T\n*** X\n** Y\n* E\n";
+    assert_within(
+        &rt,
+        &[
+            (
+                text,
+                &["E"],
+                &["T"],
+                Place::First,
+                Ok("* T\n*** X\n** E\n** Y\n"),
+            ),
+            (
+                text,
+                &["E"],
+                &["T"],
+                Place::Last,
+                Ok("* T\n*** X\n** Y\n** E\n"),
+            ),
+            (
+                text,
+                &["E"],
+                &["T", "X"],
+                Place::Last,
+                Ok("* T\n*** X\n**** E\n** Y\n"),
+            ),
+            (
+                "* T\n*** X\n* E\n",
+                &["E"],
+                &["T"],
+                Place::First,
+                Ok("* T\n*** X\n** E\n"),
+            ),
+        ],
+    )
+}
+
+#[test]
+fn keeps_the_lines_as_they_are(rt: HostRuntime) -> Result<(), Fail> {
+    assert_within(
+        &rt,
+        &[
+            (
+                "* A\r\n** B\r\nb\r\n* T\r\n",
+                &["A", "B"],
+                &["T"],
+                Place::Last,
+                Ok("* A\r\n* T\r\n** B\r\nb\r\n"),
+            ),
+            (
+                "* TODO [#A]  A\t :x:\nSCHEDULED: <2026-07-01>\n\n* DONE T :y:\n",
+                &["A"],
+                &["T"],
+                Place::Last,
+                Ok("* DONE T :y:\n** TODO [#A]  A\t :x:\nSCHEDULED: <2026-07-01>\n\n"),
+            ),
+            // A heading without a title.
+            ("* \n* T\n", &[""], &["T"], Place::First, Ok("* T\n** \n")),
+        ],
+    )
+}
+
+#[test]
+fn refused_paths(rt: HostRuntime) -> Result<(), Fail> {
+    let text = "* TODO A :x:\n* A\n* T\n";
+    let not_found = Err(MoveFault::NotFound);
+    let not_unique = Err(MoveFault::NotUnique);
+    assert_within(
+        &rt,
+        &[
+            (text, &["A"], &["T"], Place::Last, not_unique),
+            (text, &["Q"], &["T"], Place::Last, not_found),
+            (text, &["T", "Q"], &["T"], Place::Last, not_found),
+            (text, &[], &["T"], Place::Last, not_found),
+            (text, &["T"], &[], Place::Last, not_found),
+            (text, &["T"], &["A"], Place::Last, not_unique),
+            // The path of the subtree is asked first.
+            (text, &["Q"], &["A"], Place::Last, not_found),
+            (text, &["A"], &["Q"], Place::Last, not_unique),
+        ],
+    )
+}
+
+#[test]
+fn refused_inside_itself(rt: HostRuntime) -> Result<(), Fail> {
+    let text = "* A\n** B\n*** C\n*** C\n* D\n";
+    let inside = Err(MoveFault::InsideItself);
+    assert_within(
+        &rt,
+        &[
+            (text, &["A"], &["A", "B"], Place::Last, inside),
+            (text, &["A"], &["A"], Place::First, inside),
+            (text, &["D"], &["D"], Place::Last, inside),
+            // Paths are resolved before.
+            (
+                text,
+                &["A"],
+                &["A", "B", "C"],
+                Place::Last,
+                Err(MoveFault::NotUnique),
+            ),
+            (
+                text,
+                &["A"],
+                &["A", "Q"],
+                Place::Last,
+                Err(MoveFault::NotFound),
+            ),
+            // The next heading isn't inside.
+            (
+                text,
+                &["A", "B"],
+                &["D"],
+                Place::Last,
+                Ok("* A\n* D\n** B\n*** C\n*** C\n"),
+            ),
+        ],
+    )
+}
+
+#[test]
+fn across_two_texts(rt: HostRuntime) -> Result<(), Fail> {
+    assert_across(
+        &rt,
+        &[
+            (
+                ["* A\n** B\nb\n", "* T\n** K\n"],
+                &["A", "B"],
+                &["T"],
+                Place::First,
+                Ok(("* A\n", "* T\n** B\nb\n** K\n")),
+            ),
+            // The same paths in two texts: nothing is inside itself.
+            (
+                ["* A\n** B\n", "* A\n** B\n"],
+                &["A"],
+                &["A", "B"],
+                Place::Last,
+                Ok(("", "* A\n** B\n*** A\n**** B\n")),
+            ),
+            (
+                [
+                    "p\r\n* A\r\n*** D\r\n* E\r\n",
+                    "q\r\n* T\r\n*** X\r\n* U\r\n",
+                ],
+                &["A"],
+                &["T"],
+                Place::First,
+                Ok((
+                    "p\r\n* E\r\n",
+                    "q\r\n* T\r\n*** X\r\n** A\r\n**** D\r\n* U\r\n",
+                )),
+            ),
+        ],
+    )
+}
+
+#[test]
+fn refused_across(rt: HostRuntime) -> Result<(), Fail> {
+    let texts = ["* A\n* A\n* S\n", "* T\n* B\n* B\n"];
+    let not_found = Err(MoveFault::NotFound);
+    let not_unique = Err(MoveFault::NotUnique);
+    assert_across(
+        &rt,
+        &[
+            (texts, &["A"], &["T"], Place::Last, not_unique),
+            (texts, &["T"], &["T"], Place::Last, not_found),
+            (texts, &["S"], &["S"], Place::Last, not_found),
+            (texts, &["S"], &["B"], Place::Last, not_unique),
+            (texts, &["S"], &[], Place::Last, not_found),
+            // The path of the source is asked first.
+            (texts, &["Q"], &["B"], Place::Last, not_found),
+            (texts, &["A"], &["Q"], Place::Last, not_unique),
+        ],
+    )
+}
+
+/// Puts headings at the end, at each level from one to another: each is the child of the one before it.
+fn push_chain(text: &mut Vec<u8>, from: usize, to: usize) -> Result<(), AllocError> {
+    for level in from..to {
+        push_stars(text, level)?;
+        text.extend_from_slice(b" N\n")?;
+    }
+    Ok(())
+}
+
+/// Puts stars at the end.
+fn push_stars(text: &mut Vec<u8>, count: usize) -> Result<(), AllocError> {
+    for _ in 0..count {
+        text.push(b'*')?;
+    }
+    Ok(())
+}
+
+/// A chain of headings from one level to another, with a text before it and one behind it.
+fn around_chain(
+    alloc: Global,
+    before: &[u8],
+    from: usize,
+    to: usize,
+    behind: &[u8],
+) -> Result<Vec<u8>, AllocError> {
+    let mut text = Vec::from_slice(alloc, before)?;
+    push_chain(&mut text, from, to)?;
+    text.extend_from_slice(behind)?;
+    Ok(text)
+}
+
+/// Asserts the text after a refile within it.
+fn assert_refiled(
+    rt: &(impl Abort + AllocGlobal),
+    text: &[u8],
+    path: &[&str],
+    to: &[&str],
+    expected: &[u8],
+) -> Result<(), Fail> {
+    let states = States::new(rt.alloc(), &["TODO"], &["DONE"])?;
+    let after = within(rt, &states, text, path, to, Place::Last)?;
+    assert!(rt; after.as_slice() == expected);
+    Ok(())
+}
+
+#[test]
+fn hundred_levels_down(rt: HostRuntime) -> Result<(), Fail> {
+    let text = around_chain(rt.alloc(), b"", 1, 101, b"* T\n** U\n")?;
+    let after = around_chain(rt.alloc(), b"* N\n* T\n** U\n", 3, 102, b"")?;
+    assert_refiled(
+        &rt,
+        text.as_slice(),
+        &["N", "N"],
+        &["T", "U"],
+        after.as_slice(),
+    )
+}
+
+#[test]
+fn hundred_levels_up(rt: HostRuntime) -> Result<(), Fail> {
+    let text = around_chain(rt.alloc(), b"* T\n** U\n", 3, 102, b"")?;
+    let after = around_chain(rt.alloc(), b"* T\n** U\n", 2, 101, b"")?;
+    assert_refiled(
+        &rt,
+        text.as_slice(),
+        &["T", "U", "N"],
+        &["T"],
+        after.as_slice(),
+    )
+}
+
+#[test]
+fn below_the_hundredth_level(rt: HostRuntime) -> Result<(), Fail> {
+    let text = around_chain(rt.alloc(), b"* T\nt\n", 1, 101, b"")?;
+    let mut after = around_chain(rt.alloc(), b"", 1, 101, b"")?;
+    push_stars(&mut after, 101)?;
+    after.extend_from_slice(b" T\nt\n")?;
+    assert_refiled(&rt, text.as_slice(), &["T"], &["N"; 100], after.as_slice())
+}
