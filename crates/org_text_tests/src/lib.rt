@@ -4,6 +4,8 @@
 #[cfg(test)]
 mod captures;
 #[cfg(test)]
+mod held_texts;
+#[cfg(test)]
 mod outline;
 #[cfg(test)]
 mod refiles;

@@ -1,0 +1,5 @@
+pub mod Heads
+pub mod Values
+pub mod Names
+pub mod Looking
+pub mod Standing

@@ -1,0 +1,119 @@
+-- Look-ups among held texts, of which one is changed, or one more is held.
+use Rattle.std.proofs.Common.{◌≡◌, inl, inr, ℕ, Bool, true, false, List, [], ◌∷◌, ◌++◌, ◌||◌, Option, Some, None, refl, sym, ◌∙◌, ap, subst, map}
+use Rattle.std.specs.Prelude.{if◌then◌else◌, IsSomeAnd}
+use Rattle.std.specs.List.{list_any}
+use Rattle.std.specs.Map.{keys_of, lookup}
+use Rattle.std.specs.Option.{is_some, option_map, IsSome}
+use Rattle.std.specs.Str.{bytes_eq}
+use Rattle.std.proofs.lemmas.Bool.{cases_Bool}
+use Rattle.std.proofs.lemmas.Map.Made.{is_some-lookup, lookup-map_values}
+use Rattle.std.proofs.lemmas.Slice.Eq.{bytes_eq-Decides}
+use Rattle.org_splice.specs.Edits.{applied_each, CanApply}
+use Rattle.org_splice.specs.Lines.{closed, is_closed}
+use Rattle.org_splice.specs.Texts.{EditedText, closed_text, settled, spliced_each}
+use Rattle.org_splice.proofs.Applying.{spliced_each-bytes}
+use Rattle.org_texts.specs.declared.plan.FileEdits.{FileEdits}
+use Rattle.org_texts.specs.declared.plan.Plan.{Plan}
+use Rattle.org_texts.specs.Files.{files_closed, files_planned, files_with}
+use Rattle.org_texts.specs.Plan.{CanEdit, IsPlan, planned, with_edits}
+use Rattle.org_texts.specs.Texts.{TextSet, bytes_or, closed_in, held_over, settled_set, text_of, with_change, with_text}
+use Rattle.org_texts.proofs.Heads.{closed_text-bytes}
+
+pub not_equal : (a b : List ℕ) → (a ≡ b → ⊥) → bytes_eq a b ≡ false
+not_equal a b apart = elim (cases_Bool (bytes_eq a b)) [
+  | inl t ↦ absurd (apart ((bytes_eq-Decides a b).0 t))
+  | inr f ↦ f
+]
+
+-- the value of the changed name, and that of another
+pub change_this : {X : Type 0} (name : List ℕ) (f : X → X) (es : List (List ℕ × X)) → lookup (bytes_eq name) (with_change name f es) ≡ option_map f (lookup (bytes_eq name) es)
+change_this name f [] = refl
+change_this name f (e ∷ es) = elim (cases_Bool (bytes_eq name e.0)) [
+  | inl t ↦ rw t (rw t refl)
+  | inr n ↦ let rest = change_this name f es in rw n (rw n rest)
+]
+
+pub change_other : {X : Type 0} (name other : List ℕ) (f : X → X) (es : List (List ℕ × X)) → (name ≡ other → ⊥) → lookup (bytes_eq other) (with_change name f es) ≡ lookup (bytes_eq other) es
+change_other name other f [] apart = refl
+change_other name other f (e ∷ es) apart = elim (cases_Bool (bytes_eq name e.0)) [
+  | inl t ↦
+      let here : bytes_eq other e.0 ≡ false = not_equal other e.0 (λ same. apart ((bytes_eq-Decides name e.0).0 t ∙ sym same)) in
+      rw t (rw here refl)
+  | inr n ↦
+      let rest = change_other name other f es apart in
+      elim (cases_Bool (bytes_eq other e.0)) [
+        | inl o ↦ rw n (rw o refl)
+        | inr o ↦ rw n (rw o rest)
+      ]
+]
+
+pub change_names : {X : Type 0} (name : List ℕ) (f : X → X) (es : List (List ℕ × X)) → keys_of (with_change name f es) ≡ keys_of es
+change_names name f [] = refl
+change_names name f (e ∷ es) = elim (cases_Bool (bytes_eq name e.0)) [
+  | inl t ↦ rw t refl
+  | inr n ↦ rw n (ap (λ (l : List (List ℕ)). e.0 ∷ l) (change_names name f es))
+]
+
+-- a value of which something holds
+pub the_value : {X : Type 0} (P : X → Type 0) (o : Option X) → IsSomeAnd o P → (x : X) × (o ≡ Some x) × P x
+the_value P None is = absurd is
+the_value P (Some x) is = (x, refl, is)
+
+pub held_over-edits : (change : FileEdits) (set : TextSet) → CanEdit change set → (files : List ℕ → List ℕ) (name : List ℕ)
+    → held_over (with_edits change set) files name ≡ files_with change (held_over set files) name
+held_over-edits change set can files name = elim (cases_Bool (bytes_eq change.file name)) [
+  | inl t ↦
+      let own = change.file in
+      let es = change.edits.items in
+      let same : own ≡ name = (bytes_eq-Decides own name).0 t in
+      let old = the_value (λ (x : EditedText). CanApply es x.bytes) (text_of set own) can in
+      let new : text_of (with_edits change set) own ≡ Some (spliced_each es old.0) = change_this own (spliced_each es) set.texts ∙ ap (option_map (spliced_each es)) old.1 in
+      let made : bytes_or (files own) (text_of (with_edits change set) own) ≡ applied_each es (bytes_or (files own) (text_of set own)) =
+      ap (bytes_or (files own)) new ∙ spliced_each-bytes es old.0 ∙ ap (λ o. applied_each es (bytes_or (files own) o)) (sym old.1) in
+      rw t (subst (λ (n : List ℕ). bytes_or (files n) (text_of (with_edits change set) n) ≡ applied_each es (bytes_or (files n) (text_of set n))) same made)
+  | inr f ↦
+      let apart : change.file ≡ name → ⊥ = λ same. let yes : true ≡ false = sym ((bytes_eq-Decides change.file name).1 same) ∙ f in absurd (cc) in
+      rw f (ap (bytes_or (files name)) (change_other change.file name (spliced_each change.edits.items) set.texts apart))
+]
+
+pub held_over-closed : (own : List ℕ) (set : TextSet) → IsSome (text_of set own) → (files : List ℕ → List ℕ) (name : List ℕ)
+    → held_over (closed_in own set) files name ≡ files_closed own (held_over set files) name
+held_over-closed own set some files name = elim (cases_Bool (bytes_eq own name)) [
+  | inl t ↦
+      let same : own ≡ name = (bytes_eq-Decides own name).0 t in
+      let new : text_of (closed_in own set) own ≡ option_map closed_text (text_of set own) = change_this own closed_text set.texts in
+      let made : bytes_or (files own) (text_of (closed_in own set) own) ≡ closed (bytes_or (files own) (text_of set own)) =
+      ap (bytes_or (files own)) new ∙ of_some (text_of set own) some in
+      rw t (subst (λ (n : List ℕ). bytes_or (files n) (text_of (closed_in own set) n) ≡ closed (bytes_or (files n) (text_of set n))) same made)
+  | inr f ↦
+      let apart : own ≡ name → ⊥ = λ same. let yes : true ≡ false = sym ((bytes_eq-Decides own name).1 same) ∙ f in absurd (cc) in
+      rw f (ap (bytes_or (files name)) (change_other own name closed_text set.texts apart))
+]
+  where
+    of_some : (o : Option EditedText) → IsSome o → bytes_or (files own) (option_map closed_text o) ≡ closed (bytes_or (files own) o)
+    of_some None is = absurd (let no : false ≡ true = is in cc)
+    of_some (Some x) is = closed_text-bytes x
+
+-- a file that is held as it is
+pub held_over-held : (own : List ℕ) (files : List ℕ → List ℕ) (set : TextSet) (name : List ℕ) → held_over (with_text own (files own) set) files name ≡ held_over set files name
+held_over-held own files set name = go set.texts
+  where
+    go : (es : List (List ℕ × EditedText)) → bytes_or (files name) (lookup (bytes_eq name) (es ++ (own, settled (files own)) ∷ [])) ≡ bytes_or (files name) (lookup (bytes_eq name) es)
+    go [] = elim (cases_Bool (bytes_eq name own)) [
+      | inl t ↦ rw t (ap files (sym ((bytes_eq-Decides name own).0 t)))
+      | inr f ↦ rw f refl
+    ]
+    go (e ∷ es) = elim (cases_Bool (bytes_eq name e.0)) [
+      | inl t ↦ rw t refl
+      | inr f ↦ let rest = go es in rw f rest
+    ]
+
+pub text_of-settled : (set : TextSet) (name : List ℕ) → text_of (settled_set set) name ≡ option_map (λ (t : EditedText). settled t.bytes) (text_of set name)
+text_of-settled set name = lookup-map_values (λ (t : EditedText). settled t.bytes) (bytes_eq name) set.texts
+
+pub held_over-settled : (set : TextSet) (files : List ℕ → List ℕ) (name : List ℕ) → held_over (settled_set set) files name ≡ held_over set files name
+held_over-settled set files name = ap (bytes_or (files name)) (text_of-settled set name) ∙ same (text_of set name)
+  where
+    same : (o : Option EditedText) → bytes_or (files name) (option_map (λ (t : EditedText). settled t.bytes) o) ≡ bytes_or (files name) o
+    same None = refl
+    same (Some t) = refl

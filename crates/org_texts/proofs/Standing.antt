@@ -1,0 +1,185 @@
+-- Held texts stay made of their files.
+use Rattle.std.proofs.Common.{◌≡◌, inl, inr, ℕ, ◌+◌, ◌≤◌, Bool, true, false, List, [], ◌∷◌, ◌++◌, length, Option, Some, None, refl, sym, ◌∙◌, ap, subst, arith}
+use Rattle.std.specs.Prelude.{IsSomeAnd}
+use Rattle.std.specs.List.{list_any}
+use Rattle.std.specs.Map.{keys_of, lookup}
+use Rattle.std.specs.Option.{is_some, option_map, IsSome}
+use Rattle.std.specs.Str.{bytes_eq}
+use Rattle.std.proofs.lemmas.Bool.{cases_Bool}
+use Rattle.std.proofs.lemmas.List.{map-append}
+use Rattle.std.proofs.lemmas.Map.Made.{is_some-lookup, keys_of-map_values}
+use Rattle.std.proofs.lemmas.Slice.Eq.{bytes_eq-Decides}
+use Rattle.org_splice.specs.Edits.{CanApply}
+use Rattle.org_splice.specs.Lines.{is_closed}
+use Rattle.org_splice.specs.Ranges.{AreChanged}
+use Rattle.org_splice.specs.Texts.{EditedText, IsEditOf, closed_text, settled, spliced, spliced_each}
+use Rattle.org_splice.proofs.Applying.{AreChanged-spliced, IsEditOf-spliced_each}
+use Rattle.org_splice.proofs.Edited.{IsEditOf-spliced}
+use Rattle.org_texts.specs.declared.plan.FileEdits.{FileEdits}
+use Rattle.org_texts.specs.Files.{IsTextOf, StandOver, waits}
+use Rattle.org_texts.specs.Inside.{AreAmong}
+use Rattle.org_texts.specs.Plan.{CanEdit, with_edits}
+use Rattle.org_texts.specs.Texts.{TextSet, closed_in, ends, settled_set, text_of, with_change, with_name, with_text}
+use Rattle.org_texts.proofs.Looking.{change_names, change_other, change_this, text_of-settled, the_value}
+use Rattle.org_texts.proofs.Names.{among_more, among_name, any_more, some_of}
+
+-- a name that was marked waits, and those that waited still do
+pub marked : (name : List ℕ) (names : List (List ℕ)) → list_any (bytes_eq name) (with_name name names) ≡ true
+marked name names = elim (cases_Bool (list_any (bytes_eq name) names)) [
+  | inl t ↦ rw t t
+  | inr f ↦ rw f (last names)
+]
+  where
+    last : (ns : List (List ℕ)) → list_any (bytes_eq name) (ns ++ name ∷ []) ≡ true
+    last [] = let own : bytes_eq name name ≡ true = (bytes_eq-Decides name name).1 refl in rw own refl
+    last (n ∷ ns) = elim (cases_Bool (bytes_eq name n)) [
+      | inl t ↦ rw t refl
+      | inr f ↦ let rest = last ns in rw f rest
+    ]
+
+pub not_marked : (name other : List ℕ) (names : List (List ℕ)) → list_any (bytes_eq other) (with_name name names) ≡ false → list_any (bytes_eq other) names ≡ false
+not_marked name other names none = elim (cases_Bool (list_any (bytes_eq other) names)) [
+  | inl t ↦
+      let still : list_any (bytes_eq other) (with_name name names) ≡ true = elim (cases_Bool (list_any (bytes_eq name) names)) [
+        | inl there ↦ rw there t
+        | inr not ↦ rw not (any_more (bytes_eq other) names (name ∷ []) t)
+      ] in
+      absurd (cc)
+  | inr f ↦ f
+]
+
+-- what was mapped
+the_old : {X Y : Type 0} (f : X → Y) (o : Option X) (y : Y) → option_map f o ≡ Some y → (x : X) × (o ≡ Some x) × (y ≡ f x)
+the_old f None y is = absurd (cc)
+the_old f (Some x) y is = (x, refl, let same : f x ≡ y = cc in sym same)
+
+held_name : (set : TextSet) (name : List ℕ) → IsSome (text_of set name) → list_any (bytes_eq name) (keys_of set.texts) ≡ true
+held_name set name some = sym (is_some-lookup (bytes_eq name) set.texts) ∙ some
+
+pub StandOver-edits : (change : FileEdits) (files : List ℕ → List ℕ) (set : TextSet) → CanEdit change set → StandOver files set → StandOver files (with_edits change set)
+StandOver-edits change files set can stand =
+    let own = change.file in
+    let es = change.edits.items in
+    record {
+      each = λ name text at. elim (cases_Bool (bytes_eq own name)) [
+        | inl t ↦
+            let same : own ≡ name = (bytes_eq-Decides own name).0 t in
+            let at_own : text_of (with_edits change set) own ≡ Some text = subst (λ (n : List ℕ). text_of (with_edits change set) n ≡ Some text) (sym same) at in
+            let old = the_old (spliced_each es) (text_of set own) text (sym (change_this own (spliced_each es) set.texts) ∙ at_own) in
+            let was = stand.each own old.0 old.1 in
+            let able : CanApply es old.0.bytes = subst (λ o. IsSomeAnd o (λ (x : EditedText). CanApply es x.bytes)) old.1 can in
+            let made = IsEditOf-spliced_each es (files own) old.0 able was.ranges was.edit in
+            let is : IsTextOf (files own) (waits (with_edits change set) own) (spliced_each es old.0) = record {
+              edit = made.0;
+              ranges = made.1;
+              same = λ none. let no : true ≡ false = sym (marked own set.waiting) ∙ none in absurd (cc);
+            } in
+            subst (λ (n : List ℕ). IsTextOf (files n) (waits (with_edits change set) n) text) same
+            (subst (IsTextOf (files own) (waits (with_edits change set) own)) (sym old.2) is)
+        | inr f ↦
+            let apart : own ≡ name → ⊥ = λ same. let yes : true ≡ false = sym ((bytes_eq-Decides own name).1 same) ∙ f in absurd (cc) in
+            let was = stand.each name text (sym (change_other own name (spliced_each es) set.texts apart) ∙ at) in
+            record { edit = was.edit; ranges = was.ranges; same = λ none. was.same (not_marked own name set.waiting none) }
+      ];
+      held =
+          let some = some_of (λ (x : EditedText). CanApply es x.bytes) (text_of set own) can in
+          subst (λ (l : List (List ℕ)). AreAmong l (with_name own set.waiting)) (sym (change_names own (spliced_each es) set.texts))
+          (among_name (keys_of set.texts) set.waiting own stand.held (held_name set own some));
+    }
+
+pub StandOver-held : (own : List ℕ) (files : List ℕ → List ℕ) (set : TextSet) → text_of set own ≡ None → StandOver files set → StandOver files (with_text own (files own) set)
+StandOver-held own files set none stand = record {
+  each = λ name text at. go set.texts name text (λ was. stand.each name text was) at;
+  held =
+      let names : keys_of (with_text own (files own) set).texts ≡ keys_of set.texts ++ own ∷ [] = map-append (λ (e : List ℕ × EditedText). e.0) set.texts ((own, settled (files own)) ∷ []) in
+      subst (λ (l : List (List ℕ)). AreAmong l set.waiting) (sym names) (among_more (keys_of set.texts) (own ∷ []) set.waiting stand.held);
+}
+  where
+    new : IsTextOf (files own) (waits set own) (settled (files own))
+    new = record { edit = record { same = λ i below outside. refl }; ranges = record { apart = tt; few = omega arith }; same = λ none. refl }
+
+    go : (es : List (List ℕ × EditedText)) (name : List ℕ) (text : EditedText) → (lookup (bytes_eq name) es ≡ Some text → IsTextOf (files name) (waits set name) text)
+        → lookup (bytes_eq name) (es ++ (own, settled (files own)) ∷ []) ≡ Some text → IsTextOf (files name) (waits set name) text
+    go [] name text was at = elim (cases_Bool (bytes_eq name own)) [
+      | inl t ↦
+          let same : name ≡ own = (bytes_eq-Decides name own).0 t in
+          let here : Some (settled (files own)) ≡ Some text = rw t at at in
+          let is : settled (files own) ≡ text = cc in
+          subst (λ (n : List ℕ). IsTextOf (files n) (waits set n) text) (sym same) (subst (IsTextOf (files own) (waits set own)) is new)
+      | inr f ↦ let no : None ≡ Some text = rw f at at in absurd (cc)
+    ]
+    go (e ∷ es) name text was at = elim (cases_Bool (bytes_eq name e.0)) [
+      | inl t ↦ was (rw t (rw t at at))
+      | inr f ↦ go es name text (λ old. was (rw f old)) (rw f at at)
+    ]
+
+pub StandOver-settled : (files : List ℕ → List ℕ) (set : TextSet) → ((name : List ℕ) (text : EditedText) → text_of set name ≡ Some text → files name ≡ text.bytes) → StandOver files (settled_set set)
+StandOver-settled files set written = record {
+  each = λ name text at.
+      let old = the_old (λ (t : EditedText). settled t.bytes) (text_of set name) text (sym (text_of-settled set name) ∙ at) in
+      let is : files name ≡ old.0.bytes = written name old.0 old.1 in
+      let new : IsTextOf (files name) false (settled (files name)) = record { edit = record { same = λ i below outside. refl }; ranges = record { apart = tt; few = omega arith }; same = λ none. refl } in
+      subst (IsTextOf (files name) false) (ap settled is ∙ sym old.2) new;
+  held = tt;
+}
+
+-- a text is closed
+closed_one : (file : List ℕ) (text : EditedText) → AreChanged (length text.bytes) text.changed → IsEditOf file text → IsEditOf file (closed_text text) × AreChanged (length (closed_text text).bytes) (closed_text text).changed
+closed_one file text are edit = elim (cases_Bool (is_closed text.bytes)) [
+  | inl t ↦ rw t (edit, are)
+  | inr f ↦
+      let within : length text.bytes + 0 ≤ length text.bytes = omega arith in
+      rw f (IsEditOf-spliced file (length text.bytes) 0 (10 ∷ []) text within are edit, AreChanged-spliced (length text.bytes) 0 (10 ∷ []) text within are)
+]
+
+-- the names that wait where one is closed
+waiting_closed : (own : List ℕ) (set : TextSet) (name : List ℕ) → waits (closed_in own set) name ≡ false → waits set name ≡ false
+waiting_closed own set name none = elim (cases_Bool (ends (text_of set own))) [
+  | inl t ↦ rw t at none
+  | inr f ↦ not_marked own name set.waiting (rw f at none)
+]
+
+still_closed : (own : List ℕ) (set : TextSet) (old : EditedText) → text_of set own ≡ Some old → waits (closed_in own set) own ≡ false → closed_text old ≡ old
+still_closed own set old is none = elim (cases_Bool (is_closed old.bytes)) [
+  | inl t ↦ rw t refl
+  | inr f ↦
+      let open_end : ends (text_of set own) ≡ false = ap ends is ∙ f in
+      let left : list_any (bytes_eq own) (with_name own set.waiting) ≡ false = rw open_end at none in
+      let no : true ≡ false = sym (marked own set.waiting) ∙ left in
+      absurd (cc)
+]
+
+pub StandOver-closed : (own : List ℕ) (files : List ℕ → List ℕ) (set : TextSet) → IsSome (text_of set own) → StandOver files set → StandOver files (closed_in own set)
+StandOver-closed own files set some stand = record {
+  each = λ name text at. elim (cases_Bool (bytes_eq own name)) [
+    | inl t ↦
+        let same : own ≡ name = (bytes_eq-Decides own name).0 t in
+        let at_own : text_of (closed_in own set) own ≡ Some text = subst (λ (n : List ℕ). text_of (closed_in own set) n ≡ Some text) (sym same) at in
+        let old = the_old closed_text (text_of set own) text (sym (change_this own closed_text set.texts) ∙ at_own) in
+        let was = stand.each own old.0 old.1 in
+        let made = closed_one (files own) old.0 was.ranges was.edit in
+        let is : IsTextOf (files own) (waits (closed_in own set) own) (closed_text old.0) = record {
+          edit = made.0;
+          ranges = made.1;
+          same = λ none. ap (λ (t : EditedText). t.bytes) (still_closed own set old.0 old.1 none) ∙ was.same (waiting_closed own set own none);
+        } in
+        subst (λ (n : List ℕ). IsTextOf (files n) (waits (closed_in own set) n) text) same
+        (subst (IsTextOf (files own) (waits (closed_in own set) own)) (sym old.2) is)
+    | inr f ↦
+        let apart : own ≡ name → ⊥ = λ same. let yes : true ≡ false = sym ((bytes_eq-Decides own name).1 same) ∙ f in absurd (cc) in
+        let was = stand.each name text (sym (change_other own name closed_text set.texts apart) ∙ at) in
+        record { edit = was.edit; ranges = was.ranges; same = λ none. was.same (waiting_closed own set name none) }
+  ];
+  held =
+      let names : keys_of (closed_in own set).texts ≡ keys_of set.texts = change_names own closed_text set.texts in
+      let among : AreAmong (keys_of set.texts) (closed_in own set).waiting = elim (cases_Bool (ends (text_of set own))) [
+        | inl t ↦ rw t stand.held
+        | inr f ↦ rw f (among_name (keys_of set.texts) set.waiting own stand.held (held_name set own some))
+      ] in
+      subst (λ (l : List (List ℕ)). AreAmong l (closed_in own set).waiting) (sym names) among;
+}
+
+-- edits of one text leave what can be done to another
+pub CanEdit-second : (first second : FileEdits) (set : TextSet) → CanEdit first set → CanEdit second set → (first.file ≡ second.file → ⊥) → CanEdit second (with_edits first set)
+CanEdit-second first second set can able apart =
+    subst (λ o. IsSomeAnd o (λ (x : EditedText). CanApply second.edits.items x.bytes)) (sym (change_other first.file second.file (spliced_each first.edits.items) set.texts apart)) able

@@ -1,0 +1,38 @@
+use Rattle.std.proofs.Common.{◌≡◌, ◌∙◌, length, sym, ap, arith}
+use Rattle.std.proofs.lemmas.Map.Entries.{length-keys_of}
+use Rattle.org_splice.specs.Texts.{settled}
+use Rattle.org_texts.specs.Held.{HeldText}
+use Rattle.org_texts.proofs.Values.{begun_more, map_kept, map_same, names_kept}
+use Rattle.org_texts.proofs.texts.settle_each.Goals as goal
+
+pub loop-place-preserved : goal.loop-place-preserved
+loop-place-preserved c =
+    let es = c.loop-place.held.entries in
+    let i = c.loop-place.place in
+    let r = c.index_mut.result.now in
+    let w = c.settle.new.self in
+    let text : w.text ≡ settled r.text.bytes = ap (λ (h : HeldText). h.text) c.settle.ensures in
+    let before : w.before ≡ settled r.text.bytes = ap (λ (h : HeldText). h.before) c.settle.ensures in
+    let bytes : w.text.bytes ≡ r.text.bytes = ap (λ (h : HeldText). h.text.bytes) c.settle.ensures in
+    record {
+      now = begun_more (λ (h : HeldText). h.text ≡ settled h.text.bytes) es i w c.loop-place.invariant.now (text ∙ ap settled (sym bytes));
+      before = begun_more (λ (h : HeldText). h.before ≡ settled h.text.bytes) es i w c.loop-place.invariant.before (before ∙ ap settled (sym bytes));
+      bytes = map_kept (λ (h : HeldText). settled h.text.bytes) es i r w c.index_mut.ensures.value (ap settled bytes) ∙ c.loop-place.invariant.bytes;
+      names = names_kept es i w ∙ c.loop-place.invariant.names;
+    }
+
+pub returns-clause-now : goal.returns-clause-now
+returns-clause-now c =
+    let es = c.loop-place.held.entries in
+    let old = c.args.held.now.entries in
+    let long : length es ≡ length old = sym (length-keys_of es) ∙ ap length c.loop-place.invariant.names ∙ length-keys_of old in
+    map_same (λ (h : HeldText). h.text) (λ (h : HeldText). settled h.text.bytes) es (λ k e below at. c.loop-place.invariant.now k e (omega (arith, below, long, c.len-place-end.ensures.len)) at)
+    ∙ c.loop-place.invariant.bytes
+
+pub returns-clause-before : goal.returns-clause-before
+returns-clause-before c =
+    let es = c.loop-place.held.entries in
+    let old = c.args.held.now.entries in
+    let long : length es ≡ length old = sym (length-keys_of es) ∙ ap length c.loop-place.invariant.names ∙ length-keys_of old in
+    map_same (λ (h : HeldText). h.before) (λ (h : HeldText). settled h.text.bytes) es (λ k e below at. c.loop-place.invariant.before k e (omega (arith, below, long, c.len-place-end.ensures.len)) at)
+    ∙ c.loop-place.invariant.bytes

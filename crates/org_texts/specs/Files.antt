@@ -1,0 +1,45 @@
+-- What held texts say of the files that they stand for.
+use Rattle.std.specs.Prelude.{◌≡◌, Bool, false, ℕ, List, Option, Some, None, length, if◌then◌else◌}
+use Rattle.std.specs.List.{list_any}
+use Rattle.std.specs.Map.{keys_of}
+use Rattle.std.specs.Str.{bytes_eq}
+use Rattle.org_splice.specs.Edits.{applied_each}
+use Rattle.org_splice.specs.Lines.{closed}
+use Rattle.org_splice.specs.Ranges.{AreChanged}
+use Rattle.org_splice.specs.Texts.{EditedText, IsEditOf}
+use Rattle.org_texts.specs.declared.plan.FileEdits.{FileEdits}
+use Rattle.org_texts.specs.declared.plan.Plan.{Plan}
+use Rattle.org_texts.specs.Inside.{AreAmong}
+use Rattle.org_texts.specs.Texts.{TextSet, text_of}
+
+-- whether the text of a name waits for a commit
+abbrev pub waits : TextSet → List ℕ → Bool
+waits set name = list_any (bytes_eq name) set.waiting
+
+-- A text made of a file: outside the ranges that were changed it has the file's bytes, and it is the file where it
+-- doesn't wait for a commit.
+pub record IsTextOf (file : List ℕ) (waiting : Bool) (text : EditedText) : Type 0 where
+  pub edit : IsEditOf file text
+  pub ranges : AreChanged (length text.bytes) text.changed
+  pub same : waiting ≡ false → text.bytes ≡ file
+
+-- Each text is made of its file, and each name that waits has a text.
+pub record StandOver (files : List ℕ → List ℕ) (set : TextSet) : Type 0 where
+  pub each : (name : List ℕ) (text : EditedText) → text_of set name ≡ Some text → IsTextOf (files name) (waits set name) text
+  pub held : AreAmong (keys_of set.texts) set.waiting
+
+-- the files with the edits of one of them
+abbrev pub files_with : FileEdits → (List ℕ → List ℕ) → List ℕ → List ℕ
+files_with change files name = if bytes_eq change.file name then applied_each change.edits.items (files name) else files name
+
+abbrev pub files_with_second : Option FileEdits → (List ℕ → List ℕ) → List ℕ → List ℕ
+files_with_second None files = files
+files_with_second (Some change) files = files_with change files
+
+-- the files that a plan makes
+abbrev pub files_planned : Plan → (List ℕ → List ℕ) → List ℕ → List ℕ
+files_planned plan files = files_with_second plan.second (files_with plan.first files)
+
+-- the files with this one closed
+abbrev pub files_closed : List ℕ → (List ℕ → List ℕ) → List ℕ → List ℕ
+files_closed own files name = if bytes_eq own name then closed (files name) else files name

@@ -1,0 +1,5 @@
+pub mod Held
+pub mod Texts
+pub mod Plan
+pub mod Inside
+pub mod Files

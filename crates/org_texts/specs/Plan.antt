@@ -1,0 +1,33 @@
+-- What a command changes: edits of one text, or of two.
+use Rattle.std.specs.Prelude.{Option, Some, None}
+use Rattle.std.specs.Prelude.{IsSomeAnd}
+use Rattle.std.specs.Option.{ForSome}
+use Rattle.org_splice.specs.Edits.{CanApply}
+use Rattle.org_splice.specs.Texts.{spliced_each}
+use Rattle.org_texts.specs.declared.plan.FileEdits.{FileEdits}
+use Rattle.org_texts.specs.declared.plan.Plan.{Plan}
+use Rattle.org_texts.specs.Texts.{TextSet, text_of, with_change, with_name}
+
+-- the texts with the edits of one of them, which waits from then on
+abbrev pub with_edits : FileEdits → TextSet → TextSet
+with_edits change set = record {
+  texts = with_change change.file (spliced_each change.edits.items) set.texts;
+  waiting = with_name change.file set.waiting;
+}
+
+abbrev pub with_second : Option FileEdits → TextSet → TextSet
+with_second None set = set
+with_second (Some change) set = with_edits change set
+
+-- the texts that a plan makes
+abbrev pub planned : Plan → TextSet → TextSet
+planned plan set = with_second plan.second (with_edits plan.first set)
+
+-- the edits can be made of the text of their name, which is held
+abbrev pub CanEdit : FileEdits → TextSet → Type 0
+CanEdit change set = IsSomeAnd (text_of set change.file) (λ text. CanApply change.edits.items text.bytes)
+
+-- A plan for these texts: its edits can be made, the second file's behind the first's.
+pub record IsPlan (plan : Plan) (set : TextSet) : Type 0 where
+  pub first : CanEdit plan.first set
+  pub second : ForSome plan.second (λ change. CanEdit change (with_edits plan.first set))

@@ -1,0 +1,86 @@
+-- Texts that are held in memory by the names of their files, as callers see them.
+use Rattle.std.specs.Prelude.{ℕ, Bool, true, Option, Some, None, List, [], ◌∷◌, ◌++◌, map, if◌then◌else◌}
+use Rattle.std.specs.List.{list_any}
+use Rattle.std.specs.Map.{lookup}
+use Rattle.std.specs.Str.{bytes_eq}
+use Rattle.org_splice.specs.Lines.{is_closed}
+use Rattle.org_splice.specs.Texts.{EditedText, closed_text, settled}
+use Rattle.org_texts.specs.Held.{HeldText}
+
+-- Texts under the names of their files, each name once; and the names of those that wait for a commit, in the order of
+-- their first touch.
+pub record TextSet : Type 0 where
+  pub texts : List (List ℕ × EditedText)
+  pub waiting : List (List ℕ)
+
+-- The texts as they are, and as they were before the command that runs; and for each whether its headings are held.
+pub record Holding : Type 0 where
+  pub now : TextSet
+  pub before : TextSet
+  pub ready : List (List ℕ × Bool)
+
+-- no text
+abbrev pub nothing_held : TextSet
+nothing_held = record { texts = []; waiting = [] }
+
+-- the text of a name
+abbrev pub text_of : TextSet → List ℕ → Option EditedText
+text_of set name = lookup (bytes_eq name) set.texts
+
+abbrev pub bytes_or : List ℕ → Option EditedText → List ℕ
+bytes_or bytes None = bytes
+bytes_or bytes (Some text) = text.bytes
+
+-- the files, with the held texts in place of their own
+abbrev pub held_over : TextSet → (List ℕ → List ℕ) → List ℕ → List ℕ
+held_over set files name = bytes_or (files name) (text_of set name)
+
+-- the texts with one more, which the disk has
+abbrev pub with_text : List ℕ → List ℕ → TextSet → TextSet
+with_text name bytes set = record { texts = set.texts ++ (name, settled bytes) ∷ []; waiting = set.waiting }
+
+-- the values by name, with the one of this name changed
+abbrev pub with_change : {X : Type 0} → List ℕ → (X → X) → List (List ℕ × X) → List (List ℕ × X)
+with_change name change [] = []
+with_change name change (e ∷ es) = if bytes_eq name e.0 then (e.0, change e.1) ∷ es else e ∷ with_change name change es
+
+-- the names with one more, if it isn't there
+abbrev pub with_name : List ℕ → List (List ℕ) → List (List ℕ)
+with_name name names = if list_any (bytes_eq name) names then names else names ++ name ∷ []
+
+abbrev pub ends : Option EditedText → Bool
+ends None = true
+ends (Some text) = is_closed text.bytes
+
+-- the texts with the one of this name closed; it waits where it wasn't closed
+abbrev pub closed_in : List ℕ → TextSet → TextSet
+closed_in name set = record {
+  texts = with_change name closed_text set.texts;
+  waiting = if ends (text_of set name) then set.waiting else with_name name set.waiting;
+}
+
+-- the texts as the disk has them behind a commit: none waits
+abbrev pub settled_set : TextSet → TextSet
+settled_set set = record { texts = map (λ e. (e.0, settled e.1.bytes)) set.texts; waiting = [] }
+
+abbrev pub text_or_none : Option EditedText → EditedText
+text_or_none None = settled []
+text_or_none (Some text) = text
+
+-- what a commit is told of: each waiting name with its text
+abbrev pub pairs : TextSet → List (List ℕ × EditedText)
+pairs set = map (λ name. (name, text_or_none (text_of set name))) set.waiting
+
+-- a held text by its name, as it is, and as it was before the command
+abbrev pub now_of : List ℕ × HeldText → List ℕ × EditedText
+now_of e = (e.0, e.1.text)
+
+abbrev pub before_of : List ℕ × HeldText → List ℕ × EditedText
+before_of e = (e.0, e.1.before)
+
+abbrev pub ready_of : List ℕ × HeldText → List ℕ × Bool
+ready_of e = (e.0, e.1.ready)
+
+-- the same, as it is behind a commit
+abbrev pub on_disk : List ℕ × HeldText → List ℕ × EditedText
+on_disk e = (e.0, settled e.1.text.bytes)

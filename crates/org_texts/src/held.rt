@@ -1,0 +1,153 @@
+//! The text of one file, edited in place, with its headings.
+ghost use Rattle.std.specs.Prelude.{◌≡◌, ◌+◌, ◌≤◌, false, true, is_some, length, IfSome, OnOk};
+ghost use Rattle.org_splice.specs.Edits.{CanApply, applied};
+ghost use Rattle.org_splice.specs.Lines.{closed};
+ghost use Rattle.org_splice.specs.Texts.{closed_text, settled, spliced, spliced_each};
+ghost use Rattle.org_outline.specs.Outline.{headings_of};
+
+use org_outline::Heads;
+use org_splice::{Edit, Editing};
+use std::alloc::{AllocError, Global};
+use std::marker::Model;
+
+/// The text of a file, as it is and as it was before the command that runs, with its headings where they are held. They
+/// are read when a command first needs them, follow each edit, and are let go where there is no memory for that and when
+/// edits are taken back.
+///
+/// A clause sees specs/Held.antt.
+#[derive(Drop)]
+pub struct Held {
+    text: Editing,
+    heads: Option<Heads>,
+}
+
+impl Model for Held {
+    ghost use Rattle.std.specs.Prelude.{is_some};
+    ghost use Rattle.org_texts.specs.Held.{AreHeadsOf, HeldText};
+
+    ghost Value = { HeldText };
+
+    ghost view = { λ h. record
+        { text = h.text.text; before = h.text.before; ready = is_some h.heads } };
+
+    ghost invariant = { λ h. AreHeadsOf h.text.text.bytes h.heads };
+}
+
+impl Held {
+    /// The text of a file that has these bytes on the disk. Takes no memory.
+    pub fn new(bytes: Vec<u8>) -> Held
+        ensures { result
+            ≡ record { text = settled bytes.items; before = settled bytes.items; ready = false } }
+    {
+        Held {
+            text: Editing::new(bytes),
+            heads: None,
+        }
+    }
+
+    /// The bytes of the text.
+    pub fn bytes(&self) -> &[u8]
+        ensures { result.now ≡ self.now.text.bytes }
+    {
+        self.text.bytes()
+    }
+
+    /// The text, as a commit is told of it.
+    pub fn text(&self) -> &Editing
+        ensures { result.now ≡ record { text = self.now.text; before = self.now.before } }
+    {
+        &self.text
+    }
+
+    /// The headings of the text, where they are held; the text is closed then.
+    pub fn heads(&self) -> Option<&Heads>
+        ensures ready { is_some result ≡ self.now.ready }
+        ensures heads { IfSome result (λ heads. heads.now ≡ headings_of self.now.text.bytes) }
+        ensures shut { IfSome result (λ heads. closed self.now.text.bytes ≡ self.now.text.bytes) }
+    {
+        self.heads.as_ref()
+    }
+
+    /// Makes the text ready for a command: a last line without a newline gets one, and the headings are read where they
+    /// aren't held. `AllocError` comes where there is no memory; the text may be closed then.
+    pub fn make_ready(&mut self, alloc: Global) -> Result<(), AllocError>
+        ensures ok { OnOk result
+            (self.new
+            ≡ record
+            { text = closed_text self.old.text; before = self.old.before; ready = true }) }
+        ensures before { self.new.before ≡ self.old.before }
+    {
+        if self.heads.is_some() {
+            return Ok(());
+        }
+        self.text.close_line()?;
+        let heads = Heads::read(alloc, self.text.bytes())?;
+        self.heads = Some(heads);
+        Ok(())
+    }
+
+    /// Makes edits, one after another, in place. The headings follow. `AllocError` comes where there is no memory; some
+    /// of the edits may be made then.
+    pub fn apply(&mut self, edits: &[Edit]) -> Result<(), AllocError>
+        requires { CanApply edits.now self.old.text.bytes }
+        ensures text { OnOk result (self.new.text ≡ spliced_each edits.now self.old.text) }
+        ensures before { self.new.before ≡ self.old.before }
+    {
+        for edit in edits {
+            self.apply_one(edit)?;
+        }
+        Ok(())
+    }
+
+    // Makes one edit. Where it is made and the headings find no memory, they are let go.
+    fn apply_one(&mut self, edit: &Edit) -> Result<(), AllocError>
+        requires within { edit.now.at + edit.now.removed ≤ length self.old.text.bytes }
+        requires shut { closed (applied edit.now self.old.text.bytes)
+            ≡ applied edit.now self.old.text.bytes }
+        ensures text { OnOk result
+            (self.new.text ≡ spliced edit.now.at edit.now.removed edit.now.bytes self.old.text) }
+        ensures before { self.new.before ≡ self.old.before }
+    {
+        let size = self.text.bytes().len();
+        prove!(edit.removed <= size);
+        self.text.apply(edit)?;
+        if let Some(heads) = &mut self.heads {
+            let added = edit.bytes.len();
+            let followed = heads.edited(self.text.bytes(), edit.at, edit.removed, added);
+            if followed.is_err() {
+                self.heads = None;
+            }
+        }
+        Ok(())
+    }
+
+    /// Takes all edits back. The headings of a text that was edited are let go. Takes no memory, and can't fail.
+    pub fn undo(&mut self)
+        ensures text { self.new.text ≡ self.old.before }
+        ensures before { self.new.before ≡ self.old.before }
+    {
+        if self.text.is_edited() {
+            self.heads = None;
+            self.text.undo();
+        }
+    }
+
+    /// Keeps all edits: they can't be taken back any more. Takes no memory.
+    pub fn keep(&mut self)
+        ensures { self.new
+            ≡ record { text = self.old.text; before = self.old.text; ready = self.old.ready } }
+    {
+        self.text.keep();
+    }
+
+    /// Takes the text as it is for what the disk has. Takes no memory.
+    pub fn settle(&mut self)
+        ensures { self.new ≡ record {
+          text = settled self.old.text.bytes;
+          before = settled self.old.text.bytes;
+          ready = self.old.ready;
+        } }
+    {
+        self.text.settle();
+    }
+}

@@ -1,0 +1,317 @@
+//! Texts by the names of their files.
+ghost use Rattle.std.specs.Prelude.{◌≡◌, ◌<◌, ◌≤◌, [], ◌∷◌, ◌++◌, List, ℕ, map, take, length, slice_get, Some, None, true, false, IsSome, IsSomeAnd, OnOk, OnErr};
+ghost use Rattle.std.specs.List.{IsDistinct, list_any};
+ghost use Rattle.std.specs.Map.{keys_of, lookup, set_value};
+ghost use Rattle.std.specs.Option.{option_map};
+ghost use Rattle.std.specs.Str.{bytes_eq};
+ghost use Rattle.org_splice.specs.Edits.{CanApply};
+ghost use Rattle.org_splice.specs.Texts.{closed_text, settled, spliced_each};
+ghost use Rattle.org_texts.specs.Inside.{IsHolding};
+ghost use Rattle.org_texts.specs.Plan.{CanEdit, IsPlan, planned, with_edits};
+ghost use Rattle.org_texts.specs.Texts.{before_of, closed_in, ends, nothing_held, now_of, on_disk, pairs, ready_of, settled_set, text_of, with_change, with_name, with_text};
+
+use crate::held::Held;
+use crate::plan::{FileEdits, Plan};
+use indexmap::{IndexMap, IndexSet};
+use org_disk::FileName;
+use org_outline::is_closed;
+use org_splice::{Changes, Edit, Editing};
+use std::alloc::{AllocError, Global};
+use std::marker::Model;
+
+/// Texts by the names of their files, each name once. A command edits them in place, and its edits are kept or taken back
+/// as a whole, which takes no memory and can't fail. Where a call of a command finds no memory, it takes all of the
+/// command's edits back.
+///
+/// A clause sees the texts as they are and as they were before the command, each time with the names of those that wait
+/// for a commit (specs/Texts.antt).
+#[derive(Drop)]
+pub struct Texts {
+    held: IndexMap<FileName, Held>,
+    // The names of the texts that wait for a commit, in the order of their first touch.
+    waiting: IndexSet<FileName>,
+    // How many of them waited before the command.
+    waited: usize,
+}
+
+impl Model for Texts {
+    ghost use Rattle.std.specs.Prelude.{map, take};
+    ghost use Rattle.std.specs.Map.{keys_of};
+    ghost use Rattle.org_texts.specs.Inside.{IsHolding};
+    ghost use Rattle.org_texts.specs.Texts.{Holding, before_of, now_of, ready_of};
+
+    ghost Value = { Holding };
+
+    ghost view = { λ t. record {
+      now = record { texts = map now_of t.held.entries; waiting = t.waiting.keys };
+      before = record { texts = map before_of t.held.entries; waiting = take t.waited t.waiting.keys };
+      ready = map ready_of t.held.entries;
+    } };
+
+    ghost invariant = { λ t. IsHolding (keys_of t.held.entries) t.waiting.keys t.waited };
+}
+
+impl Texts {
+    /// No text. Takes no memory.
+    pub fn new(alloc: Global) -> Texts
+        ensures { result ≡ record { now = nothing_held; before = nothing_held; ready = [] } }
+    {
+        Texts {
+            held: IndexMap::new(alloc),
+            waiting: IndexSet::new(alloc),
+            waited: 0,
+        }
+    }
+
+    /// Holds one more text, as the disk has it. `AllocError` leaves all as it is.
+    pub fn hold(&mut self, name: FileName, bytes: Vec<u8>) -> Result<(), AllocError>
+        requires { text_of self.old.now name ≡ None }
+        ensures now { OnOk result (self.new.now ≡ with_text name bytes.items self.old.now) }
+        ensures before { OnOk result
+            (self.new.before ≡ with_text name bytes.items self.old.before) }
+        ensures ready { OnOk result (self.new.ready ≡ self.old.ready ++ (name, false) ∷ []) }
+        ensures err { OnErr result (self.new ≡ self.old) }
+    {
+        self.held.insert(name, Held::new(bytes))?;
+        Ok(())
+    }
+
+    /// What is held of this name. Takes no memory.
+    pub fn get(&self, name: &FileName) -> Option<&Held>
+        ensures text { option_map (λ held. held.now.text) result ≡ text_of self.now.now name.now }
+        ensures before { option_map (λ held. held.now.before) result
+            ≡ text_of self.now.before name.now }
+        ensures ready { option_map (λ held. held.now.ready) result
+            ≡ lookup (bytes_eq name.now) self.now.ready }
+    {
+        self.held.get(name)
+    }
+
+    /// Makes the text of this name, which is held, ready for a command: a last line without a newline gets one, and the
+    /// headings are read where they aren't held. `AllocError` takes all edits of the command back.
+    pub fn make_ready(&mut self, name: &FileName) -> Result<(), AllocError>
+        requires { IsSome (text_of self.old.now name.now) }
+        ensures now { OnOk result (self.new.now ≡ closed_in name.now self.old.now) }
+        ensures ready { OnOk result
+            (self.new.ready ≡ with_change name.now (λ _. true) self.old.ready) }
+        ensures before { self.new.before ≡ self.old.before }
+        ensures err { OnErr result (self.new.now ≡ self.old.before) }
+    {
+        let done = self.close(name);
+        if done.is_err() {
+            self.undo();
+        }
+        done
+    }
+
+    // `make_ready` as far as there is memory.
+    fn close(&mut self, name: &FileName) -> Result<(), AllocError>
+        requires { IsSome (text_of self.old.now name.now) }
+        ensures now { OnOk result (self.new.now ≡ closed_in name.now self.old.now) }
+        ensures ready { OnOk result
+            (self.new.ready ≡ with_change name.now (λ _. true) self.old.ready) }
+        ensures before { self.new.before ≡ self.old.before }
+    {
+        if !is_closed_at(&self.held, name) {
+            wait(&mut self.waiting, name)?;
+        }
+        ready_at(&mut self.held, name)
+    }
+
+    /// Makes the edits of a plan, in place. `AllocError` takes all edits of the command back.
+    pub fn apply(&mut self, plan: &Plan) -> Result<(), AllocError>
+        requires { IsPlan plan.now self.old.now }
+        ensures now { OnOk result (self.new.now ≡ planned plan.now self.old.now) }
+        ensures before { self.new.before ≡ self.old.before }
+        ensures err { OnErr result (self.new.now ≡ self.old.before) }
+    {
+        let done = self.apply_each(plan);
+        if done.is_err() {
+            self.undo();
+        }
+        done
+    }
+
+    // `apply` as far as there is memory.
+    fn apply_each(&mut self, plan: &Plan) -> Result<(), AllocError>
+        requires { IsPlan plan.now self.old.now }
+        ensures now { OnOk result (self.new.now ≡ planned plan.now self.old.now) }
+        ensures before { self.new.before ≡ self.old.before }
+    {
+        self.apply_one(&plan.first)?;
+        match &plan.second {
+            Some(second) => self.apply_one(second),
+            None => Ok(()),
+        }
+    }
+
+    // The edits of one file, as far as there is memory.
+    fn apply_one(&mut self, change: &FileEdits) -> Result<(), AllocError>
+        requires { CanEdit change.now self.old.now }
+        ensures now { OnOk result (self.new.now ≡ with_edits change.now self.old.now) }
+        ensures before { self.new.before ≡ self.old.before }
+    {
+        wait(&mut self.waiting, &change.file)?;
+        apply_at(&mut self.held, &change.file, &change.edits)
+    }
+
+    /// Takes all edits of the command back. Takes no memory, and can't fail.
+    pub fn undo(&mut self)
+        ensures now { self.new.now ≡ self.old.before }
+        ensures before { self.new.before ≡ self.old.before }
+    {
+        undo_each(&mut self.held);
+        self.waiting.truncate(self.waited);
+    }
+
+    /// Keeps all edits of the command. Takes no memory, and can't fail.
+    pub fn keep(&mut self)
+        ensures now { self.new.now ≡ self.old.now }
+        ensures before { self.new.before ≡ self.old.now }
+    {
+        keep_each(&mut self.held);
+        self.waited = self.waiting.len();
+    }
+
+    /// Takes all texts as they are for what the disk has: a commit put them there. None waits. Takes no memory.
+    pub fn settle(&mut self)
+        ensures now { self.new.now ≡ settled_set self.old.now }
+        ensures before { self.new.before ≡ settled_set self.old.now }
+    {
+        settle_each(&mut self.held);
+        self.waiting.clear();
+        self.waited = 0;
+    }
+
+    /// How many texts wait for a commit. Takes no memory.
+    pub fn waiting_len(&self) -> usize
+        ensures len { result ≡ length (pairs self.now.now) }
+        ensures distinct { IsDistinct bytes_eq (keys_of (pairs self.now.now)) }
+    {
+        self.waiting.len()
+    }
+
+    /// The name and the text of one that waits for a commit, counted from 0 in the order of their first touch. Nothing is
+    /// copied.
+    pub fn waiting(&self, index: usize) -> (&FileName, &Editing)
+        requires { index < length (pairs self.now.now) }
+        ensures { slice_get (pairs self.now.now) index ≡ Some (result.0.now, result.1.now.text) }
+    {
+        let Some(name) = self.waiting.get_index(index) else {
+            unreachable!();
+        };
+        match self.held.get(name) {
+            Some(held) => (name, held.text()),
+            None => unreachable!(),
+        }
+    }
+}
+
+impl Changes<FileName> for Texts {
+    ghost use Rattle.org_texts.specs.Texts.{pairs as waiting_pairs};
+
+    ghost pairs = { λ texts. waiting_pairs texts.now };
+
+    fn len(&self) -> usize {
+        self.waiting_len()
+    }
+
+    fn pair(&self, index: usize) -> (&FileName, &Editing) {
+        self.waiting(index)
+    }
+}
+
+/// Puts a name behind the others, if it isn't there. `AllocError` leaves them as they are.
+fn wait(names: &mut IndexSet<FileName>, name: &FileName) -> Result<(), AllocError>
+    ensures ok { OnOk result (names.new.keys ≡ with_name name.now names.old.keys) }
+    ensures err { OnErr result (names.new.keys ≡ names.old.keys) }
+{
+    if names.contains(name) {
+        return Ok(());
+    }
+    names.insert(name.clone()?)?;
+    Ok(())
+}
+
+/// Whether the text of this name, which is held, is closed.
+fn is_closed_at(held: &IndexMap<FileName, Held>, name: &FileName) -> bool
+    requires { IsSome (lookup (bytes_eq name.now) (map now_of held.now.entries)) }
+    ensures { result ≡ ends (lookup (bytes_eq name.now) (map now_of held.now.entries)) }
+{
+    match held.get(name) {
+        Some(held) => is_closed(held.bytes()),
+        None => unreachable!(),
+    }
+}
+
+/// Makes the text of this name, which is held, ready, as far as there is memory.
+fn ready_at(held: &mut IndexMap<FileName, Held>, name: &FileName) -> Result<(), AllocError>
+    requires { IsSome (lookup (bytes_eq name.now) (map now_of held.old.entries)) }
+    ensures now { OnOk result
+        (map now_of held.new.entries
+        ≡ with_change name.now closed_text (map now_of held.old.entries)) }
+    ensures ready { OnOk result
+        (map ready_of held.new.entries
+        ≡ with_change name.now (λ _. true) (map ready_of held.old.entries)) }
+    ensures before { map before_of held.new.entries ≡ map before_of held.old.entries }
+    ensures names { keys_of held.new.entries ≡ keys_of held.old.entries }
+{
+    let alloc = *held.allocator();
+    let Some(place) = held.get_index_of(name) else {
+        unreachable!();
+    };
+    held[place].make_ready(alloc)
+}
+
+/// Makes edits of the text of this name, as far as there is memory.
+fn apply_at(
+    held: &mut IndexMap<FileName, Held>,
+    name: &FileName,
+    edits: &[Edit],
+) -> Result<(), AllocError>
+    requires { IsSomeAnd (lookup (bytes_eq name.now) (map now_of held.old.entries))
+        (λ text. CanApply edits.now text.bytes) }
+    ensures now { OnOk result
+        (map now_of held.new.entries
+        ≡ with_change name.now (spliced_each edits.now) (map now_of held.old.entries)) }
+    ensures before { map before_of held.new.entries ≡ map before_of held.old.entries }
+    ensures names { keys_of held.new.entries ≡ keys_of held.old.entries }
+{
+    let Some(place) = held.get_index_of(name) else {
+        unreachable!();
+    };
+    held[place].apply(edits)
+}
+
+/// Takes all edits of each text back.
+fn undo_each(held: &mut IndexMap<FileName, Held>)
+    ensures now { map now_of held.new.entries ≡ map before_of held.old.entries }
+    ensures before { map before_of held.new.entries ≡ map before_of held.old.entries }
+    ensures names { keys_of held.new.entries ≡ keys_of held.old.entries }
+{
+    for place in 0..held.len() {
+        held[place].undo();
+    }
+}
+
+/// Keeps all edits of each text.
+fn keep_each(held: &mut IndexMap<FileName, Held>)
+    ensures now { map now_of held.new.entries ≡ map now_of held.old.entries }
+    ensures before { map before_of held.new.entries ≡ map now_of held.old.entries }
+    ensures names { keys_of held.new.entries ≡ keys_of held.old.entries }
+{
+    for place in 0..held.len() {
+        held[place].keep();
+    }
+}
+
+/// Takes each text as it is for what the disk has.
+fn settle_each(held: &mut IndexMap<FileName, Held>)
+    ensures now { map now_of held.new.entries ≡ map on_disk held.old.entries }
+    ensures before { map before_of held.new.entries ≡ map on_disk held.old.entries }
+    ensures names { keys_of held.new.entries ≡ keys_of held.old.entries }
+{
+    for place in 0..held.len() {
+        held[place].settle();
+    }
+}
