@@ -2,6 +2,8 @@
 use Rattle.std.proofs.Common.{◌≡◌, ℕ, zero, suc, ◌+◌, ◌-◌, ◌<◌, ◌≤◌, ◌^◌, Bool, true, false, eqb, ltb, List, [], ◌∷◌, ◌++◌, length, drop, take, get_or, set, Option, Some, None, refl, sym, ap, subst, ◌∙◌, append_assoc, arith, add-one, add-zero, cond, eq-eqb, inl, inr}
 use Rattle.std.specs.Prelude.{map, ◌⊎◌}
 use Rattle.std.specs.List.{AllByRecursion, prefix_len}
+use Rattle.std.specs.List.Sorted.{IsNonDecreasingBy, IsPartitionPoint}
+use Rattle.std.proofs.lemmas.List.Sums.{prefix_len_is}
 use Rattle.std.proofs.lemmas.Bool.{cases_Bool, eqb-true}
 use Rattle.std.proofs.lemmas.Bool.Decides.{nat_tests}
 use Rattle.std.proofs.lemmas.List.{length-append, length-drop, length-take, length-take-le, take-append-drop, take_rest, take_more, take_at, drop_at, drop-drop, get_or-take, get_or-drop, length-map, take_all}
@@ -17,6 +19,7 @@ use Rattle.org_outline.specs.Text.{stars, level_of}
 use Rattle.org_outline.specs.Outline.{headings_of, heads_from, ends_line, with_heading, moved, CanMove, IsEdit}
 use Rattle.org_outline.proofs.Lines.{AllByRecursion-append}
 use Rattle.org_outline.proofs.LineWalk.{line_of, tail_is}
+use Rattle.org_outline.proofs.Nodes.{AllByRecursion-at}
 use Rattle.org_outline.proofs.HeadsFrom.{ends_line-append, take-plus, heads_from-text, level_of-append}
 
 -- ---- line starts and line ends that the code finds
@@ -115,6 +118,35 @@ with_low k at (Some n) hs le all = (le, all)
 begin_after : (k at : ℕ) (f : Bool) (b : List ℕ) → k ≤ at → AllByRecursion (λ (h : Heading). k ≤ h.start) (heads_from at f b)
 begin_after k at f [] le = tt
 begin_after k at f (x ∷ b) le = with_low k at (cond f (level_of (x ∷ b)) None) (heads_from (suc at) (eqb x 10) b) le (begin_after k (suc at) (eqb x 10) b (omega (arith, le)))
+
+rising-cons : (h : Heading) (hs : List Heading) → AllByRecursion (λ (g : Heading). h.start ≤ g.start) hs → IsNonDecreasingBy (λ (g : Heading). g.start) hs
+    → IsNonDecreasingBy (λ (g : Heading). g.start) (h ∷ hs)
+rising-cons h hs low rise zero zero d le lt = omega arith
+rising-cons h hs low rise zero (suc j) d le lt = AllByRecursion-at (λ (g : Heading). h.start ≤ g.start) hs j d low (omega (arith, lt))
+rising-cons h hs low rise (suc i) zero d le lt = absurd (omega (arith, le))
+rising-cons h hs low rise (suc i) (suc j) d le lt = rise i j d (omega (arith, le)) (omega (arith, lt))
+
+with_rising : (at : ℕ) (o : Option ℕ) (hs : List Heading) → AllByRecursion (λ (h : Heading). at ≤ h.start) hs → IsNonDecreasingBy (λ (h : Heading). h.start) hs
+    → IsNonDecreasingBy (λ (h : Heading). h.start) (with_heading o at hs)
+with_rising at None hs low rise = rise
+with_rising at (Some n) hs low rise = rising-cons (record { start = at; level = n }) hs low rise
+
+-- they stand in the order of their starts
+rising : (at : ℕ) (f : Bool) (b : List ℕ) → IsNonDecreasingBy (λ (h : Heading). h.start) (heads_from at f b)
+rising at f [] = λ i j d le lt. absurd (omega (arith, lt))
+rising at f (x ∷ b) =
+    with_rising at (cond f (level_of (x ∷ b)) None) (heads_from (suc at) (eqb x 10) b) (begin_after at (suc at) (eqb x 10) b (omega arith)) (rising (suc at) (eqb x 10) b)
+
+pub rising_now : (hs ks : List Heading) (c : List ℕ) (at removed added : ℕ) → IsEdit hs c at removed added → ks ≡ hs → IsNonDecreasingBy (λ (h : Heading). h.start) ks
+rising_now hs ks c at removed added e same =
+    let P : List Heading → Type 0 = λ l. IsNonDecreasingBy (λ (h : Heading). h.start) l in
+    subst P (heads_from-text e.before e.before_closed ∙ sym e.headings_are ∙ sym same) (rising 0 true e.before)
+
+-- where a search ends, as a count of the first ones
+pub count_at : (p : Heading → Bool) (hs : List Heading) (r : ℕ) → r ≤ length hs → IsPartitionPoint (λ h. p h ≡ true) (λ h. p h ≡ false) hs r → r ≡ prefix_len p hs
+count_at p hs r bound point =
+    let d : Heading = record { start = 0; level = 0 } in
+    sym (prefix_len_is p hs r d bound (λ k lt. point.0 k d (omega arith) lt) (λ lt. point.1 r d (omega arith) lt))
 
 with_high : (k at : ℕ) (o : Option ℕ) (hs : List Heading) → at < k → AllByRecursion (λ (h : Heading). h.start < k) hs → AllByRecursion (λ (h : Heading). h.start < k) (with_heading o at hs)
 with_high k at None hs lt all = all

@@ -1,6 +1,6 @@
 use Rattle.std.proofs.Common.{◌∙◌, ◌+◌, ◌<◌, ◌^◌, length, ap, List, arith, ℕ}
 use Rattle.std.proofs.lemmas.List.{length-drop}
-use Rattle.org_outline.proofs.Edits.{makes_now, can_move_now, edited_now}
+use Rattle.org_outline.proofs.Edits.{rising_now, makes_now, can_move_now, edited_now}
 use Rattle.org_outline.proofs.heads.Heads.edited.Goals as goal
 
 pub overflow_add-to : goal.overflow_add-to
@@ -10,6 +10,12 @@ overflow_add-to c =
     let bounds = c.line_end-to.ensures.within in
     let behind = ap (λ (l : List ℕ). length l) c.requires.back in
     omega (arith, small, within, bounds.0, bounds.1, behind, length-drop (c.args.at + c.args.added) c.args.after.now, length-drop (c.args.at + c.args.removed) c.requires.before)
+
+pub starts_before-first-requires : goal.starts_before-first-requires
+starts_before-first-requires c = rising_now _ _ _ _ _ _ c.requires (c.as_slice.ensures.value ∙ c.self.view_is)
+
+pub starts_before-last-requires : goal.starts_before-last-requires
+starts_before-last-requires c = rising_now _ _ _ _ _ _ c.requires (c.as_slice-2.ensures.value ∙ c.self.view_is)
 
 pub replace-requires-clause-ordered : goal.replace-requires-clause-ordered
 replace-requires-clause-ordered c =
