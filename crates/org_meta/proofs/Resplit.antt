@@ -3,7 +3,7 @@ use Rattle.std.proofs.Common.{◌≡◌, ℕ, suc, true, false, Option, Some, No
 use Rattle.std.specs.Prelude.{is_some, codes}
 use Rattle.std.specs.Option.{option_map, option_map_or}
 use Rattle.std.proofs.lemmas.Bool.{cases_Bool}
-use Rattle.std.proofs.lemmas.List.{take_at, drop_at}
+use Rattle.std.proofs.lemmas.List.{take_at, drop_at, append-nil}
 use Rattle.org_meta.specs.Sections.{SectionParts, split, joined, is_planning, planning_size, is_drawer_start, drawer_size, is_end, property_of, size_to_end, value_named, put_before_end, put_in_drawer}
 use Rattle.org_meta.specs.Notes.{with_note}
 use Rattle.org_meta.specs.Resplits.{with_drawer_line}
@@ -235,3 +235,26 @@ split_planned line ls here =
     let below = drop (planning_size ls) ls in
     let all : take (drawer_size below) below ++ drop (drawer_size below) below ≡ below = take-append-drop (drawer_size below) below in
     ap (λ (t : List (List ℕ)). split (line ∷ t)) all ∙ planned_split line below here
+
+-- ---- the first parts alone
+
+pub split_planning : (ls : List (List ℕ)) → split (split ls).planning ≡ record { planning = (split ls).planning; drawer = []; rest = [] }
+split_planning ls =
+    let p : SectionParts = record { planning = take (planning_size ls) ls; drawer = []; rest = [] } in
+    let alone : p.planning ≡ joined p = sym (append-nil p.planning) in
+    ap split alone ∙ resplit p (planning_again ls [] (λ _. refl)) refl
+
+bare_front : (ls drawer : List (List ℕ)) → drawer ≡ [] → split (joined (record { planning = take (planning_size ls) ls; drawer = drawer; rest = [] })) ≡ record { planning = take (planning_size ls) ls; drawer = drawer; rest = [] }
+bare_front ls drawer none =
+    resplit (record { planning = take (planning_size ls) ls; drawer = drawer; rest = [] })
+    (planning_again ls (drawer ++ []) (λ _. ap (λ (d : List (List ℕ)). planning_size (d ++ [])) none))
+    (ap (λ (d : List (List ℕ)). drawer_size (d ++ [])) none ∙ sym (ap length none))
+
+pub split_front : (ls : List (List ℕ)) → split ((split ls).planning ++ (split ls).drawer) ≡ record (split ls) { rest = [] }
+split_front ls =
+    let front : (split ls).planning ++ (split ls).drawer ≡ joined (record (split ls) { rest = [] }) =
+    ap (λ (d : List (List ℕ)). (split ls).planning ++ d) (sym (append-nil (split ls).drawer)) in
+    ap split front ∙ elim (drawer_of ls) [
+      | bare none ↦ bare_front ls (split ls).drawer none
+      | drawn s put ↦ stands_split ls (split ls).drawer [] s
+    ]

@@ -40,6 +40,16 @@ pub fn edited_parts()
         ≡ record (split lines) { planning = line ∷ [] } }
 {}
 
+/// The planning line of a section alone, and with the drawer below it, is split as it is in the
+/// section.
+pub fn fronts_are_split()
+    ensures planning { (lines : List (List ℕ)) → split (split lines).planning
+        ≡ record { planning = (split lines).planning; drawer = []; rest = [] } }
+    ensures drawer { (lines : List (List ℕ))
+        → split ((split lines).planning ++ (split lines).drawer)
+        ≡ record (split lines) { rest = [] } }
+{}
+
 /// A planning line whose entries were repeated is a planning line, so by `edited_parts` the section
 /// is split again as it was edited.
 pub fn repeats_stay_planning()

@@ -1,0 +1,52 @@
+use Rattle.std.proofs.Common.{◌≡◌, ℕ, List, Bool, true≢false, [], ◌∷◌, ◌++◌, sym, ap, ◌∙◌, true, false}
+use Rattle.org_splice.specs.declared.edit.Edit.{Edit}
+use Rattle.org_outline.specs.States.{Keywords}
+use Rattle.org_outline.specs.Tree.{tree}
+use Rattle.org_state.specs.Keyword.{keyword_in}
+use Rattle.org_state.specs.Todo.{Own, own_at, with_lines, is_done}
+use Rattle.org_state.proofs.Steps.{one_made}
+use Rattle.org_state.proofs.Turning.{keyword_alone, turned}
+use Rattle.org_state.proofs.changing.change.Goals as goal
+use Rattle.org_state.proofs.changing.change.Goals.{else-was_done-via-then-was_done+else-not-is_done, else-was_done-via-else-was_done, else-is_done-via-then-is_done+else-not-was_done, else-is_done-via-else-is_done}
+
+-- what the tests for done states say, so that a wrong one is refused at once
+pub returns-then-not-is_done : goal.returns-then-not-is_done
+returns-then-not-is_done c =
+    let states : Keywords = c.args.outline.now.states in
+    let own : Own = own_at (tree c.args.outline.now.text) c.args.node in
+    let was : is_done states (keyword_in states own.rest) ≡ true = cc in
+    let is : is_done states c.args.state.now ≡ false = cc in
+    turned true false states c.args.state.now c.args.now own c.args.outline.now.text c.args.node _ was is c.turn_back.ensures
+
+pub returns-then-not-was_done : goal.returns-then-not-was_done
+returns-then-not-was_done c =
+    let states : Keywords = c.args.outline.now.states in
+    let own : Own = own_at (tree c.args.outline.now.text) c.args.node in
+    let was : is_done states (keyword_in states own.rest) ≡ false = cc in
+    let is : is_done states c.args.state.now ≡ true = cc in
+    turned false true states c.args.state.now c.args.now own c.args.outline.now.text c.args.node _ was is c.turn_done.ensures
+
+pub returns : goal.returns
+returns c =
+    let states : Keywords = c.args.outline.now.states in
+    let state : List ℕ = c.args.state.now in
+    let own : Own = own_at (tree c.args.outline.now.text) c.args.node in
+    let was : Bool = c.is_done-was_done.result in
+    let is : Bool = c.is_done-is_done.result in
+    let same : was ≡ is =
+    elim c.else-was_done.branch [
+      | else-was_done-via-then-was_done+else-not-is_done w ↦ w.if-was_done.true ∙ sym w.if-not-is_done.false
+      | else-was_done-via-else-was_done w ↦
+          elim c.else-is_done.branch [
+            | else-is_done-via-then-is_done+else-not-was_done v ↦ absurd (true≢false (sym v.if-not-was_done.false ∙ w.if-was_done.false))
+            | else-is_done-via-else-is_done v ↦ w.if-was_done.false ∙ sym v.if-is_done.false
+          ]
+    ] in
+    let was_is : was ≡ is_done states (keyword_in states own.rest) = c.is_done-was_done.ensures.value ∙ ap (λ (k : Keywords). is_done k c.parts.result.keyword.now) c.states-states.ensures.value ∙ ap (is_done states) c.parts.ensures.keyword in
+    let is_is : is ≡ is_done states state = c.is_done-is_done.ensures.value ∙ ap (λ (k : Keywords). is_done k state) c.states-states.ensures.value in
+    let k : Edit = c.in_ok-keyword_edit.field-0 in (
+      with_lines states state own own.section,
+      keyword_alone (is_done states (keyword_in states own.rest)) (is_done states state) states state c.args.now own (sym was_is ∙ same ∙ is_is),
+      one_made c.args.outline.now.text c.args.node k _ c.push.new.self.items c.keyword_edit.ensures.closed c.requires c.in_ok-keyword_edit.ensures.edits
+          (c.in_ok-push.ensures.items ∙ ap (λ (es : List Edit). es ++ k ∷ []) c.new-edits.ensures.items),
+    )

@@ -1,0 +1,4 @@
+pub mod Keyword
+pub mod Todo
+pub mod Edits
+pub mod Answers

@@ -1,0 +1,83 @@
+//! Why a state can't be changed.
+use org_meta::PlanningFault;
+use org_outline::PathFault;
+use std::alloc::{AllocError, AllocFailed};
+use thiserror::Error;
+
+/// Why a state can't be changed.
+#[derive(Clone, Copy, Debug, PartialEq, Eq, Error)]
+pub enum StateFault {
+    /// The path is empty, or leads to no heading.
+    #[error("not found")]
+    NotFound,
+    /// The path leads to several headings.
+    #[error("not unique")]
+    NotUnique,
+    /// The state is none of the store's.
+    #[error("unknown state")]
+    UnknownState,
+    /// The planning line isn't well formed.
+    #[error("odd planning line")]
+    OddPlanning,
+    /// A repeater of hours on a timestamp without a time, or with a range.
+    #[error("a repeater of hours needs one time")]
+    BadRepeat,
+    /// The year of a repeated timestamp is past 9999.
+    #[error("the repeated date is past the year 9999")]
+    DateRange,
+    /// There was no memory for the edits.
+    #[error("out of memory")]
+    OutOfMemory,
+}
+
+impl From<PathFault> for StateFault {
+    ghost use Rattle.std.specs.Prelude.{◌≡◌};
+    ghost use Rattle.org_state.specs.Todo.{fault_of_path};
+
+    ghost from_gives = { λ fault e. e ≡ fault_of_path fault };
+
+    fn from(fault: PathFault) -> Self {
+        match fault {
+            PathFault::NotFound => StateFault::NotFound,
+            PathFault::NotUnique => StateFault::NotUnique,
+        }
+    }
+}
+
+impl From<PlanningFault> for StateFault {
+    ghost use Rattle.std.specs.Prelude.{◌≡◌};
+    ghost use Rattle.org_state.specs.Todo.{fault_of_planning};
+
+    ghost from_gives = { λ fault e. e ≡ fault_of_planning fault };
+
+    fn from(fault: PlanningFault) -> Self {
+        match fault {
+            PlanningFault::OddPlanning => StateFault::OddPlanning,
+            PlanningFault::BadRepeat => StateFault::BadRepeat,
+            PlanningFault::DateRange => StateFault::DateRange,
+            PlanningFault::OutOfMemory => StateFault::OutOfMemory,
+        }
+    }
+}
+
+impl From<AllocError> for StateFault {
+    ghost use Rattle.std.specs.Prelude.{◌≡◌};
+    ghost use Rattle.org_state.specs.declared.fault.StateFault.TheVariants.{OutOfMemory};
+
+    ghost from_gives = { λ _ e. e ≡ OutOfMemory };
+
+    fn from(_: AllocError) -> Self {
+        StateFault::OutOfMemory
+    }
+}
+
+impl<T: Drop> From<AllocFailed<T>> for StateFault {
+    ghost use Rattle.std.specs.Prelude.{◌≡◌};
+    ghost use Rattle.org_state.specs.declared.fault.StateFault.TheVariants.{OutOfMemory};
+
+    ghost from_gives = { λ _ e. e ≡ OutOfMemory };
+
+    fn from(_: AllocFailed<T>) -> Self {
+        StateFault::OutOfMemory
+    }
+}
