@@ -2,8 +2,12 @@
 use Rattle.std.proofs.Common.{◌≡◌, ℕ, List, [], ◌∷◌, ◌++◌, Some, None, codes, refl}
 use Rattle.org_outline.specs.States.{Keywords}
 use Rattle.org_outline.specs.Tree.{tree}
-use Rattle.org_move.specs.Location.{value_of_lines, location_of}
-use Rattle.org_move.specs.Inherited.{outline_path, inherited_tags}
+use Rattle.std.specs.Prelude.{Ok, Err, drop}
+use Rattle.org_stamp.specs.Calendar.{CivilMinute}
+use Rattle.org_move.specs.declared.fault.MoveFault.TheVariants.{AlreadyArchive, BadLocation, NotFound}
+use Rattle.org_move.specs.Archive.{archive_properties, category_of, named, target_heading}
+use Rattle.org_move.specs.Location.{value_for, value_of_lines, location, location_of}
+use Rattle.org_move.specs.Inherited.{titles_above, inherited_tags}
 
 -- a line of these characters
 abbrev line : List ℕ → List ℕ
@@ -76,7 +80,7 @@ split_once = refl
 work : List ℕ
 work = line (codes "* DONE Work :job:") ++ line (codes "** P :b:job:") ++ line (codes "*** T :own:") ++ line (codes "* Top :c:")
 
-path_to_parent : outline_path states (tree work) 2 ≡ codes "Work/P"
+path_to_parent : titles_above states (tree work) 2 ≡ codes "Work" ∷ codes "P" ∷ []
 unfolding states work
 path_to_parent = refl
 
@@ -87,3 +91,79 @@ each_tag_once = refl
 none_at_top : inherited_tags states (tree work) 3 ≡ []
 unfolding states work
 none_at_top = refl
+
+-- ---- the location of a heading
+
+home : List ℕ
+home = line (codes "#+ARCHIVE: ::* Archived") ++ line (codes "* A") ++ line (codes "* B")
+
+in_home : location_of states (codes "x.org") (value_for home 0) ≡ Some (record { file = codes "x.org"; level = 1; title = codes "Archived" })
+unfolding states home
+in_home = refl
+
+-- the nearest nonempty property wins over the text's line
+nested : List ℕ
+nested = line (codes "#+ARCHIVE: y.org::") ++ line (codes "* P") ++ line (codes ":PROPERTIES:") ++ line (codes ":archive: done.org::** Old") ++ line (codes ":END:") ++ line (codes "** A")
+    ++ line (codes ":PROPERTIES:") ++ line (codes ":ARCHIVE:") ++ line (codes ":END:") ++ line (codes "* Q")
+
+of_parent : location_of states (codes "x.org") (value_for nested 1) ≡ Some (record { file = codes "done.org"; level = 2; title = codes "Old" })
+unfolding states nested
+of_parent = refl
+
+of_text : location_of states (codes "x.org") (value_for nested 2) ≡ Some (record { file = codes "y.org"; level = 0; title = [] })
+unfolding states nested
+of_text = refl
+
+of_file : location_of states (codes "x.org") (value_for (line (codes "* A")) 0) ≡ Some (record { file = codes "x.org_archive"; level = 0; title = [] })
+unfolding states
+of_file = refl
+
+bad : location states (codes "x.org") (codes "A" ∷ []) (line (codes "#+ARCHIVE: a/b.org") ++ line (codes "* A")) ≡ Err BadLocation
+unfolding states
+bad = refl
+
+-- the path is asked before the file
+archived : location states (codes "x.org_archive") (codes "A" ∷ []) (line (codes "* A")) ≡ Err AlreadyArchive
+unfolding states
+archived = refl
+
+path_first : location states (codes "x.org_archive") (codes "Q" ∷ []) (line (codes "* A")) ≡ Err NotFound
+unfolding states
+path_first = refl
+
+-- ---- what is put
+
+-- all but the time
+values : (now : CivilMinute) → drop 1 (archive_properties states (codes "x.org") now (tree work) 2)
+    ≡ named (codes "ARCHIVE_FILE") (codes "x.org")
+    ∷ named (codes "ARCHIVE_OLPATH") (codes "Work/P")
+    ∷ named (codes "ARCHIVE_CATEGORY") (codes "x")
+    ∷ named (codes "ARCHIVE_ITAGS") (codes "job b")
+    ∷ []
+unfolding states work
+values now = refl
+
+-- at the top level there is neither path nor inherited tag
+values_at_top : (now : CivilMinute) → drop 1 (archive_properties states (codes "x.org") now (tree work) 0)
+    ≡ named (codes "ARCHIVE_FILE") (codes "x.org") ∷ named (codes "ARCHIVE_CATEGORY") (codes "x") ∷ named (codes "ARCHIVE_TODO") (codes "DONE") ∷ []
+unfolding states work
+values_at_top now = refl
+
+-- a category in any case, of the nearest heading that has one
+kept : List ℕ
+kept = line (codes "* A") ++ line (codes ":PROPERTIES:") ++ line (codes ":category: home") ++ line (codes ":END:") ++ line (codes "** B")
+
+category : category_of (codes "x.org") (tree kept) 1 ≡ codes "home"
+unfolding kept
+category = refl
+
+-- ---- where it goes
+
+heading_found : target_heading states (record { file = codes "x.org"; level = 2; title = codes "P" }) (tree work) ≡ Ok (Some 1)
+unfolding states work
+heading_found = refl
+
+-- the level counts
+heading_missing : target_heading states (record { file = codes "x.org"; level = 1; title = codes "P" }) (tree work) ≡ Ok None
+unfolding states work
+heading_missing = refl

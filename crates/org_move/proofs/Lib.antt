@@ -4,3 +4,11 @@ pub mod Kept
 pub mod Made
 pub mod Rows
 pub mod ArchiveRows
+pub mod Own
+pub mod Above
+pub mod Halves
+pub mod Lines
+pub mod Utf8
+pub mod Places
+pub mod Joins
+pub mod Puts

@@ -26,7 +26,7 @@ use Rattle.org_move.specs.Refile.{is_inside, moved, refile_within, Moved, refile
 
 -- ---- nodes of a text
 
-prints : (t : List ℕ) → closed t ≡ t → print (tree t) ≡ t
+pub prints : (t : List ℕ) → closed t ≡ t → print (tree t) ≡ t
 prints t shut = (tree-is t).prints ∙ shut
 
 -- the stars of a heading line aren't the whole text

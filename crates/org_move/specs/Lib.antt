@@ -1,4 +1,5 @@
 pub mod Answers
+pub mod Archive
 pub mod Counts
 pub mod Edits
 pub mod Inherited

@@ -1,15 +1,24 @@
 -- Where an archived subtree goes (Org manual, "Moving a tree to an archive file"; Org Syntax, "Keywords").
-use Rattle.std.specs.Prelude.{ℕ, nat_lt, ◌==◌, Bool, ◌&&◌, if◌then◌else◌, List, [], ◌∷◌, ◌++◌, codes, length, take, drop, Option, None, Some}
+use Rattle.std.specs.Prelude.{ℕ, nat_lt, ◌==◌, Bool, ◌&&◌, if◌then◌else◌, List, [], ◌∷◌, ◌++◌, codes, length, take, drop, Option, None, Some, Result, Ok, Err}
+use Rattle.std.specs.Borrow.{Bor}
 use Rattle.std.specs.List.{find}
-use Rattle.std.specs.Option.{option_map, option_and_then}
-use Rattle.std.specs.Str.{str_eq_ignore_ascii_case}
+use Rattle.std.specs.Option.{option_map, option_and_then, option_or, unwrap_or}
+use Rattle.std.specs.Str.{str_eq_ignore_ascii_case, is_utf8}
 use Rattle.org_splice.specs.Blanks.{is_blank, behind, trimmed}
+use Rattle.org_splice.specs.Lines.{lines_of}
+use Rattle.org_disk.specs.Names.{is_archive_name, is_file_name}
 use Rattle.org_outline.specs.States.{Keywords}
 use Rattle.org_outline.specs.Text.{level_of}
+use Rattle.org_outline.specs.Tree.{tree}
 use Rattle.org_outline.specs.Parts.{Parts, parts_of}
+use Rattle.org_outline.specs.Paths.{find_path}
+use Rattle.org_move.specs.declared.fault.MoveFault.{MoveFault}
+use Rattle.org_move.specs.declared.fault.MoveFault.TheVariants.{AlreadyArchive, BadLocation, NoSuchFile}
+use Rattle.org_move.specs.Inherited.{nonempty, nearest}
+use Rattle.org_move.specs.Refile.{with_found}
 
 -- a file, and the heading in it below which the subtree goes; at level 0 there is none, and it goes to the top level
-pub record Location : Type 0 where
+pub record Destination : Type 0 where
   pub file : List ℕ
   pub level : ℕ
   pub title : List ℕ
@@ -24,14 +33,14 @@ is_archive_line l = str_eq_ignore_ascii_case (take 10 (behind is_blank l)) (code
 abbrev pub value_behind : List ℕ → List ℕ
 value_behind l = trimmed (drop 10 (behind is_blank l))
 
--- nothing where it is empty
-abbrev pub nonempty : List ℕ → Option (List ℕ)
-nonempty [] = None
-nonempty (b ∷ bs) = Some (b ∷ bs)
-
 -- the value of the first such line: a later one doesn't count, even where the first one is empty
 abbrev pub value_of_lines : List (List ℕ) → Option (List ℕ)
 value_of_lines ls = option_and_then (λ l. nonempty (value_behind l)) (find is_archive_line ls)
+
+-- the value that counts for a heading of a text: that of the nearest property, of the text's line, or the default
+abbrev pub value_for : List ℕ → ℕ → List ℕ
+value_for text i =
+    unwrap_or (option_or (nearest (codes "ARCHIVE") (tree text) i) (value_of_lines (lines_of text))) (codes "%s_archive::")
 
 -- ---- what a value says
 
@@ -60,23 +69,49 @@ abbrev pub file_named : List ℕ → List ℕ → List ℕ
 file_named name [] = name
 file_named name (b ∷ bs) = with_name name (b ∷ bs)
 
+pub record Heading : Type 0 where
+  pub level : ℕ
+  pub title : List ℕ
+
 -- a title alone: nonempty, without keyword, priority and tags
 abbrev pub is_title_alone : Parts → Bool
 is_title_alone parts =
     length parts.keyword == 0 && length parts.priority == 0 && length parts.tags == 0 && nat_lt 0 (length parts.title)
 
--- the place in a file by the heading line of a level that is to stand over it
-abbrev pub below_line : Keywords → List ℕ → List ℕ → ℕ → Option Location
-below_line states file l level =
+-- the two as the code has them
+abbrev pub halves_made : Bor (List ℕ) × Bor (List ℕ) → Halves
+halves_made halves = record { file = halves.0.now; heading = halves.1.now }
+
+abbrev pub heading_made : ℕ × Bor (List ℕ) → Heading
+heading_made heading = record { level = heading.0; title = heading.1.now }
+
+-- the heading of a level that a line is, where it is a title alone
+abbrev pub titled_line : Keywords → List ℕ → ℕ → Option Heading
+titled_line states l level =
     let parts = parts_of states (drop level l) in
-    if is_title_alone parts then Some (record { file = file; level = level; title = parts.title }) else None
+    if is_title_alone parts then Some (record { level = level; title = parts.title }) else None
 
--- no line is the top level
-abbrev pub place_below : Keywords → List ℕ → List ℕ → Option Location
-place_below states file [] = Some (record { file = file; level = 0; title = [] })
-place_below states file (b ∷ bs) = option_and_then (below_line states file (b ∷ bs)) (level_of (b ∷ bs))
+-- the heading that the line is; no line is the top level
+abbrev pub heading_of : Keywords → List ℕ → Option Heading
+heading_of states [] = Some (record { level = 0; title = [] })
+heading_of states (b ∷ bs) = option_and_then (titled_line states (b ∷ bs)) (level_of (b ∷ bs))
 
--- the location that a value names in the file of this name, if it names one
-abbrev pub location_of : Keywords → List ℕ → List ℕ → Option Location
+-- the destination that a value names in the file of this name, if it names one
+abbrev pub location_of : Keywords → List ℕ → List ℕ → Option Destination
 location_of states name value =
-    option_and_then (λ halves. place_below states (file_named name halves.file) halves.heading) (halves_of value)
+    option_and_then (λ halves. option_map (λ heading. let to : Destination = record { file = file_named name halves.file; level = heading.level; title = heading.title } in to) (heading_of states halves.heading)) (halves_of value)
+
+-- one whose file has a name that a file can have
+abbrev pub with_file : Destination → Result Destination MoveFault
+with_file to = if is_utf8 to.file && is_file_name to.file then Ok to else Err NoSuchFile
+
+-- what is made of a destination, and the fault where there is none
+abbrev pub and_file : Option Destination → Result Destination MoveFault
+and_file None = Err BadLocation
+and_file (Some to) = with_file to
+
+-- where the heading at a path goes that is archived from the file of this name
+abbrev pub location : Keywords → List ℕ → List (List ℕ) → List ℕ → Result Destination MoveFault
+location states name path text =
+    with_found (find_path states (tree text) path) (λ i.
+    if is_archive_name name then Err AlreadyArchive else and_file (location_of states name (value_for text i)))

@@ -1,9 +1,9 @@
-// Why a subtree can't be moved.
+// Why a subtree can't be moved or archived.
 use org_outline::PathFault;
 use std::alloc::AllocError;
 use thiserror::Error;
 
-/// Why a subtree can't be moved.
+/// Why a subtree can't be moved or archived.
 #[derive(Clone, Copy, Debug, PartialEq, Eq, Error)]
 pub enum MoveFault {
     /// A path is empty, or leads to no heading.
@@ -15,7 +15,16 @@ pub enum MoveFault {
     /// The heading that the subtree is to go below lies in the subtree.
     #[error("inside itself")]
     InsideItself,
-    /// There was no memory for the moved bytes.
+    /// The entry is archived already: its file is an archive file, or it lies below the heading to which it would go.
+    #[error("already archived")]
+    AlreadyArchive,
+    /// The text that says where an entry goes names no place.
+    #[error("bad location")]
+    BadLocation,
+    /// The place is in a file that no name can have.
+    #[error("no such file")]
+    NoSuchFile,
+    /// There was no memory for the moved bytes, or for a location.
     #[error("out of memory")]
     OutOfMemory,
 }

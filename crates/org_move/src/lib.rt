@@ -1,11 +1,18 @@
-//! Subtrees moved to other headings, within a text or from one text into another (Org manual, "Refile and Copy").
+//! Subtrees moved to other headings, within a text or from one text into another (Org manual, "Refile and Copy"), and
+//! subtrees archived (Org manual, "Archiving").
 //!
 //! A call only says what is to be done: it answers the edits of the texts, and changes nothing.
 #![tactic(auto)]
 
+mod destination;
 mod fault;
+mod inherited;
 pub mod laws;
+mod locating;
+mod properties;
 mod refile;
 
+pub use destination::Location;
 pub use fault::MoveFault;
+pub use locating::location;
 pub use refile::{refile_across, refile_within};

@@ -1,0 +1,50 @@
+-- Where a value says that a subtree goes.
+use Rattle.std.proofs.Common.{◌≡◌, ℕ, true, false, Bool, ◌&&◌, List, Option, Some, Ok, Err, refl, sym, ap, subst, ◌∙◌}
+use Rattle.std.specs.Prelude.{Result, IfErr, if◌then◌else◌}
+use Rattle.std.specs.Option.{option_map}
+use Rattle.std.specs.Str.{is_utf8}
+use Rattle.org_disk.specs.Names.{is_archive_name, is_file_name}
+use Rattle.org_outline.specs.States.{Keywords}
+use Rattle.org_outline.specs.declared.paths.PathFault.{PathFault}
+use Rattle.org_outline.specs.Tree.{tree}
+use Rattle.org_outline.specs.Paths.{find_path}
+use Rattle.org_move.specs.declared.fault.MoveFault.{MoveFault}
+use Rattle.org_move.specs.declared.fault.MoveFault.TheVariants.{NotFound, NotUnique, InsideItself, AlreadyArchive, BadLocation, NoSuchFile, OutOfMemory}
+use Rattle.org_move.specs.Answers.{GivesName, GivesPlace}
+use Rattle.org_move.specs.Location.{Destination, Halves, Heading, file_named, halves_of, heading_of, location, value_for, with_file}
+
+-- what was read
+pub read_is : {A B : Type 0} (view : A → B) (o : Option A) (x : A) (defined : Option B) → option_map view o ≡ defined → o ≡ Some x → defined ≡ Some (view x)
+read_is view o x defined is some = sym is ∙ ap (option_map view) some
+
+pub located : (states s : Keywords) (name : List ℕ) (path : List (List ℕ)) (t value : List ℕ) (r : Result ℕ PathFault) (i : ℕ) (halves : Halves) (heading : Heading) (b : Bool)
+    → r ≡ find_path states (tree t) path → r ≡ Ok i → b ≡ is_archive_name name → b ≡ false → value ≡ value_for t i → halves_of value ≡ Some halves → s ≡ states → heading_of s halves.heading ≡ Some heading
+    → location states name path t ≡ with_file (record { file = file_named name halves.file; level = heading.level; title = heading.title })
+located states s name path t value r i halves heading b r_is found b_is own value_is cut same read =
+    let first : find_path states (tree t) path ≡ Ok i = sym r_is ∙ found in
+    let second : is_archive_name name ≡ false = sym b_is ∙ own in
+    let third : halves_of (value_for t i) ≡ Some halves = ap halves_of (sym value_is) ∙ cut in
+    let fourth : heading_of states halves.heading ≡ Some heading = ap (λ s. heading_of s halves.heading) (sym same) ∙ read in
+    rw (first, second, third, fourth) refl
+
+-- only the file's name may be wrong after the value was read
+late : (to : Destination) (b : Bool) → IfErr (if b then Ok to else Err NoSuchFile) (λ fault. fault ≡ NoSuchFile)
+late to true = tt
+late to false = refl
+
+pub no_memory : (to : Destination) → IfErr (with_file to) (λ fault. fault ≡ NoSuchFile)
+no_memory to = late to (is_utf8 to.file && is_file_name to.file)
+
+named_fault : (bytes : List ℕ) (to : Destination) (fault : MoveFault) → bytes ≡ to.file → GivesName bytes (Err fault) → GivesPlace (with_file to) (Err fault)
+named_fault bytes to NotFound same gives = absurd gives
+named_fault bytes to NotUnique same gives = absurd gives
+named_fault bytes to InsideItself same gives = absurd gives
+named_fault bytes to AlreadyArchive same gives = absurd gives
+named_fault bytes to BadLocation same gives = absurd gives
+named_fault bytes to NoSuchFile same gives = let none : (is_utf8 to.file && is_file_name to.file) ≡ false = ap (λ b. is_utf8 b && is_file_name b) (sym same) ∙ gives in rw none refl
+named_fault bytes to OutOfMemory same gives = no_memory to
+
+pub name_fault : (bytes : List ℕ) (to : Destination) (defined : Result Destination MoveFault) (r : Result (List ℕ) MoveFault) (fault : MoveFault)
+    → defined ≡ with_file to → bytes ≡ to.file → GivesName bytes r → r ≡ Err fault → GivesPlace defined (Err fault)
+name_fault bytes to defined r fault is same gives was =
+    subst (λ d. GivesPlace d (Err fault)) (sym is) (named_fault bytes to fault same (subst (GivesName bytes) was gives))

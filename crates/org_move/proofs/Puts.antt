@@ -1,0 +1,71 @@
+-- A section with a property put is split again as it was edited.
+use Rattle.std.proofs.Common.{◌≡◌, ℕ, ◌+◌, true, eqb, not, List, [], ◌∷◌, ◌++◌, length, take, drop, refl, sym, ap, ◌∙◌, arith, inl, inr}
+use Rattle.std.proofs.lemmas.Bool.{cases_Bool}
+use Rattle.std.proofs.lemmas.Bool.Decides.{nat_tests}
+use Rattle.std.specs.Prelude.{◌≢◌, codes, slice_range}
+use Rattle.std.specs.List.{AllByRecursion, list_all}
+use Rattle.std.proofs.lemmas.List.{take_rest}
+use Rattle.org_splice.specs.Edits.{applied}
+use Rattle.org_splice.specs.Lines.{closed, IsLine, lines_of}
+use Rattle.org_splice.specs.declared.edit.Edit.{Edit}
+use Rattle.org_splice.proofs.Lines.{closed-print_lines, lines_of-lines, lines_of-print_lines}
+use Rattle.org_meta.specs.Edits.{GivesParts}
+use Rattle.org_meta.specs.Sections.{is_property_name, joined, parts_of, property_line, put, split}
+use Rattle.org_meta.proofs.Keeping.{keeps_put}
+use Rattle.org_meta.proofs.Reading.{line_said}
+use Rattle.org_meta.proofs.Resplit.{split_put}
+
+-- ---- lines
+
+-- bytes that pass the test are a line
+pub tested_line : (l : List ℕ) → list_all (λ b. not (eqb b 10)) l ≡ true → IsLine l
+tested_line [] e = tt
+tested_line (b ∷ l) e =
+    elim (cases_Bool (eqb b 10)) [
+      | inl x ↦ absurd (let f = rw x at e in cc)
+      | inr x ↦ let ne : b ≢ 10 = grind (arith, nat_tests) in (ne, tested_line l (rw x at e))
+    ]
+
+-- ---- a property
+
+mark_line : IsLine (codes ":PROPERTIES:")
+mark_line = tested_line (codes ":PROPERTIES:") refl
+
+end_line : IsLine (codes ":END:")
+end_line = tested_line (codes ":END:") refl
+
+pub put_lines : (name value : List ℕ) (ls : List (List ℕ)) → IsLine (property_line name value) → AllByRecursion IsLine ls → AllByRecursion IsLine (joined (put name value (split ls)))
+put_lines name value ls line all = keeps_put IsLine name (property_line name value) line mark_line end_line ls all
+
+pub put_split : (name value text new : List ℕ) (e : Edit) → is_property_name name ≡ true → IsLine (property_line name value) → GivesParts e text (put name value (parts_of text))
+    → new ≡ applied e text → parts_of new ≡ put name value (parts_of text)
+put_split name value text new e good line gives is =
+    let ls : List (List ℕ) = lines_of text in
+    let said = line_said name value good in
+    ap parts_of (is ∙ gives.gives)
+    ∙ ap split (lines_of-print_lines (joined (put name value (split ls))) (put_lines name value ls line (lines_of-lines text)))
+    ∙ split_put name (property_line name value) ls said.0 said.1
+
+pub put_closed : (name value text new : List ℕ) (e : Edit) → GivesParts e text (put name value (parts_of text)) → new ≡ applied e text → closed new ≡ new
+put_closed name value text new e gives is =
+    let whole = is ∙ gives.gives in
+    ap closed whole ∙ closed-print_lines (joined (put name value (parts_of text))) ∙ sym whole
+
+-- what the code puts together is the edited text
+pub put_together : (text old again first bytes second new : List ℕ) (e : Edit) → old ≡ text → again ≡ text → first ≡ take e.at old → bytes ≡ e.bytes → second ≡ first ++ bytes
+    → new ≡ second ++ slice_range again (e.at + e.removed) (length again) → new ≡ applied e text
+put_together text old again first bytes second new e same same_again first_is bytes_is second_is new_is =
+    let back : slice_range again (e.at + e.removed) (length again) ≡ drop (e.at + e.removed) text =
+    take_rest again (e.at + e.removed) ∙ ap (λ t. drop (e.at + e.removed) t) same_again in
+    let both : second ≡ take e.at text ++ e.bytes =
+    second_is ∙ ap (λ (t : List ℕ). t ++ bytes) (first_is ∙ ap (take e.at) same) ∙ ap (λ (t : List ℕ). take e.at text ++ t) bytes_is in
+    new_is ∙ ap (λ (t : List ℕ). t ++ slice_range again (e.at + e.removed) (length again)) both ∙ ap (λ (t : List ℕ). (take e.at text ++ e.bytes) ++ t) back
+
+-- the same, of a section that is called twice
+pub put_parts : (name value section text new : List ℕ) (e : Edit) → text ≡ section → is_property_name name ≡ true → IsLine (property_line name value) → GivesParts e text (put name value (parts_of text))
+    → new ≡ applied e section → parts_of new ≡ put name value (parts_of section)
+put_parts name value section text new e same good line gives is =
+    put_split name value text new e good line gives (is ∙ ap (applied e) (sym same)) ∙ ap (λ t. put name value (parts_of t)) same
+
+pub put_shut : (name value section text new : List ℕ) (e : Edit) → text ≡ section → GivesParts e text (put name value (parts_of text)) → new ≡ applied e section → closed new ≡ new
+put_shut name value section text new e same gives is = put_closed name value text new e gives (is ∙ ap (applied e) (sym same))

@@ -1,0 +1,24 @@
+use Rattle.std.proofs.Common.{List, ℕ, sym, ap, ◌∙◌}
+use Rattle.std.specs.Borrow.{Bor}
+use Rattle.std.specs.Option.{option_map}
+use Rattle.org_move.proofs.Own.{section_within, section_closed, own_none, own_some}
+use Rattle.org_move.proofs.inherited.own_value.Goals as goal
+
+pub slice_bounds-property-end : goal.slice_bounds-property-end
+slice_bounds-property-end c =
+    section_within c.args.outline.now.text _ c.args.node _ c.text.ensures.value c.text.ensures.closed c.requires c.section-span.ensures
+
+pub property-requires : goal.property-requires
+property-requires c = section_closed c.args.outline.now.text _ c.args.node _ c.text.ensures.value c.section-span.ensures
+
+pub returns-in_err-property : goal.returns-in_err-property
+returns-in_err-property c =
+    let none = own_none c.args.outline.now.text _ c.args.name.now c.args.node _ c.text.ensures.value c.requires c.section-span.ensures
+    (sym c.property.ensures ∙ ap (option_map (λ (value : Bor (List ℕ)). value.now)) c.in_err-property.was) in
+    rw c.from_residual.ensures (sym none)
+
+pub returns : goal.returns
+returns c =
+    c.nonempty.ensures
+    ∙ sym (own_some c.args.outline.now.text _ c.args.name.now _ c.args.node _ c.text.ensures.value c.requires c.section-span.ensures
+    (sym c.property.ensures ∙ ap (option_map (λ (value : Bor (List ℕ)). value.now)) c.in_ok-property.was))

@@ -1,0 +1,189 @@
+//! Finding the place to which a subtree is archived.
+ghost use Rattle.std.specs.Prelude.{◌≡◌, ◌<◌, ◌^◌, ◌+◌, true, false, IfOk, IfSome, MatchOption, take, drop};
+ghost use Rattle.std.specs.List.{find};
+ghost use Rattle.std.specs.Option.{option_map};
+ghost use Rattle.std.specs.Str.{is_utf8};
+ghost use Rattle.org_splice.specs.Lines.{closed, lines_of};
+ghost use Rattle.org_outline.specs.Paths.{titles_of};
+ghost use Rattle.org_outline.specs.Tree.{node_count, tree};
+ghost use Rattle.org_move.specs.Answers.{GivesName, GivesPlace};
+ghost use Rattle.org_move.specs.Location.{location, file_named, halves_made, halves_of, heading_made, heading_of, is_archive_line, value_for, value_of_lines, with_name};
+ghost use Rattle.org_splice.specs.Blanks.{is_blank, behind};
+
+use crate::MoveFault;
+use crate::destination::Location;
+use crate::inherited::{nearest, nonempty};
+use org_disk::{FileName, NameFault};
+use org_outline::{HeadParts, Node, Outline, States, heading_level};
+use org_splice::Bytes;
+use org_splice::blanks::{behind_blanks, trimmed};
+use std::alloc::{AllocError, Global};
+use std::str;
+
+// How many bytes `#+ARCHIVE:` has.
+const MARK_SIZE: usize = 10;
+
+/// The first bytes of the line behind its blanks, as many as `#+ARCHIVE:` has, and what follows them.
+fn mark_and_value(line: &[u8]) -> (&[u8], &[u8])
+    ensures mark { result.0.now ≡ take 10 (behind is_blank line.now) }
+    ensures value { result.1.now ≡ drop 10 (behind is_blank line.now) }
+{
+    let body = behind_blanks(line);
+    body.split_at(body.len().min(MARK_SIZE))
+}
+
+/// Whether the line begins, behind blanks, with `#+ARCHIVE:`.
+fn is_archive_line(line: &[u8]) -> bool
+    ensures { result ≡ is_archive_line line.now }
+{
+    mark_and_value(line).0.eq_ignore_ascii_case(b"#+ARCHIVE:")
+}
+
+/// The first line of the text that begins with `#+ARCHIVE:`.
+fn archive_line(text: &[u8]) -> Option<&[u8]>
+    requires { closed text.now ≡ text.now }
+    ensures { option_map (λ line. line.now) result ≡ find is_archive_line (lines_of text.now) }
+{
+    text.split(|byte| *byte == b'\n')
+        .find(|line| is_archive_line(line))
+}
+
+/// The value of the text's first `#+ARCHIVE:` line, where that isn't empty.
+fn value_of_text(text: &[u8]) -> Option<&[u8]>
+    requires { closed text.now ≡ text.now }
+    ensures { option_map (λ value. value.now) result ≡ value_of_lines (lines_of text.now) }
+{
+    nonempty(trimmed(mark_and_value(archive_line(text)?).1))
+}
+
+/// The value that counts for a heading: that of the nearest property, of the text, or the default.
+fn value_for<'a>(outline: &Outline<'a>, node: Node) -> &'a [u8]
+    requires { node < node_count (tree outline.now.text) }
+    ensures { result.now ≡ value_for outline.now.text node }
+{
+    match nearest(outline, node, b"ARCHIVE") {
+        Some(value) => value,
+        None => value_of_text(outline.text()).unwrap_or(b"%s_archive::"),
+    }
+}
+
+/// What stands before and behind the first `::`.
+fn halves(value: &[u8]) -> Option<(&[u8], &[u8])>
+    ensures { option_map halves_made result ≡ halves_of value.now }
+{
+    let mut left = value;
+    while let Some((_, rest)) = left.split_first() {
+        if let Some(heading) = left.strip_prefix(b"::") {
+            return Some((value.split_at(value.len() - left.len()).0, heading));
+        }
+        left = rest;
+    }
+    None
+}
+
+/// The level and the title of the heading that the line is, where it is a title alone; level 0 of no line.
+fn heading<'a>(states: &States, line: &'a [u8]) -> Option<(usize, &'a [u8])>
+    ensures value { option_map heading_made result ≡ heading_of states.now line.now }
+    ensures low { IfSome result (λ heading. heading.0 + 1 < 2 ^ 63) }
+{
+    if line.is_empty() {
+        return Some((0, line));
+    }
+    let level = heading_level(line)?;
+    let parts = HeadParts::of(states, line.split_at(level).1);
+    if parts.keyword.is_empty()
+        && parts.priority.is_empty()
+        && parts.tags.is_empty()
+        && !parts.title.is_empty()
+    {
+        Some((level, parts.title))
+    } else {
+        None
+    }
+}
+
+/// The text with a name in the place of each `%s`.
+fn with_name(alloc: Global, name: &[u8], text: &[u8]) -> Result<Vec<u8>, AllocError>
+    ensures { IfOk result (λ made. made.items ≡ with_name name.now text.now) }
+{
+    let mut made = Vec::new(alloc);
+    let mut left = text;
+    while let Some((first, rest)) = left.split_first() {
+        if let Some(behind) = left.strip_prefix(b"%s") {
+            made.extend_from_slice(name)?;
+            left = behind;
+        } else {
+            made.push(*first)?;
+            left = rest;
+        }
+    }
+    Ok(made)
+}
+
+/// The name of the file that the text says, `%s` being the own name; an empty text is the own file.
+fn file_text(alloc: Global, name: &[u8], text: &[u8]) -> Result<Vec<u8>, AllocError>
+    ensures { IfOk result (λ made. made.items ≡ file_named name.now text.now) }
+{
+    if text.is_empty() {
+        return Vec::from_slice(alloc, name);
+    }
+    with_name(alloc, name, text)
+}
+
+#[tactic(auto, using(crate::proofs::Utf8::is_no_utf8, crate::proofs::Utf8::is_some_utf8))]
+fn utf8(bytes: &[u8]) -> Option<&str>
+    ensures { MatchOption result (is_utf8 bytes.now ≡ false)
+        (λ text. (is_utf8 bytes.now ≡ true) × (text.now ≡ bytes.now)) }
+{
+    match str::from_utf8(bytes) {
+        Ok(text) => Some(text),
+        Err(_) => None,
+    }
+}
+
+/// The name that the bytes are.
+fn file_name(alloc: Global, bytes: &[u8]) -> Result<FileName, MoveFault>
+    ensures { GivesName bytes.now result }
+{
+    let Some(text) = utf8(bytes) else {
+        return Err(MoveFault::NoSuchFile);
+    };
+    match FileName::new(alloc, text) {
+        Ok(name) => Ok(name),
+        Err(NameFault::BadName) => Err(MoveFault::NoSuchFile),
+        Err(NameFault::OutOfMemory) => Err(MoveFault::OutOfMemory),
+    }
+}
+
+/// Where the subtree at `path` of the file of this name goes when it is archived (Org manual, "Moving a tree to an archive
+/// file"): the nearest nonempty property ARCHIVE of it or a heading above it says so; else the text's first line that
+/// begins with `#+ARCHIVE:`, if it says something; else it is the top level of the file's archive file.
+///
+/// # Errors
+/// In this order: `NotFound` or `NotUnique` of `path`; `AlreadyArchive` where the file is an archive file; `BadLocation`
+/// where what was found isn't a file's name, `::` and then nothing or a heading line that is a title alone; `NoSuchFile`
+/// where no file can have that name; and `OutOfMemory`.
+pub fn location(
+    alloc: Global,
+    outline: &Outline<'_>,
+    name: &FileName,
+    path: &[Vec<u8>],
+) -> Result<Location, MoveFault>
+    ensures { let states = outline.now.states in
+        GivesPlace (location states name.now (titles_of path.now) outline.now.text) result }
+{
+    let node = outline.find(path)?;
+    if name.is_archive() {
+        return Err(MoveFault::AlreadyArchive);
+    }
+    let (file, line) = halves(value_for(outline, node)).ok_or(MoveFault::BadLocation)?;
+    let (level, title) = heading(outline.states(), line).ok_or(MoveFault::BadLocation)?;
+    let file = file_text(alloc, name.as_str().as_bytes(), file)?;
+    let file = file_name(alloc, &file)?;
+    let title = Vec::from_slice(alloc, title)?;
+    Ok(Location {
+        file,
+        level,
+        title: Bytes::new(title),
+    })
+}
