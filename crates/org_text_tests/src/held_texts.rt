@@ -5,7 +5,7 @@ ghost use Rattle.org_texts.specs.Plan.{CanEdit, IsPlan};
 
 use org_disk::FileName;
 use org_outline::{Outline, States, is_closed};
-use org_splice::{Bytes, Changes, Edit, Editing};
+use org_splice::{Bytes, Changes, Edit, Editing, Span};
 use org_texts::{FileEdits, Plan, Texts};
 use std::alloc::{AllocError, Global};
 use std::process::Abort;
@@ -112,6 +112,18 @@ fn refile(alloc: Global, texts: &mut Texts) -> Result<(), Fail> {
     Ok(())
 }
 
+// Whether a name has this text, and holds so many headings with it.
+fn is_held(texts: &Texts, file: &FileName, states: &States, text: &[u8], count: usize) -> bool {
+    let Some(held) = texts.get(file) else {
+        return false;
+    };
+    let headings = match held.heads() {
+        Some(heads) => Outline::over(held.bytes(), heads, states).count(),
+        None => 0,
+    };
+    held.bytes() == text && headings == count
+}
+
 // Asserts the text of a name, and how many headings are held with it.
 fn assert_text(
     rt: &(impl Abort + AllocGlobal),
@@ -122,17 +134,7 @@ fn assert_text(
 ) -> Result<(), Fail> {
     let states = States::new(rt.alloc(), &["TODO"], &["DONE"])?;
     let file = FileName::new(rt.alloc(), name)?;
-    let Some(held) = texts.get(&file) else {
-        return Err(Fail::from("not held"));
-    };
-    assert!(rt; held.bytes() == text, "{name}");
-    match held.heads() {
-        Some(heads) => {
-            let outline = Outline::over(held.bytes(), heads, &states);
-            assert!(rt; outline.count() == count, "{name}");
-        }
-        None => assert!(rt; count == 0, "{name}"),
-    }
+    assert!(rt; is_held(texts, &file, &states, text, count), "{name}");
     Ok(())
 }
 
@@ -156,39 +158,189 @@ fn two_files(alloc: Global) -> Result<Texts, Fail> {
     Ok(texts)
 }
 
+// Asserts that the command was made, and changed both files.
+fn assert_made(rt: &(impl Abort + AllocGlobal), texts: &Texts) -> Result<(), Fail> {
+    assert_text(rt, texts, "a.org", b"* X\n", 1)?;
+    assert_text(rt, texts, "b.org", b"* C\n** B\n", 2)
+}
+
+fn take_back(rt: &(impl Abort + AllocGlobal), texts: &mut Texts) -> Result<(), Fail> {
+    refile(rt.alloc(), texts)?;
+    assert_made(rt, texts)?;
+    assert_waiting(rt, texts, &[("a.org", 1), ("b.org", 1)])?;
+    texts.undo();
+    assert_text(rt, texts, "a.org", b"* A\n* B", 0)?;
+    assert_text(rt, texts, "b.org", b"* C\n", 0)?;
+    assert_waiting(rt, texts, &[])
+}
+
 #[test]
 fn a_command_taken_back(rt: HostRuntime) -> Result<(), Fail> {
     let mut texts = two_files(rt.alloc())?;
-    refile(rt.alloc(), &mut texts)?;
-    assert_text(&rt, &texts, "a.org", b"* X\n", 1)?;
-    assert_text(&rt, &texts, "b.org", b"* C\n** B\n", 2)?;
-    assert_waiting(&rt, &texts, &[("a.org", 1), ("b.org", 1)])?;
+    take_back(&rt, &mut texts)
+}
+
+fn keep_and_take_back(rt: &(impl Abort + AllocGlobal), texts: &mut Texts) -> Result<(), Fail> {
+    texts.keep();
+    refile(rt.alloc(), texts)?;
     texts.undo();
-    assert_text(&rt, &texts, "a.org", b"* A\n* B", 0)?;
-    assert_text(&rt, &texts, "b.org", b"* C\n", 0)?;
-    assert_waiting(&rt, &texts, &[])?;
-    Ok(())
+    assert_text(rt, texts, "a.org", b"* A\n* B\n", 0)?;
+    assert_waiting(rt, texts, &[("a.org", 1)])
 }
 
 #[test]
 fn a_command_kept_and_one_taken_back(rt: HostRuntime) -> Result<(), Fail> {
     let mut texts = two_files(rt.alloc())?;
-    texts.keep();
-    refile(rt.alloc(), &mut texts)?;
+    keep_and_take_back(&rt, &mut texts)
+}
+
+fn commit(rt: &(impl Abort + AllocGlobal), texts: &mut Texts) -> Result<(), Fail> {
+    refile(rt.alloc(), texts)?;
+    texts.settle();
+    assert_waiting(rt, texts, &[])?;
     texts.undo();
-    assert_text(&rt, &texts, "a.org", b"* A\n* B\n", 0)?;
-    assert_waiting(&rt, &texts, &[("a.org", 1)])?;
-    Ok(())
+    assert_made(rt, texts)
 }
 
 #[test]
 fn a_commit_settles(rt: HostRuntime) -> Result<(), Fail> {
     let mut texts = two_files(rt.alloc())?;
-    refile(rt.alloc(), &mut texts)?;
+    commit(&rt, &mut texts)
+}
+
+// Makes edits of one file.
+fn edit(
+    alloc: Global,
+    texts: &mut Texts,
+    name: &str,
+    rows: &[(usize, usize, &[u8])],
+) -> Result<(), Fail> {
+    let first = edits_of(alloc, texts, name, rows)?;
+    let plan = Plan {
+        first,
+        second: None,
+    };
+    texts.apply(&plan)?;
+    Ok(())
+}
+
+// Where the subtree of the second heading of a.org lies.
+fn second_subtree(alloc: Global, texts: &Texts) -> Result<Span, Fail> {
+    let states = States::new(alloc, &["TODO"], &["DONE"])?;
+    let held = texts
+        .get(&FileName::new(alloc, "a.org")?)
+        .ok_or("not held")?;
+    let heads = held.heads().ok_or("no headings")?;
+    let outline = Outline::over(held.bytes(), heads, &states);
+    if outline.count() < 2 {
+        return Err(Fail::from("no second heading"));
+    }
+    Ok(outline.subtree(outline.node(1)))
+}
+
+#[test]
+fn a_text_is_closed_and_its_headings_follow(rt: HostRuntime) -> Result<(), Fail> {
+    let mut texts = Texts::new(rt.alloc());
+    hold(rt.alloc(), &mut texts, "a.org", b"* A\ntext\n** B")?;
+    assert_text(&rt, &texts, "a.org", b"* A\ntext\n** B\n", 2)?;
+    edit(rt.alloc(), &mut texts, "a.org", &[(4, 5, b"* C\n")])?;
+    assert_text(&rt, &texts, "a.org", b"* A\n* C\n** B\n", 3)?;
+    assert!(rt; second_subtree(rt.alloc(), &texts)? == Span { start: 4, end: 13 });
+    Ok(())
+}
+
+// Holds texts as the disk has them.
+fn hold_each(alloc: Global, rows: &[(&str, &[u8])]) -> Result<Texts, Fail> {
+    let mut texts = Texts::new(alloc);
+    for (name, text) in rows {
+        let file = FileName::new(alloc, name)?;
+        if texts.get(&file).is_some() {
+            return Err(Fail::from("held"));
+        }
+        texts.hold(file, Vec::from_slice(alloc, text)?)?;
+    }
+    Ok(texts)
+}
+
+// Asserts that these texts wait, in this order.
+fn assert_changes(rt: &impl Abort, texts: &Texts, expected: &[(&str, &[u8])]) {
+    assert!(rt; texts.len() == expected.len());
+    for (i, (name, text)) in expected.iter().enumerate() {
+        let (file, now) = texts.pair(i);
+        assert!(rt; file.as_str() == *name && now.bytes() == *text, "{name}");
+    }
+}
+
+#[test]
+fn a_text_keeps_its_place(rt: HostRuntime) -> Result<(), Fail> {
+    let alloc = rt.alloc();
+    let mut texts = hold_each(alloc, &[("a.org", b"* A\n"), ("b.org", b"* B\n")])?;
+    edit(alloc, &mut texts, "a.org", &[(0, 0, b"")])?;
+    edit(alloc, &mut texts, "b.org", &[(0, 0, b"")])?;
+    assert_changes(&rt, &texts, &[("a.org", b"* A\n"), ("b.org", b"* B\n")]);
+    texts.keep();
+    edit(alloc, &mut texts, "a.org", &[(2, 1, b"C")])?;
+    assert_changes(&rt, &texts, &[("a.org", b"* C\n"), ("b.org", b"* B\n")]);
+    assert_text(&rt, &texts, "b.org", b"* B\n", 0)?;
+    assert!(rt; texts.get(&FileName::new(alloc, "c.org")?).is_none());
+    Ok(())
+}
+
+// Changes b.org, which waits, and c.org, which is new.
+fn change_two(alloc: Global, texts: &mut Texts) -> Result<(), Fail> {
+    let first = edits_of(alloc, texts, "c.org", &[(0, 0, b"* C\n")])?;
+    let second = edits_of(alloc, texts, "b.org", &[(2, 1, b"D")])?;
+    let plan = plan_of(texts, first, second)?;
+    texts.apply(&plan)?;
+    Ok(())
+}
+
+#[test]
+fn changes_are_the_texts_that_wait(rt: HostRuntime) -> Result<(), Fail> {
+    let alloc = rt.alloc();
+    let rows: [(&str, &[u8]); 4] = [
+        ("a.org", b"* A"),
+        ("c.org", b""),
+        ("b.org", b"* B"),
+        ("d.org", b"* E"),
+    ];
+    let mut texts = hold_each(alloc, &rows)?;
+    edit(alloc, &mut texts, "b.org", &[(3, 0, b"\n")])?;
+    edit(alloc, &mut texts, "a.org", &[(3, 0, b"\n")])?;
+    texts.keep();
+    assert_changes(&rt, &texts, &[("b.org", b"* B\n"), ("a.org", b"* A\n")]);
+    change_two(alloc, &mut texts)?;
+    assert_changes(
+        &rt,
+        &texts,
+        &[
+            ("b.org", b"* D\n"),
+            ("a.org", b"* A\n"),
+            ("c.org", b"* C\n"),
+        ],
+    );
+    Ok(())
+}
+
+// Whether a text has one patch, of no bytes.
+fn is_settled(alloc: Global, texts: &Texts, name: &str) -> Result<bool, Fail> {
+    let held = texts.get(&FileName::new(alloc, name)?).ok_or("not held")?;
+    let patches = held.text().patches()?;
+    Ok(matches!(patches.as_slice(), [patch] if patch.bytes.as_slice().is_empty()))
+}
+
+#[test]
+fn settled_texts_have_no_changes(rt: HostRuntime) -> Result<(), Fail> {
+    let alloc = rt.alloc();
+    let mut texts = hold_each(alloc, &[("a.org", b"* A\n"), ("c.org", b"* C")])?;
+    edit(alloc, &mut texts, "a.org", &[(4, 0, b"* B\n")])?;
+    assert!(rt; !is_settled(alloc, &texts, "a.org")?);
     texts.settle();
-    assert_waiting(&rt, &texts, &[])?;
-    texts.undo();
-    assert_text(&rt, &texts, "a.org", b"* X\n", 1)?;
-    assert_text(&rt, &texts, "b.org", b"* C\n** B\n", 2)?;
+    assert_changes(&rt, &texts, &[]);
+    assert_text(&rt, &texts, "a.org", b"* A\n* B\n", 0)?;
+    assert_text(&rt, &texts, "c.org", b"* C", 0)?;
+    for name in ["a.org", "c.org"] {
+        assert!(rt; is_settled(alloc, &texts, name)?, "{name}");
+    }
     Ok(())
 }

@@ -2,6 +2,8 @@
 #![tactic(auto)]
 
 #[cfg(test)]
+mod archives;
+#[cfg(test)]
 mod captures;
 #[cfg(test)]
 mod held_texts;
@@ -15,3 +17,5 @@ mod sections;
 mod splice;
 #[cfg(test)]
 mod stamp;
+#[cfg(test)]
+mod states;

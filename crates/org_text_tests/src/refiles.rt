@@ -40,6 +40,40 @@ fn make(rt: &impl Abort, text: &mut Text, edit: &Edit) -> Result<(), AllocError>
     text.apply(edit)
 }
 
+/// The text after an edit of it.
+fn edited(rt: &impl Abort, alloc: Global, text: &[u8], edit: &Edit) -> Result<Vec<u8>, AllocError> {
+    let mut after = Text::new(Vec::from_slice(alloc, text)?);
+    make(rt, &mut after, edit)?;
+    Ok(after.into_bytes())
+}
+
+/// The edits of a refile within an outline.
+fn moved_within(
+    alloc: Global,
+    outline: &Outline,
+    path: &[&str],
+    to: &[&str],
+    place: Place,
+) -> Result<[Edit; 2], MoveFault> {
+    let path = titles(alloc, path)?;
+    let to = titles(alloc, to)?;
+    refile_within(alloc, outline, path.as_slice(), to.as_slice(), place)
+}
+
+/// The edits of a refile within a text.
+fn edits_within(
+    rt: &(impl Abort + AllocGlobal),
+    states: &States,
+    text: &[u8],
+    path: &[&str],
+    to: &[&str],
+    place: Place,
+) -> Result<[Edit; 2], MoveFault> {
+    assert!(rt; is_closed(text));
+    let outline = Outline::read(rt.alloc(), text, states)?;
+    moved_within(rt.alloc(), &outline, path, to, place)
+}
+
 /// The text after a refile within it.
 fn within(
     rt: &(impl Abort + AllocGlobal),
@@ -49,16 +83,41 @@ fn within(
     to: &[&str],
     place: Place,
 ) -> Result<Vec<u8>, MoveFault> {
-    assert!(rt; is_closed(text));
-    let alloc = rt.alloc();
-    let path = titles(alloc, path)?;
-    let to = titles(alloc, to)?;
-    let outline = Outline::read(alloc, text, states)?;
-    let edits = refile_within(alloc, &outline, path.as_slice(), to.as_slice(), place)?;
-    let mut after = Text::new(Vec::from_slice(alloc, text)?);
+    let edits = edits_within(rt, states, text, path, to, place)?;
+    let mut after = Text::new(Vec::from_slice(rt.alloc(), text)?);
     make(rt, &mut after, &edits[0])?;
     make(rt, &mut after, &edits[1])?;
     Ok(after.into_bytes())
+}
+
+/// The edits of a refile from one outline to another.
+fn moved_across(
+    alloc: Global,
+    outlines: (&Outline, &Outline),
+    path: &[&str],
+    to: &[&str],
+    place: Place,
+) -> Result<(Edit, Edit), MoveFault> {
+    let path = titles(alloc, path)?;
+    let to = titles(alloc, to)?;
+    let (source, target) = outlines;
+    refile_across(alloc, source, target, path.as_slice(), to.as_slice(), place)
+}
+
+/// The edits of a refile across two texts.
+fn edits_across(
+    rt: &(impl Abort + AllocGlobal),
+    states: &States,
+    texts: [&[u8]; 2],
+    path: &[&str],
+    to: &[&str],
+    place: Place,
+) -> Result<(Edit, Edit), MoveFault> {
+    let [from, into] = texts;
+    assert!(rt; is_closed(from) && is_closed(into));
+    let source = Outline::read(rt.alloc(), from, states)?;
+    let target = Outline::read(rt.alloc(), into, states)?;
+    moved_across(rt.alloc(), (&source, &target), path, to, place)
 }
 
 /// The texts after a refile across them.
@@ -70,44 +129,43 @@ fn across(
     to: &[&str],
     place: Place,
 ) -> Result<(Vec<u8>, Vec<u8>), MoveFault> {
-    let [from, into] = texts;
-    assert!(rt; is_closed(from) && is_closed(into));
-    let alloc = rt.alloc();
-    let path = titles(alloc, path)?;
-    let to = titles(alloc, to)?;
-    let source = Outline::read(alloc, from, states)?;
-    let target = Outline::read(alloc, into, states)?;
-    let (taken, put) = refile_across(
-        alloc,
-        &source,
-        &target,
-        path.as_slice(),
-        to.as_slice(),
-        place,
-    )?;
-    let mut left = Text::new(Vec::from_slice(alloc, from)?);
-    let mut gained = Text::new(Vec::from_slice(alloc, into)?);
-    make(rt, &mut left, &taken)?;
-    make(rt, &mut gained, &put)?;
-    Ok((left.into_bytes(), gained.into_bytes()))
+    let (taken, put) = edits_across(rt, states, texts, path, to, place)?;
+    let left = edited(rt, rt.alloc(), texts[0], &taken)?;
+    let gained = edited(rt, rt.alloc(), texts[1], &put)?;
+    Ok((left, gained))
+}
+
+/// Whether a refile within a text made what a row has.
+fn is_within(answer: &Result<Vec<u8>, MoveFault>, expected: &Result<&str, MoveFault>) -> bool {
+    match (answer, expected) {
+        (Ok(after), Ok(expected)) => after.as_slice() == expected.as_bytes(),
+        (Err(fault), Err(expected)) => fault == expected,
+        _ => false,
+    }
 }
 
 /// Asserts what each row's refile within a text makes, or why it is refused.
 fn assert_within(rt: &(impl Abort + AllocGlobal), rows: &[Within]) -> Result<(), Fail> {
     let states = States::new(rt.alloc(), &["TODO"], &["DONE"])?;
     for (text, path, to, place, expected) in rows {
-        match (
-            within(rt, &states, text.as_bytes(), path, to, *place),
-            expected,
-        ) {
-            (Ok(after), Ok(expected)) => {
-                assert!(rt; after.as_slice() == expected.as_bytes(), "{text}");
-            }
-            (Err(fault), Err(expected)) => assert!(rt; fault == *expected, "{text}"),
-            _ => assert!(rt; false, "{text}"),
-        }
+        let answer = within(rt, &states, text.as_bytes(), path, to, *place);
+        assert!(rt; is_within(&answer, expected), "{text}");
     }
     Ok(())
+}
+
+/// Whether a refile across two texts made what a row has.
+fn is_across(
+    answer: &Result<(Vec<u8>, Vec<u8>), MoveFault>,
+    expected: &Result<(&str, &str), MoveFault>,
+) -> bool {
+    match (answer, expected) {
+        (Ok((left, gained)), Ok((source, target))) => {
+            left.as_slice() == source.as_bytes() && gained.as_slice() == target.as_bytes()
+        }
+        (Err(fault), Err(expected)) => fault == expected,
+        _ => false,
+    }
 }
 
 /// Asserts what each row's refile across two texts makes, or why it is refused.
@@ -115,299 +173,296 @@ fn assert_across(rt: &(impl Abort + AllocGlobal), rows: &[Across]) -> Result<(),
     let states = States::new(rt.alloc(), &["TODO"], &["DONE"])?;
     for ([from, into], path, to, place, expected) in rows {
         let texts = [from.as_bytes(), into.as_bytes()];
-        match (across(rt, &states, texts, path, to, *place), expected) {
-            (Ok((left, gained)), Ok((source, target))) => {
-                assert!(rt; left.as_slice() == source.as_bytes(), "{from}");
-                assert!(rt; gained.as_slice() == target.as_bytes(), "{into}");
-            }
-            (Err(fault), Err(expected)) => assert!(rt; fault == *expected, "{from}"),
-            _ => assert!(rt; false, "{from}"),
-        }
+        let answer = across(rt, &states, texts, path, to, *place);
+        assert!(rt; is_across(&answer, expected), "{from}");
     }
     Ok(())
 }
 
+const DEEP: &str = "* S\n** B\n**** C\n* T\n** U\n*** V\n";
+
+const WITH_DESCENDANTS: &[Within] = &[
+    (
+        DEEP,
+        &["S", "B"],
+        &["T", "U", "V"],
+        Place::Last,
+        Ok("* S\n* T\n** U\n*** V\n**** B\n****** C\n"),
+    ),
+    (
+        DEEP,
+        &["T", "U"],
+        &["S"],
+        Place::First,
+        Ok("* S\n** U\n*** V\n** B\n**** C\n* T\n"),
+    ),
+    // To an ancestor, and so up.
+    (
+        DEEP,
+        &["T", "U", "V"],
+        &["T"],
+        Place::Last,
+        Ok("* S\n** B\n**** C\n* T\n** U\n** V\n"),
+    ),
+    // Descendants at skipped levels move by as much as the root.
+    (
+        "* T\n* E\n**** D\n*** F\n",
+        &["E"],
+        &["T"],
+        Place::Last,
+        Ok("* T\n** E\n***** D\n**** F\n"),
+    ),
+];
+
 #[test]
 fn moves_with_its_descendants(rt: HostRuntime) -> Result<(), Fail> {
-    let deep = "* S\n** B\n**** C\n* T\n** U\n*** V\n";
-    assert_within(
-        &rt,
-        &[
-            (
-                deep,
-                &["S", "B"],
-                &["T", "U", "V"],
-                Place::Last,
-                Ok("* S\n* T\n** U\n*** V\n**** B\n****** C\n"),
-            ),
-            (
-                deep,
-                &["T", "U"],
-                &["S"],
-                Place::First,
-                Ok("* S\n** U\n*** V\n** B\n**** C\n* T\n"),
-            ),
-            // To an ancestor, and so up.
-            (
-                deep,
-                &["T", "U", "V"],
-                &["T"],
-                Place::Last,
-                Ok("* S\n** B\n**** C\n* T\n** U\n** V\n"),
-            ),
-            // Descendants at skipped levels move by as much as the root.
-            (
-                "* T\n* E\n**** D\n*** F\n",
-                &["E"],
-                &["T"],
-                Place::Last,
-                Ok("* T\n** E\n***** D\n**** F\n"),
-            ),
-        ],
-    )
+    assert_within(&rt, WITH_DESCENDANTS)
 }
+
+const CHILDREN: &str = "* T\n** A\n** B\nb\n** C\n* Z\n";
+
+const BELOW_ITS_PARENT: &[Within] = &[
+    (
+        CHILDREN,
+        &["T", "B"],
+        &["T"],
+        Place::First,
+        Ok("* T\n** B\nb\n** A\n** C\n* Z\n"),
+    ),
+    (
+        CHILDREN,
+        &["T", "B"],
+        &["T"],
+        Place::Last,
+        Ok("* T\n** A\n** C\n** B\nb\n* Z\n"),
+    ),
+    (CHILDREN, &["T", "A"], &["T"], Place::First, Ok(CHILDREN)),
+    (CHILDREN, &["T", "C"], &["T"], Place::Last, Ok(CHILDREN)),
+    // A child at a skipped level comes up, to where its root's level says.
+    (
+        "* T\n*** X\n** Y\n",
+        &["T", "X"],
+        &["T"],
+        Place::First,
+        Ok("* T\n** X\n** Y\n"),
+    ),
+];
 
 #[test]
 fn below_its_own_parent(rt: HostRuntime) -> Result<(), Fail> {
-    let text = "* T\n** A\n** B\nb\n** C\n* Z\n";
-    assert_within(
-        &rt,
-        &[
-            (
-                text,
-                &["T", "B"],
-                &["T"],
-                Place::First,
-                Ok("* T\n** B\nb\n** A\n** C\n* Z\n"),
-            ),
-            (
-                text,
-                &["T", "B"],
-                &["T"],
-                Place::Last,
-                Ok("* T\n** A\n** C\n** B\nb\n* Z\n"),
-            ),
-            (text, &["T", "A"], &["T"], Place::First, Ok(text)),
-            (text, &["T", "C"], &["T"], Place::Last, Ok(text)),
-            // A child at a skipped level comes up, to where its root's level says.
-            (
-                "* T\n*** X\n** Y\n",
-                &["T", "X"],
-                &["T"],
-                Place::First,
-                Ok("* T\n** X\n** Y\n"),
-            ),
-        ],
-    )
+    assert_within(&rt, BELOW_ITS_PARENT)
 }
+
+const BESIDE: &str = "pre\n* A\n* B\n*bold*\n* C\n";
+
+const BESIDE_ITS_PARENT: &[Within] = &[
+    (
+        BESIDE,
+        &["B"],
+        &["A"],
+        Place::Last,
+        Ok("pre\n* A\n** B\n*bold*\n* C\n"),
+    ),
+    (
+        BESIDE,
+        &["B"],
+        &["C"],
+        Place::First,
+        Ok("pre\n* A\n* C\n** B\n*bold*\n"),
+    ),
+    (
+        BESIDE,
+        &["C"],
+        &["B"],
+        Place::First,
+        Ok("pre\n* A\n* B\n*bold*\n** C\n"),
+    ),
+];
 
 #[test]
 fn beside_its_new_parent(rt: HostRuntime) -> Result<(), Fail> {
-    let text = "pre\n* A\n* B\n*bold*\n* C\n";
-    assert_within(
-        &rt,
-        &[
-            (
-                text,
-                &["B"],
-                &["A"],
-                Place::Last,
-                Ok("pre\n* A\n** B\n*bold*\n* C\n"),
-            ),
-            (
-                text,
-                &["B"],
-                &["C"],
-                Place::First,
-                Ok("pre\n* A\n* C\n** B\n*bold*\n"),
-            ),
-            (
-                text,
-                &["C"],
-                &["B"],
-                Place::First,
-                Ok("pre\n* A\n* B\n*bold*\n** C\n"),
-            ),
-        ],
-    )
+    assert_within(&rt, BESIDE_ITS_PARENT)
 }
+
+const SKIPPED: &str = "* T\n*** X\n** Y\n* E\n";
+
+const BELOW_SKIPPED_LEVELS: &[Within] = &[
+    (
+        SKIPPED,
+        &["E"],
+        &["T"],
+        Place::First,
+        Ok("* T\n*** X\n** E\n** Y\n"),
+    ),
+    (
+        SKIPPED,
+        &["E"],
+        &["T"],
+        Place::Last,
+        Ok("* T\n*** X\n** Y\n** E\n"),
+    ),
+    (
+        SKIPPED,
+        &["E"],
+        &["T", "X"],
+        Place::Last,
+        Ok("* T\n*** X\n**** E\n** Y\n"),
+    ),
+    (
+        "* T\n*** X\n* E\n",
+        &["E"],
+        &["T"],
+        Place::First,
+        Ok("* T\n*** X\n** E\n"),
+    ),
+];
 
 #[test]
 fn below_skipped_levels(rt: HostRuntime) -> Result<(), Fail> {
-    let text = "* T\n*** X\n** Y\n* E\n";
-    assert_within(
-        &rt,
-        &[
-            (
-                text,
-                &["E"],
-                &["T"],
-                Place::First,
-                Ok("* T\n*** X\n** E\n** Y\n"),
-            ),
-            (
-                text,
-                &["E"],
-                &["T"],
-                Place::Last,
-                Ok("* T\n*** X\n** Y\n** E\n"),
-            ),
-            (
-                text,
-                &["E"],
-                &["T", "X"],
-                Place::Last,
-                Ok("* T\n*** X\n**** E\n** Y\n"),
-            ),
-            (
-                "* T\n*** X\n* E\n",
-                &["E"],
-                &["T"],
-                Place::First,
-                Ok("* T\n*** X\n** E\n"),
-            ),
-        ],
-    )
+    assert_within(&rt, BELOW_SKIPPED_LEVELS)
 }
+
+const AS_THEY_ARE: &[Within] = &[
+    (
+        "* A\r\n** B\r\nb\r\n* T\r\n",
+        &["A", "B"],
+        &["T"],
+        Place::Last,
+        Ok("* A\r\n* T\r\n** B\r\nb\r\n"),
+    ),
+    (
+        "* TODO [#A]  A\t :x:\nSCHEDULED: <2026-07-01>\n\n* DONE T :y:\n",
+        &["A"],
+        &["T"],
+        Place::Last,
+        Ok("* DONE T :y:\n** TODO [#A]  A\t :x:\nSCHEDULED: <2026-07-01>\n\n"),
+    ),
+    // A heading without a title.
+    ("* \n* T\n", &[""], &["T"], Place::First, Ok("* T\n** \n")),
+];
 
 #[test]
 fn keeps_the_lines_as_they_are(rt: HostRuntime) -> Result<(), Fail> {
-    assert_within(
-        &rt,
-        &[
-            (
-                "* A\r\n** B\r\nb\r\n* T\r\n",
-                &["A", "B"],
-                &["T"],
-                Place::Last,
-                Ok("* A\r\n* T\r\n** B\r\nb\r\n"),
-            ),
-            (
-                "* TODO [#A]  A\t :x:\nSCHEDULED: <2026-07-01>\n\n* DONE T :y:\n",
-                &["A"],
-                &["T"],
-                Place::Last,
-                Ok("* DONE T :y:\n** TODO [#A]  A\t :x:\nSCHEDULED: <2026-07-01>\n\n"),
-            ),
-            // A heading without a title.
-            ("* \n* T\n", &[""], &["T"], Place::First, Ok("* T\n** \n")),
-        ],
-    )
+    assert_within(&rt, AS_THEY_ARE)
 }
+
+const TITLED_TWICE: &str = "* TODO A :x:\n* A\n* T\n";
+
+const NOT_FOUND: Result<&str, MoveFault> = Err(MoveFault::NotFound);
+
+const NOT_UNIQUE: Result<&str, MoveFault> = Err(MoveFault::NotUnique);
+
+const REFUSED_PATHS: &[Within] = &[
+    (TITLED_TWICE, &["A"], &["T"], Place::Last, NOT_UNIQUE),
+    (TITLED_TWICE, &["Q"], &["T"], Place::Last, NOT_FOUND),
+    (TITLED_TWICE, &["T", "Q"], &["T"], Place::Last, NOT_FOUND),
+    (TITLED_TWICE, &[], &["T"], Place::Last, NOT_FOUND),
+    (TITLED_TWICE, &["T"], &[], Place::Last, NOT_FOUND),
+    (TITLED_TWICE, &["T"], &["A"], Place::Last, NOT_UNIQUE),
+    // The path of the subtree is asked first.
+    (TITLED_TWICE, &["Q"], &["A"], Place::Last, NOT_FOUND),
+    (TITLED_TWICE, &["A"], &["Q"], Place::Last, NOT_UNIQUE),
+];
 
 #[test]
 fn refused_paths(rt: HostRuntime) -> Result<(), Fail> {
-    let text = "* TODO A :x:\n* A\n* T\n";
-    let not_found = Err(MoveFault::NotFound);
-    let not_unique = Err(MoveFault::NotUnique);
-    assert_within(
-        &rt,
-        &[
-            (text, &["A"], &["T"], Place::Last, not_unique),
-            (text, &["Q"], &["T"], Place::Last, not_found),
-            (text, &["T", "Q"], &["T"], Place::Last, not_found),
-            (text, &[], &["T"], Place::Last, not_found),
-            (text, &["T"], &[], Place::Last, not_found),
-            (text, &["T"], &["A"], Place::Last, not_unique),
-            // The path of the subtree is asked first.
-            (text, &["Q"], &["A"], Place::Last, not_found),
-            (text, &["A"], &["Q"], Place::Last, not_unique),
-        ],
-    )
+    assert_within(&rt, REFUSED_PATHS)
 }
+
+const NESTED: &str = "* A\n** B\n*** C\n*** C\n* D\n";
+
+const INSIDE: Result<&str, MoveFault> = Err(MoveFault::InsideItself);
+
+const REFUSED_INSIDE: &[Within] = &[
+    (NESTED, &["A"], &["A", "B"], Place::Last, INSIDE),
+    (NESTED, &["A"], &["A"], Place::First, INSIDE),
+    (NESTED, &["D"], &["D"], Place::Last, INSIDE),
+    // Paths are resolved before.
+    (
+        NESTED,
+        &["A"],
+        &["A", "B", "C"],
+        Place::Last,
+        Err(MoveFault::NotUnique),
+    ),
+    (
+        NESTED,
+        &["A"],
+        &["A", "Q"],
+        Place::Last,
+        Err(MoveFault::NotFound),
+    ),
+    // The next heading isn't INSIDE.
+    (
+        NESTED,
+        &["A", "B"],
+        &["D"],
+        Place::Last,
+        Ok("* A\n* D\n** B\n*** C\n*** C\n"),
+    ),
+];
 
 #[test]
 fn refused_inside_itself(rt: HostRuntime) -> Result<(), Fail> {
-    let text = "* A\n** B\n*** C\n*** C\n* D\n";
-    let inside = Err(MoveFault::InsideItself);
-    assert_within(
-        &rt,
-        &[
-            (text, &["A"], &["A", "B"], Place::Last, inside),
-            (text, &["A"], &["A"], Place::First, inside),
-            (text, &["D"], &["D"], Place::Last, inside),
-            // Paths are resolved before.
-            (
-                text,
-                &["A"],
-                &["A", "B", "C"],
-                Place::Last,
-                Err(MoveFault::NotUnique),
-            ),
-            (
-                text,
-                &["A"],
-                &["A", "Q"],
-                Place::Last,
-                Err(MoveFault::NotFound),
-            ),
-            // The next heading isn't inside.
-            (
-                text,
-                &["A", "B"],
-                &["D"],
-                Place::Last,
-                Ok("* A\n* D\n** B\n*** C\n*** C\n"),
-            ),
-        ],
-    )
+    assert_within(&rt, REFUSED_INSIDE)
 }
+
+const TWO_TEXTS: &[Across] = &[
+    (
+        ["* A\n** B\nb\n", "* T\n** K\n"],
+        &["A", "B"],
+        &["T"],
+        Place::First,
+        Ok(("* A\n", "* T\n** B\nb\n** K\n")),
+    ),
+    // The same paths in two texts: nothing is inside itself.
+    (
+        ["* A\n** B\n", "* A\n** B\n"],
+        &["A"],
+        &["A", "B"],
+        Place::Last,
+        Ok(("", "* A\n** B\n*** A\n**** B\n")),
+    ),
+    (
+        [
+            "p\r\n* A\r\n*** D\r\n* E\r\n",
+            "q\r\n* T\r\n*** X\r\n* U\r\n",
+        ],
+        &["A"],
+        &["T"],
+        Place::First,
+        Ok((
+            "p\r\n* E\r\n",
+            "q\r\n* T\r\n*** X\r\n** A\r\n**** D\r\n* U\r\n",
+        )),
+    ),
+];
 
 #[test]
 fn across_two_texts(rt: HostRuntime) -> Result<(), Fail> {
-    assert_across(
-        &rt,
-        &[
-            (
-                ["* A\n** B\nb\n", "* T\n** K\n"],
-                &["A", "B"],
-                &["T"],
-                Place::First,
-                Ok(("* A\n", "* T\n** B\nb\n** K\n")),
-            ),
-            // The same paths in two texts: nothing is inside itself.
-            (
-                ["* A\n** B\n", "* A\n** B\n"],
-                &["A"],
-                &["A", "B"],
-                Place::Last,
-                Ok(("", "* A\n** B\n*** A\n**** B\n")),
-            ),
-            (
-                [
-                    "p\r\n* A\r\n*** D\r\n* E\r\n",
-                    "q\r\n* T\r\n*** X\r\n* U\r\n",
-                ],
-                &["A"],
-                &["T"],
-                Place::First,
-                Ok((
-                    "p\r\n* E\r\n",
-                    "q\r\n* T\r\n*** X\r\n** A\r\n**** D\r\n* U\r\n",
-                )),
-            ),
-        ],
-    )
+    assert_across(&rt, TWO_TEXTS)
 }
+
+const EACH_TWICE: [&str; 2] = ["* A\n* A\n* S\n", "* T\n* B\n* B\n"];
+
+const SOURCE_NOT_FOUND: Result<(&str, &str), MoveFault> = Err(MoveFault::NotFound);
+
+const SOURCE_NOT_UNIQUE: Result<(&str, &str), MoveFault> = Err(MoveFault::NotUnique);
+
+const REFUSED_ACROSS: &[Across] = &[
+    (EACH_TWICE, &["A"], &["T"], Place::Last, SOURCE_NOT_UNIQUE),
+    (EACH_TWICE, &["T"], &["T"], Place::Last, SOURCE_NOT_FOUND),
+    (EACH_TWICE, &["S"], &["S"], Place::Last, SOURCE_NOT_FOUND),
+    (EACH_TWICE, &["S"], &["B"], Place::Last, SOURCE_NOT_UNIQUE),
+    (EACH_TWICE, &["S"], &[], Place::Last, SOURCE_NOT_FOUND),
+    // The path of the source is asked first.
+    (EACH_TWICE, &["Q"], &["B"], Place::Last, SOURCE_NOT_FOUND),
+    (EACH_TWICE, &["A"], &["Q"], Place::Last, SOURCE_NOT_UNIQUE),
+];
 
 #[test]
 fn refused_across(rt: HostRuntime) -> Result<(), Fail> {
-    let texts = ["* A\n* A\n* S\n", "* T\n* B\n* B\n"];
-    let not_found = Err(MoveFault::NotFound);
-    let not_unique = Err(MoveFault::NotUnique);
-    assert_across(
-        &rt,
-        &[
-            (texts, &["A"], &["T"], Place::Last, not_unique),
-            (texts, &["T"], &["T"], Place::Last, not_found),
-            (texts, &["S"], &["S"], Place::Last, not_found),
-            (texts, &["S"], &["B"], Place::Last, not_unique),
-            (texts, &["S"], &[], Place::Last, not_found),
-            // The path of the source is asked first.
-            (texts, &["Q"], &["B"], Place::Last, not_found),
-            (texts, &["A"], &["Q"], Place::Last, not_unique),
-        ],
-    )
+    assert_across(&rt, REFUSED_ACROSS)
 }
 
 /// Puts headings at the end, at each level from one to another: each is the child of the one before it.

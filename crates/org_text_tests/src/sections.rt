@@ -1,4 +1,7 @@
 // Each public call once, on rows whose bytes the rules of sections, TODO changes and clocking fix.
+ghost use Rattle.std.specs.Prelude.{◌≡◌};
+ghost use Rattle.org_splice.specs.Lines.{closed};
+
 use org_meta::{
     ClockFault, PlanningFault, add_note, clear_closed, close_clock, find_open, open_clock,
     property, put_property, repeat_planning, sections, set_closed, total,
@@ -10,23 +13,82 @@ use std::alloc::{AllocError, Global};
 use std::process::Abort;
 use std::test::Fail;
 
-/// Whether the edit of the section gives these bytes.
-fn gives(
+/// Year, month, day, hour and minute.
+type Time = (u16, u8, u8, u8, u8);
+
+/// What is done to a section.
+#[derive(Clone, Copy)]
+enum Change {
+    /// A property's name and value.
+    Put(&'static [u8], &'static [u8]),
+    Done(Time),
+    Reopened,
+    Repeated(Time),
+    /// The new and the old keyword.
+    Noted(&'static [u8], &'static [u8], Time),
+    ClockOpened(Time),
+    ClockClosed(Time),
+}
+
+/// A section, and what becomes of it.
+type Row = (&'static [u8], &'static [u8]);
+
+fn moment(time: Time) -> Option<Moment> {
+    let (year, month, day, hour, minute) = time;
+    Moment::new(year, month, day, hour, minute)
+}
+
+/// The edit of a section, if there is one.
+fn edit_of(alloc: Global, section: &[u8], change: Change) -> Option<Edit>
+    requires { closed section.now ≡ section.now }
+{
+    match change {
+        Change::Put(name, value) => put_property(alloc, section, name, value).ok(),
+        Change::Done(now) => set_closed(alloc, section, moment(now)?).ok(),
+        Change::Reopened => clear_closed(alloc, section).ok(),
+        Change::Repeated(now) => repeat_planning(alloc, section, moment(now)?).ok()?,
+        Change::Noted(new, old, now) => add_note(alloc, section, new, old, moment(now)?).ok(),
+        Change::ClockOpened(now) => open_clock(alloc, section, moment(now)?).ok(),
+        Change::ClockClosed(now) => {
+            close_clock(alloc, section, find_open(section)?, moment(now)?).ok()
+        }
+    }
+}
+
+/// The section after an edit of it.
+fn after(
     rt: &impl Abort,
     alloc: Global,
     section: &[u8],
     edit: &Edit,
-    expected: &[u8],
-) -> Result<bool, AllocError> {
-    let mut text = Text::new(Vec::from_slice(alloc, section)?);
+) -> Result<Vec<u8>, AllocError> {
     assert!(rt; edit.at <= section.len() && edit.removed <= section.len() - edit.at);
-    text.splice(edit.at, edit.removed, edit.bytes.as_slice())?;
-    Ok(text.bytes() == expected)
+    let mut text = Text::new(Vec::from_slice(alloc, section)?);
+    text.apply(edit)?;
+    Ok(text.into_bytes())
 }
 
-/// A minute of a day in July 2026.
-fn july(day: u8, hour: u8, minute: u8) -> Result<Moment, Fail> {
-    Ok(Moment::new(2026, 7, day, hour, minute).ok_or("no such moment")?)
+/// The section after its edit, if there is one.
+fn edited(rt: &impl Abort, alloc: Global, section: &[u8], change: Change) -> Option<Vec<u8>> {
+    assert!(rt; is_closed(section));
+    let edit = edit_of(alloc, section, change)?;
+    after(rt, alloc, section, &edit).ok()
+}
+
+/// Whether there is a text, of these bytes.
+fn is(text: &Option<Vec<u8>>, expected: &[u8]) -> bool {
+    match text {
+        Some(text) => text.as_slice() == expected,
+        None => false,
+    }
+}
+
+/// Asserts what becomes of each row's section.
+fn assert_edited(rt: &(impl Abort + AllocGlobal), change: Change, rows: &[Row]) {
+    for (i, (section, expected)) in rows.iter().enumerate() {
+        let text = edited(rt, rt.alloc(), section, change);
+        assert!(rt; is(&text, expected), "row {i}");
+    }
 }
 
 // Sections, and their planning, drawer and rest.
@@ -57,9 +119,8 @@ fn parts_of_sections(rt: HostRuntime) {
     for (i, (section, planning, drawer, rest)) in PARTS.iter().enumerate() {
         assert!(rt; is_closed(section));
         let parts = sections(section);
-        assert!(rt; parts.planning == *planning, "row {i}");
-        assert!(rt; parts.drawer == *drawer, "row {i}");
-        assert!(rt; parts.rest == *rest, "row {i}");
+        let are = parts.planning == *planning && parts.drawer == *drawer && parts.rest == *rest;
+        assert!(rt; are, "row {i}");
     }
 }
 
@@ -103,18 +164,15 @@ const PUTS: [(&[u8], &[u8], &[u8], &[u8]); 5] = [
 ];
 
 #[test]
-fn properties_put(rt: HostRuntime) -> Result<(), Fail> {
+fn properties_put(rt: HostRuntime) {
     for (i, (section, name, value, expected)) in PUTS.iter().enumerate() {
-        assert!(rt; is_closed(section));
-        let edit = put_property(rt.alloc(), section, name, value)?;
-        let is = gives(&rt, rt.alloc(), section, &edit, expected)?;
-        assert!(rt; is, "row {i}");
+        let text = edited(&rt, rt.alloc(), section, Change::Put(name, value));
+        assert!(rt; is(&text, expected), "row {i}");
     }
-    Ok(())
 }
 
 // Sections, and what they are once the entry is done on 2026-07-01 at 10:00.
-const DONE: [(&[u8], &[u8]); 4] = [
+const DONE: [Row; 4] = [
     (b"", b"CLOSED: [2026-07-01 Wed 10:00]\n"),
     (b"text\n", b"CLOSED: [2026-07-01 Wed 10:00]\ntext\n"),
     (
@@ -128,27 +186,22 @@ const DONE: [(&[u8], &[u8]); 4] = [
 ];
 
 #[test]
-fn entries_closed(rt: HostRuntime) -> Result<(), Fail> {
-    let now = july(1, 10, 0)?;
-    for (i, (section, expected)) in DONE.iter().enumerate() {
-        assert!(rt; is_closed(section));
-        let edit = set_closed(rt.alloc(), section, now)?;
-        let is = gives(&rt, rt.alloc(), section, &edit, expected)?;
-        assert!(rt; is, "row {i}");
-    }
+fn entries_closed(rt: HostRuntime) {
+    assert_edited(&rt, Change::Done((2026, 7, 1, 10, 0)), &DONE);
+}
+
+#[test]
+fn odd_planning_is_not_closed(rt: HostRuntime) -> Result<(), Fail> {
+    let now = moment((2026, 7, 1, 10, 0)).ok_or("no such moment")?;
     let odd: &[u8] = b"DEADLINE: soon\n";
     assert!(rt; is_closed(odd));
-    assert!(rt;
-        matches!(
-            set_closed(rt.alloc(), odd, now),
-            Err(PlanningFault::OddPlanning)
-        )
-    );
+    let fault = set_closed(rt.alloc(), odd, now).err();
+    assert!(rt; fault == Some(PlanningFault::OddPlanning));
     Ok(())
 }
 
 // Sections, and what they are once the entry isn't done any more.
-const REOPENED: [(&[u8], &[u8]); 4] = [
+const REOPENED: [Row; 4] = [
     (b"text\n", b"text\n"),
     (b"CLOSED: [2026-07-01 Wed 10:00]\n", b""),
     (
@@ -162,18 +215,12 @@ const REOPENED: [(&[u8], &[u8]); 4] = [
 ];
 
 #[test]
-fn entries_reopened(rt: HostRuntime) -> Result<(), Fail> {
-    for (i, (section, expected)) in REOPENED.iter().enumerate() {
-        assert!(rt; is_closed(section));
-        let edit = clear_closed(rt.alloc(), section)?;
-        let is = gives(&rt, rt.alloc(), section, &edit, expected)?;
-        assert!(rt; is, "row {i}");
-    }
-    Ok(())
+fn entries_reopened(rt: HostRuntime) {
+    assert_edited(&rt, Change::Reopened, &REOPENED);
 }
 
 // Planning lines, and what they are once they are repeated on 2026-07-01 at 23:30.
-const REPEATED: [(&[u8], &[u8]); 3] = [
+const REPEATED: [Row; 3] = [
     (
         b"SCHEDULED: <2026-01-05 Mon .+1w>\n",
         b"SCHEDULED: <2026-07-08 Wed .+1w>\n",
@@ -189,15 +236,8 @@ const REPEATED: [(&[u8], &[u8]); 3] = [
 ];
 
 #[test]
-fn plans_repeated(rt: HostRuntime) -> Result<(), Fail> {
-    let now = july(1, 23, 30)?;
-    for (i, (section, expected)) in REPEATED.iter().enumerate() {
-        assert!(rt; is_closed(section));
-        let edit = repeat_planning(rt.alloc(), section, now)?.ok_or("nothing repeats")?;
-        let is = gives(&rt, rt.alloc(), section, &edit, expected)?;
-        assert!(rt; is, "row {i}");
-    }
-    Ok(())
+fn plans_repeated(rt: HostRuntime) {
+    assert_edited(&rt, Change::Repeated((2026, 7, 1, 23, 30)), &REPEATED);
 }
 
 // Planning lines that can't be repeated, and why.
@@ -212,32 +252,29 @@ const UNREPEATABLE: [(&[u8], PlanningFault); 3] = [
 
 #[test]
 fn plans_refused(rt: HostRuntime) -> Result<(), Fail> {
-    let now = july(1, 10, 0)?;
+    let now = moment((2026, 7, 1, 10, 0)).ok_or("no such moment")?;
     for (i, (section, expected)) in UNREPEATABLE.iter().enumerate() {
         assert!(rt; is_closed(section));
-        match repeat_planning(rt.alloc(), section, now) {
-            Ok(_) => assert!(rt; false, "row {i}"),
-            Err(fault) => assert!(rt; fault == *expected, "row {i}"),
-        }
+        let fault = repeat_planning(rt.alloc(), section, now).err();
+        assert!(rt; fault == Some(*expected), "row {i}");
     }
     Ok(())
 }
 
+// A section, and what it is with a note of 2005-10-03 at 09:05.
+const NOTED: [Row; 1] = [(
+    b":PROPERTIES:\n:END:\ntext\n",
+    b":PROPERTIES:\n:END:\n- State \"DONE\"       from \"TODO\"       [2005-10-03 Mon 09:05]\ntext\n",
+)];
+
 #[test]
-fn notes_added(rt: HostRuntime) -> Result<(), Fail> {
-    let now = Moment::new(2005, 10, 3, 9, 5).ok_or("no such moment")?;
-    let section: &[u8] = b":PROPERTIES:\n:END:\ntext\n";
-    assert!(rt; is_closed(section));
-    let edit = add_note(rt.alloc(), section, b"DONE", b"TODO", now)?;
-    let expected: &[u8] =
-        b":PROPERTIES:\n:END:\n- State \"DONE\"       from \"TODO\"       [2005-10-03 Mon 09:05]\ntext\n";
-    let is = gives(&rt, rt.alloc(), section, &edit, expected)?;
-    assert!(rt; is);
-    Ok(())
+fn notes_added(rt: HostRuntime) {
+    let change = Change::Noted(b"DONE", b"TODO", (2005, 10, 3, 9, 5));
+    assert_edited(&rt, change, &NOTED);
 }
 
 // Sections, and what they are once a clock was opened on 2026-07-01 at 10:00.
-const OPENED: [(&[u8], &[u8]); 3] = [
+const OPENED: [Row; 3] = [
     (b"", b":LOGBOOK:\nCLOCK: [2026-07-01 Wed 10:00]\n:END:\n"),
     (
         b"text\n:logbook:\n- note\n:end:\n",
@@ -250,19 +287,12 @@ const OPENED: [(&[u8], &[u8]); 3] = [
 ];
 
 #[test]
-fn clocks_opened(rt: HostRuntime) -> Result<(), Fail> {
-    let now = july(1, 10, 0)?;
-    for (i, (section, expected)) in OPENED.iter().enumerate() {
-        assert!(rt; is_closed(section));
-        let edit = open_clock(rt.alloc(), section, now)?;
-        let is = gives(&rt, rt.alloc(), section, &edit, expected)?;
-        assert!(rt; is, "row {i}");
-    }
-    Ok(())
+fn clocks_opened(rt: HostRuntime) {
+    assert_edited(&rt, Change::ClockOpened((2026, 7, 1, 10, 0)), &OPENED);
 }
 
 // Sections with an open clock line, and what they are once it was closed on 2026-07-01 at 11:30.
-const CLOSED: [(&[u8], &[u8]); 2] = [
+const CLOSED: [Row; 2] = [
     (
         b":LOGBOOK:\nCLOCK: [2026-07-01 Wed 10:00]\n:END:\n",
         b":LOGBOOK:\nCLOCK: [2026-07-01 Wed 10:00]--[2026-07-01 Wed 11:30] =>  1:30\n:END:\n",
@@ -274,15 +304,24 @@ const CLOSED: [(&[u8], &[u8]); 2] = [
 ];
 
 #[test]
-fn clocks_closed(rt: HostRuntime) -> Result<(), Fail> {
-    for (i, (section, expected)) in CLOSED.iter().enumerate() {
+fn clocks_closed(rt: HostRuntime) {
+    assert_edited(&rt, Change::ClockClosed((2026, 7, 1, 11, 30)), &CLOSED);
+}
+
+/// Why the open clock isn't closed at this moment.
+fn closing_fault(alloc: Global, section: &[u8], now: Moment) -> Option<ClockFault>
+    requires { closed section.now ≡ section.now }
+{
+    close_clock(alloc, section, find_open(section)?, now).err()
+}
+
+#[test]
+fn clocks_not_closed_before_their_start(rt: HostRuntime) -> Result<(), Fail> {
+    let early = moment((2026, 7, 1, 9, 59)).ok_or("no such moment")?;
+    for (i, (section, _)) in CLOSED.iter().enumerate() {
         assert!(rt; is_closed(section));
-        let line = find_open(section).ok_or("no open clock")?;
-        let edit = close_clock(rt.alloc(), section, line, july(1, 11, 30)?)?;
-        let is = gives(&rt, rt.alloc(), section, &edit, expected)?;
-        assert!(rt; is, "row {i}");
-        let early = close_clock(rt.alloc(), section, line, july(1, 9, 59)?);
-        assert!(rt; matches!(early, Err(ClockFault::ClockBackwards)), "row {i}");
+        let fault = closing_fault(rt.alloc(), section, early);
+        assert!(rt; fault == Some(ClockFault::ClockBackwards), "row {i}");
     }
     Ok(())
 }

@@ -27,68 +27,64 @@ fn assert_parts(rt: &(impl Abort + AllocGlobal), rows: &[(&str, [&str; 5])]) -> 
     Ok(())
 }
 
+const KEYWORDS: &[(&str, [&str; 5])] = &[
+    ("* A\n", [" ", "", "", "A", ""]),
+    ("* DONE\n", [" ", "DONE", "", "", ""]),
+    ("* TODO[#A] x\n", [" ", "", "", "TODO[#A] x", ""]),
+    ("* todo x\n", [" ", "", "", "todo x", ""]),
+    ("* COMMENT A\n", [" ", "", "", "COMMENT A", ""]),
+];
+
 #[test]
 fn heading_keywords(rt: HostRuntime) -> Result<(), Fail> {
-    assert_parts(
-        &rt,
-        &[
-            ("* A\n", [" ", "", "", "A", ""]),
-            ("* DONE\n", [" ", "DONE", "", "", ""]),
-            ("* TODO[#A] x\n", [" ", "", "", "TODO[#A] x", ""]),
-            ("* todo x\n", [" ", "", "", "todo x", ""]),
-            ("* COMMENT A\n", [" ", "", "", "COMMENT A", ""]),
-        ],
-    )
+    assert_parts(&rt, KEYWORDS)
 }
+
+const PRIORITIES: &[(&str, [&str; 5])] = &[
+    (
+        "** TODO [#A] Call Ann :x:y:\n",
+        [" ", "TODO", "[#A]", "Call Ann", ":x:y:"],
+    ),
+    ("* [#a]x\n", [" ", "", "[#a]", "x", ""]),
+    ("* [#1] x\n", [" ", "", "[#1]", "x", ""]),
+    ("* [#AB] x\n", [" ", "", "", "[#AB] x", ""]),
+    ("* [#A]:x:\n", [" ", "", "[#A]", ":x:", ""]),
+];
 
 #[test]
 fn heading_priorities(rt: HostRuntime) -> Result<(), Fail> {
-    assert_parts(
-        &rt,
-        &[
-            (
-                "** TODO [#A] Call Ann :x:y:\n",
-                [" ", "TODO", "[#A]", "Call Ann", ":x:y:"],
-            ),
-            ("* [#a]x\n", [" ", "", "[#a]", "x", ""]),
-            ("* [#1] x\n", [" ", "", "[#1]", "x", ""]),
-            ("* [#AB] x\n", [" ", "", "", "[#AB] x", ""]),
-            ("* [#A]:x:\n", [" ", "", "[#A]", ":x:", ""]),
-        ],
-    )
+    assert_parts(&rt, PRIORITIES)
 }
+
+const TAGS: &[(&str, [&str; 5])] = &[
+    ("* TODO :x:\n", [" ", "TODO", "", "", ":x:"]),
+    ("* :x:\n", [" ", "", "", "", ":x:"]),
+    ("* A :a::b:\n", [" ", "", "", "A :a::b:", ""]),
+    ("* A :a_@#%1:\n", [" ", "", "", "A", ":a_@#%1:"]),
+    ("* A :a-b:\n", [" ", "", "", "A :a-b:", ""]),
+    ("* \u{c4} :\u{e9}:\n", [" ", "", "", "\u{c4}", ":\u{e9}:"]),
+];
 
 #[test]
 fn heading_tags(rt: HostRuntime) -> Result<(), Fail> {
-    assert_parts(
-        &rt,
-        &[
-            ("* TODO :x:\n", [" ", "TODO", "", "", ":x:"]),
-            ("* :x:\n", [" ", "", "", "", ":x:"]),
-            ("* A :a::b:\n", [" ", "", "", "A :a::b:", ""]),
-            ("* A :a_@#%1:\n", [" ", "", "", "A", ":a_@#%1:"]),
-            ("* A :a-b:\n", [" ", "", "", "A :a-b:", ""]),
-            ("* \u{c4} :\u{e9}:\n", [" ", "", "", "\u{c4}", ":\u{e9}:"]),
-        ],
-    )
+    assert_parts(&rt, TAGS)
 }
+
+const BLANKS: &[(&str, [&str; 5])] = &[
+    ("* TODO A\r\n", [" ", "TODO", "", "A", ""]),
+    ("* A\r \n", [" ", "", "", "A", ""]),
+    ("* A\r :x:\n", [" ", "", "", "A\r", ":x:"]),
+    (
+        "* \tTODO\t[#B]\tA\t:x:\t\n",
+        [" \t", "TODO", "[#B]", "A", ":x:"],
+    ),
+    ("* \n", [" ", "", "", "", ""]),
+    ("*   \t\n", ["   \t", "", "", "", ""]),
+];
 
 #[test]
 fn blanks_of_headings(rt: HostRuntime) -> Result<(), Fail> {
-    assert_parts(
-        &rt,
-        &[
-            ("* TODO A\r\n", [" ", "TODO", "", "A", ""]),
-            ("* A\r \n", [" ", "", "", "A", ""]),
-            ("* A\r :x:\n", [" ", "", "", "A\r", ":x:"]),
-            (
-                "* \tTODO\t[#B]\tA\t:x:\t\n",
-                [" \t", "TODO", "[#B]", "A", ":x:"],
-            ),
-            ("* \n", [" ", "", "", "", ""]),
-            ("*   \t\n", ["   \t", "", "", "", ""]),
-        ],
-    )
+    assert_parts(&rt, BLANKS)
 }
 
 #[test]

@@ -30,8 +30,7 @@ fn paths(rt: HostRuntime) -> Result<(), Fail> {
 fn assert_paths(rt: &(impl Abort + AllocGlobal), outline: &Outline<'_>) -> Result<(), Fail> {
     assert!(rt; outline.count() == 7);
     for (path, node) in PATHS {
-        let path = titles(rt.alloc(), path)?.clone()?;
-        assert!(rt; number(outline.find(path.as_slice())) == node);
+        assert!(rt; number_at(rt.alloc(), outline, path)? == node);
     }
     for (title, node) in HEADED {
         assert!(rt;
@@ -40,6 +39,15 @@ fn assert_paths(rt: &(impl Abort + AllocGlobal), outline: &Outline<'_>) -> Resul
         );
     }
     Ok(())
+}
+
+fn number_at(
+    alloc: Global,
+    outline: &Outline<'_>,
+    path: &[&str],
+) -> Result<Result<usize, PathFault>, AllocError> {
+    let path = titles(alloc, path)?.clone()?;
+    Ok(number(outline.find(path.as_slice())))
 }
 
 fn number(found: Result<Node, PathFault>) -> Result<usize, PathFault> {

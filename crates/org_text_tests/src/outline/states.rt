@@ -2,24 +2,29 @@
 use org_outline::{States, StatesFault};
 use std::alloc::Global;
 use std::process::Abort;
-use std::test::Fail;
+
+const SIXTEEN: &[&str] = &[
+    "a", "b", "c", "d", "e", "f", "g", "h", "i", "j", "k", "l", "m", "n", "o", "p",
+];
+
+const SIXTEEN_DONE: &[&str] = &[
+    "A", "B", "C", "D", "E", "F", "G", "H", "I", "J", "K", "L", "M", "N", "O", "P",
+];
+
+const SEVENTEEN_DONE: &[&str] = &[
+    "A", "B", "C", "D", "E", "F", "G", "H", "I", "J", "K", "L", "M", "N", "O", "P", "Q",
+];
+
+fn are_accepted(alloc: Global, active: &[&str], done: &[&str]) -> bool {
+    States::new(alloc, active, done).is_ok()
+}
 
 #[test]
-fn accepted_states(rt: HostRuntime) -> Result<(), Fail> {
+fn accepted_states(rt: HostRuntime) {
     let longest = "abcdefghijklmnopqrstuvwx";
-    assert!(rt; States::new(rt.alloc(), &[longest], &["D-1", "_"]).is_ok());
-    let words = [
-        "a", "b", "c", "d", "e", "f", "g", "h", "i", "j", "k", "l", "m", "n", "o", "p",
-    ];
-    let done = [
-        "A", "B", "C", "D", "E", "F", "G", "H", "I", "J", "K", "L", "M", "N", "O", "P",
-    ];
-    assert!(rt; States::new(rt.alloc(), &words, &done).is_ok());
-    let more = [
-        "A", "B", "C", "D", "E", "F", "G", "H", "I", "J", "K", "L", "M", "N", "O", "P", "Q",
-    ];
-    assert_refused(&rt, rt.alloc(), &words, &more);
-    Ok(())
+    assert!(rt; are_accepted(rt.alloc(), &[longest], &["D-1", "_"]));
+    assert!(rt; are_accepted(rt.alloc(), SIXTEEN, SIXTEEN_DONE));
+    assert_refused(&rt, rt.alloc(), SIXTEEN, SEVENTEEN_DONE);
 }
 
 fn assert_refused(rt: &impl Abort, alloc: Global, active: &[&str], done: &[&str]) {

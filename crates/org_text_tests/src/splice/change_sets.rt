@@ -1,6 +1,7 @@
 // Sets of changed texts.
 use org_splice::{ChangeSet, Text};
 use std::alloc::{AllocError, Global};
+use std::process::Abort;
 
 /// Puts these texts, each under its name.
 fn put_all(
@@ -24,6 +25,14 @@ fn has_at(changes: &ChangeSet<u32>, place: usize, name: u32, bytes: &[u8]) -> bo
     *changed == name && text.bytes() == bytes
 }
 
+fn assert_put(rt: &impl Abort, changes: &ChangeSet<u32>) {
+    assert!(rt; changes.len() == 2);
+    assert!(rt; has_at(changes, 0, 7, b"six") && has_at(changes, 1, 3, b"two"));
+    let found = changes.get(&3).map(|text| text.bytes());
+    assert!(rt; found == Some(b"two".as_slice()));
+    assert!(rt; changes.get(&5).is_none());
+}
+
 #[test]
 fn a_name_put_twice_keeps_its_place(rt: HostRuntime) -> Result<(), AllocError> {
     let mut changes: ChangeSet<u32> = ChangeSet::new(rt.alloc());
@@ -33,10 +42,6 @@ fn a_name_put_twice_keeps_its_place(rt: HostRuntime) -> Result<(), AllocError> {
         &mut changes,
         &[(7, b"one"), (3, b"two"), (7, b"six")],
     )?;
-    assert!(rt; changes.len() == 2);
-    assert!(rt; has_at(&changes, 0, 7, b"six") && has_at(&changes, 1, 3, b"two"));
-    let found = changes.get(&3).map(|text| text.bytes());
-    assert!(rt; found == Some(b"two".as_slice()));
-    assert!(rt; changes.get(&5).is_none());
+    assert_put(&rt, &changes);
     Ok(())
 }

@@ -23,13 +23,24 @@ const WEEKDAYS: [(u16, u8, u8, u8); 4] = [
 #[test]
 fn moments_of_the_calendar(rt: HostRuntime) -> Result<(), Fail> {
     for (year, month, day, hour, minute, minutes) in MINUTES {
-        assert_eq!(rt; moment(year, month, day, hour, minute)?.minutes(), minutes);
-    }
-    for (year, month, day, weekday) in WEEKDAYS {
-        assert_eq!(rt; moment(year, month, day, 9, 5)?.weekday(), weekday);
+        assert!(rt;
+            moment(year, month, day, hour, minute)?.minutes() == minutes,
+            "{minutes}"
+        );
     }
     let wednesday = moment(2026, 7, 1, 10, 0)?;
     assert!(rt; (wednesday.year(), wednesday.month(), wednesday.day()) == (2026, 7, 1));
+    Ok(())
+}
+
+#[test]
+fn weekdays(rt: HostRuntime) -> Result<(), Fail> {
+    for (year, month, day, weekday) in WEEKDAYS {
+        assert!(rt;
+            moment(year, month, day, 9, 5)?.weekday() == weekday,
+            "{weekday}"
+        );
+    }
     Ok(())
 }
 

@@ -1,0 +1,302 @@
+// Changes of TODO states through the public call: rows worked by hand from the rules of closing and of repeated tasks.
+use org_outline::{Outline, States, is_closed};
+use org_splice::{Edit, Text};
+use org_stamp::Moment;
+use org_state::{StateFault, todo};
+use std::alloc::{AllocError, Global};
+use std::process::Abort;
+use std::test::Fail;
+
+/// A text, the state that its heading A gets, and the text after that; none where nothing changes.
+type Row = (
+    &'static str,
+    &'static str,
+    Result<Option<&'static str>, StateFault>,
+);
+
+/// A minute: year, month, day, hour and minute.
+type When = (u16, u8, u8, u8, u8);
+
+const NOW: When = (2026, 7, 1, 10, 0);
+
+/// The titles of a path.
+fn titles(alloc: Global, path: &[&str]) -> Result<Vec<Vec<u8>>, AllocError> {
+    let mut titles = Vec::new(alloc);
+    for title in path {
+        titles.push(Vec::from_slice(alloc, title.as_bytes())?)?;
+    }
+    Ok(titles)
+}
+
+/// Makes an edit, which has to lie in the text.
+fn make(rt: &impl Abort, text: &mut Text, edit: &Edit) -> Result<(), AllocError> {
+    let size = text.bytes().len();
+    assert!(rt; edit.at <= size && edit.removed <= size - edit.at);
+    text.apply(edit)
+}
+
+/// The text with the heading at a path in another state, if anything changes.
+fn changed(
+    rt: &(impl Abort + AllocGlobal),
+    text: &[u8],
+    path: &[&str],
+    state: &str,
+    now: Moment,
+) -> Result<Option<Vec<u8>>, StateFault> {
+    let alloc = rt.alloc();
+    let states = States::new(alloc, &["TODO", "NEXT"], &["DONE", "GONE"]);
+    let states = states.expect(rt, "states");
+    assert!(rt; is_closed(text));
+    let path = titles(alloc, path)?;
+    let outline = Outline::read(alloc, text, &states)?;
+    let edits = todo(alloc, &outline, path.as_slice(), state.as_bytes(), now)?;
+    if edits.is_empty() {
+        return Ok(None);
+    }
+    let mut after = Text::new(Vec::from_slice(alloc, text)?);
+    for edit in edits.iter() {
+        make(rt, &mut after, edit)?;
+    }
+    Ok(Some(after.into_bytes()))
+}
+
+/// Asserts what each row's change makes, or why it is refused.
+fn assert_rows(
+    rt: &(impl Abort + AllocGlobal),
+    path: &[&str],
+    when: When,
+    rows: &[Row],
+) -> Result<(), Fail> {
+    let (year, month, day, hour, minute) = when;
+    let now = Moment::new(year, month, day, hour, minute).ok_or("no such moment")?;
+    for (text, state, expected) in rows {
+        match (changed(rt, text.as_bytes(), path, state, now), expected) {
+            (Ok(Some(after)), Ok(Some(expected))) => {
+                assert!(rt; after.as_slice() == expected.as_bytes(), "{text}");
+            }
+            (Ok(None), Ok(None)) => {}
+            (Err(fault), Err(expected)) => assert!(rt; fault == *expected, "{text}"),
+            _ => assert!(rt; false, "{text}"),
+        }
+    }
+    Ok(())
+}
+
+#[test]
+fn keywords_alone(rt: HostRuntime) -> Result<(), Fail> {
+    assert_rows(
+        &rt,
+        &["A"],
+        NOW,
+        &[
+            ("* A\n", "TODO", Ok(Some("* TODO A\n"))),
+            ("*  A :x:\n", "NEXT", Ok(Some("*  NEXT A :x:\n"))),
+            ("* TODO  [#A] A\n", "NEXT", Ok(Some("* NEXT  [#A] A\n"))),
+            ("* TODO  A\n", "", Ok(Some("* A\n"))),
+            ("p\n* Z\n* NEXT A\nx\n", "", Ok(Some("p\n* Z\n* A\nx\n"))),
+            (
+                "* DONE A\nCLOSED: soon\n",
+                "GONE",
+                Ok(Some("* GONE A\nCLOSED: soon\n")),
+            ),
+            (
+                "* A\nCLOSED: [2026-07-01 Wed 10:00]\n** B\n",
+                "TODO",
+                Ok(Some("* TODO A\nCLOSED: [2026-07-01 Wed 10:00]\n** B\n")),
+            ),
+        ],
+    )
+}
+
+#[test]
+fn ends_of_lines_stay(rt: HostRuntime) -> Result<(), Fail> {
+    assert_rows(
+        &rt,
+        &[""],
+        NOW,
+        &[
+            ("* \r\n", "TODO", Ok(Some("* TODO \r\n"))),
+            ("* TODO\r\n", "", Ok(Some("* \r\n"))),
+            ("* TODO\n", "", Ok(Some("* \n"))),
+        ],
+    )
+}
+
+#[test]
+fn the_present_state_changes_nothing(rt: HostRuntime) -> Result<(), Fail> {
+    assert_rows(
+        &rt,
+        &["A"],
+        NOW,
+        &[
+            ("* A\n", "", Ok(None)),
+            ("* TODO A\n", "TODO", Ok(None)),
+            ("* DONE A\nDEADLINE: soon\n", "DONE", Ok(None)),
+        ],
+    )
+}
+
+#[test]
+fn the_rest_may_read_as_a_state(rt: HostRuntime) -> Result<(), Fail> {
+    assert_rows(
+        &rt,
+        &["TODO A"],
+        NOW,
+        &[("* TODO TODO A\n", "", Ok(Some("* TODO A\n")))],
+    )
+}
+
+#[test]
+fn closes_and_opens(rt: HostRuntime) -> Result<(), Fail> {
+    assert_rows(
+        &rt,
+        &["A"],
+        NOW,
+        &[
+            (
+                "* TODO A\n",
+                "DONE",
+                Ok(Some("* DONE A\nCLOSED: [2026-07-01 Wed 10:00]\n")),
+            ),
+            (
+                "* DONE A\nCLOSED: [2026-07-01 Wed 10:00]\n",
+                "TODO",
+                Ok(Some("* TODO A\n")),
+            ),
+            (
+                "* A\n  SCHEDULED: <2026-07-03 Fri>\nx\n** B\n",
+                "DONE",
+                Ok(Some(
+                    "* DONE A\n  CLOSED: [2026-07-01 Wed 10:00] SCHEDULED: <2026-07-03 Fri>\nx\n** B\n",
+                )),
+            ),
+            (
+                "* DONE A\nSCHEDULED: <2026-07-03 Fri> CLOSED: [2026-06-30 Tue 09:00]\r\nx\n",
+                "",
+                Ok(Some("* A\nSCHEDULED: <2026-07-03 Fri> \r\nx\n")),
+            ),
+            // An old CLOSED entry gives way.
+            (
+                "* TODO A\nCLOSED: [2026-06-30 Tue 09:00]\n:PROPERTIES:\n:END:\n",
+                "DONE",
+                Ok(Some("* DONE A\nCLOSED: [2026-07-01 Wed 10:00]\n:PROPERTIES:\n:END:\n")),
+            ),
+            // What stands below a planning line that goes stays text.
+            (
+                "* DONE A\nCLOSED: [2026-07-01 Wed 10:00]\nSCHEDULED: <2026-07-03 Fri>\n",
+                "TODO",
+                Ok(Some("* TODO A\nSCHEDULED: <2026-07-03 Fri>\n")),
+            ),
+            // A repeater on another stamp than an active one, and one of 0, repeat nothing.
+            (
+                "* TODO A\nSCHEDULED: [2026-07-03 Fri +1d] DEADLINE: <2026-07-03 Fri +0d>\n",
+                "DONE",
+                Ok(Some(
+                    "* DONE A\nCLOSED: [2026-07-01 Wed 10:00] SCHEDULED: [2026-07-03 Fri +1d] DEADLINE: <2026-07-03 Fri +0d>\n",
+                )),
+            ),
+        ],
+    )
+}
+
+#[test]
+fn repeats(rt: HostRuntime) -> Result<(), Fail> {
+    assert_rows(
+        &rt,
+        &["Pay"],
+        (2005, 10, 3, 9, 5),
+        &[(
+            "* TODO Pay\nDEADLINE: <2005-10-01 Sat +1m>\n",
+            "DONE",
+            Ok(Some(
+                "* TODO Pay\nDEADLINE: <2005-11-01 Tue +1m>\n:PROPERTIES:\n:LAST_REPEAT: [2005-10-03 Mon 09:05]\n:END:\n- State \"DONE\"       from \"TODO\"       [2005-10-03 Mon 09:05]\n",
+            )),
+        )],
+    )?;
+    let repeated =
+        "* TODO A\nSCHEDULED: <2026-07-02 Thu +1d> DEADLINE: <2026-07-03 Fri>\n:PROPERTIES:\n:LAST_REPEAT: [2026-07-01 Wed 10:00]\n:END:\n- State \"DONE\"       from \"TODO\"       [2026-07-01 Wed 10:00]\n";
+    assert_rows(
+        &rt,
+        &["A"],
+        NOW,
+        &[
+            (
+                "* TODO A\nSCHEDULED: <2026-07-01 Wed +1d> DEADLINE: <2026-07-03 Fri>\n",
+                "DONE",
+                Ok(Some(repeated)),
+            ),
+            (
+                "* TODO A\nCLOSED: [2026-06-30 Tue 09:00] SCHEDULED: <2026-07-01 Wed +1d> DEADLINE: <2026-07-03 Fri>\n",
+                "DONE",
+                Ok(Some(repeated)),
+            ),
+            // The keyword becomes the first active state, also where there was none or another.
+            (
+                "* A :x:\nSCHEDULED: <2026-07-01 Wed +1d>\n:properties:\n:last_repeat: x\n:B: c\n:END:\n:LOGBOOK:\n:END:\n** B\n",
+                "GONE",
+                Ok(Some(
+                    "* TODO A :x:\nSCHEDULED: <2026-07-02 Thu +1d>\n:properties:\n:LAST_REPEAT: [2026-07-01 Wed 10:00]\n:B: c\n:END:\n- State \"GONE\"       from \"\"           [2026-07-01 Wed 10:00]\n:LOGBOOK:\n:END:\n** B\n",
+                )),
+            ),
+            (
+                "* NEXT A\nSCHEDULED: <2026-07-01 Wed +1d>\nx\n",
+                "DONE",
+                Ok(Some(
+                    "* TODO A\nSCHEDULED: <2026-07-02 Thu +1d>\n:PROPERTIES:\n:LAST_REPEAT: [2026-07-01 Wed 10:00]\n:END:\n- State \"DONE\"       from \"NEXT\"       [2026-07-01 Wed 10:00]\nx\n",
+                )),
+            ),
+        ],
+    )
+}
+
+#[test]
+fn faults_in_their_order(rt: HostRuntime) -> Result<(), Fail> {
+    assert_rows(
+        &rt,
+        &["A"],
+        NOW,
+        &[
+            ("* TODO B\n", "LATER", Err(StateFault::NotFound)),
+            ("* TODO A\n* A\n", "LATER", Err(StateFault::NotUnique)),
+            ("* TODO A\n", "LATER", Err(StateFault::UnknownState)),
+            ("* TODO A\n", "todo", Err(StateFault::UnknownState)),
+            (
+                "* A\nDEADLINE: soon\n",
+                "LATER",
+                Err(StateFault::UnknownState),
+            ),
+            (
+                "* TODO A\nDEADLINE: soon\n",
+                "DONE",
+                Err(StateFault::OddPlanning),
+            ),
+            (
+                "* DONE A\nDEADLINE: soon\n",
+                "",
+                Err(StateFault::OddPlanning),
+            ),
+            (
+                "* TODO A\nSCHEDULED: <2026-01-05 Mon +1h>\n",
+                "DONE",
+                Err(StateFault::BadRepeat),
+            ),
+            (
+                "* TODO A\nSCHEDULED: <9999-06-01 +1y>\n",
+                "DONE",
+                Err(StateFault::DateRange),
+            ),
+            // The first entry's.
+            (
+                "* TODO A\nSCHEDULED: <9999-06-01 +1y> DEADLINE: <2026-01-05 +1h>\n",
+                "DONE",
+                Err(StateFault::DateRange),
+            ),
+        ],
+    )?;
+    assert_rows(
+        &rt,
+        &[],
+        NOW,
+        &[("* A\n", "TODO", Err(StateFault::NotFound))],
+    )
+}
