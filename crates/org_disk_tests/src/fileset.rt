@@ -1,5 +1,6 @@
 // Sets of files over a disk in memory.
 mod commits;
+mod edited;
 mod openings;
 
 use org_disk::{FileName, MemoryDisk};

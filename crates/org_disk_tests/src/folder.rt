@@ -57,11 +57,17 @@ fn text(rt: &HostRuntime, path: &str) -> Result<Vec<u8>, Fail> {
     Ok(fs::read(rt, path)?)
 }
 
+// Whether a file has these bytes.
+fn holds(rt: &HostRuntime, path: &str, bytes: &[u8]) -> Result<bool, Fail> {
+    let text = text(rt, path)?;
+    Ok(text.as_slice() == bytes)
+}
+
 fn disk(rt: &HostRuntime, folder: &str) -> Result<Folder, Fail> {
     Ok(FolderDisk::new(rt.clone()?, rt.alloc(), folder)?)
 }
 
-fn name(rt: &HostRuntime, text: &str) -> Result<FileName, Fail> {
+fn name(rt: &impl AllocGlobal, text: &str) -> Result<FileName, Fail> {
     Ok(FileName::new(rt.alloc(), text)?)
 }
 

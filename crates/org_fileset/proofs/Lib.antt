@@ -9,6 +9,7 @@ pub mod Stands
 mod Armed
 pub mod Commits
 mod Changes
+pub mod Lookups
 mod Recorded
 pub mod Recovering
 mod Committing

@@ -7,12 +7,12 @@ ghost use Rattle.org_fileset.specs.Entries.{IsEntryOf, AreEntriesOf, moved_patch
 
 use org_disk::FileName;
 use org_journal::{Entry, Patch, Patches};
-use org_splice::{ChangeSet, Text};
+use org_splice::{Changes, Editing};
 use std::alloc::{AllocError, Global};
 
 /// The entry of a changed file.
-fn entry_of(alloc: Global, name: &FileName, text: &Text) -> Result<Entry, AllocError>
-    ensures { IfOk result (λ entry. IsEntryOf (name.now, text.now) entry) }
+fn entry_of(alloc: Global, name: &FileName, text: &Editing) -> Result<Entry, AllocError>
+    ensures { IfOk result (λ entry. IsEntryOf (name.now, text.now.text) entry) }
 {
     let name = name.clone()?;
     // A record's names are UTF-8, as each file name is.
@@ -40,9 +40,12 @@ fn moved(alloc: Global, patches: Vec<org_splice::Patch>) -> Result<Vec<Patch>, A
 }
 
 /// The entries of all changed files, in the order of the set.
-pub fn entries_of(alloc: Global, changes: &ChangeSet<FileName>) -> Result<Vec<Entry>, AllocError>
-    ensures entries { IfOk result (λ entries. AreEntriesOf changes.now entries.items) }
-    ensures distinct { OnOk result (IsDistinct bytes_eq (keys_of changes.now)) }
+pub fn entries_of<C: Changes<FileName>>(
+    alloc: Global,
+    changes: &C,
+) -> Result<Vec<Entry>, AllocError>
+    ensures entries { IfOk result (λ entries. AreEntriesOf (C.pairs changes.now) entries.items) }
+    ensures distinct { OnOk result (IsDistinct bytes_eq (keys_of (C.pairs changes.now))) }
 {
     let mut entries = Vec::new(alloc);
     for index in 0..changes.len() {

@@ -18,7 +18,7 @@ use crate::fault::SetFault;
 use crate::open::{OpenFault, OpenRefused, journal_and_names, make_ready};
 use org_disk::{Disk, FileName};
 use org_journal::{GREATEST_LENGTH, Record};
-use org_splice::ChangeSet;
+use org_splice::Changes;
 use std::alloc::Global;
 use std::marker::Model;
 
@@ -145,17 +145,17 @@ impl<D: Disk> FileSet<D> {
     /// as they were, or for all files with the changed texts; after Ok all is on the disk again, and after `Device` it
     /// can be opened anew. All memory is taken before the first call of the disk. Where nothing was changed, no call of the
     /// disk is made.
-    pub fn commit(&mut self, changes: &ChangeSet<FileName>) -> Result<(), SetFault>
-        requires named { All (λ change. Contains self.old.names change.0) changes.now }
-        requires small { All (λ change. length change.1.bytes ≤ LIMIT) changes.now }
+    pub fn commit<C: Changes<FileName>>(&mut self, changes: &C) -> Result<(), SetFault>
+        requires named { All (λ change. Contains self.old.names change.0) (C.pairs changes.now) }
+        requires small { All (λ change. length change.1.bytes ≤ LIMIT) (C.pairs changes.now) }
         requires edits { IsFalse self.old.broken → D.honest self.old.disk
             → All (λ change. IsEditOf (contents (D.files self.old.disk) change.0) change.1)
-            changes.now }
+            (C.pairs changes.now) }
         ensures commits { D.honest self.new.disk → Commits D.files D.moment D.left_since
-            (changed changes.now (contents (D.files self.old.disk))) self.old.disk self.new.disk
-            result }
+            (changed (C.pairs changes.now) (contents (D.files self.old.disk))) self.old.disk
+            self.new.disk result }
         ensures memory { IsErrOf result SetFault.OutOfMemory → self.new ≡ self.old }
-        ensures nothing { changes.now ≡ []
+        ensures nothing { C.pairs changes.now ≡ []
             → (self.new ≡ self.old) × (IsFalse self.old.broken → IsOk result) }
         ensures set { KeepsSet self.old self.new (λ s. s.names) (λ s. s.broken) result }
         ensures accounts { Accounts D.steady D.honest D.failures self.old.disk self.new.disk
@@ -164,7 +164,7 @@ impl<D: Disk> FileSet<D> {
         if self.broken {
             return Err(SetFault::Broken);
         }
-        if changes.is_empty() {
+        if changes.len() == 0 {
             return Ok(());
         }
         let alloc = *self.names.allocator();

@@ -1,9 +1,7 @@
 -- How counts rise.
 use Rattle.std.proofs.Common.{ℕ, ◌+◌, ◌≤◌, inl, inr, arith}
 use Rattle.org_disk.specs.Disk.{IsCounted, HasRisen}
-use Rattle.org_store.specs.Session.{Session}
 use Rattle.org_serve.specs.Counts.{HasRisenBy}
-use Rattle.org_serve.specs.Serving.{BreaksByFailure}
 
 pub HasRisenBy-counted : (n old mid new : ℕ) → HasRisenBy n old mid → IsCounted mid new → HasRisenBy (n + 1) old new
 HasRisenBy-counted n old mid new rose counted =
@@ -19,12 +17,3 @@ HasRisen-later old mid new le rose = elim rose [ inl r ↦ inl (omega arith) | i
 -- what rose earlier has risen since
 pub HasRisen-before : (old mid new : ℕ) → mid ≤ new → HasRisen old mid → HasRisen old new
 HasRisen-before old mid new le rose = elim rose [ inl r ↦ inl (omega arith) | inr r ↦ inr (omega arith) ]
-
-pub Breaks-then : {a b c : Session} {x y z : ℕ} → BreaksByFailure a b x y → BreaksByFailure b c y z → BreaksByFailure a c x z
-Breaks-then {x = x} {y = y} {z = z} p q = record {
-  rises = omega (arith, p.rises, q.rises);
-  breaks = λ broken. elim (q.breaks broken) [
-    | inl before ↦ (elim (p.breaks before) [ inl earlier ↦ inl earlier | inr rose ↦ inr (HasRisen-before x y z q.rises rose) ])
-    | inr rose ↦ inr (HasRisen-later x y z p.rises rose)
-  ];
-}

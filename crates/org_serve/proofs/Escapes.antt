@@ -1,17 +1,19 @@
 -- How a field is read byte by byte.
 use Rattle.std.proofs.Common.{◌≡◌, ℕ, List, [], ◌∷◌, ◌++◌, Option, None, Some, refl, append_assoc}
+use Rattle.std.specs.List.{All}
 use Rattle.std.specs.Option.{option_map}
+use Rattle.std.proofs.lemmas.List.Elements.{All-nil, All-cons}
 use Rattle.std.proofs.Common.{◌==◌, true, false}
 use Rattle.std.proofs.lemmas.Bool.{ne_eqb}
 use Rattle.std.proofs.lemmas.Bool.Decides.{eqb_tells}
 use Rattle.std.proofs.Common.{inl, inr, sym, ap}
 use Rattle.org_serve.specs.Grammar.{escape, unescaped_from, unescaped, escaped}
 
--- bytes in front of what is read, where it is read
-abbrev pub in_front : List ℕ → Option (List ℕ) → Option (List ℕ)
+-- what was read in front of what is still read, where it is read
+abbrev pub in_front : {X : Type 0} → List X → Option (List X) → Option (List X)
 in_front text read = option_map (λ more. text ++ more) read
 
-pub in_front-one : (text : List ℕ) (b : ℕ) (read : Option (List ℕ)) → in_front (text ++ b ∷ []) read ≡ in_front text (option_map (λ more. b ∷ more) read)
+pub in_front-one : {X : Type 0} (text : List X) (b : X) (read : Option (List X)) → in_front (text ++ b ∷ []) read ≡ in_front text (option_map (λ more. b ∷ more) read)
 in_front-one text b None = refl
 in_front-one text b (Some more) = rw append_assoc refl
 
@@ -37,6 +39,32 @@ unescaped-escaped (b ∷ bytes) =
           | inr r ↦ (elim (eqb_tells b 47) [
             | inl slash ↦ rw (p.0, q.0, r.0, slash.0, unescaped-escaped bytes) (ap (λ c. Some (c ∷ bytes)) (sym slash.1))
             | inr s ↦ rw (p.0, q.0, r.0, s.0, r.0, unescaped-escaped bytes) refl
+          ])
+        ])
+      ])
+    ]
+
+abbrev pub HasNoSlash : List ℕ → Type 0
+HasNoSlash text = All (λ b. (b == 47) ≡ false) text
+
+no_slash-cons : (b : ℕ) (bytes : List ℕ) → (b == 47) ≡ false → HasNoSlash bytes → HasNoSlash (b ∷ bytes)
+no_slash-cons = All-cons (λ b. (b == 47) ≡ false)
+
+-- an escaped text has no slash
+pub no_slash-escaped : (text : List ℕ) → HasNoSlash (escaped text)
+no_slash-escaped [] = All-nil (λ b. (b == 47) ≡ false)
+no_slash-escaped (b ∷ bytes) =
+    let later : HasNoSlash (escaped bytes) = no_slash-escaped bytes in
+    let behind_backslash = λ (c : ℕ) (e : (c == 47) ≡ false). no_slash-cons 92 (c ∷ escaped bytes) refl (no_slash-cons c (escaped bytes) e later) in
+    elim (eqb_tells b 10) [
+      | inl newline ↦ rw newline.0 (behind_backslash 110 refl)
+      | inr p ↦ (elim (eqb_tells b 9) [
+        | inl tab ↦ rw (p.0, tab.0) (behind_backslash 116 refl)
+        | inr q ↦ (elim (eqb_tells b 92) [
+          | inl backslash ↦ rw (p.0, q.0, backslash.0) (behind_backslash 92 refl)
+          | inr r ↦ (elim (eqb_tells b 47) [
+            | inl slash ↦ rw (p.0, q.0, r.0, slash.0) (behind_backslash 115 refl)
+            | inr s ↦ rw (p.0, q.0, r.0, s.0) (no_slash-cons b (escaped bytes) s.0 later)
           ])
         ])
       ])

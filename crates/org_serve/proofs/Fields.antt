@@ -12,7 +12,7 @@ more_than_seven (a ∷ b ∷ []) e = absurd (omega arith)
 more_than_seven (a ∷ b ∷ c ∷ []) e = refl
 more_than_seven (a ∷ b ∷ c ∷ d ∷ []) e = refl
 more_than_seven (a ∷ b ∷ c ∷ d ∷ f ∷ []) e = refl
-more_than_seven (a ∷ b ∷ c ∷ d ∷ f ∷ g ∷ []) e = refl
+more_than_seven (a ∷ b ∷ c ∷ d ∷ f ∷ g ∷ []) e = absurd (omega arith)
 more_than_seven (a ∷ b ∷ c ∷ d ∷ f ∷ g ∷ h ∷ []) e = absurd (omega arith)
 more_than_seven (a ∷ b ∷ c ∷ d ∷ f ∷ g ∷ h ∷ i ∷ more) e = refl
 

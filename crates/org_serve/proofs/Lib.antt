@@ -6,6 +6,8 @@ mod Fields
 pub mod Inputs
 pub mod Utf8
 pub mod Counting
+pub mod Breaking
 pub mod Escapes
+pub mod Paths
 pub mod Stops
 mod Opened

@@ -7,7 +7,7 @@ use Rattle.org_outline.specs.States.{Keywords}
 use Rattle.org_journal.specs.Standing.{SameFiles, stands, contents}
 use Rattle.org_fileset.specs.Names.{with_archives, AreSorted}
 use Rattle.org_fileset.specs.Recovery.{StandsAsBefore}
-use Rattle.org_held.specs.InOrder.{texts_of}
+use Rattle.org_store.specs.InOrder.{texts_of}
 use Rattle.org_store.specs.Opening.{opened}
 use Rattle.org_store.specs.Runs.{IsBetween, IsLeftOf}
 use Rattle.org_store.specs.Session.{Session, Kept}

@@ -2,12 +2,12 @@
 use Rattle.std.proofs.Common.{◌≡◌, [], ◌∷◌, Some, None, Err, true, refl}
 use Rattle.std.specs.Prelude.{codes}
 use Rattle.std.specs.Str.{is_utf8}
-use Rattle.org_outline.specs.declared.moves.Place.TheVariants.{Last}
+use Rattle.org_outline.specs.declared.moves.Place.TheVariants.{First, Last}
+use Rattle.org_capture.specs.declared.target.Target.TheVariants.{Top, Head, Path, Date}
 use Rattle.org_stamp.specs.Calendar.{at_minute, civil_day}
-use Rattle.org_store.specs.declared.command.Command.TheVariants.{Capture, Show}
-use Rattle.org_store.specs.declared.command.Target.TheVariants.{Top}
+use Rattle.org_store.specs.declared.command.Command.TheVariants.{Capture, Refile, Show}
 use Rattle.org_store.specs.declared.command.RunFault.TheVariants.{Device}
-use Rattle.org_serve.specs.Grammar.{command_of, unescaped, escaped, moment_of, file_of, show_of, capture_of, target_of, place_of}
+use Rattle.org_serve.specs.Grammar.{command_of, unescaped, escaped, moment_of, file_of, path_of, path_field, show_of, capture_of, refile_of, target_of, place_of}
 use Rattle.org_serve.specs.Lines.{cut}
 use Rattle.org_serve.specs.Replies.{answer_text}
 
@@ -28,6 +28,85 @@ nothing_behind_a_backslash = refl
 
 spelled : escaped (codes "a/b\n") ≡ codes "a\\sb\\n"
 spelled = refl
+
+two_titles : path_of (codes "a/b") ≡ Some (codes "a" ∷ codes "b" ∷ [])
+unfolding path_of
+two_titles = refl
+
+slash_of_a_title : path_of (codes "a\\sb") ≡ Some (codes "a/b" ∷ [])
+unfolding path_of
+slash_of_a_title = refl
+
+one_empty_title : path_of [] ≡ Some ([] ∷ [])
+unfolding path_of
+one_empty_title = refl
+
+two_empty_titles : path_of (codes "/") ≡ Some ([] ∷ [] ∷ [])
+unfolding path_of
+two_empty_titles = refl
+
+backslash_ends_a_title : path_of (codes "a\\/sb") ≡ None
+unfolding path_of
+backslash_ends_a_title = refl
+
+no_such_escape_in_a_title : path_of (codes "a/b\\x") ≡ None
+unfolding path_of
+no_such_escape_in_a_title = refl
+
+written_path : path_field (codes "a/b" ∷ codes "c" ∷ []) ≡ codes "a\\sb/c"
+written_path = refl
+
+at_top : target_of (codes "top") ≡ Some Top
+unfolding target_of
+at_top = refl
+
+below_a_heading : target_of (codes "head:a\\tb") ≡ Some (Head (codes "a\tb"))
+unfolding target_of
+below_a_heading = refl
+
+slash_of_a_heading : target_of (codes "head:a/b") ≡ Some (Head (codes "a/b"))
+unfolding target_of
+slash_of_a_heading = refl
+
+below_a_path : target_of (codes "path:a/b\\sc") ≡ Some (Path (codes "a" ∷ codes "b/c" ∷ []))
+unfolding target_of path_of
+below_a_path = refl
+
+below_an_empty_title : target_of (codes "path:") ≡ Some (Path ([] ∷ []))
+unfolding target_of path_of
+below_an_empty_title = refl
+
+in_the_date_tree : target_of (codes "date") ≡ Some (Date [])
+unfolding target_of
+in_the_date_tree = refl
+
+in_a_date_tree : target_of (codes "date:Log") ≡ Some (Date (codes "Log" ∷ []))
+unfolding target_of path_of
+in_a_date_tree = refl
+
+in_the_date_tree_of_an_empty_title : target_of (codes "date:") ≡ Some (Date ([] ∷ []))
+unfolding target_of path_of
+in_the_date_tree_of_an_empty_title = refl
+
+no_such_escape_in_a_heading : target_of (codes "head:a\\x") ≡ None
+unfolding target_of
+no_such_escape_in_a_heading = refl
+
+no_target : target_of (codes "tops") ≡ None
+unfolding target_of
+no_target = refl
+
+no_target_in_capitals : target_of (codes "Date") ≡ None
+unfolding target_of
+no_target_in_capitals = refl
+
+first_place : place_of (codes "first") ≡ Some First
+unfolding place_of
+first_place = refl
+
+no_place : place_of (codes "First") ≡ None
+unfolding place_of
+no_place = refl
 
 a_moment : moment_of (codes "2026-07-01 10:00") ≡ Some (at_minute (civil_day 2026 7 1) 600)
 unfolding moment_of
@@ -53,6 +132,11 @@ captures : is_utf8 (codes "inbox.org") ≡ true → command_of (codes "capture\t
     ≡ Some (Capture (codes "inbox.org") Top Last (at_minute (civil_day 2026 7 1) 600) (codes "* TODO Call Ann") [])
 unfolding capture_of file_of target_of place_of moment_of
 captures utf8 = rw utf8 refl
+
+refiles : is_utf8 (codes "a.org") ≡ true → is_utf8 (codes "b.org") ≡ true → command_of (codes "refile\ta.org\tA/B\tb.org\tT\tfirst")
+    ≡ Some (Refile (codes "a.org") (codes "A" ∷ codes "B" ∷ []) (codes "b.org") (codes "T" ∷ []) First)
+unfolding refile_of file_of path_of place_of
+refiles a b = rw (a, b) refl
 
 too_few_fields : command_of (codes "capture\ta.org") ≡ None
 too_few_fields = refl

@@ -1,17 +1,17 @@
 -- Which command a line is. Its fields are separated by tabs; its first field is the command's word.
-use Rattle.std.specs.Prelude.{ℕ, ◌+◌, ◌-◌, ◌*◌, pos, Bool, true, false, ◌==◌, ◌&&◌, nat_lt, nat_le, List, [], ◌∷◌, take, drop, Option, None, Some, codes, if◌then◌else◌}
-use Rattle.std.specs.List.{slice_split}
+use Rattle.std.specs.Prelude.{ℕ, ◌+◌, ◌-◌, ◌*◌, pos, Bool, true, false, ◌==◌, ◌&&◌, nat_lt, nat_le, List, [], ◌∷◌, length, map, take, drop, Option, None, Some, codes, if◌then◌else◌}
+use Rattle.std.specs.List.{slice_split, join_with_byte}
 use Rattle.std.specs.Option.{option_map, option_and_then}
 use Rattle.std.specs.Str.{bytes_eq, is_utf8}
 use Rattle.jiff_core.specs.Calendar.{days_in_month}
 use Rattle.org_disk.specs.Names.{is_file_name}
 use Rattle.org_outline.specs.declared.moves.Place.{Place}
-use Rattle.org_outline.specs.declared.moves.Place.TheVariants.{Last}
+use Rattle.org_outline.specs.declared.moves.Place.TheVariants.{First, Last}
+use Rattle.org_capture.specs.declared.target.Target.{Target}
+use Rattle.org_capture.specs.declared.target.Target.TheVariants.{Top, Head, Path, Date}
 use Rattle.org_stamp.specs.Calendar.{CivilMinute, at_minute, civil_day}
 use Rattle.org_store.specs.declared.command.Command.{Command}
-use Rattle.org_store.specs.declared.command.Command.TheVariants.{Capture, Show, Settle}
-use Rattle.org_store.specs.declared.command.Target.{Target}
-use Rattle.org_store.specs.declared.command.Target.TheVariants.{Top}
+use Rattle.org_store.specs.declared.command.Command.TheVariants.{Capture, Refile, Show, Settle}
 
 -- what a letter behind a backslash stands for: `\n` a newline, `\t` a tab, `\\` a backslash, `\s` a slash
 abbrev pub escape : ℕ → Option ℕ
@@ -41,13 +41,40 @@ escaped (b ∷ bytes) =
 unfoldable pub file_of : List ℕ → Option (List ℕ)
 file_of field = option_and_then (λ name. if is_utf8 name && is_file_name name then Some name else None) (unescaped field)
 
--- TARGET
-unfoldable pub target_of : List ℕ → Option Target
-target_of field = if bytes_eq field (codes "top") then Some Top else None
+-- the titles that fields stand for, one each
+abbrev pub titles_in : List (List ℕ) → Option (List (List ℕ))
+titles_in [] = Some []
+titles_in (field ∷ fields) = option_and_then (λ title. option_map (λ titles. title ∷ titles) (titles_in fields)) (unescaped field)
 
--- PLACE
+-- PATH: titles with slashes between them. It is split at the slashes before escapes are read, so `\s` is a slash within
+-- a title.
+unfoldable pub path_of : List ℕ → Option (List (List ℕ))
+path_of field = titles_in (slice_split (λ b. b == 47) field)
+
+-- a field that stands for the path of these titles
+abbrev pub path_field : List (List ℕ) → List ℕ
+path_field titles = join_with_byte 47 (map escaped titles)
+
+-- a field begins with this word
+abbrev pub begins_with : List ℕ → List ℕ → Bool
+begins_with word field = bytes_eq (take (length word) field) word
+
+-- TARGET: `top`, `head:` TITLE, `path:` PATH, `date` or `date:` PATH
+unfoldable pub target_of : List ℕ → Option Target
+target_of field =
+    if bytes_eq field (codes "top") then Some Top
+    else if bytes_eq field (codes "date") then Some (Date [])
+    else if begins_with (codes "head:") field then option_map Head (unescaped (drop 5 field))
+    else if begins_with (codes "path:") field then option_map Path (path_of (drop 5 field))
+    else if begins_with (codes "date:") field then option_map Date (path_of (drop 5 field))
+    else None
+
+-- PLACE: `first` or `last`
 unfoldable pub place_of : List ℕ → Option Place
-place_of field = if bytes_eq field (codes "last") then Some Last else None
+place_of field =
+    if bytes_eq field (codes "first") then Some First
+    else if bytes_eq field (codes "last") then Some Last
+    else None
 
 abbrev pub digit_of : ℕ → Option ℕ
 digit_of b = if nat_le 48 b && nat_le b 57 then Some (b - 48) else None
@@ -98,10 +125,19 @@ capture_of file target place moment template initial =
     Capture f t p m e i)
     (unescaped initial)) (unescaped template)) (moment_of moment)) (place_of place)) (target_of target)) (file_of file)
 
+-- `refile` FILE PATH FILE PATH PLACE
+unfoldable pub refile_of : List ℕ → List ℕ → List ℕ → List ℕ → List ℕ → Option Command
+refile_of file path to_file to_path place =
+    option_and_then (λ f. option_and_then (λ p. option_and_then (λ g. option_and_then (λ q. option_map (λ l.
+    Refile f p g q l)
+    (place_of place)) (path_of to_path)) (file_of to_file)) (path_of path)) (file_of file)
+
 -- a line of these fields; any other word or number of fields is no command
 abbrev pub command_of_fields : List (List ℕ) → Option Command
 command_of_fields (word ∷ []) = if bytes_eq word (codes "settle") then Some Settle else None
 command_of_fields (word ∷ file ∷ []) = if bytes_eq word (codes "show") then show_of file else None
+command_of_fields (word ∷ file ∷ path ∷ to_file ∷ to_path ∷ place ∷ []) =
+    if bytes_eq word (codes "refile") then refile_of file path to_file to_path place else None
 command_of_fields (word ∷ file ∷ target ∷ place ∷ moment ∷ template ∷ initial ∷ []) =
     if bytes_eq word (codes "capture") then capture_of file target place moment template initial else None
 command_of_fields _ = None

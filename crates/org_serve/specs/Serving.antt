@@ -1,6 +1,5 @@
 -- What serving does to a store. S is what runs the lines, as a session or a store over a disk; `session` is the session of it.
-use Rattle.std.specs.Prelude.{◌≡◌, ◌⊎◌, ℕ, ◌<◌, ◌≤◌, Bool, true, false, IsTrue, nat_lt, List, [], length, None, Some, Result, Ok, Err}
-use Rattle.org_disk.specs.Disk.{HasRisen}
+use Rattle.std.specs.Prelude.{◌≡◌, ◌⊎◌, ℕ, ◌<◌, ◌≤◌, Bool, true, false, IsTrue, IsFalse, nat_lt, List, [], length, None, Some, Result, Ok, Err}
 use Rattle.org_store.specs.declared.command.Command.{Command}
 use Rattle.org_store.specs.declared.command.Reply.{Reply}
 use Rattle.org_store.specs.declared.command.RunFault.{RunFault}
@@ -69,7 +68,6 @@ HasSettledBy Settles old new = (answer : Result (Unit {0}) RunFault) × Settles 
 abbrev pub HasSettled : Session → Session → Type 0
 HasSettled = HasSettledBy Settles
 
--- A store that wasn't broken is broken only where a call of its disk failed: so many had failed before, so many now.
-pub record BreaksByFailure (old new : Session) (before now : ℕ) : Type 0 where
-  pub rises : before ≤ now
-  pub breaks : IsTrue new.broken → IsTrue old.broken ⊎ HasRisen before now
+-- the store was broken meanwhile
+abbrev pub HasBroken : Session → Session → Type 0
+HasBroken old new = IsFalse old.broken × IsTrue new.broken

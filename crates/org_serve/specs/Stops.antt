@@ -5,7 +5,7 @@ use Rattle.std.specs.Io.KnownBytes.{Consumes, Appends}
 use Rattle.org_disk.specs.Disk.{FileState}
 use Rattle.org_journal.specs.Standing.{Image, SameFiles, IsFit, contents}
 use Rattle.org_fileset.specs.Replay.{IsAtRest}
-use Rattle.org_held.specs.InOrder.{with_texts}
+use Rattle.org_store.specs.InOrder.{with_texts}
 use Rattle.org_store.specs.Session.{Session, Kept}
 use Rattle.org_store.specs.Outcome.{outcome}
 use Rattle.org_store.specs.Runs.{RunsOver, SettlesOver, GoesOn}

@@ -1,11 +1,13 @@
 -- A whole run over a disk: a store is opened, serves the lines of an input, and is given up.
-use Rattle.std.specs.Prelude.{◌≡◌, ◌≢◌, ◌⊎◌, ℕ, List, Option, IsSomeAnd}
-use Rattle.org_disk.specs.Disk.{FileState}
+use Rattle.std.specs.Prelude.{◌≡◌, ◌≢◌, ◌⊎◌, ℕ, List, Option, IsSomeAnd, Result, Ok, Err}
+use Rattle.org_disk.specs.Disk.{FileState, HasRisen}
 use Rattle.org_outline.specs.States.{Keywords}
 use Rattle.org_journal.specs.Standing.{Image, SameFiles, stands}
+use Rattle.org_fileset.specs.declared.open.OpenFault.{OpenFault}
+use Rattle.org_fileset.specs.declared.open.OpenFault.TheVariants as open_fault
 use Rattle.org_fileset.specs.Names.{with_archives, AreSorted}
 use Rattle.org_fileset.specs.Recovery.{StandsAsBefore}
-use Rattle.org_held.specs.InOrder.{texts_of}
+use Rattle.org_store.specs.InOrder.{texts_of}
 use Rattle.org_store.specs.Opening.{opened}
 use Rattle.org_store.specs.Runs.{IsBetween, IsLeftOf}
 use Rattle.org_store.specs.Session.{Session}
@@ -39,3 +41,9 @@ abbrev pub IsLeftServing : {states : Keywords} {group : ℕ} {given : List (List
 IsLeftServing disk served image =
     StandsAsBefore disk image
     ⊎ IsLeftOf served.begin served.files (λ mid. Reaches served.begin served.run.ran served.run.out mid × IsBetween served.begin served.after mid) image
+
+-- The disk failed in a run that ended so: where the store wasn't opened, the fault tells it; where it was, the disk's
+-- count of failures alone.
+abbrev pub HasFailed : Result ServeEnd OpenFault → ℕ → ℕ → Type 0
+HasFailed (Err fault) before now = fault ≡ open_fault.Device
+HasFailed (Ok end) before now = HasRisen before now

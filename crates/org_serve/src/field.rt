@@ -2,14 +2,14 @@
 ghost use Rattle.std.specs.Prelude.{◌≡◌, ◌==◌, nat_lt, true, false, IfOk, MatchOption, map};
 ghost use Rattle.std.specs.List.{slice_split, count_by};
 ghost use Rattle.std.specs.Str.{bytes_eq, is_utf8};
-ghost use Rattle.org_serve.specs.Grammar.{escape, unescaped, file_of, target_of, place_of};
+ghost use Rattle.org_serve.specs.Grammar.{escape, unescaped, file_of, path_of, target_of, place_of};
 ghost use Rattle.org_serve.specs.Gives.{Gives, GivesBy};
 
 use crate::fault::LineFault;
+use org_capture::Target;
 use org_disk::{FileName, NameFault};
-use org_outline::Place;
+use org_outline::{Place, Titles};
 use org_splice::Bytes;
-use org_store::Target;
 use std::alloc::{AllocError, Global};
 
 /// Whether a line has no more fields than a command may have, which are 7.
@@ -69,8 +69,8 @@ fn unescape(alloc: Global, field: &[u8]) -> Result<Vec<u8>, LineFault>
     Ok(text)
 }
 
-/// The text that a field TEMPLATE or INITIAL is. `BadLine` comes only where it has a wrong escape; `OutOfMemory` where
-/// memory for it was refused.
+/// The text that a field TEMPLATE, INITIAL or STATE is. `BadLine` comes only where it has a wrong escape; `OutOfMemory`
+/// where memory for it was refused.
 pub fn text(alloc: Global, field: &[u8]) -> Result<Bytes, LineFault>
     ensures { Gives result (unescaped field.now) }
 {
@@ -105,15 +105,36 @@ pub fn file(alloc: Global, field: &[u8]) -> Result<FileName, LineFault>
     }
 }
 
-/// The target that a field TARGET is, if it is one.
+/// The path that a field PATH is: titles with slashes between them, of which there is one more than slashes. `BadLine`
+/// comes only where a title has a wrong escape; `OutOfMemory` where memory for it was refused.
+pub fn path(alloc: Global, field: &[u8]) -> Result<Titles, LineFault>
+    ensures { Gives result (path_of field.now) }
+{
+    let mut titles = Vec::new(alloc);
+    for title in field.split(|b| *b == b'/') {
+        titles.push(unescape(alloc, title)?)?;
+    }
+    Ok(Titles::new(titles))
+}
+
+/// The target that a field TARGET is. `BadLine` comes only where it is none; `OutOfMemory` where memory for it was
+/// refused.
 #[tactic(auto, unfolding(crate::specs::Grammar::target_of))]
-pub fn target(field: &[u8]) -> Option<Target>
-    ensures { result ≡ target_of field.now }
+pub fn target(alloc: Global, field: &[u8]) -> Result<Target, LineFault>
+    ensures { Gives result (target_of field.now) }
 {
     if is(field, "top") {
-        Some(Target::Top)
+        Ok(Target::Top)
+    } else if is(field, "date") {
+        Ok(Target::Date(Titles::new(Vec::new(alloc))))
+    } else if let Some(title) = field.strip_prefix(b"head:") {
+        Ok(Target::Head(text(alloc, title)?))
+    } else if let Some(titles) = field.strip_prefix(b"path:") {
+        Ok(Target::Path(path(alloc, titles)?))
+    } else if let Some(titles) = field.strip_prefix(b"date:") {
+        Ok(Target::Date(path(alloc, titles)?))
     } else {
-        None
+        Err(LineFault::BadLine)
     }
 }
 
@@ -122,7 +143,9 @@ pub fn target(field: &[u8]) -> Option<Target>
 pub fn place(field: &[u8]) -> Option<Place>
     ensures { result ≡ place_of field.now }
 {
-    if is(field, "last") {
+    if is(field, "first") {
+        Some(Place::First)
+    } else if is(field, "last") {
         Some(Place::Last)
     } else {
         None

@@ -1,10 +1,10 @@
 //! Command lines.
 ghost use Rattle.std.specs.Prelude.{map};
-ghost use Rattle.org_serve.specs.Grammar.{show_of, capture_of, command_of, command_of_fields};
+ghost use Rattle.org_serve.specs.Grammar.{show_of, capture_of, refile_of, command_of, command_of_fields};
 ghost use Rattle.org_serve.specs.Gives.{Gives};
 
 use crate::fault::LineFault;
-use crate::field::{fields, file, has_few_fields, is, place, target, text};
+use crate::field::{fields, file, has_few_fields, is, path, place, target, text};
 use crate::moment::moment;
 use org_store::Command;
 use std::alloc::Global;
@@ -36,6 +36,13 @@ fn command(alloc: Global, fields: &[&[u8]]) -> Result<Command, LineFault>
         [word, name] => {
             if is(word, "show") {
                 show(alloc, name)
+            } else {
+                Err(LineFault::BadLine)
+            }
+        }
+        [word, name, titles, to_name, to_titles, at] => {
+            if is(word, "refile") {
+                refile(alloc, name, titles, to_name, to_titles, at)
             } else {
                 Err(LineFault::BadLine)
             }
@@ -72,7 +79,7 @@ fn capture(
     ensures { Gives result (capture_of name.now to.now at.now when.now template.now initial.now) }
 {
     let file = file(alloc, name)?;
-    let target = target(to).ok_or(LineFault::BadLine)?;
+    let target = target(alloc, to)?;
     let place = place(at).ok_or(LineFault::BadLine)?;
     let moment = moment(when).ok_or(LineFault::BadLine)?;
     let template = text(alloc, template)?;
@@ -84,5 +91,30 @@ fn capture(
         moment,
         template,
         initial,
+    })
+}
+
+#[tactic(auto, unfolding(crate::specs::Grammar::refile_of))]
+fn refile(
+    alloc: Global,
+    name: &[u8],
+    titles: &[u8],
+    to_name: &[u8],
+    to_titles: &[u8],
+    at: &[u8],
+) -> Result<Command, LineFault>
+    ensures { Gives result (refile_of name.now titles.now to_name.now to_titles.now at.now) }
+{
+    let file = file(alloc, name)?;
+    let path = path(alloc, titles)?;
+    let to_file = crate::field::file(alloc, to_name)?;
+    let to_path = crate::field::path(alloc, to_titles)?;
+    let place = place(at).ok_or(LineFault::BadLine)?;
+    Ok(Command::Refile {
+        file,
+        path,
+        to_file,
+        to_path,
+        place,
     })
 }

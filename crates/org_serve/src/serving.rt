@@ -1,8 +1,8 @@
 //! Lines answered one by one, to the end of the input.
-ghost use Rattle.std.specs.Prelude.{◌≡◌, ◌≢◌, ◌⊎◌, ◌++◌, List, ℕ, [], OnOk, OnErr, MatchResult, IsFalse};
+ghost use Rattle.std.specs.Prelude.{◌≡◌, ◌≢◌, ◌⊎◌, ◌++◌, List, ℕ, [], OnOk, OnErr, MatchResult, IsTrue, IsFalse};
 ghost use Rattle.std.specs.Io.KnownBytes.{Appends};
-ghost use Rattle.org_disk.specs.Disk.{HasRisen, KeepsHonesty};
-ghost use Rattle.org_disk.specs.Accounts.{LeavesOver};
+ghost use Rattle.org_disk.specs.Disk.{HasRisen};
+ghost use Rattle.org_disk.specs.Accounts.{Accounts, LeavesOver};
 ghost use Rattle.org_journal.specs.Standing.{contents};
 ghost use Rattle.org_fileset.specs.Replay.{IsAtRest};
 ghost use Rattle.org_store.specs.Runs.{RunsOver, IsBetween, IsLeftOf};
@@ -10,7 +10,7 @@ ghost use Rattle.org_serve.specs.Counts.{HasRisenBy};
 ghost use Rattle.org_serve.specs.Feeding.{FeedOk, FeedErr, EndsWith};
 ghost use Rattle.org_serve.specs.Lines.{cut};
 ghost use Rattle.org_serve.specs.Pending.{Stands};
-ghost use Rattle.org_serve.specs.Serving.{IsReadAs, AnswersReadBy, AnswersLine, Finishes, HasSettled, BreaksByFailure, end_of};
+ghost use Rattle.org_serve.specs.Serving.{IsReadAs, AnswersReadBy, AnswersLine, Finishes, HasSettled, HasBroken, end_of};
 ghost use Rattle.org_serve.specs.Stops.{RunsLine, HasSettledOver, FinishesOver, Runs, Reaches, KeepsDisk};
 ghost use Rattle.org_serve.specs.Transcript.{AnswersRest, ServesAll, ServesLines, RunsSome, RunsAllAndSettles};
 
@@ -39,7 +39,8 @@ const PIECE: usize = 4096;
 /// Where the disk is honest at the end, and was at rest under a store that wasn't broken, at every moment since the
 /// call began what a stop leaves stands for the files after the commands that were acknowledged then, or for those
 /// after some of the lines that are run, from the first on; a command in which the disk failed may be the last of them.
-/// The store is changed by calls of `run` and `settle` alone.
+/// The store is changed by calls of `run` and `settle` alone. One that was broken is left as it is; one that wasn't is
+/// broken only where its disk counted a failure, and where it isn't, none was counted.
 pub fn serve<D: Disk, R: Source, W: Sink>(
     alloc: Global,
     store: &mut Store<D>,
@@ -80,9 +81,9 @@ pub fn serve<D: Disk, R: Source, W: Sink>(
         × IsBetween store.old.session store.new.session mid)) }
     ensures disk { D.honest store.new.disk → KeepsDisk D.files store.old store.new }
 
-    ensures device { BreaksByFailure store.old.session store.new.session (D.failures store.old.disk)
-        (D.failures store.new.disk) }
-    ensures honest { KeepsHonesty D.steady (D.honest store.old.disk) (D.honest store.new.disk) }
+    ensures untouched { IsTrue store.old.session.broken → store.new ≡ store.old }
+    ensures accounts { Accounts D.steady D.honest D.failures store.old.disk store.new.disk
+        (HasBroken store.old.session store.new.session) }
 {
     store.settled_is_on_disk();
     let mut buffer = [0u8; PIECE];
@@ -117,9 +118,9 @@ fn feed<D: Disk, W: Sink>(
         store.new) }
     ensures same { OnOk result (W.failures writer.new ≡ W.failures writer.old) }
     ensures err { OnErr result (HasRisen (W.failures writer.old) (W.failures writer.new)) }
-    ensures device { BreaksByFailure store.old.session store.new.session (D.failures store.old.disk)
-        (D.failures store.new.disk) }
-    ensures honest { KeepsHonesty D.steady (D.honest store.old.disk) (D.honest store.new.disk) }
+    ensures untouched { IsTrue store.old.session.broken → store.new ≡ store.old }
+    ensures accounts { Accounts D.steady D.honest D.failures store.old.disk store.new.disk
+        (HasBroken store.old.session store.new.session) }
 {
     let mut rest = piece;
     while let Some((line, more)) = first_line(rest) {
@@ -145,9 +146,9 @@ fn answer<D: Disk, W: Sink>(
     ensures cleared { Stands pending.new [] }
     ensures same { OnOk result (W.failures writer.new ≡ W.failures writer.old) }
     ensures err { OnErr result (HasRisen (W.failures writer.old) (W.failures writer.new)) }
-    ensures device { BreaksByFailure store.old.session store.new.session (D.failures store.old.disk)
-        (D.failures store.new.disk) }
-    ensures honest { KeepsHonesty D.steady (D.honest store.old.disk) (D.honest store.new.disk) }
+    ensures untouched { IsTrue store.old.session.broken → store.new ≡ store.old }
+    ensures accounts { Accounts D.steady D.honest D.failures store.old.disk store.new.disk
+        (HasBroken store.old.session store.new.session) }
 {
     pending.add(last);
     let read = read_line(alloc, pending);
@@ -177,9 +178,9 @@ fn answer_read<D: Disk, W: Sink>(
         × OnOk result (Appends (W.written writer.old) (W.written writer.new) out) }
     ensures same { OnOk result (W.failures writer.new ≡ W.failures writer.old) }
     ensures err { OnErr result (HasRisen (W.failures writer.old) (W.failures writer.new)) }
-    ensures device { BreaksByFailure store.old.session store.new.session (D.failures store.old.disk)
-        (D.failures store.new.disk) }
-    ensures honest { KeepsHonesty D.steady (D.honest store.old.disk) (D.honest store.new.disk) }
+    ensures untouched { IsTrue store.old.session.broken → store.new ≡ store.old }
+    ensures accounts { Accounts D.steady D.honest D.failures store.old.disk store.new.disk
+        (HasBroken store.old.session store.new.session) }
 {
     match read {
         Ok(command) => {
@@ -203,9 +204,9 @@ fn finish<D: Disk, W: Sink>(store: &mut Store<D>, pending: &Pending, writer: &mu
         store.new }
     ensures write_cause { result ≡ ServeEnd.Write
         → HasRisen (W.failures writer.old) (W.failures writer.new) }
-    ensures device { BreaksByFailure store.old.session store.new.session (D.failures store.old.disk)
-        (D.failures store.new.disk) }
-    ensures honest { KeepsHonesty D.steady (D.honest store.old.disk) (D.honest store.new.disk) }
+    ensures untouched { IsTrue store.old.session.broken → store.new ≡ store.old }
+    ensures accounts { Accounts D.steady D.honest D.failures store.old.disk store.new.disk
+        (HasBroken store.old.session store.new.session) }
 {
     match answer_rest(pending, writer) {
         Err(PipeFault) => ServeEnd::Write,
@@ -237,9 +238,9 @@ fn settle<D: Disk, W: Sink>(store: &mut Store<D>, writer: &mut W) -> ServeEnd
         → HasSettledOver D.files D.moment D.left_since store.old store.new }
     ensures write_cause { result ≡ ServeEnd.Write
         → HasRisen (W.failures writer.old) (W.failures writer.new) }
-    ensures device { BreaksByFailure store.old.session store.new.session (D.failures store.old.disk)
-        (D.failures store.new.disk) }
-    ensures honest { KeepsHonesty D.steady (D.honest store.old.disk) (D.honest store.new.disk) }
+    ensures untouched { IsTrue store.old.session.broken → store.new ≡ store.old }
+    ensures accounts { Accounts D.steady D.honest D.failures store.old.disk store.new.disk
+        (HasBroken store.old.session store.new.session) }
 {
     if store.is_broken() {
         return ServeEnd::Device;

@@ -1,15 +1,14 @@
 //! A whole run over a disk, from the opening to the end of the input.
 ghost use Rattle.std.specs.Prelude.{◌≡◌, ◌⊎◌, Ok, All, IfOk, IfErr, MatchResult};
-ghost use Rattle.org_disk.specs.Disk.{HasRisen, KeepsHonesty};
-ghost use Rattle.org_disk.specs.Accounts.{LeavesOver};
+ghost use Rattle.org_disk.specs.Disk.{HasRisen};
+ghost use Rattle.org_disk.specs.Accounts.{Accounts, LeavesOver};
 ghost use Rattle.org_journal.specs.Standing.{IsFit, contents};
 ghost use Rattle.org_disk.specs.Names.{IsOrgFile};
 ghost use Rattle.org_fileset.specs.Opening.{IsReason};
 ghost use Rattle.org_fileset.specs.Recovery.{EachStands, StandsAsBefore};
-ghost use Rattle.org_fileset.specs.declared.open.OpenFault.{OpenFault};
 ghost use Rattle.org_serve.specs.Counts.{HasRisenBy};
 ghost use Rattle.org_store.specs.Group.{IsGroup};
-ghost use Rattle.org_serve.specs.Whole.{ServesOver, IsLeftServing};
+ghost use Rattle.org_serve.specs.Whole.{ServesOver, IsLeftServing, HasFailed};
 
 use crate::end::ServeEnd;
 use crate::pipes::{Sink, Source};
@@ -78,11 +77,8 @@ pub fn serve_disk<D: Disk, R: Source, W: Sink>(
         → HasRisen (W.failures writer.old) (W.failures writer.new) }
     ensures refused { IfErr result.end (IsReason setup.names.items (D.honest result.disk)
         (contents (D.files disk)) (contents (D.files result.disk))) }
-    ensures failed { IfErr result.end (λ fault. fault ≡ OpenFault.Device
-        → HasRisen (D.failures disk) (D.failures result.disk)) }
-    ensures told { IfErr result.end (λ fault. (fault ≡ OpenFault.Device → ⊥)
-        → D.failures result.disk ≡ D.failures disk) }
-    ensures honest { KeepsHonesty D.steady (D.honest disk) (D.honest result.disk) }
+    ensures accounts { Accounts D.steady D.honest D.failures disk result.disk
+        (HasFailed result.end (D.failures disk) (D.failures result.disk)) }
 {
     let Setup {
         names,

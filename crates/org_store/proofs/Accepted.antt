@@ -1,49 +1,89 @@
--- A command that is accepted puts one text in the place of a file's.
-use Rattle.std.proofs.Common.{◌≡◌, ℕ, ◌-◌, ◌^◌, ◌==◌, ◌≤◌, nat_lt, length, Bool, true, false, List, Option, Some, None, Result, Ok, Err, refl, if◌then◌else◌, arith}
+-- A command that is accepted puts texts in the places of files'.
+use Rattle.std.proofs.Common.{◌≡◌, inl, inr, ℕ, ◌-◌, ◌^◌, ◌==◌, ◌≤◌, nat_lt, length, Bool, true, false, List, [], ◌∷◌, Option, Some, None, Result, Ok, Err, refl, if◌then◌else◌, arith}
+use Rattle.std.specs.List.{AllByRecursion}
+use Rattle.std.specs.Str.{bytes_eq}
+use Rattle.std.proofs.lemmas.Bool.{cases_Bool}
 use Rattle.std.proofs.lemmas.Bool.Decides.{nat_tests}
 use Rattle.org_outline.specs.declared.moves.Place.{Place}
-use Rattle.org_outline.specs.Tree.{Node}
+use Rattle.org_outline.specs.Tree.{Document, Node, print, tree}
+use Rattle.org_stamp.specs.Calendar.{CivilMinute}
 use Rattle.org_fileset.specs.Names.{limit}
-use Rattle.org_held.specs.InOrder.{text_at, with_text}
+use Rattle.org_capture.specs.declared.fault.CaptureFault.{CaptureFault}
+use Rattle.org_capture.specs.declared.target.Target.{Target}
+use Rattle.org_capture.specs.Capture.{captured}
+use Rattle.org_move.specs.declared.fault.MoveFault.{MoveFault}
+use Rattle.org_move.specs.Refile.{refile_across, refile_within}
 use Rattle.org_store.specs.declared.command.Command.{Command}
-use Rattle.org_store.specs.declared.command.Command.TheVariants.{Capture, Show, Settle}
-use Rattle.org_store.specs.declared.command.Refusal.{Refusal}
+use Rattle.org_store.specs.declared.command.Command.TheVariants.{Capture, Refile, Show, Settle}
 use Rattle.org_store.specs.declared.command.Refusal.TheVariants.{TooLarge}
-use Rattle.org_store.specs.declared.command.Target.{Target}
+use Rattle.org_store.specs.Capture.{new_entry}
+use Rattle.org_store.specs.Files.{has_large}
+use Rattle.org_store.specs.InOrder.{text_at, with_all}
+use Rattle.org_store.specs.Refile.{text_within, texts_across}
 use Rattle.org_store.specs.Session.{Session}
-use Rattle.org_store.specs.Capture.{entry_of, captured}
-use Rattle.org_store.specs.Outcome.{Accepts, Refuses, changed, with_entry, capture, show, outcome}
+use Rattle.org_store.specs.Outcome.{Accepts, Refuses, changed, with_document, with_entry, capture, refile, with_moved, show, outcome}
 
--- the texts are the session's, with one that isn't past the limit in the place of another
-abbrev pub PutsOne : Session → List (List ℕ) → Type 0
-PutsOne s files = (name : List ℕ) × (text : List ℕ) × (length text ≤ limit) × (with_text s.names s.files name text ≡ files)
+-- texts of which none is past the limit
+abbrev pub AreWithin : List (List ℕ × List ℕ) → Type 0
+AreWithin changes = AllByRecursion (λ change. length change.1 ≤ limit) changes
 
-changed_puts : (s : Session) (name text : List ℕ) (files : List (List ℕ)) → changed s name text ≡ Accepts files → PutsOne s files
-changed_puts s name text files = go (nat_lt limit (length text)) refl (s.accepted == 2 ^ 64 - 1)
+-- the texts are the session's, with some that aren't past the limit in the places of others
+abbrev pub Puts : Session → List (List ℕ) → Type 0
+Puts s files = (changes : List (List ℕ × List ℕ)) × AreWithin changes × (with_all s.names s.files changes ≡ files)
+
+pub within : (changes : List (List ℕ × List ℕ)) → has_large changes ≡ false → AreWithin changes
+within [] none = tt
+within (change ∷ changes) none = elim (cases_Bool (nat_lt limit (length change.1))) [
+  | inl t ↦ let no : true ≡ false = rw t at none in absurd (cc)
+  | inr f ↦ (grind (arith, nat_tests, f), within changes (rw f at none))
+]
+
+changed_puts : (s : Session) (changes : List (List ℕ × List ℕ)) (files : List (List ℕ)) → changed s changes ≡ Accepts files → Puts s files
+changed_puts s changes files = go (has_large changes) refl (s.accepted == 2 ^ 64 - 1)
   where
-    go : (large : Bool) → nat_lt limit (length text) ≡ large → (full : Bool)
-        → (if large then Refuses TooLarge else if full then Refuses TooLarge else Accepts (with_text s.names s.files name text)) ≡ Accepts files → PutsOne s files
+    go : (large : Bool) → has_large changes ≡ large → (full : Bool)
+        → (if large then Refuses TooLarge else if full then Refuses TooLarge else Accepts (with_all s.names s.files changes)) ≡ Accepts files → Puts s files
     go true is full accepts = absurd (cc)
     go false is true accepts = absurd (cc)
     go false is false accepts =
-        let same : with_text s.names s.files name text ≡ files = cc in
-        (name, text, grind (arith, nat_tests, is), same)
+        let same : with_all s.names s.files changes ≡ files = cc in
+        (changes, within changes is, same)
 
-entry_puts : (s : Session) (name : List ℕ) (target : Target) (place : Place) (entry : Result Node Refusal) (text : List ℕ) (files : List (List ℕ)) → with_entry s name target place entry text ≡ Accepts files
-    → PutsOne s files
-entry_puts s name target place (Err why) text files accepts = absurd (cc)
-entry_puts s name target place (Ok entry) text files accepts = changed_puts s name (captured target place entry text) files accepts
+document_puts : (s : Session) (name : List ℕ) (made : Result Document CaptureFault) (files : List (List ℕ)) → with_document s name made ≡ Accepts files → Puts s files
+document_puts s name (Err why) files accepts = absurd (cc)
+document_puts s name (Ok new) files accepts = changed_puts s ((name, print new) ∷ []) files accepts
 
-capture_puts : (s : Session) (name : List ℕ) (target : Target) (place : Place) (template : List ℕ) (old : Option (List ℕ)) (files : List (List ℕ))
-    → capture s name target place template old ≡ Accepts files → PutsOne s files
-capture_puts s name target place template None files accepts = absurd (cc)
-capture_puts s name target place template (Some text) files accepts = entry_puts s name target place (entry_of template) text files accepts
+entry_puts : (s : Session) (name : List ℕ) (target : Target) (place : Place) (moment : CivilMinute) (entry : Result Node CaptureFault) (text : List ℕ) (files : List (List ℕ))
+    → with_entry s name target place moment entry text ≡ Accepts files → Puts s files
+entry_puts s name target place moment (Err why) text files accepts = absurd (cc)
+entry_puts s name target place moment (Ok entry) text files accepts = document_puts s name (captured s.states target place moment entry (tree text)) files accepts
+
+capture_puts : (s : Session) (name : List ℕ) (target : Target) (place : Place) (moment : CivilMinute) (template initial : List ℕ) (old : Option (List ℕ)) (files : List (List ℕ))
+    → capture s name target place moment template initial old ≡ Accepts files → Puts s files
+capture_puts s name target place moment template initial None files accepts = absurd (cc)
+capture_puts s name target place moment template initial (Some text) files accepts = entry_puts s name target place moment (new_entry moment template initial) text files accepts
+
+moved_puts : {B : Type 0} (s : Session) (texts : B → List (List ℕ × List ℕ)) (said : Result B MoveFault) (files : List (List ℕ)) → with_moved s texts said ≡ Accepts files → Puts s files
+moved_puts s texts (Err why) files accepts = absurd (cc)
+moved_puts s texts (Ok new) files accepts = changed_puts s (texts new) files accepts
+
+refile_puts : (s : Session) (name : List ℕ) (path : List (List ℕ)) (to_file : List ℕ) (to : List (List ℕ)) (place : Place) (old into : Option (List ℕ)) (files : List (List ℕ))
+    → refile s name path to_file to place old into ≡ Accepts files → Puts s files
+refile_puts s name path to_file to place None into files accepts = absurd (cc)
+refile_puts s name path to_file to place (Some text) None files accepts = absurd (cc)
+refile_puts s name path to_file to place (Some text) (Some target) files accepts = elim (cases_Bool (bytes_eq name to_file)) [
+  | inl t ↦ moved_puts s (text_within name) (refile_within s.states path to place (tree text)) files (rw t at accepts)
+  | inr f ↦ moved_puts s (texts_across name to_file) (refile_across s.states path (tree text) s.states to (tree target) place) files (rw f at accepts)
+]
 
 shows_none : (old : Option (List ℕ)) (files : List (List ℕ)) → show old ≡ Accepts files → ⊥
 shows_none None files accepts = absurd (cc)
 shows_none (Some text) files accepts = absurd (cc)
 
-pub accepted_puts : (s : Session) (command : Command) (files : List (List ℕ)) → outcome s command ≡ Accepts files → PutsOne s files
-accepted_puts s (Capture file target place moment template initial) files accepts = capture_puts s file target place template (text_at s.names s.files file) files accepts
+pub accepted_puts : (s : Session) (command : Command) (files : List (List ℕ)) → outcome s command ≡ Accepts files → Puts s files
+accepted_puts s (Capture file target place moment template initial) files accepts =
+    capture_puts s file target place moment template initial (text_at s.names s.files file) files accepts
+accepted_puts s (Refile file path to_file to_path place) files accepts =
+    refile_puts s file path to_file to_path place (text_at s.names s.files file) (text_at s.names s.files to_file) files accepts
 accepted_puts s (Show file) files accepts = absurd (shows_none (text_at s.names s.files file) files accepts)
 accepted_puts s Settle files accepts = absurd (cc)

@@ -1,34 +1,24 @@
 -- What the calls of a store do to its session, and what a stop may leave.
-use Rattle.std.proofs.Common.{◌≡◌, ◌⊎◌, inl, inr, ⊎_elim, ℕ, ◌+◌, ◌-◌, ◌^◌, ◌==◌, nat_lt, length, Bool, true, false, List, Some, None, Result, Ok, Err, refl, sym, ◌∙◌, ap, subst, if◌then◌else◌}
+use Rattle.std.proofs.Common.{◌≡◌, inl, inr, ⊎_elim, ℕ, ◌+◌, ◌-◌, ◌^◌, ◌==◌, Bool, true, false, List, Result, Ok, Err, refl, sym, ◌∙◌, ap, subst, if◌then◌else◌}
 use Rattle.std.specs.Prelude.{MatchResult}
 use Rattle.org_disk.specs.Disk.{FileState, AreImages}
-use Rattle.org_outline.specs.declared.moves.Place.{Place}
-use Rattle.org_splice.specs.Lines.{closed}
-use Rattle.org_outline.specs.Tree.{Node, print}
-use Rattle.org_outline.specs.Moves.{insert}
 use Rattle.org_journal.specs.Standing.{Image, SameFiles, contents}
-use Rattle.org_fileset.specs.Names.{limit}
 use Rattle.org_fileset.specs.Replay.{IsAtRest}
 use Rattle.org_fileset.proofs.Commits.{at_rest_stands}
-use Rattle.org_held.specs.declared.draft.Draft.{Draft}
-use Rattle.org_held.specs.declared.draft.Drafts.{Drafts}
-use Rattle.org_held.specs.InOrder.{texts_of, text_at, with_text, with_texts}
-use Rattle.org_held.proofs.InOrder.{told_by_texts, holds_told}
 use Rattle.org_store.specs.declared.command.Reply.{Reply}
 use Rattle.org_store.specs.declared.command.Reply.TheVariants.{Done, Safe, Text}
 use Rattle.org_store.specs.declared.command.RunFault.{RunFault}
-use Rattle.org_outline.proofs.Trees.{tree-closed}
 use Rattle.org_store.specs.declared.command.RunFault.TheVariants.{Refused, OutOfMemory, Device, Broken}
-use Rattle.org_store.specs.declared.command.Target.{Target}
 use Rattle.org_store.specs.declared.command.Refusal.TheVariants.{TooLarge}
-use Rattle.org_store.specs.declared.command.Target.TheVariants.{Top}
+use Rattle.org_store.specs.Files.{has_large}
+use Rattle.org_store.specs.InOrder.{texts_of, with_all, with_texts}
 use Rattle.org_store.specs.Session.{Session, Holds}
 use Rattle.org_store.specs.Step.{fills}
-use Rattle.org_store.specs.Capture.{entry_of, captured}
-use Rattle.org_store.specs.Outcome.{Outcome, Accepts, Shows, AsksToSettle, Refuses, capture, with_entry, changed as changed_file}
+use Rattle.org_store.specs.Outcome.{Outcome, Accepts, Shows, AsksToSettle, Refuses, changed}
 use Rattle.org_store.specs.Counts.{SameCounts}
 use Rattle.org_store.specs.Left.{IsLeftFailing, IsLeftBy}
-use Rattle.org_store.specs.Keeping.{IsLeftKeeping, KeepsCounts, after}
+use Rattle.org_store.specs.Keeping.{IsLeftKeeping, KeepsCounts}
+use Rattle.org_store.proofs.InOrder.{told_by_texts, holds_told}
 
 -- what a stop leaves of files at rest
 pub at_rest_holds : (s : Session) (files : List ℕ → FileState) → IsAtRest files → (image : Image) → AreImages files image → Holds s (contents files) (texts_of (contents files) s.names) image
@@ -73,16 +63,13 @@ left_accepting s new others files (Err OutOfMemory) n image counts left = left
 left_accepting s new others files (Err Broken) n image counts left = absurd left
 left_accepting s new others files (Err (Refused why)) n image counts left = absurd left
 
--- the same, over a store that a plan left as it was
-pub left_by_accept : (s mid new : Session) (old now : List ℕ → FileState) (drafts : Drafts) (outcome : Outcome) (answer : Result (Unit {0}) RunFault) (n : ℕ) (image : Image) → mid ≡ s → now ≡ old
-    → outcome ≡ Accepts (after s drafts) → KeepsCounts mid answer new → IsLeftKeeping mid (contents now) (after mid drafts) answer image
-    → MatchResult answer (λ _. IsLeftBy s (contents old) outcome (Ok (Done n)) new.accepted image) (λ fault. IsLeftBy s (contents old) outcome (Err fault) new.accepted image)
-left_by_accept s mid new old now drafts outcome answer n image is same accepts counts left =
-    let here : IsLeftKeeping s (contents now) (after s drafts) answer image = subst (λ (m : Session). IsLeftKeeping m (contents now) (after m drafts) answer image) is left in
-    let there : IsLeftKeeping s (contents old) (after s drafts) answer image = subst (λ (f : List ℕ → FileState). IsLeftKeeping s (contents f) (after s drafts) answer image) same here in
-    let counted : KeepsCounts s answer new = subst (λ (m : Session). KeepsCounts m answer new) is counts in
-    subst (λ (o : Outcome). MatchResult answer (λ _. IsLeftBy s (contents old) o (Ok (Done n)) new.accepted image) (λ fault. IsLeftBy s (contents old) o (Err fault) new.accepted image)) (sym accepts)
-    (left_accepting s new (contents old) (after s drafts) answer n image counted there)
+-- the same of any outcome that is to be accepted
+pub left_by_keep : (s new : Session) (others : Image) (files : List (List ℕ)) (outcome : Outcome) (answer : Result (Unit {0}) RunFault) (n : ℕ) (image : Image) → outcome ≡ Accepts files → KeepsCounts s answer new
+    → IsLeftKeeping s others files answer image
+    → MatchResult answer (λ _. IsLeftBy s others outcome (Ok (Done n)) new.accepted image) (λ fault. IsLeftBy s others outcome (Err fault) new.accepted image)
+left_by_keep s new others files outcome answer n image accepts counts left =
+    subst (λ (o : Outcome). MatchResult answer (λ _. IsLeftBy s others o (Ok (Done n)) new.accepted image) (λ fault. IsLeftBy s others o (Err fault) new.accepted image)) (sym accepts)
+    (left_accepting s new others files answer n image counts left)
 
 pub match_ok : {A E : Type 0} {P : Type 0} (Q : E → Type 0) (result : Result A E) (a : A) → result ≡ Ok a → MatchResult result (λ _. P) Q → P
 match_ok {P = P} Q result a is m = subst (λ r. MatchResult r (λ _. P) Q) is m
@@ -90,34 +77,19 @@ match_ok {P = P} Q result a is m = subst (λ r. MatchResult r (λ _. P) Q) is m
 pub match_err : {A E : Type 0} (P : Type 0) (Q : E → Type 0) (result : Result A E) (e : E) → result ≡ Err e → MatchResult result (λ _. P) Q → Q e
 match_err P Q result e is m = subst (λ r. MatchResult r (λ _. P) Q) is m
 
--- an entry is put into the closed text
-captured_closed : (target : Target) (place : Place) (node : Node) (text : List ℕ) → captured target place node (closed text) ≡ captured target place node text
-captured_closed Top place node text = ap (λ d. print (insert None place node d)) (tree-closed text)
+-- texts that are put, and what is refused of them
+pub accepts_small : (s : Session) (changes : List (List ℕ × List ℕ)) → has_large changes ≡ false → (s.accepted == 2 ^ 64 - 1) ≡ false → changed s changes ≡ Accepts (with_all s.names s.files changes)
+accepts_small s changes small countable = rw (small, countable) refl
 
--- a capture into a file with this text, by the draft that it makes
-captures : (s : Session) (name : List ℕ) (target : Target) (place : Place) (template : List ℕ) (old : List ℕ) (node : Node) (text : List ℕ)
-    → text_at s.names s.files name ≡ Some old → entry_of template ≡ Ok node → text ≡ captured target place node (closed old)
-    → capture s name target place template (text_at s.names s.files name) ≡ changed_file s name text
-captures s name target place template old node text there made is =
-    ap (capture s name target place template) there
-    ∙ ap (λ entry. with_entry s name target place entry old) made
-    ∙ ap (λ t. changed_file s name t) (sym (is ∙ captured_closed target place node old))
+pub refuses_large : (s : Session) (changes : List (List ℕ × List ℕ)) → has_large changes ≡ true → changed s changes ≡ Refuses TooLarge
+refuses_large s changes large = rw large refl
 
-pub accepts_entry : (s : Session) (name : List ℕ) (target : Target) (place : Place) (template : List ℕ) (old : List ℕ) (node : Node) (draft : Draft)
-    → text_at s.names s.files name ≡ Some old → entry_of template ≡ Ok node → draft.text.bytes ≡ captured target place node (closed old) → draft.name ≡ name → nat_lt limit (length draft.text.bytes) ≡ false
-    → (s.accepted == 2 ^ 64 - 1) ≡ false → capture s name target place template (text_at s.names s.files name) ≡ Accepts (with_text s.names s.files draft.name draft.text.bytes)
-accepts_entry s name target place template old node draft there made is named small countable =
-    captures s name target place template old node draft.text.bytes there made is ∙ rw (small, countable, named) refl
-
-pub refuses_large : (s : Session) (name : List ℕ) (target : Target) (place : Place) (template : List ℕ) (old : List ℕ) (node : Node) (text : List ℕ)
-    → text_at s.names s.files name ≡ Some old → entry_of template ≡ Ok node → text ≡ captured target place node (closed old)
-    → (nat_lt limit (length text) ≡ true) ⊎ ((s.accepted == 2 ^ 64 - 1) ≡ true) → capture s name target place template (text_at s.names s.files name) ≡ Refuses TooLarge
-refuses_large s name target place template old node text there made is large =
-    captures s name target place template old node text there made is ∙ ⊎_elim (λ t. rw t refl) (λ full. either (nat_lt limit (length text)) (s.accepted == 2 ^ 64 - 1) full) large
+pub refuses_full : (s : Session) (changes : List (List ℕ × List ℕ)) → (s.accepted == 2 ^ 64 - 1) ≡ true → changed s changes ≡ Refuses TooLarge
+refuses_full s changes full = go (has_large changes) (s.accepted == 2 ^ 64 - 1) full
   where
-    either : (long full : Bool) → full ≡ true → (if long then Refuses TooLarge else if full then Refuses TooLarge else Accepts (with_text s.names s.files name text)) ≡ Refuses TooLarge
-    either true full is = refl
-    either false full is = rw is refl
+    go : (long many : Bool) → many ≡ true → (if long then Refuses TooLarge else if many then Refuses TooLarge else Accepts (with_all s.names s.files changes)) ≡ Refuses TooLarge
+    go true many is = refl
+    go false many is = rw is refl
 
 pub same_fault : (fault other : RunFault) → ◌≡◌ {A = Result (Unit {0}) RunFault} (Err fault) (Err other) → ◌≡◌ {A = Result Reply RunFault} (Err fault) (Err other)
 same_fault fault other same = let one : fault ≡ other = cc in ap (λ (f : RunFault). Err f) one

@@ -4,8 +4,8 @@ use Rattle.org_disk.specs.Disk.{FileState, AreImages, Passes}
 use Rattle.org_disk.proofs.Moments.{passes_none, passes_as, passes_then, leaves_only}
 use Rattle.org_journal.specs.Standing.{Image, SameFiles, IsFit, contents}
 use Rattle.org_fileset.specs.Replay.{IsAtRest}
-use Rattle.org_held.specs.InOrder.{texts_of, with_texts}
-use Rattle.org_held.proofs.Committing.{leaves_as}
+use Rattle.org_store.specs.InOrder.{texts_of, with_texts}
+use Rattle.org_store.proofs.Committing.{leaves_as}
 use Rattle.org_store.specs.Session.{Kept, Holds}
 use Rattle.org_store.specs.Runs.{LeavesDisk}
 use Rattle.org_store.proofs.Keeping.{left_at_rest, others_unwritten}

@@ -1,10 +1,19 @@
 mod Rows
-pub mod Entries
+pub mod InOrder
+pub mod Committing
+pub mod Held
+pub mod Commits
 pub mod Keeping
 pub mod Leaving
+pub mod Acting
+pub mod Planned
+pub mod Plans
+pub mod Captures
+pub mod Refiles
 pub mod Sessions
 pub mod Accepted
 pub mod Follows
 pub mod Sortings
 pub mod Runs
 pub mod Reopening
+pub mod NodeCounts

@@ -19,14 +19,14 @@ use Rattle.org_store.specs.declared.command.Reply.{Reply}
 use Rattle.org_store.specs.declared.command.Reply.TheVariants.{Done, Safe, Text}
 use Rattle.org_store.specs.declared.command.RunFault.{RunFault}
 use Rattle.org_store.specs.declared.command.RunFault.TheVariants as run
-use Rattle.org_held.specs.InOrder.{texts_of, with_text, with_texts}
+use Rattle.org_store.specs.InOrder.{texts_of, with_all, with_text, with_texts}
 use Rattle.org_store.specs.Session.{Session, Holds}
 use Rattle.org_store.specs.Outcome.{Outcome, Accepts, Shows, AsksToSettle, Refuses, outcome}
 use Rattle.org_store.specs.Step.{fills, done, settled}
 use Rattle.org_store.specs.Left.{to_settle, IsEither, IsLeftFailing, IsLeftBy, IsLeft}
 use Rattle.org_store.specs.Runs.{GoesOn, Reaches, IsBetween, IsLeftOf}
 use Rattle.org_store.specs.Reopening.{AreSameNames, IsOpenable, AreSmall}
-use Rattle.org_store.proofs.Accepted.{accepted_puts}
+use Rattle.org_store.proofs.Accepted.{AreWithin, accepted_puts}
 use Rattle.org_store.proofs.Sortings.{one_sorting}
 
 never_both : (given : List (List ℕ)) → AreFew given → AreTooMany given → ⊥
@@ -163,8 +163,13 @@ small_with names texts name new here are = record {
       (all_with (λ text. length text ≤ limit) names texts name new here (recursion_from_All (λ text. length text ≤ limit) texts are.small));
 }
 
+small_with_all : (names texts : List (List ℕ)) (changes : List (List ℕ × List ℕ)) → AreWithin changes → AreSmall names texts → AreSmall names (with_all names texts changes)
+small_with_all names texts [] each are = are
+small_with_all names texts (change ∷ changes) each are =
+    small_with_all names (with_text names texts change.0 change.1) changes each.1 (small_with names texts change.0 change.1 each.0 are)
+
 pub accepted_small : (s : Session) (command : Command) (files : List (List ℕ)) → AreSmall s.names s.files → outcome s command ≡ Accepts files → AreSmall s.names files
-accepted_small s command files are accepts = let put = accepted_puts s command files accepts in subst (AreSmall s.names) put.3 (small_with s.names s.files put.0 put.1 put.2 are)
+accepted_small s command files are accepts = let put = accepted_puts s command files accepts in subst (AreSmall s.names) put.2 (small_with_all s.names s.files put.0 put.1 are)
 
 -- what a stop leaves while a command runs
 abbrev HoldsSmall : Session → Image → Image → Type 0

@@ -1,13 +1,15 @@
 -- The definitions of commands on worked examples.
 use Rattle.std.proofs.Common.{◌≡◌, ℕ, false, List, [], ◌∷◌, ◌++◌, refl}
 use Rattle.std.specs.Prelude.{codes}
-use Rattle.org_outline.specs.declared.moves.Place.TheVariants.{Last}
-use Rattle.org_store.specs.declared.command.Target.TheVariants.{Top}
-use Rattle.org_store.specs.declared.command.Refusal.TheVariants.{NoSuchFile, BadTemplate, BadEntry}
+use Rattle.org_outline.specs.declared.moves.Place.{Place}
+use Rattle.org_outline.specs.declared.moves.Place.TheVariants.{First, Last}
+use Rattle.org_capture.specs.declared.target.Target.TheVariants.{Top}
+use Rattle.org_stamp.specs.Calendar.{CivilMinute, at_minute, civil_day}
+use Rattle.org_store.specs.declared.command.Refusal.TheVariants.{NoSuchFile, BadTemplate, BadEntry, NotFound, InsideItself}
 use Rattle.org_outline.specs.States.{Keywords}
-use Rattle.org_held.specs.InOrder.{text_at}
+use Rattle.org_store.specs.InOrder.{text_at}
 use Rattle.org_store.specs.Session.{Session}
-use Rattle.org_store.specs.Outcome.{Outcome, Refuses, Shows, Accepts, capture, show}
+use Rattle.org_store.specs.Outcome.{Outcome, Refuses, Shows, Accepts, capture, refile, show}
 
 -- two files with these texts
 abbrev store : List ℕ → List ℕ → Session
@@ -16,8 +18,11 @@ store a b =
     let states : Keywords = record { active = codes "TODO" ∷ []; done = codes "DONE" ∷ [] } in
     record { states = states; names = codes "a.org" ∷ codes "b.org" ∷ []; files = files; settled = files; accepted = 0; acknowledged = 0; group = 1; broken = false }
 
+abbrev moment : CivilMinute
+moment = at_minute (civil_day 2026 7 1) 600
+
 abbrev captured_in : Session → List ℕ → List ℕ → Outcome
-captured_in s name template = capture s name Top Last template (text_at s.names s.files name)
+captured_in s name template = capture s name Top Last moment template [] (text_at s.names s.files name)
 
 abbrev shown_in : Session → List ℕ → Outcome
 shown_in s name = show (text_at s.names s.files name)
@@ -52,3 +57,30 @@ two_headings = refl
 
 unknown_file_before_escape : captured_in (store [] []) (codes "q.org") (codes "%d") ≡ Refuses NoSuchFile
 unknown_file_before_escape = refl
+
+-- ---- refiles
+
+abbrev refiled_in : Session → List ℕ → List (List ℕ) → List ℕ → List (List ℕ) → Place → Outcome
+refiled_in s name path to_file to place = refile s name path to_file to place (text_at s.names s.files name) (text_at s.names s.files to_file)
+
+-- skipped levels stay skipped
+abbrev deep : List ℕ
+deep = line (codes "* S") ++ line (codes "** B") ++ line (codes "**** C") ++ line (codes "* T") ++ line (codes "** U") ++ line (codes "*** V")
+
+within_a_file : refiled_in (store deep []) (codes "a.org") (codes "S" ∷ codes "B" ∷ []) (codes "a.org") (codes "T" ∷ codes "U" ∷ codes "V" ∷ []) Last
+    ≡ Accepts ((line (codes "* S") ++ line (codes "* T") ++ line (codes "** U") ++ line (codes "*** V") ++ line (codes "**** B") ++ line (codes "****** C")) ∷ [] ∷ [])
+within_a_file = refl
+
+-- both files are closed
+across_files : refiled_in (store (line (codes "* A") ++ line (codes "** B") ++ codes "b") (line (codes "* T") ++ codes "** K")) (codes "a.org") (codes "A" ∷ codes "B" ∷ []) (codes "b.org") (codes "T" ∷ []) First
+    ≡ Accepts (line (codes "* A") ∷ (line (codes "* T") ++ line (codes "** B") ++ line (codes "b") ++ line (codes "** K")) ∷ [])
+across_files = refl
+
+below_itself : refiled_in (store (line (codes "* A") ++ line (codes "** B")) []) (codes "a.org") (codes "A" ∷ []) (codes "a.org") (codes "A" ∷ codes "B" ∷ []) Last ≡ Refuses InsideItself
+below_itself = refl
+
+no_source_heading : refiled_in (store [] []) (codes "a.org") (codes "A" ∷ []) (codes "b.org") (codes "B" ∷ []) Last ≡ Refuses NotFound
+no_source_heading = refl
+
+unknown_target_before_path : refiled_in (store [] []) (codes "a.org") (codes "A" ∷ []) (codes "q.org") (codes "B" ∷ []) Last ≡ Refuses NoSuchFile
+unknown_target_before_path = refl

@@ -14,7 +14,7 @@ use Rattle.org_store.specs.declared.command.Reply.{Reply}
 use Rattle.org_store.specs.declared.command.Reply.TheVariants.{Done, Safe, Text}
 use Rattle.org_store.specs.declared.command.RunFault.{RunFault}
 use Rattle.org_store.specs.declared.command.RunFault.TheVariants.{Refused, OutOfMemory, Device, Broken}
-use Rattle.org_held.specs.InOrder.{text_at, with_text, with_texts}
+use Rattle.org_store.specs.InOrder.{text_at, with_all, with_text, with_texts}
 use Rattle.org_store.specs.Session.{Session, Kept, Holds}
 use Rattle.org_store.specs.Outcome.{Outcome, Accepts, Shows, AsksToSettle, Refuses, outcome}
 use Rattle.org_store.specs.Step.{Does, Step, Settles, fills, done, settled}
@@ -53,9 +53,14 @@ with_text_has (one ∷ names) (text ∷ texts) name new other = elim (cases_Bool
   | inr f ↦ rw f (with_text_has names texts name new other)
 ]
 
+with_all_has : (names texts : List (List ℕ)) (changes : List (List ℕ × List ℕ)) → HaveTexts names texts (with_all names texts changes)
+with_all_has names texts [] other = refl
+with_all_has names texts (change ∷ changes) other =
+    with_all_has names (with_text names texts change.0 change.1) changes other ∙ with_text_has names texts change.0 change.1 other
+
 -- A command that is accepted keeps the names that have texts.
 accepts : (s : Session) (command : Command) (files : List (List ℕ)) → outcome s command ≡ Accepts files → HaveTexts s.names s.files files
-accepts s command files is = let put = accepted_puts s command files is in subst (HaveTexts s.names s.files) put.3 (with_text_has s.names s.files put.0 put.1)
+accepts s command files is = let put = accepted_puts s command files is in subst (HaveTexts s.names s.files) put.2 (with_all_has s.names s.files put.0)
 
 -- What a call that met no failure of the disk does to the session.
 pub record Onward (old new : Session) : Type 0 where

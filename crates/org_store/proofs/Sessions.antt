@@ -1,6 +1,5 @@
--- What the calls of held files do to the session of a store over them.
-use Rattle.std.proofs.Common.{◌≡◌, ◌≢◌, ◌⊎◌, inr, ⊎_elim, ℕ, false, true, List, Result, Err, refl, sym, ◌∙◌, ap}
-use Rattle.std.proofs.lemmas.Bool.{cases_Bool}
+-- What the calls of a store's files do to its session.
+use Rattle.std.proofs.Common.{◌≡◌, inl, ℕ, false, true, List, Result, Err, refl, sym, ◌∙◌, ap, subst}
 use Rattle.std.specs.Prelude.{◌↔◌, IsErrOf, IsTrue}
 use Rattle.org_disk.specs.Disk.{FileState, AreImages, LeavesOnly}
 use Rattle.org_outline.specs.States.{Keywords}
@@ -8,94 +7,103 @@ use Rattle.org_journal.specs.Standing.{Image, IsFit, contents}
 use Rattle.org_fileset.specs.declared.fault.SetFault.{SetFault}
 use Rattle.org_fileset.specs.declared.fault.SetFault.TheVariants as set
 use Rattle.org_fileset.specs.Replay.{IsAtRest}
-use Rattle.org_held.specs.Set.{Holding}
-use Rattle.org_held.specs.InOrder.{HoldsEither, texts_of}
-use Rattle.org_held.proofs.Committing.{leaves_as}
+use Rattle.org_texts.specs.Texts.{held_over}
 use Rattle.org_store.specs.declared.command.RunFault.{RunFault}
-use Rattle.org_store.specs.declared.command.RunFault.TheVariants.{OutOfMemory, Device, Broken}
-use Rattle.org_store.specs.Session.{Session, Kept, Holds}
-use Rattle.org_store.specs.Step.{Settles}
+use Rattle.org_store.specs.declared.command.RunFault.TheVariants.{Refused, OutOfMemory, Device, Broken}
+use Rattle.org_store.specs.declared.tally.Tally.{Tally}
+use Rattle.org_store.specs.Files.{OpenFiles}
+use Rattle.org_store.specs.InOrder.{HoldsEither, texts_of}
+use Rattle.org_store.specs.Session.{Session, Kept, Holds, kept_over, session_over}
+use Rattle.org_store.specs.Outcome.{Outcome}
+use Rattle.org_store.specs.Step.{Does, Settles, failed_in_read}
 use Rattle.org_store.specs.Left.{IsLeftSettling}
-use Rattle.org_store.specs.Keeping.{fault_of_set}
+use Rattle.org_store.specs.Keeping.{Reads, fault_of_set}
 use Rattle.org_store.specs.Runs.{LeavesDisk}
+use Rattle.org_store.proofs.Committing.{leaves_as}
+use Rattle.org_store.proofs.InOrder.{texts_same}
 use Rattle.org_store.proofs.Leaving.{leaves_unwritten}
 
--- the session of a store over held files
-abbrev pub session_over : {D : Type 0} → (D → Image) → Keywords → Holding D → (accepted acknowledged group : ℕ) → Session
-session_over files states held accepted acknowledged group = record {
-  states = states;
-  names = held.names;
-  files = held.texts;
-  settled = texts_of (files held.disk) held.names;
-  accepted = accepted;
-  acknowledged = acknowledged;
-  group = group;
-  broken = held.broken;
-}
-
--- what a settling or a commit of held files answers, where it is no Ok
-pub record Fails {D : Type 0} (old new : Holding D) (result : Result (Unit {0}) SetFault) (fault : SetFault) : Type 0 where
+-- what a settling answers, where it is no Ok
+pub record Fails {D : Type 0} (old new : OpenFiles D) (result : Result (Unit {0}) SetFault) (fault : SetFault) : Type 0 where
   pub is : result ≡ Err fault
+  pub unbroken : old.broken ≡ false
   pub memory : IsErrOf result set.OutOfMemory → new ≡ old
-  pub broken : IsErrOf result set.Broken ↔ IsTrue old.broken
-  pub untouched : IsTrue old.broken → new ≡ old
-  pub breaks : IsTrue new.broken ↔ (IsTrue old.broken ⊎ IsErrOf result set.Device)
+  pub works : IsErrOf result set.Broken → ⊥
+  pub breaks : IsErrOf result set.Device ↔ IsTrue new.broken
   pub names : new.names ≡ old.names
 
-one_fault : (fault other : SetFault) → ◌≡◌ {A = Result (Unit {0}) SetFault} (Err fault) (Err other) → fault ≡ other
-one_fault fault other same = cc
-
-working : {D : Type 0} (old new : Holding D) (result : Result (Unit {0}) SetFault) (fault : SetFault) → Fails old new result fault → fault ≢ set.Broken → old.broken ≡ false
-working old new result fault fails not = ⊎_elim (λ t. absurd (not (one_fault fault set.Broken (sym fails.is ∙ fails.broken.1 t)))) (λ f. f) (cases_Bool old.broken)
-
-pub settle_failed : {D : Type 0} (files : D → Image) (states : Keywords) (old new : Holding D) (accepted acknowledged group : ℕ) (result : Result (Unit {0}) SetFault) (fault : SetFault) → Fails old new result fault
-    → Settles (session_over files states old accepted acknowledged group) (Err (fault_of_set fault)) (session_over files states new accepted acknowledged group)
-settle_failed {D} files states old new accepted acknowledged group result set.OutOfMemory fails = (
-  working old new result set.OutOfMemory fails (λ (e : set.OutOfMemory ≡ set.Broken). absurd (cc)),
-  ap (λ (held : Holding D). session_over files states held accepted acknowledged group) (fails.memory fails.is),
-)
-settle_failed files states old new accepted acknowledged group result set.Device fails =
-    let fell : new.broken ≡ true = fails.breaks.1 (inr fails.is) in (
-      working old new result set.Device fails (λ (e : set.Device ≡ set.Broken). absurd (cc)),
-      (new.texts, texts_of (files new.disk) new.names, rw (fell, fails.names) refl),
-    )
-settle_failed {D} files states old new accepted acknowledged group result set.Broken fails =
-    let was : old.broken ≡ true = fails.broken.0 fails.is in
-    (was, ap (λ (held : Holding D). session_over files states held accepted acknowledged group) (fails.untouched was))
-
--- a store over held files
-abbrev pub kept_over : {D : Type 0} → (D → List ℕ → FileState) → Keywords → Holding D → (accepted acknowledged group : ℕ) → Kept D
-kept_over files states held accepted acknowledged group =
-    record { disk = held.disk; session = session_over (λ disk. contents (files disk)) states held accepted acknowledged group }
+pub settle_failed : {D : Type 0} (texts : D → Image) (states : Keywords) (old new : OpenFiles D) (tally : Tally) (result : Result (Unit {0}) SetFault) (fault : SetFault) → Fails old new result fault
+    → Settles (session_over texts states old tally) (Err (fault_of_set fault)) (session_over texts states new tally)
+settle_failed {D} texts states old new tally result set.OutOfMemory fails =
+    (fails.unbroken, ap (λ (files : OpenFiles D). session_over texts states files tally) (fails.memory fails.is))
+settle_failed texts states old new tally result set.Device fails =
+    let fell : new.broken ≡ true = fails.breaks.0 fails.is in
+    (fails.unbroken, (texts_of (held_over new.held.before (texts new.disk)) new.names, texts_of (texts new.disk) new.names, rw (fell, fails.names) refl))
+settle_failed texts states old new tally result set.Broken fails = absurd (fails.works fails.is)
 
 -- what a settling that failed leaves of the disk
-module _ {D : Type 0} (files : D → List ℕ → FileState) (moment : D → ℕ) (left_since : D → ℕ → Image → Type 0) (states : Keywords) (old new : Holding D) (accepted acknowledged group : ℕ)
+module _ {D : Type 0} (files : D → List ℕ → FileState) (moment : D → ℕ) (left_since : D → ℕ → Image → Type 0) (states : Keywords) (old new : OpenFiles D) (tally : Tally)
     (start : (image : Image) → left_since old.disk (moment old.disk) image → AreImages (files old.disk) image) where
   abbrev before : Kept D
-  before = kept_over files states old accepted acknowledged group
+  before = kept_over files states old tally
 
   abbrev now : Kept D
-  now = kept_over files states new accepted acknowledged group
+  now = kept_over files states new tally
 
   settle_unwritten : (fault : RunFault) → ((image : Image) → Holds before.session (contents (files old.disk)) before.session.settled image → IsLeftSettling before.session (contents (files old.disk)) (Err fault) image)
       → new ≡ old → LeavesDisk files moment left_since before now (IsLeftSettling before.session (contents (files old.disk)) (Err fault)) (IsErrOf {T = Unit {0}} (Err fault) Device)
   settle_unwritten fault quiet same =
-      leaves_unwritten files moment left_since before (IsLeftSettling before.session (contents (files old.disk)) (Err fault)) (IsErrOf {T = Unit {0}} (Err fault) Device) start refl quiet now (ap (λ (held : Holding D). held.disk) same) refl
+      leaves_unwritten files moment left_since before (IsLeftSettling before.session (contents (files old.disk)) (Err fault)) (IsErrOf {T = Unit {0}} (Err fault) Device) start refl quiet now (ap (λ (held : OpenFiles D). held.disk) same) refl
 
   pub settle_leaves : (result : Result (Unit {0}) SetFault) (fault : SetFault) → Fails old new result fault
-      → (IsAtRest (files old.disk) → LeavesOnly (moment old.disk) (moment new.disk) (left_since old.disk) (left_since new.disk) (HoldsEither old.names (contents (files old.disk)) old.texts))
-      → (fault ≡ set.Device → IsAtRest (files old.disk) → IsFit (files new.disk))
+      → (IsAtRest (files old.disk) → LeavesOnly (moment old.disk) (moment new.disk) (left_since old.disk) (left_since new.disk) (HoldsEither old.names (contents (files old.disk)) before.session.files))
+      → (IsAtRest (files old.disk) → IsFit (files new.disk))
       → LeavesDisk files moment left_since before now (IsLeftSettling before.session (contents (files old.disk)) (Err (fault_of_set fault))) (IsErrOf {T = Unit {0}} (Err (fault_of_set fault)) Device)
   settle_leaves result set.OutOfMemory fails leaves fit = settle_unwritten OutOfMemory (λ image holds. holds) (fails.memory fails.is)
   settle_leaves result set.Device fails leaves fit = record {
     any_moment = λ rest. leaves_as (leaves rest) (λ image either. either);
     others = λ fine. absurd (fine refl);
     rest = λ fine. absurd (fine refl);
-    fit = fit refl;
+    fit = fit;
   }
-  settle_leaves result set.Broken fails leaves fit = settle_unwritten Broken (λ image holds. holds) (fails.untouched (fails.broken.0 fails.is))
+  settle_leaves result set.Broken fails leaves fit = absurd (fails.works fails.is)
 
--- a call that leaves texts and names, and breaks nothing
-pub session_still : {D : Type 0} (files : D → Image) (states : Keywords) (old new : Holding D) (accepted acknowledged group : ℕ) → new.names ≡ old.names → new.texts ≡ old.texts → files new.disk ≡ files old.disk
-    → new.broken ≡ old.broken → session_over files states new accepted acknowledged group ≡ session_over files states old accepted acknowledged group
-session_still files states old new accepted acknowledged group names texts same still = rw (same, names, texts, still) refl
+-- a call that changes no text
+still_texts : {D : Type 0} (texts : D → Image) (old new : OpenFiles D) → new.names ≡ old.names → texts new.disk ≡ texts old.disk
+    → ((name : List ℕ) → held_over new.held.before (texts new.disk) name ≡ held_over old.held.before (texts old.disk) name)
+    → texts_of (held_over new.held.before (texts new.disk)) new.names ≡ texts_of (held_over old.held.before (texts old.disk)) old.names
+still_texts texts old new names same over =
+    ap (texts_of (held_over new.held.before (texts new.disk))) names
+    ∙ texts_same (held_over new.held.before (texts new.disk)) (held_over old.held.before (texts old.disk)) old.names (λ name there. over name)
+
+pub session_still : {D : Type 0} (texts : D → Image) (states : Keywords) (old new : OpenFiles D) (tally : Tally) → new.names ≡ old.names → texts new.disk ≡ texts old.disk
+    → ((name : List ℕ) → held_over new.held.before (texts new.disk) name ≡ held_over old.held.before (texts old.disk) name)
+    → new.broken ≡ old.broken → session_over texts states new tally ≡ session_over texts states old tally
+session_still texts states old new tally names same over still =
+    let held = still_texts texts old new names same over in
+    rw (held, same, names, still) refl
+
+pub session_failed : {D : Type 0} (texts : D → Image) (states : Keywords) (old new : OpenFiles D) (tally : Tally) → new.names ≡ old.names → texts new.disk ≡ texts old.disk
+    → ((name : List ℕ) → held_over new.held.before (texts new.disk) name ≡ held_over old.held.before (texts old.disk) name)
+    → new.broken ≡ true → session_over texts states new tally ≡ failed_in_read (session_over texts states old tally)
+session_failed texts states old new tally names same over fell =
+    let held = still_texts texts old new names same over in
+    rw (held, same, names, fell) refl
+
+-- a fault of a reading, told of any command
+pub does_read : (A : Type 0) (old new : Session) (outcome : Outcome) (fault : RunFault) → old.broken ≡ false → Reads {A = A} old (Err fault) new → Does old outcome (Err fault) new
+does_read A old new outcome OutOfMemory unbroken reads = (unbroken, reads)
+does_read A old new outcome Device unbroken reads = (unbroken, inl reads)
+does_read A old new outcome Broken unbroken reads = absurd reads
+does_read A old new outcome (Refused why) unbroken reads = absurd reads
+
+-- the same fault, handed on
+pub reads_fault : {A B : Type 0} (old new : Session) (result : Result A RunFault) (given : Result B RunFault) (fault : RunFault) → result ≡ Err fault → given ≡ Err fault → Reads old result new → Reads old given new
+reads_fault {A} {B} old new result given fault was is reads =
+    subst (λ (r : Result B RunFault). Reads old r new) (sym is) (go fault (subst (λ (r : Result A RunFault). Reads old r new) was reads))
+  where
+    go : (f : RunFault) → Reads {A = A} old (Err f) new → Reads {A = B} old (Err f) new
+    go OutOfMemory r = r
+    go Device r = r
+    go Broken r = r
+    go (Refused why) r = r

@@ -1,26 +1,49 @@
 -- How a command is planned on the texts of a store's files, and how it is accepted.
-use Rattle.std.specs.Prelude.{◌≡◌, ◌⊎◌, ℕ, ◌+◌, List, Result, Ok, Err, IsTrue, if◌then◌else◌}
-use Rattle.org_journal.specs.Standing.{Image}
+use Rattle.std.specs.Prelude.{◌≡◌, ◌⊎◌, ◌↔◌, ℕ, ◌+◌, List, Result, Ok, Err, IsErrOf, IsTrue, if◌then◌else◌}
+use Rattle.org_disk.specs.Disk.{FileState}
+use Rattle.org_journal.specs.Standing.{Image, contents}
 use Rattle.org_fileset.specs.declared.fault.SetFault.{SetFault}
 use Rattle.org_fileset.specs.declared.fault.SetFault.TheVariants as set
-use Rattle.org_held.specs.declared.draft.Drafts.{Drafts}
-use Rattle.org_held.specs.Held.{list_of}
-use Rattle.org_held.specs.InOrder.{with_all}
+use Rattle.org_texts.specs.declared.plan.Plan.{Plan}
+use Rattle.org_texts.specs.Texts.{Holding}
+use Rattle.org_capture.specs.declared.fault.CaptureFault.{CaptureFault}
+use Rattle.org_capture.specs.declared.fault.CaptureFault.TheVariants as capture
+use Rattle.org_move.specs.declared.fault.MoveFault.{MoveFault}
+use Rattle.org_move.specs.declared.fault.MoveFault.TheVariants as move
+use Rattle.org_store.specs.declared.command.Reply.{Reply}
 use Rattle.org_store.specs.declared.command.RunFault.{RunFault}
 use Rattle.org_store.specs.declared.command.RunFault.TheVariants.{Refused, OutOfMemory, Device, Broken}
-use Rattle.org_store.specs.Session.{Session, Holds}
-use Rattle.org_store.specs.Outcome.{Outcome, Accepts}
-use Rattle.org_store.specs.Step.{Does, done, torn_in, fills}
-use Rattle.org_store.specs.Counts.{SameCounts}
+use Rattle.org_store.specs.Files.{new_texts}
+use Rattle.org_store.specs.Session.{Session, Kept, Holds}
+use Rattle.org_store.specs.Outcome.{Outcome, changed, refusal_of, refusal_of_move}
+use Rattle.org_store.specs.Step.{Does, done, failed_in_read, torn_in, fills}
+use Rattle.org_store.specs.Left.{IsLeftBy}
+use Rattle.org_store.specs.Counts.{Counts, SameCounts}
+use Rattle.org_store.specs.Runs.{LeavesDisk}
 
--- the texts of the files with those of drafts
-abbrev pub after : Session → Drafts → List (List ℕ)
-after s drafts = with_all s.names s.files (list_of drafts)
+-- The store was `old`, a command that is to do this is planned as these edits of what is held, or isn't, and the store is
+-- `new`.
+abbrev pub Plans : Session → Outcome → Result Plan RunFault → Holding → Session → Type 0
+Plans old outcome (Ok plan) held new = (outcome ≡ changed old (new_texts plan held.now)) × (new ≡ old)
+Plans old outcome (Err fault) held new = Does old outcome (Err fault) new
 
--- the store was `old`, a command that is to do this is planned as these drafts or isn't, and the store is `new`
-abbrev pub Plans : Session → Outcome → Result Drafts RunFault → Session → Type 0
-Plans old outcome (Ok drafts) new = (outcome ≡ Accepts (after old drafts)) × (new ≡ old)
-Plans old outcome (Err fault) new = Does old outcome (Err fault) new
+-- a call that reads files where they aren't held got this answer
+abbrev pub Reads : {A : Type 0} → Session → Result A RunFault → Session → Type 0
+Reads old (Ok _) new = new ≡ old
+Reads old (Err OutOfMemory) new = new ≡ old
+Reads old (Err Device) new = new ≡ failed_in_read old
+Reads old (Err Broken) new = ⊥
+Reads old (Err (Refused why)) new = ⊥
+
+-- What a call does that is to have this outcome: to the session, to the disk, and to the counts whatever the disk does.
+pub record Acts {D : Type 0} (files : D → List ℕ → FileState) (moment : D → ℕ) (left_since : D → ℕ → Image → Type 0)
+    (honest : D → Type 0) (old : Kept D) (outcome : Outcome) (answer : Result Reply RunFault) (new : Kept D) : Type 0 where
+  pub does : honest new.disk → Does old.session outcome answer new.session
+  pub disk : honest new.disk → LeavesDisk files moment left_since old new
+      (IsLeftBy old.session (contents (files old.disk)) outcome answer new.session.accepted) (IsErrOf answer Device)
+  pub counts : Counts old.session answer new.session
+  pub works : IsErrOf answer Broken → ⊥
+  pub breaks : IsErrOf answer Device ↔ IsTrue new.session.broken
 
 -- the store was `old`, one more command with these texts after it gets this answer, and the store is `new`
 abbrev pub Keeps : Session → List (List ℕ) → Result (Unit {0}) RunFault → Session → Type 0
@@ -51,3 +74,21 @@ abbrev pub fault_of_set : SetFault → RunFault
 fault_of_set set.OutOfMemory = OutOfMemory
 fault_of_set set.Device = Device
 fault_of_set set.Broken = Broken
+
+-- the fault of a command whose entry isn't put in
+abbrev pub fault_of_capture : CaptureFault → RunFault
+fault_of_capture capture.OutOfMemory = OutOfMemory
+fault_of_capture capture.BadTemplate = Refused (refusal_of capture.BadTemplate)
+fault_of_capture capture.BadEntry = Refused (refusal_of capture.BadEntry)
+fault_of_capture capture.NotFound = Refused (refusal_of capture.NotFound)
+fault_of_capture capture.NotUnique = Refused (refusal_of capture.NotUnique)
+
+-- the fault of a command whose subtree isn't moved
+abbrev pub fault_of_move : MoveFault → RunFault
+fault_of_move move.OutOfMemory = OutOfMemory
+fault_of_move move.NotFound = Refused (refusal_of_move move.NotFound)
+fault_of_move move.NotUnique = Refused (refusal_of_move move.NotUnique)
+fault_of_move move.InsideItself = Refused (refusal_of_move move.InsideItself)
+fault_of_move move.AlreadyArchive = Refused (refusal_of_move move.AlreadyArchive)
+fault_of_move move.BadLocation = Refused (refusal_of_move move.BadLocation)
+fault_of_move move.NoSuchFile = Refused (refusal_of_move move.NoSuchFile)

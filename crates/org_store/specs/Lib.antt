@@ -1,13 +1,15 @@
 pub mod Refusals
+pub mod InOrder
+pub mod Files
 pub mod Session
 pub mod Capture
-pub mod Entry
+pub mod Refile
 pub mod Outcome
 pub mod Step
 pub mod Left
 pub mod Counts
+pub mod Runs
 pub mod Keeping
 pub mod Opening
-pub mod Runs
 pub mod Reopening
 pub mod Group

@@ -1,16 +1,25 @@
 -- What a command is to do, on plain texts.
-use Rattle.std.specs.Prelude.{ℕ, ◌-◌, ◌^◌, ◌==◌, nat_lt, List, length, Option, Some, None, Result, Ok, Err, if◌then◌else◌}
+use Rattle.std.specs.Str.{bytes_eq}
+use Rattle.std.specs.Prelude.{ℕ, ◌-◌, ◌^◌, ◌==◌, List, [], ◌∷◌, Option, Some, None, Result, Ok, Err, if◌then◌else◌}
 use Rattle.org_outline.specs.declared.moves.Place.{Place}
-use Rattle.org_outline.specs.Tree.{Node}
-use Rattle.org_store.specs.declared.command.Target.{Target}
+use Rattle.org_outline.specs.Tree.{Document, Node, print, tree}
+use Rattle.org_stamp.specs.Calendar.{CivilMinute}
+use Rattle.org_capture.specs.declared.fault.CaptureFault.{CaptureFault}
+use Rattle.org_capture.specs.declared.fault.CaptureFault.TheVariants as fault
+use Rattle.org_capture.specs.declared.target.Target.{Target}
+use Rattle.org_capture.specs.Capture.{captured}
+use Rattle.org_move.specs.declared.fault.MoveFault.{MoveFault}
+use Rattle.org_move.specs.declared.fault.MoveFault.TheVariants as move
+use Rattle.org_move.specs.Refile.{refile_across, refile_within}
 use Rattle.org_store.specs.declared.command.Command.{Command}
-use Rattle.org_store.specs.declared.command.Command.TheVariants.{Capture, Show, Settle}
+use Rattle.org_store.specs.declared.command.Command.TheVariants.{Capture, Refile, Show, Settle}
 use Rattle.org_store.specs.declared.command.Refusal.{Refusal}
-use Rattle.org_store.specs.declared.command.Refusal.TheVariants.{NoSuchFile, TooLarge}
-use Rattle.org_fileset.specs.Names.{limit}
-use Rattle.org_held.specs.InOrder.{text_at, with_text}
+use Rattle.org_store.specs.declared.command.Refusal.TheVariants.{NoSuchFile, BadTemplate, BadEntry, NotFound, NotUnique, InsideItself, AlreadyArchive, BadLocation, TooLarge}
+use Rattle.org_store.specs.Capture.{new_entry}
+use Rattle.org_store.specs.Files.{has_large}
+use Rattle.org_store.specs.InOrder.{text_at, with_all}
+use Rattle.org_store.specs.Refile.{text_within, texts_across}
 use Rattle.org_store.specs.Session.{Session}
-use Rattle.org_store.specs.Capture.{entry_of, captured}
 
 pub data Outcome : Type 0 where
   -- nothing, for this reason
@@ -22,27 +31,78 @@ pub data Outcome : Type 0 where
   -- to be accepted, with these texts of all files after it
   Accepts : List (List ℕ) → Outcome
 
--- a new text for a file, unless it is past the limit or the accepted commands are as many as can be counted
-abbrev pub changed : Session → List ℕ → List ℕ → Outcome
-changed s name text =
-    if nat_lt limit (length text) then Refuses TooLarge
+-- new texts for files, unless one is past the limit or the accepted commands are as many as can be counted
+abbrev pub changed : Session → List (List ℕ × List ℕ) → Outcome
+changed s changes =
+    if has_large changes then Refuses TooLarge
     else if s.accepted == 2 ^ 64 - 1 then Refuses TooLarge
-    else Accepts (with_text s.names s.files name text)
+    else Accepts (with_all s.names s.files changes)
 
-abbrev pub with_entry : Session → List ℕ → Target → Place → Result Node Refusal → List ℕ → Outcome
-with_entry s name target place (Err why) text = Refuses why
-with_entry s name target place (Ok entry) text = changed s name (captured target place entry text)
+-- why a capture is refused; no definition answers want of memory
+abbrev pub refusal_of : CaptureFault → Refusal
+refusal_of fault.BadTemplate = BadTemplate
+refusal_of fault.BadEntry = BadEntry
+refusal_of fault.NotFound = NotFound
+refusal_of fault.NotUnique = NotUnique
+refusal_of fault.OutOfMemory = TooLarge
 
--- a capture into a file that has this text: it is refused for its file first, then for its template, then for its entry
-abbrev pub capture : Session → List ℕ → Target → Place → List ℕ → Option (List ℕ) → Outcome
-capture s name target place template None = Refuses NoSuchFile
-capture s name target place template (Some text) = with_entry s name target place (entry_of template) text
+-- the file with the document that an entry makes of it
+abbrev pub with_document : Session → List ℕ → Result Document CaptureFault → Outcome
+with_document s name (Ok new) = changed s ((name, print new) ∷ [])
+with_document s name (Err fault) = Refuses (refusal_of fault)
+
+abbrev pub with_entry : Session → List ℕ → Target → Place → CivilMinute → Result Node CaptureFault → List ℕ → Outcome
+with_entry s name target place moment (Ok entry) text =
+    with_document s name (captured s.states target place moment entry (tree text))
+with_entry s name target place moment (Err fault) text = Refuses (refusal_of fault)
+
+-- A capture into a file that has this text: it is refused for its file first, then for its template, then for its entry,
+-- then for its target.
+abbrev pub capture : Session → List ℕ → Target → Place → CivilMinute → List ℕ → List ℕ → Option (List ℕ) → Outcome
+capture s name target place moment template initial None = Refuses NoSuchFile
+capture s name target place moment template initial (Some text) =
+    with_entry s name target place moment (new_entry moment template initial) text
+
+-- why a subtree isn't moved; no definition answers want of memory
+abbrev pub refusal_of_move : MoveFault → Refusal
+refusal_of_move move.NotFound = NotFound
+refusal_of_move move.NotUnique = NotUnique
+refusal_of_move move.InsideItself = InsideItself
+refusal_of_move move.AlreadyArchive = AlreadyArchive
+refusal_of_move move.BadLocation = BadLocation
+refusal_of_move move.NoSuchFile = NoSuchFile
+refusal_of_move move.OutOfMemory = TooLarge
+
+-- the new texts of what a move makes
+abbrev pub with_moved : {A : Type 0} → Session → (A → List (List ℕ × List ℕ)) → Result A MoveFault → Outcome
+with_moved s texts (Ok new) = changed s (texts new)
+with_moved s texts (Err fault) = Refuses (refusal_of_move fault)
+
+-- A refile from a file that has the first text into one that has the second, which are one where their names are. It is
+-- refused for the source's name first, then for the target's, then for the path in the source, then for the one in the
+-- target, then where the target lies in what is moved.
+abbrev pub refile : Session → List ℕ → List (List ℕ) → List ℕ → List (List ℕ) → Place → Option (List ℕ) → Option (List ℕ) → Outcome
+refile s file path to_file to place None into = Refuses NoSuchFile
+refile s file path to_file to place (Some text) None = Refuses NoSuchFile
+refile s file path to_file to place (Some text) (Some target) =
+    if bytes_eq file to_file then with_moved s (text_within file) (refile_within s.states path to place (tree text))
+    else with_moved s (texts_across file to_file) (refile_across s.states path (tree text) s.states to (tree target) place)
 
 abbrev pub show : Option (List ℕ) → Outcome
 show None = Refuses NoSuchFile
 show (Some text) = Shows text
 
 abbrev pub outcome : Session → Command → Outcome
-outcome s (Capture file target place moment template initial) = capture s file target place template (text_at s.names s.files file)
+outcome s (Capture file target place moment template initial) =
+    capture s file target place moment template initial (text_at s.names s.files file)
+outcome s (Refile file path to_file to_path place) =
+    refile s file path to_file to_path place (text_at s.names s.files file) (text_at s.names s.files to_file)
 outcome s (Show file) = show (text_at s.names s.files file)
 outcome s Settle = AsksToSettle
+
+-- a command that changes files
+abbrev pub IsChange : Command → Type 0
+IsChange (Capture file target place moment template initial) = Unit {0}
+IsChange (Refile file path to_file to_path place) = Unit {0}
+IsChange (Show file) = ⊥
+IsChange Settle = ⊥

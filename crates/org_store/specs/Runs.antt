@@ -7,7 +7,7 @@ use Rattle.org_store.specs.declared.command.Command.{Command}
 use Rattle.org_store.specs.declared.command.Reply.{Reply}
 use Rattle.org_store.specs.declared.command.RunFault.{RunFault}
 use Rattle.org_store.specs.declared.command.RunFault.TheVariants.{Refused, OutOfMemory, Device, Broken}
-use Rattle.org_held.specs.InOrder.{with_texts}
+use Rattle.org_store.specs.InOrder.{with_texts}
 use Rattle.org_store.specs.Session.{Session, Kept, Holds}
 use Rattle.org_store.specs.Outcome.{Outcome, Accepts, outcome}
 use Rattle.org_store.specs.Step.{Does, Step, Settles, fills, done}

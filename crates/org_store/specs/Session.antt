@@ -1,8 +1,12 @@
 -- What callers see of a store.
 use Rattle.std.specs.Prelude.{ℕ, Bool, List}
+use Rattle.org_disk.specs.Disk.{FileState}
 use Rattle.org_outline.specs.States.{Keywords}
-use Rattle.org_journal.specs.Standing.{Image}
-use Rattle.org_held.specs.InOrder.{HoldsTexts}
+use Rattle.org_journal.specs.Standing.{Image, contents}
+use Rattle.org_texts.specs.Texts.{held_over}
+use Rattle.org_store.specs.declared.tally.Tally.{Tally}
+use Rattle.org_store.specs.Files.{OpenFiles}
+use Rattle.org_store.specs.InOrder.{HoldsTexts, texts_of}
 
 -- What a store has done so far, in plain data. Texts are in the order of the names.
 pub record Session : Type 0 where
@@ -30,3 +34,21 @@ pub record Kept (D : Type 0) : Type 0 where
 -- the image stands for these texts of the store's files, and for these other files
 abbrev pub Holds : Session → Image → List (List ℕ) → Image → Type 0
 Holds s others texts image = HoldsTexts s.names others texts image
+
+-- the session of a store over these files, with these counts
+abbrev pub session_over : {D : Type 0} → (D → Image) → Keywords → OpenFiles D → Tally → Session
+session_over texts states files tally = record {
+  states = states;
+  names = files.names;
+  files = texts_of (held_over files.held.before (texts files.disk)) files.names;
+  settled = texts_of (texts files.disk) files.names;
+  accepted = tally.accepted;
+  acknowledged = tally.acknowledged;
+  group = tally.group;
+  broken = files.broken;
+}
+
+-- .. and the store
+abbrev pub kept_over : {D : Type 0} → (D → List ℕ → FileState) → Keywords → OpenFiles D → Tally → Kept D
+kept_over files states opened tally =
+    record { disk = opened.disk; session = session_over (λ disk. contents (files disk)) states opened tally }

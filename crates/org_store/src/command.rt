@@ -3,20 +3,14 @@ ghost use Rattle.std.specs.Prelude.{◌≡◌, codes};
 ghost use Rattle.org_store.specs.Refusals.{code_of, name_of};
 ghost use Rattle.org_store.specs.declared.command.RunFault.TheVariants.{OutOfMemory};
 
-use crate::capture::EntryFault;
+use org_capture::{CaptureFault, Target};
 use org_disk::FileName;
 use org_fileset::SetFault;
-use org_outline::Place;
+use org_move::MoveFault;
+use org_outline::{Place, Titles};
 use org_splice::Bytes;
 use org_stamp::Moment;
 use std::alloc::AllocError;
-
-/// What a capture puts its entry below (Org manual, "Template elements", target).
-#[derive(Drop)]
-pub enum Target {
-    /// Nothing: the entry is a heading of level 1.
-    Top,
-}
 
 /// What a store is asked to do.
 #[derive(Drop)]
@@ -35,6 +29,21 @@ pub enum Command {
         template: Bytes,
         /// The text that was selected when the capture began.
         initial: Bytes,
+    },
+    /// Makes a subtree a child of another heading, of its file or of another one (Org manual, "Refile and Copy"). The
+    /// two paths are looked up before anything moves, and the place among the children is that behind the move. A
+    /// refile changes its files, also where it leaves their bytes.
+    Refile {
+        /// The file that the subtree leaves.
+        file: FileName,
+        /// The path of its heading there.
+        path: Titles,
+        /// The file that it goes into.
+        to_file: FileName,
+        /// The path of the heading there that it goes below.
+        to_path: Titles,
+        /// Where it goes among the children of that heading.
+        place: Place,
     },
     /// Answers the text of a file.
     Show {
@@ -65,6 +74,16 @@ pub enum Refusal {
     BadTemplate,
     /// The expanded template isn't one heading with what lies below it, or has bytes before it.
     BadEntry,
+    /// No heading is at a path, or none can be made with a title.
+    NotFound,
+    /// Several headings have a title.
+    NotUnique,
+    /// The heading that a subtree is to go below lies in the subtree.
+    InsideItself,
+    /// The file is an archive file already.
+    AlreadyArchive,
+    /// The location of an entry's archive can't be read, or its heading can't be made.
+    BadLocation,
     /// A file would grow past its limit, or the accepted commands are as many as can be counted.
     TooLarge,
 }
@@ -78,6 +97,11 @@ impl Refusal {
             Refusal::NoSuchFile => 1,
             Refusal::BadTemplate => 2,
             Refusal::BadEntry => 3,
+            Refusal::NotFound => 4,
+            Refusal::NotUnique => 5,
+            Refusal::InsideItself => 6,
+            Refusal::AlreadyArchive => 7,
+            Refusal::BadLocation => 15,
             Refusal::TooLarge => 14,
         }
     }
@@ -90,6 +114,11 @@ impl Refusal {
             Refusal::NoSuchFile => "NoSuchFile",
             Refusal::BadTemplate => "BadTemplate",
             Refusal::BadEntry => "BadEntry",
+            Refusal::NotFound => "NotFound",
+            Refusal::NotUnique => "NotUnique",
+            Refusal::InsideItself => "InsideItself",
+            Refusal::AlreadyArchive => "AlreadyArchive",
+            Refusal::BadLocation => "BadLocation",
             Refusal::TooLarge => "TooLarge",
         }
     }
@@ -116,15 +145,36 @@ impl From<AllocError> for RunFault {
     }
 }
 
-impl From<EntryFault> for RunFault {
-    ghost use Rattle.org_store.specs.Entry.{fault_of_entry};
+impl From<CaptureFault> for RunFault {
+    ghost use Rattle.org_store.specs.Keeping.{fault_of_capture};
 
-    ghost from_gives = { λ fault e. e ≡ fault_of_entry fault };
+    ghost from_gives = { λ fault e. e ≡ fault_of_capture fault };
 
-    fn from(fault: EntryFault) -> Self {
+    fn from(fault: CaptureFault) -> Self {
         match fault {
-            EntryFault::Refused(why) => RunFault::Refused(why),
-            EntryFault::OutOfMemory => RunFault::OutOfMemory,
+            CaptureFault::BadTemplate => RunFault::Refused(Refusal::BadTemplate),
+            CaptureFault::BadEntry => RunFault::Refused(Refusal::BadEntry),
+            CaptureFault::NotFound => RunFault::Refused(Refusal::NotFound),
+            CaptureFault::NotUnique => RunFault::Refused(Refusal::NotUnique),
+            CaptureFault::OutOfMemory => RunFault::OutOfMemory,
+        }
+    }
+}
+
+impl From<MoveFault> for RunFault {
+    ghost use Rattle.org_store.specs.Keeping.{fault_of_move};
+
+    ghost from_gives = { λ fault e. e ≡ fault_of_move fault };
+
+    fn from(fault: MoveFault) -> Self {
+        match fault {
+            MoveFault::NotFound => RunFault::Refused(Refusal::NotFound),
+            MoveFault::NotUnique => RunFault::Refused(Refusal::NotUnique),
+            MoveFault::InsideItself => RunFault::Refused(Refusal::InsideItself),
+            MoveFault::AlreadyArchive => RunFault::Refused(Refusal::AlreadyArchive),
+            MoveFault::BadLocation => RunFault::Refused(Refusal::BadLocation),
+            MoveFault::NoSuchFile => RunFault::Refused(Refusal::NoSuchFile),
+            MoveFault::OutOfMemory => RunFault::OutOfMemory,
         }
     }
 }

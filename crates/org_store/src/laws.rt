@@ -1,6 +1,7 @@
 //! What follows from the relation between a store before and after a call.
-ghost use Rattle.std.specs.Prelude.{◌≡◌, ◌<◌, ◌+◌, ◌++◌, ◌⊎◌, List, ℕ, None, Result, Ok, IsTrue, IsFalse};
-ghost use Rattle.std.specs.List.{All};
+ghost use Rattle.std.specs.Prelude.{◌≡◌, ◌<◌, ◌+◌, ◌++◌, ◌⊎◌, List, ℕ, length, None, Result, Ok, IsTrue, IsFalse};
+ghost use Rattle.std.specs.List.{All, IsDistinct};
+ghost use Rattle.std.specs.Str.{bytes_eq};
 ghost use Rattle.org_disk.specs.Disk.{HasRisen};
 ghost use Rattle.org_disk.specs.Accounts.{LeavesOver};
 ghost use Rattle.org_journal.specs.Standing.{Image, contents};
@@ -10,7 +11,10 @@ ghost use Rattle.org_fileset.specs.Opening.{IsReason};
 ghost use Rattle.org_fileset.specs.Replay.{IsAtRest};
 ghost use Rattle.org_fileset.specs.declared.open.OpenFault.{OpenFault};
 ghost use Rattle.org_fileset.specs.declared.open.OpenFault.TheVariants.{OutOfMemory, Device};
+ghost use Rattle.org_outline.specs.declared.moves.Place.{Place};
+ghost use Rattle.org_move.specs.Counts.{count_over};
 ghost use Rattle.org_store.specs.declared.command.Command.{Command};
+ghost use Rattle.org_store.specs.declared.command.Command.TheVariants.{Refile};
 ghost use Rattle.org_store.specs.declared.command.Reply.{Reply};
 ghost use Rattle.org_store.specs.declared.command.Reply.TheVariants.{Done};
 ghost use Rattle.org_store.specs.declared.command.RunFault.{RunFault};
@@ -18,7 +22,7 @@ ghost use Rattle.org_store.specs.Left.{IsLeft};
 ghost use Rattle.org_store.specs.Outcome.{Accepts, outcome};
 ghost use Rattle.org_store.specs.Reopening.{AreSameNames, AreSmall, IsOpenable};
 ghost use Rattle.org_store.specs.Runs.{RunsAllOver, IsOnDisk, Reaches, IsBetween, IsLeftOf};
-ghost use Rattle.org_held.specs.InOrder.{texts_of};
+ghost use Rattle.org_store.specs.InOrder.{texts_of};
 ghost use Rattle.org_store.specs.Session.{Session, Kept, Holds};
 ghost use Rattle.org_store.specs.Step.{Step, Run, IsReply};
 
@@ -84,6 +88,16 @@ pub fn texts_stay_small()
         → AreSmall names (texts_of files names) }
     ensures accepted { (s : Session) (command : Command) (files : List (List ℕ))
         → AreSmall s.names s.files → outcome s command ≡ Accepts files → AreSmall s.names files }
+{}
+
+/// A refile that is accepted keeps how often each node is there over all files, by its heading line without the stars and
+/// by the lines of its section: none is lost, none doubled. No name of a store's files stands twice, and each has a text.
+pub fn refiles_keep_counts()
+    ensures { (s : Session) (file to_file : List ℕ) (path to : List (List ℕ)) (place : Place)
+        (files : List (List ℕ)) → IsDistinct bytes_eq s.names → length s.files ≡ length s.names
+        → outcome s (Refile file path to_file to place) ≡ Accepts files
+        → (rest : List ℕ) (section : List (List ℕ))
+        → count_over rest section files ≡ count_over rest section s.files }
 {}
 
 /// Every image of a store's disk opens again, with the names that the store was opened with: over a disk that holds

@@ -3,13 +3,19 @@
 //! What a store has done is told as a `Session` (specs/Session.antt): the texts of all its files, and how many
 //! commands were accepted and acknowledged. One relation says what a call does to it: `Step` for `run`
 //! and `Settles` for `settle` (specs/Step.antt).
+//!
+//! A command reads the files that it names, is planned on their held texts, and is accepted or refused as a whole
+//! (`changing`); the planner of each command stands under `commands`.
 #![tactic(auto)]
 
-mod capture;
+mod changing;
 mod command;
+mod commands;
+mod files;
 pub mod laws;
 mod store;
+mod tally;
 
-pub use command::{Command, Refusal, Reply, RunFault, Target};
+pub use command::{Command, Refusal, Reply, RunFault};
 pub use org_fileset::{OpenFault, OpenRefused};
 pub use store::Store;

@@ -1,33 +1,30 @@
 //! A store over a disk.
-ghost use Rattle.std.specs.Prelude.{◌≡◌, ◌≤◌, ◌<◌, ◌⊎◌, ◌↔◌, ◌+◌, ◌^◌, ◌-◌, true, false, Err, is_some, IfOk, IfErr, IsErrOf, IsTrue, None};
+ghost use Rattle.std.specs.Prelude.{◌≡◌, ◌⊎◌, ◌↔◌, IfOk, IfErr, IsErrOf, IsTrue, None};
 ghost use Rattle.std.specs.List.{All};
-ghost use Rattle.org_disk.specs.Accounts.{Accounts, Looks};
+ghost use Rattle.org_disk.specs.Accounts.{Accounts};
 ghost use Rattle.org_disk.specs.Names.{IsOrgFile};
-ghost use Rattle.org_journal.specs.Standing.{stands, contents};
+ghost use Rattle.org_journal.specs.Standing.{contents};
 ghost use Rattle.org_fileset.specs.Names.{with_archives, AreSorted, AreFew, first_large};
 ghost use Rattle.org_fileset.specs.Opening.{IsDeviceRefusal, IsReason, disk_in};
 ghost use Rattle.org_fileset.specs.Recovery.{Reopens};
 ghost use Rattle.org_fileset.specs.declared.open.OpenFault.{OpenFault};
-ghost use Rattle.org_held.specs.Held.{Each, list_of};
-ghost use Rattle.org_held.specs.InOrder.{is_name, text_at, texts_of};
-ghost use Rattle.org_held.specs.Set.{IsDraft};
 ghost use Rattle.org_store.specs.Group.{IsGroup};
+ghost use Rattle.org_store.specs.InOrder.{texts_of};
 ghost use Rattle.org_store.specs.Opening.{opened};
 ghost use Rattle.org_store.specs.Reopening.{IsOpenable};
 ghost use Rattle.org_store.specs.Runs.{IsOnDisk, LeavesDisk};
-ghost use Rattle.org_store.specs.Outcome.{capture, show};
-ghost use Rattle.org_store.specs.Step.{Does, Step, Settles};
-ghost use Rattle.org_store.specs.Left.{IsLeft, IsLeftBy, IsLeftSettling};
-ghost use Rattle.org_store.specs.Counts.{Counts, SameCounts, SettledCounts};
-ghost use Rattle.org_store.specs.Keeping.{Plans, Keeps, KeepsCounts, IsLeftKeeping, after};
+ghost use Rattle.org_store.specs.Step.{Step, Settles};
+ghost use Rattle.org_store.specs.Left.{IsLeft, IsLeftSettling};
+ghost use Rattle.org_store.specs.Counts.{Counts, SettledCounts};
 
-use crate::capture::{entry_of, put_entry};
-use crate::{Command, Refusal, Reply, RunFault, Target};
+use crate::changing::change;
+use crate::command::{Command, Reply, RunFault};
+use crate::commands::show::show;
+use crate::files::Files;
+use crate::tally::Tally;
 use org_disk::{Disk, FileName};
-use org_fileset::{LIMIT, OpenRefused, SetFault};
-use org_held::{Draft, Drafts, HeldSet};
-use org_outline::{Place, States};
-use org_splice::Bytes;
+use org_fileset::OpenRefused;
+use org_outline::States;
 use std::alloc::Global;
 use std::marker::Model;
 
@@ -39,37 +36,22 @@ use std::marker::Model;
 /// any more: open its files anew.
 #[derive(Drop)]
 pub struct Store<D: Disk> {
-    alloc: Global,
-    files: HeldSet<D>,
+    files: Files<D>,
     states: States,
-    accepted: u64,
-    acknowledged: u64,
-    group: u32,
+    tally: Tally,
 }
 
 impl<D: Disk> Model for Store<D> {
-    ghost use Rattle.std.specs.Prelude.{◌≤◌};
-    ghost use Rattle.org_journal.specs.Standing.{contents};
-    ghost use Rattle.org_held.specs.InOrder.{texts_of};
-    ghost use Rattle.org_store.specs.Session.{Kept};
+    ghost use Rattle.std.specs.Prelude.{◌≡◌, ◌≤◌};
+    ghost use Rattle.org_store.specs.Session.{Kept, kept_over};
 
     ghost Value = { Kept D };
 
-    ghost view = { λ s. record {
-      disk = s.files.disk;
-      session = record {
-        states = s.states;
-        names = s.files.names;
-        files = s.files.texts;
-        settled = texts_of (contents (D.files s.files.disk)) s.files.names;
-        accepted = s.accepted;
-        acknowledged = s.acknowledged;
-        group = s.group;
-        broken = s.files.broken;
-      };
-    } };
+    ghost view = { λ s. kept_over D.files s.states s.files s.tally };
 
-    ghost invariant = { λ s. s.acknowledged ≤ s.accepted };
+    // Between commands nothing is edited that isn't kept.
+    ghost invariant = { λ s. (s.tally.acknowledged ≤ s.tally.accepted)
+        × (s.files.held.now ≡ s.files.held.before) };
 }
 
 impl<D: Disk> Store<D> {
@@ -109,14 +91,15 @@ impl<D: Disk> Store<D> {
         ensures accounts { Accounts D.steady D.honest D.failures disk
             (disk_in result (λ store. store.disk)) (IsDeviceRefusal result) }
     {
-        match HeldSet::open(alloc, disk, names) {
+        match Files::open(alloc, disk, names) {
             Ok(files) => Ok(Store {
-                alloc,
                 files,
                 states,
-                accepted: 0,
-                acknowledged: 0,
-                group: 1,
+                tally: Tally {
+                    accepted: 0,
+                    acknowledged: 0,
+                    group: 1,
+                },
             }),
             Err(refused) => Err(refused),
         }
@@ -126,14 +109,14 @@ impl<D: Disk> Store<D> {
     pub fn accepted(&self) -> u64
         ensures { result ≡ self.now.session.accepted }
     {
-        self.accepted
+        self.tally.accepted
     }
 
     /// How many of the accepted commands are on the disk for certain.
     pub fn acknowledged(&self) -> u64
         ensures { result ≡ self.now.session.acknowledged }
     {
-        self.acknowledged
+        self.tally.acknowledged
     }
 
     /// Whether the store is broken: a call of its disk failed since it was opened.
@@ -158,7 +141,7 @@ impl<D: Disk> Store<D> {
               { group = group };
         } }
     {
-        self.group = group;
+        self.tally.group = group;
     }
 
     /// The disk. What is accepted and not acknowledged is given up.
@@ -189,149 +172,12 @@ impl<D: Disk> Store<D> {
         ensures accounts { Accounts D.steady D.honest D.failures self.old.disk self.new.disk
             (IsErrOf result RunFault.Device) }
     {
-        self.files.settle()?;
-        self.acknowledged = self.accepted;
+        if self.files.is_broken() {
+            return Err(RunFault::Broken);
+        }
+        self.files.commit()?;
+        self.tally.acknowledged = self.tally.accepted;
         Ok(())
-    }
-}
-
-impl<D: Disk> Store<D> {
-    // Accepts one more command that makes these drafts, and holds them in memory. Where it fills the group, all is settled.
-    fn accept(&mut self, drafts: Drafts) -> Result<(), RunFault>
-        requires unbroken { self.old.session.broken ≡ false }
-        requires drafts { Each (IsDraft self.old.session.names
-            ((self.old.session.broken ≡ false) × D.honest self.old.disk)
-            (contents (D.files self.old.disk))) (list_of drafts) }
-        requires countable { self.old.session.accepted + 1 < 2 ^ 64 }
-        ensures keeps { D.honest self.new.disk
-            → Keeps self.old.session (after self.old.session drafts) result self.new.session }
-        ensures disk { D.honest self.new.disk
-            → LeavesDisk D.files D.moment D.left_since self.old self.new
-            (IsLeftKeeping self.old.session (contents (D.files self.old.disk))
-            (after self.old.session drafts) result) (IsErrOf result RunFault.Device) }
-        ensures counts { KeepsCounts self.old.session result self.new.session }
-        ensures breaks { IsErrOf result RunFault.Device ↔ IsTrue self.new.session.broken }
-        ensures accounts { Accounts D.steady D.honest D.failures self.old.disk self.new.disk
-            (IsErrOf result RunFault.Device) }
-    {
-        if self.accepted + 1 - self.acknowledged < u64::from(self.group) {
-            self.files.put(drafts)?;
-            self.accepted += 1;
-            return Ok(());
-        }
-        match self.files.commit(drafts) {
-            Ok(()) => {
-                self.accepted += 1;
-                self.acknowledged = self.accepted;
-                Ok(())
-            }
-            Err(SetFault::Device) => {
-                self.accepted += 1;
-                Err(RunFault::Device)
-            }
-            Err(SetFault::OutOfMemory) => Err(RunFault::OutOfMemory),
-            Err(SetFault::Broken) => Err(RunFault::Broken),
-        }
-    }
-
-    // What a capture into one of the store's files makes: the file with a new entry.
-    fn plan_capture(
-        &mut self,
-        file: &FileName,
-        target: &Target,
-        place: Place,
-        template: &[u8],
-    ) -> Result<Drafts, RunFault>
-        requires unbroken { self.old.session.broken ≡ false }
-        requires name { is_name self.old.session.names file.now ≡ true }
-        requires there { is_some (text_at self.old.session.names self.old.session.files file.now)
-            ≡ true }
-        ensures plans { D.honest self.new.disk → Plans self.old.session
-            (capture self.old.session file.now target.now place template.now
-            (text_at self.old.session.names self.old.session.files file.now)) result
-            self.new.session }
-        ensures drafts { IfOk result (λ drafts. Each
-            (IsDraft self.new.session.names ((self.new.session.broken ≡ false)
-            × D.honest self.new.disk) (contents (D.files self.new.disk))) (list_of drafts)) }
-        ensures countable { IfOk result (λ drafts. self.new.session.accepted + 1 < 2 ^ 64) }
-        ensures looks { D.honest self.new.disk
-            → Looks D.files D.moment D.left_since self.old.disk self.new.disk }
-        ensures settled { self.new.session.settled
-            ≡ texts_of (contents (D.files self.new.disk)) self.new.session.names }
-        ensures counts { SameCounts self.old.session self.new.session }
-        ensures not_broken { IsErrOf result RunFault.Broken → ⊥ }
-        ensures breaks { IsErrOf result RunFault.Device ↔ IsTrue self.new.session.broken }
-        ensures accounts { Accounts D.steady D.honest D.failures self.old.disk self.new.disk
-            (IsErrOf result RunFault.Device) }
-    {
-        let alloc = self.alloc;
-        let entry = entry_of(alloc, template, &self.states)?;
-        let held = self.files.read(file)?;
-        let mut draft = Draft::new(alloc, held)?;
-        put_entry(&mut draft, &self.states, target, place, &entry)?;
-        if draft.text.bytes().len() > LIMIT || self.accepted == u64::MAX {
-            return Err(RunFault::Refused(Refusal::TooLarge));
-        }
-        Ok(Drafts {
-            first: draft,
-            second: None,
-        })
-    }
-
-    // Puts a new entry into a file.
-    fn capture(
-        &mut self,
-        file: &FileName,
-        target: &Target,
-        place: Place,
-        template: &[u8],
-    ) -> Result<Reply, RunFault>
-        requires unbroken { self.old.session.broken ≡ false }
-        ensures does { D.honest self.new.disk → Does self.old.session
-            (capture self.old.session file.now target.now place template.now
-            (text_at self.old.session.names self.old.session.files file.now)) result
-            self.new.session }
-        ensures disk { D.honest self.new.disk
-            → LeavesDisk D.files D.moment D.left_since self.old self.new
-            (IsLeftBy self.old.session (contents (D.files self.old.disk))
-            (capture self.old.session file.now target.now place template.now
-            (text_at self.old.session.names self.old.session.files file.now)) result
-            self.new.session.accepted) (IsErrOf result RunFault.Device) }
-        ensures counts { Counts self.old.session result self.new.session }
-        ensures not_broken { IsErrOf result RunFault.Broken → ⊥ }
-        ensures breaks { IsErrOf result RunFault.Device ↔ IsTrue self.new.session.broken }
-        ensures accounts { Accounts D.steady D.honest D.failures self.old.disk self.new.disk
-            (IsErrOf result RunFault.Device) }
-    {
-        if !self.files.has(file) {
-            return Err(RunFault::Refused(Refusal::NoSuchFile));
-        }
-        let drafts = self.plan_capture(file, target, place, template)?;
-        self.accept(drafts)?;
-        Ok(Reply::Done(self.accepted))
-    }
-
-    // Answers the text of a file.
-    fn show(&mut self, file: &FileName) -> Result<Reply, RunFault>
-        requires unbroken { self.old.session.broken ≡ false }
-        ensures does { D.honest self.new.disk → Does self.old.session
-            (show (text_at self.old.session.names self.old.session.files file.now)) result
-            self.new.session }
-        ensures looks { D.honest self.new.disk
-            → Looks D.files D.moment D.left_since self.old.disk self.new.disk }
-        ensures settled { self.new.session.settled
-            ≡ texts_of (contents (D.files self.new.disk)) self.new.session.names }
-        ensures counts { Counts self.old.session result self.new.session }
-        ensures not_broken { IsErrOf result RunFault.Broken → ⊥ }
-        ensures breaks { IsErrOf result RunFault.Device ↔ IsTrue self.new.session.broken }
-        ensures accounts { Accounts D.steady D.honest D.failures self.old.disk self.new.disk
-            (IsErrOf result RunFault.Device) }
-    {
-        if !self.files.has(file) {
-            return Err(RunFault::Refused(Refusal::NoSuchFile));
-        }
-        let held = self.files.read(file)?;
-        Ok(Reply::Text(Bytes::new(held.text.into_bytes())))
     }
 
     /// Runs one command.
@@ -361,17 +207,13 @@ impl<D: Disk> Store<D> {
             return Err(RunFault::Broken);
         }
         match command {
-            Command::Capture {
-                file,
-                target,
-                place,
-                template,
-                ..
-            } => self.capture(file, target, *place, template.as_slice()),
-            Command::Show { file } => self.show(file),
             Command::Settle => {
                 self.settle()?;
-                Ok(Reply::Safe(self.acknowledged))
+                Ok(Reply::Safe(self.tally.acknowledged))
+            }
+            Command::Show { file } => show(&mut self.files, file),
+            Command::Capture { .. } | Command::Refile { .. } => {
+                change(&mut self.files, &self.states, &mut self.tally, command)
             }
         }
     }

@@ -1,8 +1,6 @@
-//! Tests of the crates that know outlines on disks: org_held, org_store and org_serve. This crate has nothing else.
+//! Tests of the crates that know outlines on disks: org_store and org_serve. This crate has nothing else.
 #![tactic(auto)]
 
-#[cfg(test)]
-mod held;
 #[cfg(test)]
 mod serve;
 #[cfg(test)]

@@ -6,14 +6,16 @@ mod captures;
 mod failures;
 mod groups;
 mod limits;
+mod refiles;
 mod stops;
 
+use org_capture::Target;
 use org_disk::{FileName, MemoryDisk};
 use org_fixtures::{org_names, two_files};
 use org_outline::{Place, States};
 use org_splice::Bytes;
 use org_stamp::Moment;
-use org_store::{Command, OpenRefused, Reply, RunFault, Store, Target};
+use org_store::{Command, OpenRefused, Reply, RunFault, Store};
 use std::alloc::Global;
 use std::test::Fail;
 
@@ -37,14 +39,22 @@ fn open(alloc: Global, disk: MemoryDisk) -> Result<Store<MemoryDisk>, Fail> {
     }
 }
 
-fn capture(alloc: Global, file: &str, template: &[u8]) -> Result<Command, Fail> {
+// A capture on 2026-07-01 at 10:00.
+fn capture(
+    alloc: Global,
+    file: &str,
+    target: Target,
+    place: Place,
+    template: &[u8],
+    initial: &[u8],
+) -> Result<Command, Fail> {
     Ok(Command::Capture {
         file: FileName::new(alloc, file)?,
-        target: Target::Top,
-        place: Place::Last,
+        target,
+        place,
         moment: Moment::new(2026, 7, 1, 10, 0).ok_or("no moment")?,
         template: Bytes::new(template.to_vec(alloc)?),
-        initial: Bytes::new(Vec::new(alloc)),
+        initial: Bytes::new(initial.to_vec(alloc)?),
     })
 }
 
@@ -95,18 +105,29 @@ fn shows_both(
     Ok(shows(alloc, store, "a.org", a)? && shows(alloc, store, "b.org", b)?)
 }
 
-// What a capture is answered: its number, or why there is none.
+// What a command that changes files is answered: its number, or why there is none.
+fn answered(
+    store: &mut Store<MemoryDisk>,
+    command: &Command,
+) -> Result<Result<u64, RunFault>, Fail> {
+    match store.run(command) {
+        Ok(Reply::Done(number)) => Ok(Ok(number)),
+        Ok(_) => Err("no number")?,
+        Err(fault) => Ok(Err(fault)),
+    }
+}
+
+// What a capture at the end of a file is answered.
 fn captured(
     alloc: Global,
     store: &mut Store<MemoryDisk>,
     file: &str,
     template: &[u8],
 ) -> Result<Result<u64, RunFault>, Fail> {
-    match store.run(&capture(alloc, file, template)?) {
-        Ok(Reply::Done(number)) => Ok(Ok(number)),
-        Ok(_) => Err("no number")?,
-        Err(fault) => Ok(Err(fault)),
-    }
+    answered(
+        store,
+        &capture(alloc, file, Target::Top, Place::Last, template, b"")?,
+    )
 }
 
 // Whether so many commands are accepted, and so many of them on the disk.

@@ -4,11 +4,12 @@ ghost use Rattle.org_disk.specs.Memory.{memory_files};
 ghost use Rattle.org_journal.specs.Standing.{contents};
 ghost use Rattle.org_fileset.specs.Set.{AreCommittable};
 
+use super::edited::Edited;
 use super::{held_in, holds, open, opened, opened_disk, read_opened, with_byte, with_journal};
-use org_disk::{FileName, MemoryDisk, Outcome};
+use org_disk::{MemoryDisk, Outcome};
 use org_fileset::{FileSet, LIMIT, SetFault};
 use org_fixtures::{NEW, OLD, OUTCOMES, TEXT};
-use org_splice::{ChangeSet, Text};
+use org_splice::Editing;
 use std::alloc::Global;
 use std::process::Abort;
 use std::test::Fail;
@@ -42,7 +43,7 @@ const CAPTURE: Edit = Edit {
 fn put_edit(
     alloc: Global,
     set: &mut FileSet<MemoryDisk>,
-    changes: &mut ChangeSet<FileName>,
+    changes: &mut Edited,
     edit: &Edit,
 ) -> Result<Result<(), SetFault>, Fail>
     requires { AreCommittable set.old.names (contents (memory_files set.old.disk)) changes.old }
@@ -60,7 +61,7 @@ fn put_edit(
     };
     let at = edit.at.min(bytes.len());
     let removed = edit.removed.min(bytes.len() - at);
-    let mut text = Text::new(bytes);
+    let mut text = Editing::new(bytes);
     text.splice(at, removed, edit.bytes)?;
     if text.bytes().len() > LIMIT {
         return Err(Fail::from("too long"));
@@ -75,7 +76,7 @@ fn commit(
     set: &mut FileSet<MemoryDisk>,
     edits: &[Edit],
 ) -> Result<Result<(), SetFault>, Fail> {
-    let mut changes = ChangeSet::new(alloc);
+    let mut changes = Edited::new(alloc);
     for edit in edits {
         if let Err(fault) = put_edit(alloc, set, &mut changes, edit)? {
             return Ok(Err(fault));
@@ -149,7 +150,7 @@ fn a_commit_leaves_its_record(rt: HostRuntime) -> Result<(), Fail> {
 fn a_commit_of_nothing_makes_no_call(rt: HostRuntime) -> Result<(), Fail> {
     let alloc = rt.alloc();
     let opened = opened_disk(alloc, with_journal(alloc, b"")?)?;
-    assert_eq!(rt; calls_with(alloc, &[])?, opened.calls());
+    assert!(rt; calls_with(alloc, &[])? == opened.calls());
     Ok(())
 }
 

@@ -50,8 +50,8 @@ fn inbox_beside(alloc: Global, disk: MemoryDisk) -> Result<u64, Fail> {
 #[test]
 fn a_record_counts_for_other_files_too(rt: HostRuntime) -> Result<(), Fail> {
     let alloc = rt.alloc();
-    assert_eq!(rt; inbox_beside(alloc, stopped(alloc, 1)?)?, 16);
-    assert_eq!(rt; inbox_beside(alloc, stopped(alloc, 0)?)?, 4);
+    assert!(rt; inbox_beside(alloc, stopped(alloc, 1)?)? == 16);
+    assert!(rt; inbox_beside(alloc, stopped(alloc, 0)?)? == 4);
     Ok(())
 }
 

@@ -1,5 +1,5 @@
 // Calls of the system of which one fails.
-use super::{empty, name, remove, text};
+use super::{empty, holds, name, remove};
 use org_disk::{Disk, DiskFault, FileName};
 use org_folder::{FolderDisk, Unknown};
 use std::alloc::{Alloc, Allocator, Global};
@@ -194,15 +194,9 @@ fn each_call_of_the_system_fails_once(rt: HostRuntime) -> Result<(), Fail> {
     let a = name(&rt, "a.org")?;
     for fails_in in 1..12u64 {
         empty(&rt, "one_fails")?;
-        assert!(rt;
-            failed_work(&rt, &a, fails_in)? == [1, 1],
-            "call {fails_in}"
-        );
-        let text = text(&rt, "one_fails/a.org")?;
-        assert!(rt;
-            text.as_slice() == b"* A\n* C\n".as_slice(),
-            "call {fails_in}"
-        );
+        let failures = failed_work(&rt, &a, fails_in)?;
+        let held = holds(&rt, "one_fails/a.org", b"* A\n* C\n")?;
+        assert!(rt; failures == [1, 1] && held, "call {fails_in}");
     }
     remove(&rt, "one_fails")
 }

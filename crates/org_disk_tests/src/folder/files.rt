@@ -1,12 +1,13 @@
 // What calls of a disk do to the files of a folder.
 use super::{
-    Folder, append, disk, done, empty, is_there, length, link, make, make_empty, name, put, remove,
-    sync, take, text, write,
+    Folder, append, disk, done, empty, holds, is_there, length, link, make, make_empty, name, put,
+    remove, sync, take, write,
 };
 use org_disk::{Disk, DiskFault, FileName};
 use org_folder::{FolderDisk, Start};
 use std::alloc::AllocError;
 use std::io;
+use std::process::Abort;
 use std::test::Fail;
 
 // Each call on a file that does nothing to it, and its length.
@@ -24,7 +25,7 @@ fn do_nothing(disk: &mut impl Disk, name: &FileName) -> Result<u64, DiskFault> {
 fn absent_and_empty_are_the_same(rt: HostRuntime) -> Result<(), Fail> {
     empty(&rt, "absent")?;
     let mut disk = disk(&rt, "absent")?;
-    assert_eq!(rt; do_nothing(&mut disk, &name(&rt, "a.org")?)?, 0);
+    assert!(rt; do_nothing(&mut disk, &name(&rt, "a.org")?)? == 0);
     assert!(rt; !is_there(&rt, "absent/a.org"));
     remove(&rt, "absent")
 }
@@ -89,16 +90,19 @@ fn fails_shortened(rt: &HostRuntime, disk: &mut Folder, name: &FileName) -> Resu
     Ok(disk.read_at(name, 4, &mut [0; 3]).is_err())
 }
 
+fn assert_written(rt: &impl Abort, disk: &mut Folder, a: &FileName) -> Result<(), DiskFault> {
+    let (length, bytes) = write_and_cut(disk, a)?;
+    assert!(rt; length == 9 && bytes.as_slice() == b"* C".as_slice());
+    Ok(())
+}
+
 #[test]
 fn writes_cuts_and_reads(rt: HostRuntime) -> Result<(), Fail> {
     empty(&rt, "written")?;
     let mut disk = disk(&rt, "written")?;
     let a = name(&rt, "a.org")?;
-    let (length, bytes) = write_and_cut(&mut disk, &a)?;
-    assert_eq!(rt; length, 9);
-    assert!(rt; bytes.as_slice() == b"* C".as_slice());
-    let text = text(&rt, "written/a.org")?;
-    assert!(rt; text.as_slice() == b"* A\n* C".as_slice());
+    assert_written(&rt, &mut disk, &a)?;
+    assert!(rt; holds(&rt, "written/a.org", b"* A\n* C")?);
     assert!(rt; fails_shortened(&rt, &mut disk, &a)?);
     remove(&rt, "written")
 }
@@ -109,17 +113,21 @@ fn make_linked(rt: &HostRuntime) -> io::Result<()> {
     link(rt, "folder.org/target", "linked/link.org")
 }
 
+fn assert_follows(rt: &(impl Abort + AllocGlobal), disk: &mut Folder) -> Result<(), Fail> {
+    assert!(rt; length(disk, &name(rt, "folder.org")?).is_err());
+    let link = name(rt, "link.org")?;
+    assert!(rt; length(disk, &link)? == 0);
+    write(disk, &link, b"* A\n")?;
+    sync(disk, &link)?;
+    Ok(())
+}
+
 #[test]
 fn links_and_folders(rt: HostRuntime) -> Result<(), Fail> {
     done(make_linked(&rt))?;
     let mut disk = disk(&rt, "linked")?;
-    assert!(rt; length(&mut disk, &name(&rt, "folder.org")?).is_err());
-    let link = name(&rt, "link.org")?;
-    assert_eq!(rt; length(&mut disk, &link)?, 0);
-    write(&mut disk, &link, b"* A\n")?;
-    sync(&mut disk, &link)?;
-    let text = text(&rt, "linked/folder.org/target")?;
-    assert!(rt; text.as_slice() == b"* A\n".as_slice());
+    assert_follows(&rt, &mut disk)?;
+    assert!(rt; holds(&rt, "linked/folder.org/target", b"* A\n")?);
     remove(&rt, "linked")
 }
 
@@ -137,18 +145,33 @@ fn write_and_take(
     done(take(rt, "entered/b.org"))
 }
 
+// Syncs the file that was synced before, and then the other.
+fn assert_syncs(
+    rt: &impl Abort,
+    disk: &mut Folder,
+    a: &FileName,
+    b: &FileName,
+) -> Result<(), DiskFault> {
+    append(disk, b, b"* C\n")?;
+    sync(disk, b)?;
+    assert!(rt; disk.failures() == 0);
+    assert!(rt; sync(disk, a).is_err());
+    assert!(rt; disk.failures() == 1);
+    Ok(())
+}
+
+fn assert_entered(rt: &impl Abort, system: &HostRuntime, disk: &mut Folder) -> Result<(), Fail> {
+    let a = name(system, "a.org")?;
+    let b = name(system, "b.org")?;
+    write_and_take(system, disk, &a, &b)?;
+    Ok(assert_syncs(rt, disk, &a, &b)?)
+}
+
 // The first sync of a file looks for its folder, which it syncs, and a later one doesn't.
 #[test]
 fn first_sync_takes_the_folder(rt: HostRuntime) -> Result<(), Fail> {
     empty(&rt, "entered")?;
     let mut disk = disk(&rt, "entered")?;
-    let a = name(&rt, "a.org")?;
-    let b = name(&rt, "b.org")?;
-    write_and_take(&rt, &mut disk, &a, &b)?;
-    append(&mut disk, &b, b"* C\n")?;
-    sync(&mut disk, &b)?;
-    assert_eq!(rt; disk.failures(), 0);
-    assert!(rt; sync(&mut disk, &a).is_err());
-    assert_eq!(rt; disk.failures(), 1);
+    assert_entered(&rt, &rt, &mut disk)?;
     remove(&rt, "entered")
 }

@@ -24,24 +24,31 @@ fn make_folder_of_file(rt: &HostRuntime) -> io::Result<()> {
 
 fn fails_at_folder(rt: &impl Abort, disk: &mut Folder, folder: &FileName) {
     assert!(rt; length(disk, folder).is_err());
-    assert_eq!(rt; disk.failures(), 1);
+    assert!(rt; disk.failures() == 1);
     assert!(rt; write(disk, folder, b"* B\n").is_err());
-    assert_eq!(rt; disk.failures(), 2);
+    assert!(rt; disk.failures() == 2);
 }
 
 fn fails_at_link(rt: &impl Abort, disk: &mut Folder, link: &FileName) -> Result<(), DiskFault> {
-    assert_eq!(rt; length(disk, link)?, 0);
+    assert!(rt; length(disk, link)? == 0);
     assert!(rt; write(disk, link, b"* B\n").is_err());
-    assert_eq!(rt; disk.failures(), 3);
+    assert!(rt; disk.failures() == 3);
     Ok(())
 }
 
 fn goes_on(rt: &impl Abort, disk: &mut Folder, name: &FileName) -> Result<(), DiskFault> {
-    assert_eq!(rt; length(disk, name)?, 4);
+    assert!(rt; length(disk, name)? == 4);
     append(disk, name, b"* B\n")?;
     sync(disk, name)?;
-    assert_eq!(rt; length(disk, name)?, 8);
-    assert_eq!(rt; disk.failures(), 3);
+    assert!(rt; length(disk, name)? == 8);
+    assert!(rt; disk.failures() == 3);
+    Ok(())
+}
+
+fn assert_counted(rt: &(impl Abort + AllocGlobal), disk: &mut Folder) -> Result<(), Fail> {
+    fails_at_folder(rt, disk, &name(rt, "was_file.org")?);
+    fails_at_link(rt, disk, &name(rt, "link.org")?)?;
+    goes_on(rt, disk, &name(rt, "a.org")?)?;
     Ok(())
 }
 
@@ -52,28 +59,51 @@ fn failures_are_counted(rt: HostRuntime) -> Result<(), Fail> {
     done(make_failing(&rt))?;
     let mut disk = disk(&rt, "failing")?;
     done(make_folder_of_file(&rt))?;
-    fails_at_folder(&rt, &mut disk, &name(&rt, "was_file.org")?);
-    fails_at_link(&rt, &mut disk, &name(&rt, "link.org")?)?;
-    goes_on(&rt, &mut disk, &name(&rt, "a.org")?)?;
+    assert_counted(&rt, &mut disk)?;
     remove(&rt, "failing")
+}
+
+fn link_device(rt: &HostRuntime, has_device: bool) -> io::Result<()> {
+    if has_device {
+        link(rt, "/dev/full", "full/full.org")?;
+    }
+    Ok(())
+}
+
+// A write to the device fails where there is one.
+fn assert_full(
+    rt: &(impl Abort + AllocGlobal),
+    disk: &mut Folder,
+    has_device: bool,
+) -> Result<(), Fail> {
+    let full = name(rt, "full.org")?;
+    assert!(rt; write(disk, &full, b"* A\n").is_err() == has_device);
+    assert!(rt; disk.failures() == u64::from(has_device));
+    Ok(())
+}
+
+// Another file is written then as if nothing had failed.
+fn assert_goes_on(
+    rt: &(impl Abort + AllocGlobal),
+    disk: &mut Folder,
+    has_device: bool,
+) -> Result<(), Fail> {
+    let a = name(rt, "a.org")?;
+    write(disk, &a, b"* A\n")?;
+    sync(disk, &a)?;
+    assert!(rt; length(disk, &a)? == 4);
+    assert!(rt; disk.failures() == u64::from(has_device));
+    Ok(())
 }
 
 #[test]
 fn full_device(rt: HostRuntime) -> Result<(), Fail> {
     empty(&rt, "full")?;
-    let mut disk = disk(&rt, "full")?;
     let has_device = is_there(&rt, "/dev/full");
-    if has_device {
-        done(link(&rt, "/dev/full", "full/full.org"))?;
-    }
-    let full = write(&mut disk, &name(&rt, "full.org")?, b"* A\n");
-    assert_eq!(rt; full.is_err(), has_device);
-    assert_eq!(rt; disk.failures(), u64::from(has_device));
-    let a = name(&rt, "a.org")?;
-    write(&mut disk, &a, b"* A\n")?;
-    sync(&mut disk, &a)?;
-    assert_eq!(rt; length(&mut disk, &a)?, 4);
-    assert_eq!(rt; disk.failures(), u64::from(has_device));
+    let mut disk = disk(&rt, "full")?;
+    done(link_device(&rt, has_device))?;
+    assert_full(&rt, &mut disk, has_device)?;
+    assert_goes_on(&rt, &mut disk, has_device)?;
     remove(&rt, "full")
 }
 
@@ -87,8 +117,8 @@ fn make_closed(rt: &HostRuntime) -> io::Result<()> {
 }
 
 fn reads_if(rt: &impl Abort, disk: &mut Folder, name: &FileName, may_read: bool) {
-    assert_eq!(rt; length(disk, name).is_ok(), may_read);
-    assert_eq!(rt; disk.failures(), u64::from(!may_read));
+    assert!(rt; length(disk, name).is_ok() == may_read);
+    assert!(rt; disk.failures() == u64::from(!may_read));
 }
 
 // A write past the four bytes of a file succeeds exactly where it may.
@@ -98,8 +128,20 @@ fn writes_if(
     name: &FileName,
     may_write: bool,
 ) -> Result<(), DiskFault> {
-    assert_eq!(rt; length(disk, name)?, 4);
-    assert_eq!(rt; append(disk, name, b"* C\n").is_ok(), may_write);
+    assert!(rt; length(disk, name)? == 4);
+    assert!(rt; append(disk, name, b"* C\n").is_ok() == may_write);
+    Ok(())
+}
+
+fn assert_permitted(
+    rt: &(impl Abort + AllocGlobal),
+    disk: &mut Folder,
+    may_read: bool,
+    may_write: bool,
+) -> Result<(), Fail> {
+    reads_if(rt, disk, &name(rt, "a.org")?, may_read);
+    writes_if(rt, disk, &name(rt, "b.org")?, may_write)?;
+    assert!(rt; disk.failures() == u64::from(!may_read) + u64::from(!may_write));
     Ok(())
 }
 
@@ -113,11 +155,6 @@ fn files_without_permission(rt: HostRuntime) -> Result<(), Fail> {
         .open(&rt, "closed/b.org")
         .is_ok();
     let mut disk = disk(&rt, "closed")?;
-    reads_if(&rt, &mut disk, &name(&rt, "a.org")?, may_read);
-    writes_if(&rt, &mut disk, &name(&rt, "b.org")?, may_write)?;
-    assert_eq!(rt;
-        disk.failures(),
-        u64::from(!may_read) + u64::from(!may_write)
-    );
+    assert_permitted(&rt, &mut disk, may_read, may_write)?;
     remove(&rt, "closed")
 }

@@ -7,7 +7,7 @@ use std::process::Abort;
 use std::test::Fail;
 
 // Lines, and what is answered to them over a.org, which holds `* A`, and b.org, which holds `* Z`.
-const ANSWERED: [(&str, &str); 8] = [
+const ANSWERED: [(&str, &str); 9] = [
     // an absent file is an empty one
     ("show\tinbox.org\n", "text 0\n\n"),
     // a capture at the top level of it
@@ -19,6 +19,11 @@ const ANSWERED: [(&str, &str); 8] = [
     (
         "capture\ta.org\ttop\tlast\t2026-07-01 10:00\t* B\t\nshow\ta.org\nshow\tb.org\n",
         "ok 1\nsafe 1\ntext 8\n* A\n* B\n\ntext 3\n* Z\n",
+    ),
+    // a capture before the first heading
+    (
+        "capture\ta.org\ttop\tfirst\t2026-07-01 10:00\t* B\t\nshow\ta.org\n",
+        "ok 1\nsafe 1\ntext 8\n* B\n* A\n\n",
     ),
     // no file of the store
     ("show\tq.org\n", "refused 1 NoSuchFile\n"),
@@ -51,8 +56,88 @@ fn answered_lines(rt: HostRuntime) -> Result<(), Fail> {
     Ok(())
 }
 
+// A capture at the top level goes behind the text before the first heading.
+#[test]
+fn first_behind_the_text_before_headings(rt: HostRuntime) -> Result<(), Fail> {
+    let lines = b"capture\ta.org\ttop\tfirst\t2026-07-01 10:00\t* B\t\nshow\ta.org\n";
+    let disk = two_files(rt.alloc(), b"p\n* A\n", b"")?;
+    assert!(rt;
+        is_answered(
+            rt.alloc(),
+            disk,
+            1,
+            lines,
+            b"ok 1\nsafe 1\ntext 10\np\n* B\n* A\n\n"
+        )?
+    );
+    Ok(())
+}
+
+// Captures of `* N` into a.org: what it held, the target, the place, and what it holds then.
+const CAPTURED: [(&str, &str, &str, &str); 6] = [
+    // the first of the children of its level, and the last where there is none
+    (
+        "* A\n*** X\n** Y\n",
+        "path:A",
+        "first",
+        "* A\n*** X\n** N\n** Y\n",
+    ),
+    ("* A\n*** X\n", "path:A", "first", "* A\n*** X\n** N\n"),
+    // only a space behind the stars makes a heading, and one within a block is a heading too
+    (
+        "*\n*\tA\n#+BEGIN_SRC\n* A\n#+END_SRC\n",
+        "path:A",
+        "last",
+        "*\n*\tA\n#+BEGIN_SRC\n* A\n#+END_SRC\n** N\n",
+    ),
+    // a slash of a title
+    ("* a/b\n", "path:a\\sb", "last", "* a/b\n** N\n"),
+    // a heading that is made
+    ("x\n", "head:Tasks", "last", "x\n* Tasks\n** N\n"),
+    // a date tree
+    (
+        "* 2027\n",
+        "date",
+        "last",
+        "* 2026\n** 2026-07 July\n*** 2026-07-01 Wednesday\n**** N\n* 2027\n",
+    ),
+];
+
+#[test]
+fn captured_below_targets(rt: HostRuntime) -> Result<(), Fail> {
+    for (old, target, place, new) in CAPTURED {
+        let input = format!(in rt.alloc();
+            "capture\ta.org\t{target}\t{place}\t2026-07-01 10:00\t* N\t\nshow\ta.org\n"
+        )?;
+        let wanted = format!(in rt.alloc(); "ok 1\nsafe 1\ntext {}\n{new}\n", new.len())?;
+        let disk = two_files(rt.alloc(), old.as_bytes(), b"")?;
+        assert!(rt; is_answered(rt.alloc(), disk, 1, input.as_bytes(), wanted.as_bytes())?);
+    }
+    Ok(())
+}
+
+// Captures into a.org that are refused: what it holds, the target, and the answer.
+const REFUSED: [(&str, &str, &str); 4] = [
+    ("* a/b\n", "path:a/b", "refused 4 NotFound\n"),
+    ("* A\n", "path:", "refused 4 NotFound\n"),
+    ("x\n", "head:TODO x", "refused 4 NotFound\n"),
+    ("* T\n* U\n** T\n", "head:T", "refused 5 NotUnique\n"),
+];
+
+#[test]
+fn refused_targets(rt: HostRuntime) -> Result<(), Fail> {
+    for (old, target, wanted) in REFUSED {
+        let input = format!(in rt.alloc();
+            "capture\ta.org\t{target}\tlast\t2026-07-01 10:00\t* N\t\n"
+        )?;
+        let disk = two_files(rt.alloc(), old.as_bytes(), b"")?;
+        assert!(rt; is_answered(rt.alloc(), disk, 1, input.as_bytes(), wanted.as_bytes())?);
+    }
+    Ok(())
+}
+
 // Lines that aren't run: by their form, and by a field.
-const BAD: [&str; 13] = [
+const BAD: [&str; 16] = [
     "capture\ta.org\n",
     "\n",
     "show\ta.org",
@@ -61,6 +146,9 @@ const BAD: [&str; 13] = [
     "show\ta\\sb.org\n",
     "show\ta.org\r\n",
     "Show\ta.org\n",
+    "capture\ta.org\ttops\tlast\t2026-07-01 10:00\t* N\t\n",
+    "capture\ta.org\thead:A\\x\tlast\t2026-07-01 10:00\t* N\t\n",
+    "capture\ta.org\ttop\tFirst\t2026-07-01 10:00\t* N\t\n",
     "capture\ta.org\ttop\tlast\t2026-02-29 10:00\t* N\t\n",
     "capture\ta.org\ttop\tlast\t2026-07-01 24:00\t* N\t\n",
     "capture\ta.org\ttop\tlast\t2026-07-01T10:00\t* N\t\n",

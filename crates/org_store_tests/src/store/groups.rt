@@ -1,8 +1,11 @@
 // Captures that are settled together.
-use super::{captured, has_counts, open, shows_both};
+use super::{answered, capture, captured, has_counts, open, shows_both};
+use org_capture::Target;
 use org_disk::MemoryDisk;
 use org_fixtures::two_files;
-use org_store::{Command, Reply, Store};
+use org_outline::Place;
+use org_splice::Bytes;
+use org_store::{Command, Refusal, Reply, RunFault, Store};
 use std::alloc::Global;
 use std::process::Abort;
 use std::test::Fail;
@@ -77,5 +80,47 @@ fn settles_by_command(rt: HostRuntime) -> Result<(), Fail> {
     let mut store = open(alloc, two_files(alloc, b"", b"")?)?;
     settle_by_command(&rt, alloc, &mut store)?;
     assert!(rt; has_left(alloc, store.close(), b"* B\n* C\n", b"")?);
+    Ok(())
+}
+
+// Makes a capture below a heading that isn't there, and tells whether it is refused and the texts are these.
+fn is_refused(
+    alloc: Global,
+    store: &mut Store<MemoryDisk>,
+    file: &str,
+    a: &[u8],
+    b: &[u8],
+) -> Result<bool, Fail> {
+    let target = Target::Head(Bytes::new(b"TODO x".to_vec(alloc)?));
+    let command = capture(alloc, file, target, Place::Last, b"* N", b"")?;
+    let refused = matches!(
+        answered(store, &command)?,
+        Err(RunFault::Refused(Refusal::NotFound))
+    );
+    Ok(refused && shows_both(alloc, store, a, b)?)
+}
+
+fn refuse_in_a_group(
+    rt: &impl Abort,
+    alloc: Global,
+    store: &mut Store<MemoryDisk>,
+) -> Result<(), Fail> {
+    store.set_group(1000);
+    assert!(rt; is_refused(alloc, store, "b.org", b"* A", b"* Z")?);
+    assert!(rt; captures_as(alloc, store, ("a.org", b"* B"), 1, 0)?);
+    assert!(rt; is_refused(alloc, store, "a.org", b"* A\n* B\n", b"* Z")?);
+    assert!(rt; is_refused(alloc, store, "b.org", b"* A\n* B\n", b"* Z")?);
+    assert!(rt; matches!(safe(store), Some(1)));
+    assert!(rt; is_refused(alloc, store, "a.org", b"* A\n* B\n", b"* Z")?);
+    Ok(())
+}
+
+// A refused capture closes no line, also where other captures wait, and nothing of it is settled with these.
+#[test]
+fn refusals_in_a_group(rt: HostRuntime) -> Result<(), Fail> {
+    let alloc = rt.alloc();
+    let mut store = open(alloc, two_files(alloc, b"* A", b"* Z")?)?;
+    refuse_in_a_group(&rt, alloc, &mut store)?;
+    assert!(rt; has_left(alloc, store.close(), b"* A\n* B\n", b"* Z")?);
     Ok(())
 }

@@ -1,5 +1,5 @@
 // The limits of files and names.
-use super::{captured, open, opened};
+use super::{captured, open, opened, shows};
 use org_disk::MemoryDisk;
 use org_fixtures::{disk_with, numbered_names, org_names, two_files};
 use org_store::{OpenFault, OpenRefused, Refusal, RunFault, Store};
@@ -13,27 +13,42 @@ fn fault_of(opened: Result<Store<MemoryDisk>, OpenRefused<MemoryDisk>>) -> Optio
     }
 }
 
-// A store over a file b.org of so many bytes, of which the last is a newline.
-fn store_at(alloc: Global, size: usize) -> Result<Store<MemoryDisk>, Fail> {
+// A text of so many bytes, the last of which is this one.
+fn text_of(alloc: Global, size: usize, last: u8) -> Result<Vec<u8>, Fail> {
     let mut text = vec![in alloc; b'x'; size]?;
-    if let Some(last) = text.last_mut() {
-        *last = b'\n';
+    if let Some(byte) = text.last_mut() {
+        *byte = last;
     }
-    open(alloc, two_files(alloc, b"", &text)?)
+    Ok(text)
 }
 
-// What a capture into such a file is answered.
-fn captured_at(alloc: Global, size: usize) -> Result<Result<u64, RunFault>, Fail> {
-    let mut store = store_at(alloc, size)?;
-    captured(alloc, &mut store, "b.org", b"* B")
+// What a capture into a file of so many bytes is answered, and whether the file is as it was behind it.
+fn captured_at(
+    alloc: Global,
+    size: usize,
+    last: u8,
+) -> Result<(Result<u64, RunFault>, bool), Fail> {
+    let text = text_of(alloc, size, last)?;
+    let mut store = open(alloc, two_files(alloc, b"", &text)?)?;
+    let answer = captured(alloc, &mut store, "b.org", b"* B")?;
+    Ok((answer, shows(alloc, &mut store, "b.org", &text)?))
 }
 
+// The last newline that a text wants counts.
 #[test]
 fn the_limit_of_a_file(rt: HostRuntime) -> Result<(), Fail> {
-    let alloc = rt.alloc();
-    assert!(rt; matches!(captured_at(alloc, 67_108_860)?, Ok(1)));
-    let refused = captured_at(alloc, 67_108_861)?;
-    assert!(rt; matches!(refused, Err(RunFault::Refused(Refusal::TooLarge))));
+    for (size, last) in [(67_108_860, b'\n'), (67_108_859, b'x')] {
+        let (answer, _) = captured_at(rt.alloc(), size, last)?;
+        assert!(rt; matches!(answer, Ok(1)), "{size}");
+    }
+    for (size, last) in [(67_108_861, b'\n'), (67_108_860, b'x')] {
+        let (answer, is_kept) = captured_at(rt.alloc(), size, last)?;
+        assert!(rt;
+            matches!(answer, Err(RunFault::Refused(Refusal::TooLarge))),
+            "{size}"
+        );
+        assert!(rt; is_kept, "{size}");
+    }
     Ok(())
 }
 

@@ -1,4 +1,4 @@
-use Rattle.std.proofs.Common.{rules, ◌≡◌, ◌≢◌, inl, inr, ◌≤◌, ◌∷◌, ℕ, List, length, drop, IsErr, sym, ◌∙◌, ap, subst, arith}
+use Rattle.std.proofs.Common.{rules, ◌≡◌, inl, inr, ◌≤◌, ◌∷◌, ℕ, List, length, drop, IsErr, sym, ◌∙◌, ap, subst, arith}
 use Rattle.org_disk.specs.Disk.{FileState, IsStable}
 use Rattle.org_disk.specs.Names.{journal_name}
 use Rattle.org_disk.proofs.Moments.{passes_as, passes_then}

@@ -4,4 +4,4 @@ use Rattle.org_fileset.proofs.entries.entries_of.Given as goal
 
 -- the entries so far are those of the changes so far
 abbrev pub invariant-loop-index : goal.invariant-loop-index
-invariant-loop-index l = AreEntriesOf (take l.index l.changes) l.entries.items
+invariant-loop-index g l = AreEntriesOf (take l.index (g.C.Changes.pairs l.changes)) l.entries.items

@@ -1,24 +1,24 @@
 use Rattle.std.proofs.Common.{◌∙◌}
 use Rattle.std.proofs.lemmas.Result.{err_from_is_err_and}
-use Rattle.org_serve.proofs.Counting.{Breaks-then}
+use Rattle.org_serve.proofs.Breaking.{untouched_then, breaks_then}
 use Rattle.org_serve.proofs.Feeding.{Fed-step, Fed-err, Fed-end}
 use Rattle.org_serve.proofs.serving.feed.Goals as goal
 
 pub returns-in_err-answer-clause-fed : goal.returns-in_err-answer-clause-fed
 returns-in_err-answer-clause-fed g c = λ honest part free stands.
     let p = err_from_is_err_and c.from_residual.result c.from_residual.ensures.1 in
-    let f = c.loop-line.invariant.0 (c.answer.ensures.honest.0 honest) part free stands in
+    let f = c.loop-line.invariant.0 (c.answer.ensures.accounts.was_honest honest) part free stands in
     let s = c.in_err-answer.ensures.step honest f.part f.stands in
     rw p.1 (Fed-err f c.in-Some.line.now c.in-Some.more.now c.in-Some.ensures.whole c.in-Some.ensures.free c.answer.new.store s.0 s.1)
 
 pub loop-line-preserved : goal.loop-line-preserved
 loop-line-preserved g c = (
   λ honest part free stands.
-      Fed-step (c.loop-line.invariant.0 (c.in_ok-answer.ensures.honest.0 honest) part free stands) c.in-Some.line.now c.in-Some.more.now c.in-Some.ensures.whole c.in-Some.ensures.free
+      Fed-step (c.loop-line.invariant.0 (c.in_ok-answer.ensures.accounts.was_honest honest) part free stands) c.in-Some.line.now c.in-Some.more.now c.in-Some.ensures.whole c.in-Some.ensures.free
       c.answer.new.store (g.W.Sink.written c.answer.new.writer) c.answer.new.pending
       (c.in_ok-answer.ensures.step honest) c.in_ok-answer.ensures.cleared,
-  Breaks-then c.loop-line.invariant.1 c.in_ok-answer.ensures.device,
-  (λ h. c.loop-line.invariant.2.0 (c.in_ok-answer.ensures.honest.0 h), λ steady h. c.in_ok-answer.ensures.honest.1 steady (c.loop-line.invariant.2.1 steady h)),
+  untouched_then c.loop-line.invariant.1 c.in_ok-answer.ensures.untouched,
+  breaks_then c.loop-line.invariant.1 c.in_ok-answer.ensures.untouched c.loop-line.invariant.2 c.in_ok-answer.ensures.accounts,
   c.in_ok-answer.ensures.same ∙ c.loop-line.invariant.3,
 )
 

@@ -1,8 +1,9 @@
 use Rattle.std.proofs.Common.{◌≡◌, ◌++◌, List, ℕ, [], length}
-use Rattle.org_disk.specs.Disk.{KeepsHonesty}
+use Rattle.std.specs.Prelude.{IsTrue}
+use Rattle.org_disk.specs.Accounts.{Accounts}
 use Rattle.org_serve.specs.Lines.{cut}
 use Rattle.org_serve.specs.Pending.{Stands}
-use Rattle.org_serve.specs.Serving.{BreaksByFailure}
+use Rattle.org_serve.specs.Serving.{HasBroken}
 use Rattle.org_serve.specs.Stops.{RunsLine}
 use Rattle.org_serve.proofs.Feeding.{Fed}
 use Rattle.org_serve.proofs.serving.feed.Given as goal
@@ -13,8 +14,8 @@ invariant-loop-line g l =
     (g.D.Disk.honest l.store.disk → (part : List ℕ) → (cut part).lines ≡ [] → Stands l.initial.pending part
     → Fed (RunsLine g.D.Disk.files g.D.Disk.moment g.D.Disk.left_since) l.initial.store (part ++ l.piece) l.rest l.store
     (g.W.Sink.written l.initial.writer) (g.W.Sink.written l.writer) l.pending)
-    × BreaksByFailure l.initial.store.session l.store.session (g.D.Disk.failures l.initial.store.disk) (g.D.Disk.failures l.store.disk)
-    × KeepsHonesty g.D.Disk.steady (g.D.Disk.honest l.initial.store.disk) (g.D.Disk.honest l.store.disk)
+    × (IsTrue l.initial.store.session.broken → l.store ≡ l.initial.store)
+    × Accounts g.D.Disk.steady g.D.Disk.honest g.D.Disk.failures l.initial.store.disk l.store.disk (HasBroken l.initial.store.session l.store.session)
     × (g.W.Sink.failures l.writer ≡ g.W.Sink.failures l.initial.writer)
 
 abbrev pub decreases-loop-line : goal.decreases-loop-line

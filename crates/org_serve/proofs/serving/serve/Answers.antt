@@ -5,7 +5,8 @@ use Rattle.org_serve.specs.Stops.{HasSettledOver}
 use Rattle.org_serve.proofs.Cuts.{rest-free}
 use Rattle.org_serve.proofs.Inputs.{Served-more, Served-some, Served-no_more, Served-all_ran, Served-end, Served-settled, Served-lines}
 use Rattle.org_serve.proofs.Joins.{Consumes-kept}
-use Rattle.org_serve.proofs.Counting.{HasRisenBy-counted, Breaks-then}
+use Rattle.org_serve.proofs.Counting.{HasRisenBy-counted}
+use Rattle.org_serve.proofs.Breaking.{untouched_then, breaks_then}
 use Rattle.org_serve.proofs.Stops.{session_of_served, session_of_ends, session_of_settled, session_of_some, runs_read, runs_finish, runs_some, runs_leave, runs_keep}
 use Rattle.org_serve.proofs.serving.serve.Goals as goal
 
@@ -14,7 +15,7 @@ returns-in-Ok-eq0-clause-end g c = λ honest no_read no_write.
     let d = g.D.Disk in
     let zero : c.in-Ok-eq0.field-0 ≡ 0 = omega arith in
     let read = rw zero at c.in-Ok-eq0.ensures.bytes in
-    let s = Served-no_more (c.loop.invariant.0 (c.finish.ensures.honest.0 honest)) (g.R.Source.left c.read.new.self) read.0 in
+    let s = Served-no_more (c.loop.invariant.0 (c.finish.ensures.accounts.was_honest honest)) (g.R.Source.left c.read.new.self) read.0 in
     let room : 0 < length c.read.new.into = omega (arith, c.read.auto.into) in
     Served-end Finishes (session_of_served d.files d.moment d.left_since s) c.finish.result c.finish.new.store.session (g.W.Sink.written c.finish.new.writer) (c.in-Ok-eq0.ensures.bytes.1 zero room)
     (session_of_ends d.files d.moment d.left_since (cut s.input).rest c.loop.store c.finish.result c.finish.new.store (g.W.Sink.written c.loop.writer) (g.W.Sink.written c.finish.new.writer)
@@ -25,7 +26,7 @@ returns-in-Ok-eq0-clause-write g c = λ honest e.
     let d = g.D.Disk in
     let zero : c.in-Ok-eq0.field-0 ≡ 0 = omega arith in
     let read = rw zero at c.in-Ok-eq0.ensures.bytes in
-    let s = Served-no_more (c.loop.invariant.0 (c.finish.ensures.honest.0 honest)) (g.R.Source.left c.read.new.self) read.0 in
+    let s = Served-no_more (c.loop.invariant.0 (c.finish.ensures.accounts.was_honest honest)) (g.R.Source.left c.read.new.self) read.0 in
     let of = session_of_served d.files d.moment d.left_since s in
     let room : 0 < length c.read.new.into = omega (arith, c.read.auto.into) in
     elim (c.finish.ensures.write honest e) [
@@ -39,14 +40,14 @@ returns-in-Ok-eq0-clause-calls g c = λ honest.
     let d = g.D.Disk in
     let zero : c.in-Ok-eq0.field-0 ≡ 0 = omega arith in
     let read = rw zero at c.in-Ok-eq0.ensures.bytes in
-    let s = Served-no_more (c.loop.invariant.0 (c.finish.ensures.honest.0 honest)) (g.R.Source.left c.read.new.self) read.0 in
+    let s = Served-no_more (c.loop.invariant.0 (c.finish.ensures.accounts.was_honest honest)) (g.R.Source.left c.read.new.self) read.0 in
     runs_finish d.files d.moment d.left_since s c.finish.new.store c.finish.result (g.W.Sink.written c.finish.new.writer)
     (λ not. c.finish.ensures.told honest not (cut s.input).rest s.stands) (c.finish.ensures.write honest)
 
 pub returns-in-Ok-eq0-clause-any_moment : goal.returns-in-Ok-eq0-clause-any_moment
 returns-in-Ok-eq0-clause-any_moment g c = λ honest.
     let d = g.D.Disk in
-    runs_leave d.files d.moment d.left_since (returns-in-Ok-eq0-clause-calls g c honest) (λ image left. g.met.D.Disk.only_now c.args.store.now.disk image (c.loop.invariant.2.0 (c.finish.ensures.honest.0 honest)) left) c.settled_is_on_disk.ensures
+    runs_leave d.files d.moment d.left_since (returns-in-Ok-eq0-clause-calls g c honest) (λ image left. g.met.D.Disk.only_now c.args.store.now.disk image (c.loop.invariant.2.was_honest (c.finish.ensures.accounts.was_honest honest)) left) c.settled_is_on_disk.ensures
 
 pub returns-in-Ok-eq0-clause-disk : goal.returns-in-Ok-eq0-clause-disk
 returns-in-Ok-eq0-clause-disk g c = λ honest.
@@ -56,14 +57,14 @@ returns-in-Ok-eq0-clause-disk g c = λ honest.
 pub returns-in-Err-feed-clause-write : goal.returns-in-Err-feed-clause-write
 returns-in-Err-feed-clause-write g c = λ honest e.
     let d = g.D.Disk in
-    let s = c.loop.invariant.0 (c.feed.ensures.honest.0 honest) in
+    let s = c.loop.invariant.0 (c.feed.ensures.accounts.was_honest honest) in
     inl (session_of_some d.files d.moment d.left_since c.args.store.now c.feed.new.store _ _ (Served-some s (take c.in-Ok.n c.read.new.into) c.feed.new.store (g.R.Source.left c.read.new.self) c.in-Ok.ensures.bytes.0
     (c.in-Err-feed.ensures.fed honest (cut s.input).rest (rest-free s.input) s.stands)))
 
 pub returns-in-Err-feed-clause-calls : goal.returns-in-Err-feed-clause-calls
 returns-in-Err-feed-clause-calls g c = λ honest.
     let d = g.D.Disk in
-    let s = c.loop.invariant.0 (c.feed.ensures.honest.0 honest) in
+    let s = c.loop.invariant.0 (c.feed.ensures.accounts.was_honest honest) in
     runs_some (HasSettledOver d.files d.moment d.left_since) (g.W.Sink.written c.args.writer.now) (g.W.Sink.written c.feed.new.writer)
     (Served-some s (take c.in-Ok.n c.read.new.into) c.feed.new.store (g.R.Source.left c.read.new.self) c.in-Ok.ensures.bytes.0
     (c.in-Err-feed.ensures.fed honest (cut s.input).rest (rest-free s.input) s.stands))
@@ -71,7 +72,7 @@ returns-in-Err-feed-clause-calls g c = λ honest.
 pub returns-in-Err-feed-clause-any_moment : goal.returns-in-Err-feed-clause-any_moment
 returns-in-Err-feed-clause-any_moment g c = λ honest.
     let d = g.D.Disk in
-    runs_leave d.files d.moment d.left_since (returns-in-Err-feed-clause-calls g c honest) (λ image left. g.met.D.Disk.only_now c.args.store.now.disk image (c.loop.invariant.2.0 (c.feed.ensures.honest.0 honest)) left) c.settled_is_on_disk.ensures
+    runs_leave d.files d.moment d.left_since (returns-in-Err-feed-clause-calls g c honest) (λ image left. g.met.D.Disk.only_now c.args.store.now.disk image (c.loop.invariant.2.was_honest (c.feed.ensures.accounts.was_honest honest)) left) c.settled_is_on_disk.ensures
 
 pub returns-in-Err-feed-clause-disk : goal.returns-in-Err-feed-clause-disk
 returns-in-Err-feed-clause-disk g c = λ honest.
@@ -93,7 +94,7 @@ returns-in-Err-clause-calls g c = λ honest.
 pub returns-in-Err-clause-any_moment : goal.returns-in-Err-clause-any_moment
 returns-in-Err-clause-any_moment g c = λ honest.
     let d = g.D.Disk in
-    runs_leave d.files d.moment d.left_since (returns-in-Err-clause-calls g c honest) (λ image left. g.met.D.Disk.only_now c.args.store.now.disk image (c.loop.invariant.2.0 honest) left) c.settled_is_on_disk.ensures
+    runs_leave d.files d.moment d.left_since (returns-in-Err-clause-calls g c honest) (λ image left. g.met.D.Disk.only_now c.args.store.now.disk image (c.loop.invariant.2.was_honest honest) left) c.settled_is_on_disk.ensures
 
 pub returns-in-Err-clause-disk : goal.returns-in-Err-clause-disk
 returns-in-Err-clause-disk g c = λ honest.
@@ -113,7 +114,7 @@ returns-clause-calls g c = λ honest.
 pub returns-clause-any_moment : goal.returns-clause-any_moment
 returns-clause-any_moment g c = λ honest.
     let d = g.D.Disk in
-    runs_leave d.files d.moment d.left_since (returns-clause-calls g c honest) (λ image left. g.met.D.Disk.only_now c.args.store.now.disk image (c.loop.invariant.2.0 honest) left) c.settled_is_on_disk.ensures
+    runs_leave d.files d.moment d.left_since (returns-clause-calls g c honest) (λ image left. g.met.D.Disk.only_now c.args.store.now.disk image (c.loop.invariant.2.was_honest honest) left) c.settled_is_on_disk.ensures
 
 pub returns-clause-disk : goal.returns-clause-disk
 returns-clause-disk g c = λ honest.
@@ -123,11 +124,11 @@ returns-clause-disk g c = λ honest.
 pub loop-preserved : goal.loop-preserved
 loop-preserved g c = (
   λ honest.
-      let s = c.loop.invariant.0 (c.in-Ok-feed.ensures.honest.0 honest) in
+      let s = c.loop.invariant.0 (c.in-Ok-feed.ensures.accounts.was_honest honest) in
       Served-more s (take c.in-Ok.n c.read.new.into) c.feed.new.store (g.R.Source.left c.read.new.self) (g.W.Sink.written c.feed.new.writer)
       c.feed.new.pending c.in-Ok.ensures.bytes.0 (c.in-Ok-feed.ensures.fed honest (cut s.input).rest (rest-free s.input) s.stands),
-  Breaks-then c.loop.invariant.1 c.in-Ok-feed.ensures.device,
-  (λ h. c.loop.invariant.2.0 (c.in-Ok-feed.ensures.honest.0 h), λ steady h. c.in-Ok-feed.ensures.honest.1 steady (c.loop.invariant.2.1 steady h)),
+  untouched_then c.loop.invariant.1 c.in-Ok-feed.ensures.untouched,
+  breaks_then c.loop.invariant.1 c.in-Ok-feed.ensures.untouched c.loop.invariant.2 c.in-Ok-feed.ensures.accounts,
   HasRisenBy-counted c.loop.counter _ _ _ c.loop.invariant.3 c.in-Ok.ensures.counted,
   c.in-Ok.ensures.ok ∙ c.loop.invariant.4,
   c.in-Ok-feed.ensures.same ∙ c.loop.invariant.5,

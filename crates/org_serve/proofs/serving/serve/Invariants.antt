@@ -1,7 +1,8 @@
 use Rattle.std.proofs.Common.{◌≡◌}
-use Rattle.org_disk.specs.Disk.{KeepsHonesty}
+use Rattle.std.specs.Prelude.{IsTrue}
+use Rattle.org_disk.specs.Accounts.{Accounts}
 use Rattle.org_serve.specs.Counts.{HasRisenBy}
-use Rattle.org_serve.specs.Serving.{BreaksByFailure}
+use Rattle.org_serve.specs.Serving.{HasBroken}
 use Rattle.org_serve.specs.Stops.{RunsLine}
 use Rattle.org_serve.proofs.Inputs.{Served}
 use Rattle.org_serve.proofs.serving.serve.Given as goal
@@ -11,8 +12,8 @@ abbrev pub invariant-loop : goal.invariant-loop
 invariant-loop g l =
     (g.D.Disk.honest l.store.disk → Served (RunsLine g.D.Disk.files g.D.Disk.moment g.D.Disk.left_since) l.initial.store l.store
     (g.R.Source.left l.initial.reader) (g.R.Source.left l.reader) (g.W.Sink.written l.initial.writer) (g.W.Sink.written l.writer) l.pending)
-    × BreaksByFailure l.initial.store.session l.store.session (g.D.Disk.failures l.initial.store.disk) (g.D.Disk.failures l.store.disk)
-    × KeepsHonesty g.D.Disk.steady (g.D.Disk.honest l.initial.store.disk) (g.D.Disk.honest l.store.disk)
+    × (IsTrue l.initial.store.session.broken → l.store ≡ l.initial.store)
+    × Accounts g.D.Disk.steady g.D.Disk.honest g.D.Disk.failures l.initial.store.disk l.store.disk (HasBroken l.initial.store.session l.store.session)
     × HasRisenBy l.counter (g.R.Source.reads l.initial.reader) (g.R.Source.reads l.reader)
     × (g.R.Source.failures l.reader ≡ g.R.Source.failures l.initial.reader)
     × (g.W.Sink.failures l.writer ≡ g.W.Sink.failures l.initial.writer)

@@ -1,4 +1,4 @@
-use Rattle.std.proofs.Common.{◌≡◌, inl, inr, ◌≤◌, ℕ, ◌<◌, List, [], ◌∷◌, length, get_or, true, false, sym, ◌∙◌, ap, subst, arith}
+use Rattle.std.proofs.Common.{◌≡◌, inl, inr, ◌≤◌, ℕ, ◌<◌, List, [], ◌∷◌, length, get_or, true, false, refl, sym, ◌∙◌, ap, subst, arith}
 use Rattle.std.specs.List.{All, AllByRecursion, Contains}
 use Rattle.std.specs.Str.{bytes_eq}
 use Rattle.std.proofs.lemmas.List.Elements.{All-from_recursion, recursion_from_All}
@@ -7,7 +7,7 @@ use Rattle.org_disk.specs.Disk.{FileState}
 use Rattle.org_disk.specs.Memory.{memory_files}
 use Rattle.org_disk.proofs.Names.{name_cases}
 use Rattle.org_splice.specs.ChangeSet.{with_text}
-use Rattle.org_splice.specs.Texts.{EditedText, IsEditOf}
+use Rattle.org_splice.specs.Texts.{EditedText, IsEditOf, settled}
 use Rattle.org_journal.specs.Standing.{contents}
 use Rattle.org_fileset.specs.Names.{limit}
 use Rattle.org_fileset.specs.Set.{AreCommittable}
@@ -41,12 +41,16 @@ one_more names after shown files now changes new k name found text can same_name
       edits = all_with (λ (change : Change). IsEditOf (contents files change.0) change.1) name text edit changes can.edits;
     })))
 
+-- a text that was read is made of what was read
+unedited_is : (bytes : List ℕ) → IsEditOf bytes (settled bytes)
+unedited_is bytes = record { same = λ i within unchanged. refl }
+
 pub returns : goal.returns
 returns c =
     let files = memory_files c.args.set.now.disk in
     let name = c.in_ok-name.name in
-    let read : IsEditOf (contents files name) c.new-text.result = subst (λ (l : List ℕ). IsEditOf l c.new-text.result) (c.in-Ok.ensures.text tt) c.new-text.ensures.edit in
+    let read : IsEditOf (contents files name) c.new-text.result.text = rw (c.new-text.ensures, c.in-Ok.ensures.text tt) (unedited_is (contents files name)) in
     let edit = c.in_ok-splice.ensures.edit (contents files name) read in
-    let small : length c.splice.new.self.bytes ≤ limit = omega (arith, c.if-bytes-gt-LIMIT.false, ap length c.bytes.ensures) in
+    let small : length c.splice.new.self.text.bytes ≤ limit = omega (arith, c.if-bytes-gt-LIMIT.false, ap length c.bytes.ensures.bytes) in
     one_more c.args.set.now.names c.read.new.self.names c.names-2.result.now files (memory_files c.read.new.self.disk) c.args.changes.now c.put.new.self c.args.edit.now.file name
-    c.index-names-edit.result c.splice.new.self c.requires c.read.ensures.set.same_names (c.read.ensures.looks tt).same c.in_ok-put.ensures.ok c.names-2.ensures (omega (arith, c.if-edit-names.false, ap length c.names.ensures, ap length c.names-2.ensures)) c.index-names-edit.is c.in_ok-name.ensures.cases small edit
+    c.index-names-edit.result c.splice.new.self.text c.requires c.read.ensures.set.same_names (c.read.ensures.looks tt).same c.in_ok-put.ensures c.names-2.ensures (omega (arith, c.if-edit-names.false, ap length c.names.ensures, ap length c.names-2.ensures)) c.index-names-edit.is c.in_ok-name.ensures.cases small edit

@@ -1,13 +1,16 @@
-use Rattle.std.proofs.Common.{List, Ok, Err, sym, ◌∙◌, subst}
+use Rattle.std.proofs.Common.{rules, ◌≡◌, ℕ, List, [], Ok, Err, IsErr, length, sym, ◌∙◌, ap, subst, arith}
 use Rattle.std.specs.Prelude.{IsTrue}
-use Rattle.std.proofs.lemmas.Bool.{false≢true}
+use Rattle.std.proofs.lemmas.List.{nil_from_length}
 use Rattle.org_disk.specs.declared.disk.DiskFault.{DiskFault}
+use Rattle.org_splice.specs.Texts.{EditedText}
 use Rattle.org_journal.specs.declared.record.Entry.{Entry}
 use Rattle.org_journal.specs.declared.record.Version.TheVariants.{Two}
 use Rattle.org_journal.specs.Record.{IsWellFormed}
 use Rattle.org_journal.specs.Standing.{contents, all_fit, replayed}
+use Rattle.org_fileset.specs.Entries.{changed}
 use Rattle.org_fileset.specs.Replay.{AreLayable, Commits}
 use Rattle.org_fileset.specs.declared.fault.SetFault.TheVariants.{Device}
+use Rattle.org_fileset.proofs.Armed.{on_ok_never}
 use Rattle.org_fileset.proofs.Recorded.{changes_layable, changes_fit}
 use Rattle.org_fileset.proofs.Committing.{committable, all_edits, changes_formed, commits_none, commits_changes}
 use Rattle.org_fileset.proofs.set.FileSet.commit.Goals as goal
@@ -16,22 +19,48 @@ pub encode-requires : goal.encode-requires
 encode-requires g c =
     let named = rw (← c.self.view_is) at c.requires.named in
     subst (λ (l : List Entry). IsWellFormed Two l) (sym c.new-record.ensures)
-    (changes_formed c.self.inside.names.items c.args.changes.now c.in_ok-entries_of.field-0.items c.in_ok-entries_of.ensures.entries c.in_ok-entries_of.ensures.distinct
-    (λ none. false≢true (sym c.if-is_empty.false ∙ c.is_empty.ensures.1 none)) c.self.invariant.each c.self.invariant.few named c.requires.small)
+    (changes_formed c.self.inside.names.items (g.C.Changes.pairs c.args.changes.now) c.in_ok-entries_of.field-0.items c.in_ok-entries_of.ensures.entries c.in_ok-entries_of.ensures.distinct
+    (λ none. omega (arith, c.if-len-eq0.false, c.len.ensures.len ∙ ap length none)) c.self.invariant.each c.self.invariant.few named c.requires.small)
 
 pub commit_entries-requires-clause-layable : goal.commit_entries-requires-clause-layable
 commit_entries-requires-clause-layable g c honest =
     let named = rw (← c.self.view_is) at c.requires.named in
     subst AreLayable (sym (c.entries.ensures ∙ c.new-record.ensures))
-    (changes_layable c.args.changes.now c.in_ok-entries_of.field-0.items c.in_ok-entries_of.ensures.entries c.in_ok-entries_of.ensures.distinct
-    (committable c.self.inside.names.items c.args.changes.now c.self.invariant.each named c.requires.small))
+    (changes_layable (g.C.Changes.pairs c.args.changes.now) c.in_ok-entries_of.field-0.items c.in_ok-entries_of.ensures.entries c.in_ok-entries_of.ensures.distinct
+    (committable c.self.inside.names.items (g.C.Changes.pairs c.args.changes.now) c.self.invariant.each named c.requires.small))
 
 pub commit_entries-requires-clause-fits : goal.commit_entries-requires-clause-fits
 commit_entries-requires-clause-fits g c honest =
     let edits = rw (← c.self.view_is) at c.requires.edits in
     let files = contents (g.D.Disk.files c.self.inside.disk) in
     subst (λ (l : List Entry). IsTrue (all_fit l files)) (sym (c.entries.ensures ∙ c.new-record.ensures))
-    (changes_fit c.args.changes.now c.in_ok-entries_of.field-0.items files c.in_ok-entries_of.ensures.entries (all_edits files c.args.changes.now (edits c.if-self.false honest)))
+    (changes_fit (g.C.Changes.pairs c.args.changes.now) c.in_ok-entries_of.field-0.items files c.in_ok-entries_of.ensures.entries (all_edits files (g.C.Changes.pairs c.args.changes.now) (edits c.if-self.false honest)))
+
+pub returns-then-len-eq0-clause-commits : goal.returns-then-len-eq0-clause-commits
+returns-then-len-eq0-clause-commits g c honest =
+    let d = g.D.Disk in
+    let disk = c.args.self.now.disk in
+    let changes = g.C.Changes.pairs c.args.changes.now in
+    let files = contents (d.files disk) in
+    let none : changes ≡ [] = nil_from_length changes (omega (arith, c.if-len-eq0.true, c.len.ensures.len)) in
+    commits_none d.files d.moment d.left_since (changed changes files) disk (Ok tt) (λ image left. g.met.D.Disk.only_now disk image honest left)
+    (record { made = λ name not. ap (λ (l : List (List ℕ × EditedText)). changed l files name) (sym none); rest = λ rest. rest })
+
+pub returns-in_err-entries_of-clause-commits : goal.returns-in_err-entries_of-clause-commits
+returns-in_err-entries_of-clause-commits g c honest =
+    let d = g.D.Disk in
+    let disk = c.args.self.now.disk in
+    let after = changed (g.C.Changes.pairs c.args.changes.now) (contents (d.files disk)) in
+    let failed : IsErr c.from_residual.result = search rules in
+    commits_none d.files d.moment d.left_since after disk c.from_residual.result (λ image left. g.met.D.Disk.only_now disk image honest left) (on_ok_never _ c.from_residual.result failed)
+
+pub returns-in_err-body-clause-commits : goal.returns-in_err-body-clause-commits
+returns-in_err-body-clause-commits g c honest =
+    let d = g.D.Disk in
+    let disk = c.args.self.now.disk in
+    let after = changed (g.C.Changes.pairs c.args.changes.now) (contents (d.files disk)) in
+    let failed : IsErr c.from_residual-in_err-body.result = search rules in
+    commits_none d.files d.moment d.left_since after disk c.from_residual-in_err-body.result (λ image left. g.met.D.Disk.only_now disk image honest left) (on_ok_never _ c.from_residual-in_err-body.result failed)
 
 pub returns-in-Ok-clause-commits : goal.returns-in-Ok-clause-commits
 returns-in-Ok-clause-commits g c = rw (← c.self.view_is) (λ ended.
@@ -44,8 +73,8 @@ returns-in-Ok-clause-commits g c = rw (← c.self.view_is) (λ ended.
     let files = contents (d.files disk) in
     let made : Commits {A = Unit {0}} {E = DiskFault} d.files d.moment d.left_since (replayed entries files) disk after (Ok tt) =
     subst (λ (l : List Entry). Commits {A = Unit {0}} {E = DiskFault} d.files d.moment d.left_since (replayed l files) disk after (Ok tt)) (c.entries.ensures ∙ c.new-record.ensures) (c.in-Ok.ensures.commits ended) in
-    commits_changes d.files d.moment d.left_since c.args.changes.now entries disk after (Ok tt) (Ok tt) c.in_ok-entries_of.ensures.entries
-    (all_edits files c.args.changes.now (edits c.if-self.false honest)) made made.done)
+    commits_changes d.files d.moment d.left_since (g.C.Changes.pairs c.args.changes.now) entries disk after (Ok tt) (Ok tt) c.in_ok-entries_of.ensures.entries
+    (all_edits files (g.C.Changes.pairs c.args.changes.now) (edits c.if-self.false honest)) made made.done)
 
 pub returns-clause-commits : goal.returns-clause-commits
 returns-clause-commits g c = rw (← c.self.view_is) (λ ended.
@@ -58,5 +87,5 @@ returns-clause-commits g c = rw (← c.self.view_is) (λ ended.
     let files = contents (d.files disk) in
     let made : Commits {A = Unit {0}} {E = DiskFault} d.files d.moment d.left_since (replayed entries files) disk after c.commit_entries.result =
     subst (λ (l : List Entry). Commits {A = Unit {0}} {E = DiskFault} d.files d.moment d.left_since (replayed l files) disk after c.commit_entries.result) (c.entries.ensures ∙ c.new-record.ensures) (c.commit_entries.ensures.commits ended) in
-    commits_changes d.files d.moment d.left_since c.args.changes.now entries disk after c.commit_entries.result (Err Device) c.in_ok-entries_of.ensures.entries
-    (all_edits files c.args.changes.now (edits c.if-self.false honest)) made tt)
+    commits_changes d.files d.moment d.left_since (g.C.Changes.pairs c.args.changes.now) entries disk after c.commit_entries.result (Err Device) c.in_ok-entries_of.ensures.entries
+    (all_edits files (g.C.Changes.pairs c.args.changes.now) (edits c.if-self.false honest)) made tt)

@@ -1,11 +1,16 @@
-use Rattle.std.proofs.Common.{◌≡◌, refl, Err}
+use Rattle.std.proofs.Common.{◌≡◌, ◌∙◌, inr, ⊎_elim, false, Err, refl, sym, subst, rules}
+use Rattle.std.proofs.lemmas.Bool.{false≢true}
 use Rattle.org_journal.specs.Standing.{contents}
-use Rattle.org_held.specs.InOrder.{texts_of}
 use Rattle.org_store.specs.declared.command.RunFault.TheVariants.{Broken}
-use Rattle.org_store.specs.Outcome.{outcome}
+use Rattle.org_store.specs.declared.command.Command.{Command}
+use Rattle.org_store.specs.declared.command.Command.TheVariants.{Show}
+use Rattle.org_store.specs.InOrder.{texts_of}
+use Rattle.org_store.specs.Keeping.{Acts}
 use Rattle.org_store.specs.Left.{IsLeft}
+use Rattle.org_store.specs.Outcome.{outcome}
+use Rattle.org_store.specs.Session.{kept_over}
 use Rattle.org_store.proofs.Keeping.{left_quiet}
-use Rattle.org_store.proofs.Leaving.{leaves_same, leaves_unwritten}
+use Rattle.org_store.proofs.Leaving.{leaves_unwritten}
 use Rattle.org_store.proofs.store.Store.run.Goals as goal
 
 pub returns-then-is_broken-clause-disk : goal.returns-then-is_broken-clause-disk
@@ -19,14 +24,51 @@ returns-then-is_broken-clause-disk g c = λ honest.
     (λ image holds. left_quiet s files (outcome s c.args.command.now) (Err Broken) s.accepted image holds) old refl own
 
 pub returns-in-Show-clause-disk : goal.returns-in-Show-clause-disk
-returns-in-Show-clause-disk g c = λ ended.
+returns-in-Show-clause-disk g c =
     let d = g.D.Disk in
-    let e = c.show.ensures in
-    let old = c.args.self.now in
-    let new = c.show.new.self in
-    let s = old.session in
-    let files = contents (d.files old.disk) in
-    let own : s.settled ≡ texts_of files s.names = rw (← c.self.view_is) refl in
-    leaves_same d.files d.moment d.left_since old (IsLeft s files c.args.command.now c.show.result new.session.accepted) _
-    (λ image left. g.met.D.Disk.only_now old.disk image (e.accounts.was_honest ended) left) own
-    (λ image holds. left_quiet s files (outcome s c.args.command.now) c.show.result new.session.accepted image holds) new (e.looks ended).time (e.looks ended).same e.settled
+    let inside = c.self.inside in
+    let old = kept_over d.files inside.states inside.files inside.tally in
+    let new = kept_over d.files inside.states c.show.new.files inside.tally in
+    let acts : Acts d.files d.moment d.left_since d.honest old (outcome old.session (Show c.in-Show.file)) c.show.result new = c.show.ensures.acts inside.states inside.tally in
+    let told = subst (λ (command : Command). Acts d.files d.moment d.left_since d.honest old (outcome old.session command) c.show.result new) (sym c.in-Show.is) acts in
+    rw (← c.self.view_is) told.disk
+
+pub returns-in-Show-clause-step : goal.returns-in-Show-clause-step
+returns-in-Show-clause-step g c =
+    let d = g.D.Disk in
+    let inside = c.self.inside in
+    let old = kept_over d.files inside.states inside.files inside.tally in
+    let new = kept_over d.files inside.states c.show.new.files inside.tally in
+    let acts : Acts d.files d.moment d.left_since d.honest old (outcome old.session (Show c.in-Show.file)) c.show.result new = c.show.ensures.acts inside.states inside.tally in
+    let told = subst (λ (command : Command). Acts d.files d.moment d.left_since d.honest old (outcome old.session command) c.show.result new) (sym c.in-Show.is) acts in
+    rw (← c.self.view_is) told.does
+
+pub returns-in-Show-clause-counts : goal.returns-in-Show-clause-counts
+returns-in-Show-clause-counts g c =
+    let d = g.D.Disk in
+    let inside = c.self.inside in
+    let old = kept_over d.files inside.states inside.files inside.tally in
+    let new = kept_over d.files inside.states c.show.new.files inside.tally in
+    let acts : Acts d.files d.moment d.left_since d.honest old (outcome old.session (Show c.in-Show.file)) c.show.result new = c.show.ensures.acts inside.states inside.tally in
+    let told = subst (λ (command : Command). Acts d.files d.moment d.left_since d.honest old (outcome old.session command) c.show.result new) (sym c.in-Show.is) acts in
+    rw (← c.self.view_is) told.counts
+
+pub returns-in-Show-clause-broken : goal.returns-in-Show-clause-broken
+returns-in-Show-clause-broken g c =
+    let inside = c.self.inside in
+    let acts = c.show.ensures.acts inside.states inside.tally in
+    let whole : inside.files.broken ≡ false = search rules in
+    rw (← c.self.view_is) (λ broken. absurd (acts.works broken), λ was. absurd (false≢true (sym whole ∙ was)))
+
+pub returns-in-Show-clause-untouched : goal.returns-in-Show-clause-untouched
+returns-in-Show-clause-untouched g c broken = absurd ((c.show.ensures.acts c.self.inside.states c.self.inside.tally).works broken)
+
+pub returns-in-Show-clause-breaks : goal.returns-in-Show-clause-breaks
+returns-in-Show-clause-breaks g c =
+    let inside = c.self.inside in
+    let acts = c.show.ensures.acts inside.states inside.tally in
+    let whole : inside.files.broken ≡ false = search rules in
+    rw (← c.self.view_is) (λ fell. inr (acts.breaks.1 fell), λ either. ⊎_elim (λ was. absurd (false≢true (sym whole ∙ was))) acts.breaks.0 either)
+
+pub returns-in-Capture-clause-disk : goal.returns-in-Capture-clause-disk
+returns-in-Capture-clause-disk g c = rw (← c.self.view_is) c.change.ensures.acts.disk

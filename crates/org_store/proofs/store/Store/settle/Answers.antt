@@ -1,32 +1,49 @@
-use Rattle.std.proofs.Common.{◌≡◌, ◌∙◌, ap, Err, rules}
+use Rattle.std.proofs.Common.{◌≡◌, false, Err, refl, subst, rules}
 use Rattle.org_journal.specs.Standing.{contents}
-use Rattle.org_fileset.specs.declared.fault.SetFault.{SetFault}
-use Rattle.org_fileset.specs.declared.fault.SetFault.TheVariants as set
+use Rattle.org_store.specs.declared.command.RunFault.TheVariants.{Broken}
+use Rattle.org_disk.specs.Accounts.{LeavesOver}
+use Rattle.org_texts.specs.Texts.{TextSet, held_over}
+use Rattle.org_store.specs.InOrder.{HoldsEither, texts_of}
 use Rattle.org_store.specs.Keeping.{fault_of_set}
+use Rattle.org_store.specs.Left.{IsLeftSettling}
+use Rattle.org_store.proofs.Leaving.{leaves_unwritten}
 use Rattle.org_store.proofs.Sessions.{Fails, settle_failed, settle_leaves}
 use Rattle.org_store.proofs.store.Store.settle.Goals as goal
 
-pub returns-in_err-settle-clause-step : goal.returns-in_err-settle-clause-step
-returns-in_err-settle-clause-step g c =
+pub returns-then-is_broken-clause-disk : goal.returns-then-is_broken-clause-disk
+returns-then-is_broken-clause-disk g c = λ honest.
+    let d = g.D.Disk in
+    let old = c.args.self.now in
+    let s = old.session in
+    let files = contents (d.files old.disk) in
+    let own : s.settled ≡ texts_of files s.names = rw (← c.self.view_is) refl in
+    leaves_unwritten d.files d.moment d.left_since old (IsLeftSettling s files (Err Broken)) _ (λ image left. g.met.D.Disk.only_now old.disk image honest left) own (λ image holds. holds) old refl own
+
+pub returns-in_err-commit-clause-step : goal.returns-in_err-commit-clause-step
+returns-in_err-commit-clause-step g c =
     let inside = c.self.inside in
-    let made = c.settle.ensures in
-    let fault = c.in_err-settle.field-0.0 in
-    let fails : Fails inside.files c.settle.new.self c.settle.result fault =
-    record { is = c.in_err-settle.was; memory = made.memory; broken = made.set.refuses; untouched = made.set.untouched; breaks = made.set.breaks; names = made.set.same_names } in
+    let made = c.commit.ensures in
+    let fault = c.in_err-commit.field-0.0 in
+    let unbroken : inside.files.broken ≡ false = search rules in
+    let fails : Fails inside.files c.commit.new.self c.commit.result fault =
+    record { is = c.in_err-commit.was; unbroken = unbroken; memory = made.memory; works = made.works; breaks = made.breaks; names = made.names } in
     let given : c.from_residual.result ≡ Err (fault_of_set fault) = search rules in
     rw (← c.self.view_is, given) (λ honest.
-    settle_failed (λ disk. contents (g.D.Disk.files disk)) inside.states inside.files c.settle.new.self inside.accepted inside.acknowledged inside.group c.settle.result fault fails)
+    settle_failed (λ disk. contents (g.D.Disk.files disk)) inside.states inside.files c.commit.new.self inside.tally c.commit.result fault fails)
 
-pub returns-in_err-settle-clause-disk : goal.returns-in_err-settle-clause-disk
-returns-in_err-settle-clause-disk g c =
+pub returns-in_err-commit-clause-disk : goal.returns-in_err-commit-clause-disk
+returns-in_err-commit-clause-disk g c =
     let d = g.D.Disk in
     let inside = c.self.inside in
-    let made = c.settle.ensures in
-    let fault = c.in_err-settle.field-0.0 in
-    let fails : Fails inside.files c.settle.new.self c.settle.result fault =
-    record { is = c.in_err-settle.was; memory = made.memory; broken = made.set.refuses; untouched = made.set.untouched; breaks = made.set.breaks; names = made.set.same_names } in
+    let made = c.commit.ensures in
+    let fault = c.in_err-commit.field-0.0 in
+    let unbroken : inside.files.broken ≡ false = search rules in
+    let fails : Fails inside.files c.commit.new.self c.commit.result fault =
+    record { is = c.in_err-commit.was; unbroken = unbroken; memory = made.memory; works = made.works; breaks = made.breaks; names = made.names } in
     let given : c.from_residual.result ≡ Err (fault_of_set fault) = search rules in
-    let fell : fault ≡ set.Device → c.settle.result ≡ Err set.Device = λ is. c.in_err-settle.was ∙ ap (λ (f : SetFault). Err f) is in
+    let files = contents (d.files inside.files.disk) in
     rw (← c.self.view_is, given) (λ ended.
-    settle_leaves d.files d.moment d.left_since inside.states inside.files c.settle.new.self inside.accepted inside.acknowledged inside.group
-    (λ image left. g.met.D.Disk.only_now inside.files.disk image (made.accounts.was_honest ended) left) c.settle.result fault fails (made.any_moment ended) (λ is. made.fit (fell is) ended))
+    settle_leaves d.files d.moment d.left_since inside.states inside.files c.commit.new.self inside.tally
+    (λ image left. g.met.D.Disk.only_now inside.files.disk image (made.accounts.was_honest ended) left) c.commit.result fault fails
+    (λ rest. subst (λ (s : TextSet). LeavesOver d.moment d.left_since inside.files.disk c.commit.new.self.disk (HoldsEither inside.files.names files (texts_of (held_over s files) inside.files.names))) c.self.invariant.1
+    ((made.commits ended).any_moment rest)) (made.commits ended).fit)

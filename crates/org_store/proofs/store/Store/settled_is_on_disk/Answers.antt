@@ -1,6 +1,6 @@
 use Rattle.std.proofs.Common.{◌≡◌, refl}
 use Rattle.org_journal.specs.Standing.{contents}
-use Rattle.org_held.specs.InOrder.{texts_of}
+use Rattle.org_store.specs.InOrder.{texts_of}
 use Rattle.org_store.proofs.Keeping.{others_unwritten}
 use Rattle.org_store.proofs.store.Store.settled_is_on_disk.Goals as goal
 

@@ -1,0 +1,129 @@
+-- Captures: what their planner finds is what the outcome says.
+use Rattle.std.proofs.Common.{◌≡◌, ℕ, false, List, [], ◌∷◌, Option, Some, None, Result, Ok, Err, Vec, refl, sym, ◌∙◌, ap, subst}
+use Rattle.std.specs.Global.{Global}
+use Rattle.std.specs.Option.{IsSome}
+use Rattle.std.proofs.lemmas.Bool.{false≢true}
+use Rattle.org_splice.specs.Lines.{closed}
+use Rattle.org_splice.proofs.Lines.{closed_twice}
+use Rattle.org_outline.specs.declared.moves.Place.{Place}
+use Rattle.org_outline.specs.Tree.{Document, Node, print, tree}
+use Rattle.org_outline.proofs.Trees.{tree-closed}
+use Rattle.org_stamp.specs.Calendar.{CivilMinute}
+use Rattle.org_texts.specs.declared.plan.Plan.{Plan}
+use Rattle.org_capture.specs.declared.fault.CaptureFault.{CaptureFault}
+use Rattle.org_capture.specs.declared.fault.CaptureFault.TheVariants as fault
+use Rattle.org_capture.specs.declared.target.Target.{Target}
+use Rattle.org_capture.specs.Answers.{AnswersBytes, AnswersEdit}
+use Rattle.org_capture.specs.Capture.{captured}
+use Rattle.org_capture.specs.Entry.{IsEntry, closed_if_one, entry_in, entry_text, only_root}
+use Rattle.org_store.specs.Capture.{MakesEntry, PlansDocument, entry_of_text, new_entry, one_entry}
+use Rattle.org_store.specs.Keeping.{fault_of_capture}
+use Rattle.org_store.specs.Outcome.{Refuses, capture, changed, refusal_of, with_document, with_entry}
+use Rattle.org_store.specs.Session.{Session}
+use Rattle.org_store.specs.Step.{Does}
+
+-- ---- the entry
+
+entry_closed : (text : List ℕ) → entry_in (closed text) ≡ entry_in text
+entry_closed text = ap (λ (d : Document). only_root d.preamble d.forest) (tree-closed text)
+
+one_made : (bytes made : List ℕ) (found : Option Node) → entry_in bytes ≡ found → closed_if_one found bytes ≡ Ok made → (node : Node) × (one_entry found ≡ Ok node) × IsEntry made node
+one_made bytes made None is text = absurd (cc)
+one_made bytes made (Some node) is text =
+    let same : closed bytes ≡ made = cc in
+    (node, refl, subst (λ (t : List ℕ). IsEntry t node) same (record { shut = closed_twice bytes; one = entry_closed bytes ∙ is }))
+
+no_one : (bytes : List ℕ) (found : Option Node) (why : CaptureFault) → closed_if_one found bytes ≡ Err why → one_entry found ≡ Err why
+no_one bytes None why is = cc
+no_one bytes (Some node) why is = absurd (cc)
+
+pub entry_made : (bytes : List ℕ) (said : Result (List ℕ) CaptureFault) (result : Result (Vec ℕ Global) CaptureFault) → said ≡ Ok bytes → AnswersBytes (entry_text bytes) result → MakesEntry (entry_of_text said) result
+entry_made bytes said result is answers = subst (λ (s : Result (List ℕ) CaptureFault). MakesEntry (entry_of_text s) result) (sym is) (go result answers)
+  where
+    go : (r : Result (Vec ℕ Global) CaptureFault) → AnswersBytes (entry_text bytes) r → MakesEntry (one_entry (entry_in bytes)) r
+    go (Ok text) answers = one_made bytes text.items (entry_in bytes) refl answers
+    go (Err fault.OutOfMemory) answers = tt
+    go (Err fault.BadTemplate) answers = no_one bytes (entry_in bytes) fault.BadTemplate answers
+    go (Err fault.BadEntry) answers = no_one bytes (entry_in bytes) fault.BadEntry answers
+    go (Err fault.NotFound) answers = no_one bytes (entry_in bytes) fault.NotFound answers
+    go (Err fault.NotUnique) answers = no_one bytes (entry_in bytes) fault.NotUnique answers
+
+-- a template that isn't expanded
+pub no_entry_made : (said : Result (List ℕ) CaptureFault) (result : Result (Vec ℕ Global) CaptureFault) (given : Result (Vec ℕ Global) CaptureFault) (why : CaptureFault) → result ≡ Err why → given ≡ Err why
+    → AnswersBytes said result → MakesEntry (entry_of_text said) given
+no_entry_made said result given why was is answers =
+    subst (MakesEntry (entry_of_text said)) (sym is) (go why (subst (AnswersBytes said) was answers))
+  where
+    handed : (w : CaptureFault) → said ≡ Err w → entry_of_text said ≡ Err w
+    handed w same = ap entry_of_text same
+
+    go : (w : CaptureFault) → AnswersBytes said (Err w) → MakesEntry (entry_of_text said) (Err w)
+    go fault.OutOfMemory answers = tt
+    go fault.BadTemplate answers = handed fault.BadTemplate answers
+    go fault.BadEntry answers = handed fault.BadEntry answers
+    go fault.NotFound answers = handed fault.NotFound answers
+    go fault.NotUnique answers = handed fault.NotUnique answers
+
+-- ---- the edit
+
+pub edit_refused : (file text : List ℕ) (said : Result Document CaptureFault) (result : Result Plan CaptureFault) (why : CaptureFault) → result ≡ Err why → AnswersEdit said text (Err why) → PlansDocument file text said result
+edit_refused file text said result why is answers = subst (PlansDocument file text said) (sym is) (go why answers)
+  where
+    go : (w : CaptureFault) → AnswersEdit said text (Err w) → PlansDocument file text said (Err w)
+    go fault.OutOfMemory answers = tt
+    go fault.BadTemplate answers = answers
+    go fault.BadEntry answers = answers
+    go fault.NotFound answers = answers
+    go fault.NotUnique answers = answers
+
+-- ---- the outcome
+
+-- what is refused before the text is looked at
+pub entry_refused : (s : Session) (name : List ℕ) (target : Target) (place : Place) (moment : CivilMinute) (template initial : List ℕ) (old : Option (List ℕ)) (result : Result (Vec ℕ Global) CaptureFault) (why : CaptureFault)
+    → IsSome old → s.broken ≡ false → result ≡ Err why → MakesEntry (new_entry moment template initial) result → Does s (capture s name target place moment template initial old) (Err (fault_of_capture why)) s
+entry_refused s name target place moment template initial None result why some unbroken was makes = absurd (false≢true some)
+entry_refused s name target place moment template initial (Some text) result why some unbroken was makes = go why (subst (MakesEntry (new_entry moment template initial)) was makes)
+  where
+    refuses : (w : CaptureFault) → new_entry moment template initial ≡ Err w → capture s name target place moment template initial (Some text) ≡ Refuses (refusal_of w)
+    refuses w none = ap (λ entry. with_entry s name target place moment entry text) none
+
+    go : (w : CaptureFault) → MakesEntry (new_entry moment template initial) (Err w) → Does s (capture s name target place moment template initial (Some text)) (Err (fault_of_capture w)) s
+    go fault.OutOfMemory makes = (unbroken, refl)
+    go fault.BadTemplate makes = (unbroken, refuses fault.BadTemplate makes, refl)
+    go fault.BadEntry makes = (unbroken, refuses fault.BadEntry makes, refl)
+    go fault.NotFound makes = (unbroken, refuses fault.NotFound makes, refl)
+    go fault.NotUnique makes = (unbroken, refuses fault.NotUnique makes, refl)
+
+-- what a capture is to do with its entry and the text, which the planner sees closed
+document_is : (s : Session) (name : List ℕ) (target : Target) (place : Place) (moment : CivilMinute) (template initial text seen : List ℕ) (node : Node) (said : Result Document CaptureFault)
+    → new_entry moment template initial ≡ Ok node → seen ≡ closed text → captured s.states target place moment node (tree seen) ≡ said
+    → capture s name target place moment template initial (Some text) ≡ with_document s name said
+document_is s name target place moment template initial text seen node said made shut is =
+    ap (λ entry. with_entry s name target place moment entry text) made
+    ∙ ap (λ (d : Document). with_document s name (captured s.states target place moment node d)) (sym (ap tree shut ∙ tree-closed text))
+    ∙ ap (with_document s name) is
+
+-- what is refused for its target
+pub target_refused : (s : Session) (name : List ℕ) (target : Target) (place : Place) (moment : CivilMinute) (template initial text seen : List ℕ) (node : Node) (result : Result Plan CaptureFault) (why : CaptureFault)
+    → s.broken ≡ false → new_entry moment template initial ≡ Ok node → seen ≡ closed text → result ≡ Err why → PlansDocument name seen (captured s.states target place moment node (tree seen)) result
+    → Does s (capture s name target place moment template initial (Some text)) (Err (fault_of_capture why)) s
+target_refused s name target place moment template initial text seen node result why unbroken made shut was plans = go why (subst (PlansDocument name seen said) was plans)
+  where
+    said : Result Document CaptureFault
+    said = captured s.states target place moment node (tree seen)
+
+    refuses : (w : CaptureFault) → said ≡ Err w → capture s name target place moment template initial (Some text) ≡ Refuses (refusal_of w)
+    refuses w is = document_is s name target place moment template initial text seen node (Err w) made shut is
+
+    go : (w : CaptureFault) → PlansDocument name seen said (Err w) → Does s (capture s name target place moment template initial (Some text)) (Err (fault_of_capture w)) s
+    go fault.OutOfMemory plans = (unbroken, refl)
+    go fault.BadTemplate plans = (unbroken, refuses fault.BadTemplate plans, refl)
+    go fault.BadEntry plans = (unbroken, refuses fault.BadEntry plans, refl)
+    go fault.NotFound plans = (unbroken, refuses fault.NotFound plans, refl)
+    go fault.NotUnique plans = (unbroken, refuses fault.NotUnique plans, refl)
+
+pub target_planned : (s : Session) (name : List ℕ) (target : Target) (place : Place) (moment : CivilMinute) (template initial text seen : List ℕ) (node : Node) (plan : Plan) (changes : List (List ℕ × List ℕ))
+    → new_entry moment template initial ≡ Ok node → seen ≡ closed text → (plans : PlansDocument name seen (captured s.states target place moment node (tree seen)) (Ok plan)) → changes ≡ (name, print plans.0) ∷ []
+    → capture s name target place moment template initial (Some text) ≡ changed s changes
+target_planned s name target place moment template initial text seen node plan changes made shut plans are =
+    document_is s name target place moment template initial text seen node (Ok plans.0) made shut plans.1 ∙ ap (changed s) (sym are)

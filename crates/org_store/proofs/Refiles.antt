@@ -1,0 +1,61 @@
+-- Refiles: what their planner finds is what the outcome says.
+use Rattle.std.proofs.Common.{◌≡◌, ◌≢◌, inl, inr, ℕ, false, List, Option, Some, None, Result, Ok, Err, refl, sym, ◌∙◌, ap, subst}
+use Rattle.org_disk.proofs.Names.{name_cases, same_name}
+use Rattle.org_splice.specs.Lines.{closed}
+use Rattle.org_outline.specs.declared.moves.Place.{Place}
+use Rattle.org_outline.specs.Tree.{Document, tree}
+use Rattle.org_outline.proofs.Trees.{tree-closed}
+use Rattle.org_move.specs.declared.fault.MoveFault.{MoveFault}
+use Rattle.org_move.specs.declared.fault.MoveFault.TheVariants as fault
+use Rattle.org_move.specs.Answers.{Gives}
+use Rattle.org_move.specs.Refile.{refile_across, refile_within}
+use Rattle.org_store.specs.declared.command.Refusal.TheVariants.{NoSuchFile}
+use Rattle.org_store.specs.Keeping.{fault_of_move}
+use Rattle.org_store.specs.Outcome.{Outcome, Refuses, changed, refile, refusal_of_move, with_moved}
+use Rattle.org_store.specs.Refile.{text_within, texts_across}
+use Rattle.org_store.specs.Session.{Session}
+use Rattle.org_store.specs.Step.{Does}
+
+-- what a refile is to do with the texts, which the planner sees closed
+pub within_is : (s : Session) (file : List ℕ) (path to : List (List ℕ)) (place : Place) (text seen : List ℕ) → seen ≡ closed text
+    → refile s file path file to place (Some text) (Some text) ≡ with_moved s (text_within file) (refile_within s.states path to place (tree seen))
+within_is s file path to place text seen shut =
+    let t = same_name file in
+    rw t (ap (λ (d : Document). with_moved s (text_within file) (refile_within s.states path to place d)) (sym (ap tree shut ∙ tree-closed text)))
+
+pub across_is : (s : Session) (file : List ℕ) (path : List (List ℕ)) (to_file : List ℕ) (to : List (List ℕ)) (place : Place) (text seen target found : List ℕ) → file ≢ to_file → seen ≡ closed text → found ≡ closed target
+    → refile s file path to_file to place (Some text) (Some target) ≡ with_moved s (texts_across file to_file) (refile_across s.states path (tree seen) s.states to (tree found) place)
+across_is s file path to_file to place text seen target found apart shut closes = elim (name_cases file to_file) [
+  | inl same ↦ absurd (apart same.0)
+  | inr not ↦
+      let f = not.1 in
+      rw f (ap (λ (d : Document). with_moved s (texts_across file to_file) (refile_across s.states path d s.states to (tree target) place)) (sym (ap tree shut ∙ tree-closed text))
+      ∙ ap (λ (d : Document). with_moved s (texts_across file to_file) (refile_across s.states path (tree seen) s.states to d place)) (sym (ap tree closes ∙ tree-closed target)))
+]
+
+-- a subtree that isn't moved
+pub move_refused : {A B : Type 0} (s : Session) (texts : B → List (List ℕ × List ℕ)) (told : Outcome) (said : Result B MoveFault) (Fits : B → A → Type 0) (result : Result A MoveFault) (why : MoveFault)
+    → s.broken ≡ false → told ≡ with_moved s texts said → result ≡ Err why → Gives said Fits result → Does s told (Err (fault_of_move why)) s
+move_refused {A} {B} s texts told said Fits result why unbroken is was gives = go why (subst (Gives said Fits) was gives)
+  where
+    refuses : (w : MoveFault) → said ≡ Err w → told ≡ Refuses (refusal_of_move w)
+    refuses w none = is ∙ ap (with_moved s texts) none
+
+    go : (w : MoveFault) → Gives said Fits (Err w) → Does s told (Err (fault_of_move w)) s
+    go fault.OutOfMemory gives = (unbroken, refl)
+    go fault.NotFound gives = (unbroken, refuses fault.NotFound gives, refl)
+    go fault.NotUnique gives = (unbroken, refuses fault.NotUnique gives, refl)
+    go fault.InsideItself gives = (unbroken, refuses fault.InsideItself gives, refl)
+    go fault.AlreadyArchive gives = (unbroken, refuses fault.AlreadyArchive gives, refl)
+    go fault.BadLocation gives = (unbroken, refuses fault.BadLocation gives, refl)
+    go fault.NoSuchFile gives = (unbroken, refuses fault.NoSuchFile gives, refl)
+
+-- one that is
+pub move_planned : {B : Type 0} (s : Session) (texts : B → List (List ℕ × List ℕ)) (told : Outcome) (said : Result B MoveFault) (new : B) (changes : List (List ℕ × List ℕ))
+    → told ≡ with_moved s texts said → said ≡ Ok new → changes ≡ texts new → told ≡ changed s changes
+move_planned s texts told said new changes is made are = is ∙ ap (with_moved s texts) made ∙ ap (changed s) (sym are)
+
+-- a target that isn't there
+pub no_target : (s : Session) (file : List ℕ) (path : List (List ℕ)) (to_file : List ℕ) (to : List (List ℕ)) (place : Place) (old : Option (List ℕ)) → refile s file path to_file to place old None ≡ Refuses NoSuchFile
+no_target s file path to_file to place None = refl
+no_target s file path to_file to place (Some text) = refl

@@ -1,0 +1,37 @@
+use Rattle.std.proofs.Common.{◌≡◌, ◌∙◌, Err, refl, sym, ap, subst, rules}
+use Rattle.org_disk.specs.Accounts.{Looks}
+use Rattle.org_store.specs.Files.{new_texts}
+use Rattle.org_store.specs.Outcome.{changed, outcome}
+use Rattle.org_store.specs.Session.{Kept, kept_over}
+use Rattle.org_store.specs.Step.{Does}
+use Rattle.org_store.proofs.Acting.{acts_after, acts_quiet, kept_same}
+use Rattle.org_store.proofs.changing.change.Goals as goal
+
+pub returns-in-Ok-clause-acts : goal.returns-in-Ok-clause-acts
+returns-in-Ok-clause-acts g c =
+    let d = g.D.Disk in
+    let old = kept_over d.files c.args.states.now c.args.files.now c.args.tally.now in
+    let mid = kept_over d.files c.args.states.now c.plan.new.files c.args.tally.now in
+    let new = kept_over d.files c.args.states.now c.accept.new.files c.accept.new.tally in
+    acts_after d.files d.moment d.left_since d.honest old (λ honest image left. g.met.D.Disk.only_now old.disk image honest left) refl mid new
+    (outcome old.session c.args.command.now) (changed mid.session (new_texts c.in-Ok.plan c.plan.new.files.held.now)) c.accept.result
+    c.accept.ensures.accounts.was_honest c.plan.ensures.accounts.was_honest
+    (λ honest. let plans = c.in-Ok.ensures.plans c.args.tally.now honest in (plans.0 ∙ ap (λ s. changed s (new_texts c.in-Ok.plan c.plan.new.files.held.now)) (sym plans.1), plans.1))
+    c.plan.ensures.looks (record { accepted = refl; acknowledged = refl; group = refl }) (c.accept.ensures.acts c.args.states.now)
+
+pub returns-in-Err-clause-acts : goal.returns-in-Err-clause-acts
+returns-in-Err-clause-acts g c =
+    let d = g.D.Disk in
+    let undone = c.undo.ensures in
+    let old = kept_over d.files c.args.states.now c.args.files.now c.args.tally.now in
+    let mid = kept_over d.files c.args.states.now c.plan.new.files c.args.tally.now in
+    let new = kept_over d.files c.args.states.now c.undo.new.self c.args.tally.now in
+    let same : new ≡ mid = kept_same d.files c.args.states.now c.plan.new.files c.undo.new.self c.args.tally.now undone.disk undone.names undone.broken undone.before in
+    let told = outcome old.session c.args.command.now in
+    let is : c.plan.result ≡ Err c.in-Err.fault = c.in-Err.is in
+    acts_quiet d.files d.moment d.left_since d.honest old (λ honest image left. g.met.D.Disk.only_now old.disk image honest left) refl new told (Err c.in-Err.fault) tt
+    (λ honest. c.plan.ensures.accounts.was_honest (subst d.honest undone.disk honest))
+    (λ honest. subst (λ (k : Kept g.row.D.Denot). Does old.session told (Err c.in-Err.fault) k.session) (sym same) (c.in-Err.ensures.plans c.args.tally.now (subst d.honest undone.disk honest)))
+    (λ honest. subst (λ disk. Looks d.files d.moment d.left_since old.disk disk) (sym undone.disk) (c.plan.ensures.looks (subst d.honest undone.disk honest)))
+    refl (record { accepted = refl; acknowledged = refl; group = refl })
+    (λ broken. c.plan.ensures.works (search rules)) (search rules)

@@ -1,0 +1,20 @@
+use Rattle.std.proofs.Common.{◌≡◌, Err, subst, rules}
+use Rattle.org_journal.specs.Standing.{Image, contents}
+use Rattle.org_store.specs.Keeping.{Reads}
+use Rattle.org_store.specs.Session.{Session, session_over}
+use Rattle.org_store.proofs.Sessions.{reads_fault}
+use Rattle.org_store.proofs.commands.refile.both_ready.Goals as goal
+
+pub returns-in_err-ready-clause-reads : goal.returns-in_err-ready-clause-reads
+returns-in_err-ready-clause-reads g c states tally honest =
+    let given : c.from_residual.result ≡ Err c.in_err-ready.field-0.0 = search rules in
+    let texts : g.row.D.Denot → Image = λ disk. contents (g.D.Disk.files disk) in
+    reads_fault (session_over texts states c.args.files.now tally) (session_over texts states c.ready.new.self tally) c.ready.result c.from_residual.result c.in_err-ready.field-0.0 c.in_err-ready.was given
+    (c.ready.ensures.reads states tally honest)
+
+pub returns-clause-reads : goal.returns-clause-reads
+returns-clause-reads g c states tally honest =
+    let texts : g.row.D.Denot → Image = λ disk. contents (g.D.Disk.files disk) in
+    let new = session_over texts states c.ready-2.new.self tally in
+    let read : session_over texts states c.ready.new.self tally ≡ session_over texts states c.args.files.now tally = c.in_ok-ready.ensures.reads states tally (c.ready-2.ensures.accounts.was_honest honest) in
+    subst (λ (s : Session). Reads s c.ready-2.result new) read (c.ready-2.ensures.reads states tally honest)

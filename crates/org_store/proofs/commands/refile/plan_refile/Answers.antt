@@ -1,0 +1,42 @@
+use Rattle.std.proofs.Common.{◌≡◌, ◌∙◌, false, List, ℕ, refl, ap, subst, rules}
+use Rattle.org_journal.specs.Standing.{contents}
+use Rattle.org_texts.specs.Texts.{held_over}
+use Rattle.org_store.specs.InOrder.{is_name, text_at}
+use Rattle.org_store.specs.Keeping.{Plans}
+use Rattle.org_store.specs.Outcome.{refile}
+use Rattle.org_store.specs.Session.{session_over}
+use Rattle.org_store.proofs.InOrder.{none_at}
+use Rattle.org_store.proofs.Refiles.{no_target}
+use Rattle.org_store.proofs.commands.refile.plan_refile.Goals as goal
+use Rattle.org_store.proofs.commands.refile.plan_refile.Goals.{then-not-has-via-then-not-has, then-not-has-via-else-not-has+then-not-has-2}
+
+pub returns-then-not-has-clause-plans : goal.returns-then-not-has-clause-plans
+returns-then-not-has-clause-plans g c tally honest =
+    let a = c.args in
+    let files = a.files.now in
+    let s = session_over (λ disk. contents (g.D.Disk.files disk)) a.states.now files tally in
+    let image = held_over files.held.before (contents (g.D.Disk.files files.disk)) in
+    let source = text_at s.names s.files a.file.now in
+    let target = text_at s.names s.files a.to_file.now in
+    elim c.then-not-has.branch [
+      | then-not-has-via-then-not-has w ↦
+          let missing : is_name files.names a.file.now ≡ false = search rules in
+          (c.requires.unbroken, ap (λ o. refile s a.file.now a.path.now a.to_file.now a.to.now a.place o target) (none_at image files.names a.file.now missing), refl)
+      | then-not-has-via-else-not-has+then-not-has-2 w ↦
+          let missing : is_name files.names a.to_file.now ≡ false = search rules in (
+            c.requires.unbroken,
+            ap (λ o. refile s a.file.now a.path.now a.to_file.now a.to.now a.place source o) (none_at image files.names a.to_file.now missing)
+                ∙ no_target s a.file.now a.path.now a.to_file.now a.to.now a.place source,
+            refl,
+          )
+    ]
+
+pub returns-then-eq-clause-plans : goal.returns-then-eq-clause-plans
+returns-then-eq-clause-plans g c tally honest =
+    let a = c.args in
+    let texts = λ (disk : g.row.D.Denot). contents (g.D.Disk.files disk) in
+    let s = session_over texts a.states.now a.files.now tally in
+    let new = session_over texts a.states.now c.refile_in_one.new.files tally in
+    let same : a.file.now ≡ a.to_file.now = search rules in
+    subst (λ (to_file : List ℕ). Plans s (refile s a.file.now a.path.now to_file a.to.now a.place (text_at s.names s.files a.file.now) (text_at s.names s.files to_file)) c.refile_in_one.result c.refile_in_one.new.files.held new) same
+    (c.refile_in_one.ensures.plans tally honest)

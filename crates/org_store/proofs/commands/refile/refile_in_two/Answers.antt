@@ -1,0 +1,158 @@
+use Rattle.std.proofs.Common.{◌≡◌, ◌∙◌, ◌∷◌, [], true, Some, Result, Err, List, ℕ, sym, ap, subst, rules}
+use Rattle.org_journal.specs.Standing.{Image, contents}
+use Rattle.org_splice.specs.Edits.{AreEdits}
+use Rattle.org_outline.specs.Tree.{print, tree}
+use Rattle.org_texts.specs.declared.plan.FileEdits.{FileEdits}
+use Rattle.org_texts.specs.declared.plan.Plan.{Plan}
+use Rattle.org_texts.specs.Texts.{text_of}
+use Rattle.org_texts.proofs.Looking.{the_value}
+use Rattle.org_move.specs.Refile.{refile_across}
+use Rattle.org_store.specs.declared.command.RunFault.{RunFault}
+use Rattle.org_store.specs.Files.{AreReady, new_texts}
+use Rattle.org_store.specs.InOrder.{is_name, text_at}
+use Rattle.org_store.specs.Keeping.{Plans, Reads, fault_of_move}
+use Rattle.org_store.specs.Outcome.{refile}
+use Rattle.org_store.specs.Refile.{MakesDocuments, texts_across}
+use Rattle.org_store.specs.Session.{Session, session_over}
+use Rattle.org_store.specs.Step.{Does}
+use Rattle.org_store.proofs.Held.{none_ready}
+use Rattle.org_store.proofs.Plans.{first_name, not_missing, now_held, plan_of_two, ready_heads, ready_text, second_name, text_held, two_texts}
+use Rattle.org_store.proofs.Refiles.{across_is, move_planned, move_refused}
+use Rattle.org_store.proofs.Sessions.{does_read}
+use Rattle.org_store.proofs.commands.refile.refile_in_two.Goals as goal
+
+pub returns-in_err-both_ready-clause-plans : goal.returns-in_err-both_ready-clause-plans
+returns-in_err-both_ready-clause-plans g c tally honest =
+    let a = c.args in
+    let texts : g.row.D.Denot → Image = λ disk. contents (g.D.Disk.files disk) in
+    let s = session_over texts a.states.now a.files.now tally in
+    let new = session_over texts a.states.now c.both_ready.new.files tally in
+    let fault = c.in_err-both_ready.field-0.0 in
+    let told = refile s a.file.now a.path.now a.to_file.now a.to.now a.place (text_at s.names s.files a.file.now) (text_at s.names s.files a.to_file.now) in
+    let given : c.from_residual.result ≡ Err fault = search rules in
+    let reads = subst (λ (r : Result (Unit {0}) RunFault). Reads s r new) c.in_err-both_ready.was (c.both_ready.ensures.reads a.states.now tally honest) in
+    subst (λ (r : Result Plan RunFault). Plans s told r c.both_ready.new.files.held new) (sym given) (does_read (Unit {0}) s new told fault c.requires.unbroken reads)
+
+pub unreachable-requires : goal.unreachable-requires
+unreachable-requires g c =
+    let held = c.both_ready.new.files.held in
+    let file = c.args.file.now in
+    let two = c.args.to_file.now ∷ file ∷ [] in
+    let ready : AreReady two held = c.in_ok-both_ready.ensures.ready [] (none_ready c.args.files.now.held c.requires.begun) in
+    not_missing (λ h. h.now.text) c.get.result (text_of held.now file) c.get.ensures.text (now_held two held file ready (second_name c.args.to_file.now file)) c.in_default.not-Some
+
+pub unreachable-requires-in_default-get : goal.unreachable-requires-in_default-get
+unreachable-requires-in_default-get g c =
+    let held = c.both_ready.new.files.held in
+    let to_file = c.args.to_file.now in
+    let two = to_file ∷ c.args.file.now ∷ [] in
+    let ready : AreReady two held = c.in_ok-both_ready.ensures.ready [] (none_ready c.args.files.now.held c.requires.begun) in
+    not_missing (λ h. h.now.text) c.get-2.result (text_of held.now to_file) c.get-2.ensures.text (now_held two held to_file ready (first_name to_file (c.args.file.now ∷ []))) c.in_default-get.not-Some
+
+pub plan_across-requires-clause-source : goal.plan_across-requires-clause-source
+plan_across-requires-clause-source g c =
+    let held = c.both_ready.new.files.held in
+    let file = c.args.file.now in
+    let two = c.args.to_file.now ∷ file ∷ [] in
+    let ready : AreReady two held = c.in_ok-both_ready.ensures.ready [] (none_ready c.args.files.now.held c.requires.begun) in
+    ready_heads two held file (λ h. h.now.ready) c.get.result c.in-Some.source ready (second_name c.args.to_file.now file) c.get.ensures.ready c.in-Some.is
+
+pub plan_across-requires-clause-target : goal.plan_across-requires-clause-target
+plan_across-requires-clause-target g c =
+    let held = c.both_ready.new.files.held in
+    let to_file = c.args.to_file.now in
+    let two = to_file ∷ c.args.file.now ∷ [] in
+    let ready : AreReady two held = c.in_ok-both_ready.ensures.ready [] (none_ready c.args.files.now.held c.requires.begun) in
+    ready_heads two held to_file (λ h. h.now.ready) c.get-2.result c.in-Some-get.target ready (first_name to_file (c.args.file.now ∷ [])) c.get-2.ensures.ready c.in-Some-get.is
+
+pub returns-in_err-plan_across-clause-plans : goal.returns-in_err-plan_across-clause-plans
+returns-in_err-plan_across-clause-plans g c tally honest =
+    let a = c.args in
+    let texts : g.row.D.Denot → Image = λ disk. contents (g.D.Disk.files disk) in
+    let s = session_over texts a.states.now a.files.now tally in
+    let new = session_over texts a.states.now c.both_ready.new.files tally in
+    let held = c.both_ready.new.files.held in
+    let file = a.file.now in
+    let to_file = a.to_file.now in
+    let two = to_file ∷ file ∷ [] in
+    let seen = c.in-Some.source.now.text in
+    let found = c.in-Some-get.target.now.text in
+    let text = text_at s.names s.files file in
+    let target = text_at s.names s.files to_file in
+    let told = refile s file a.path.now to_file a.to.now a.place text target in
+    let why = c.in_err-plan_across.field-0.0 in
+    let given : c.from_residual-in_err-plan_across.result ≡ Err (fault_of_move why) = search rules in
+    let read : new ≡ s = c.in_ok-both_ready.ensures.reads a.states.now tally honest in
+    let ready : AreReady two held = c.in_ok-both_ready.ensures.ready [] (none_ready a.files.now.held c.requires.begun) in
+    let names = c.both_ready.new.files.names in
+    let named : is_name names file ≡ true = ap (λ (ns : List (List ℕ)). is_name ns file) c.both_ready.ensures.names ∙ c.requires.file in
+    let also : is_name names to_file ≡ true = ap (λ (ns : List (List ℕ)). is_name ns to_file) c.both_ready.ensures.names ∙ c.requires.to_file in
+    let at : text_of held.now file ≡ Some seen = search rules in
+    let there : text_of held.now to_file ≡ Some found = search rules in
+    let old = ready_text two held file seen ready (second_name to_file file) at in
+    let other = ready_text two held to_file found ready (first_name to_file (file ∷ [])) there in
+    let first : text ≡ Some old.0.bytes = subst (λ (t : Session). text_at t.names t.files file ≡ Some old.0.bytes) read (text_held names held (texts c.both_ready.new.files.disk) file old.0 named old.1) in
+    let second : target ≡ Some other.0.bytes = subst (λ (t : Session). text_at t.names t.files to_file ≡ Some other.0.bytes) read (text_held names held (texts c.both_ready.new.files.disk) to_file other.0 also other.1) in
+    let is = ap (λ o. refile s file a.path.now to_file a.to.now a.place o target) first
+    ∙ ap (λ o. refile s file a.path.now to_file a.to.now a.place (Some old.0.bytes) o) second
+    ∙ across_is s file a.path.now to_file a.to.now a.place old.0.bytes seen.bytes other.0.bytes found.bytes c.requires.apart old.2 other.2 in
+    let refused = move_refused s (texts_across file to_file) told (refile_across a.states.now a.path.now (tree seen.bytes) a.states.now a.to.now (tree found.bytes) a.place)
+    (MakesDocuments file to_file seen.bytes found.bytes) c.plan_across.result why c.requires.unbroken is c.in_err-plan_across.was c.plan_across.ensures in
+    subst (λ (r : Result Plan RunFault). Plans s told r held new) (sym given)
+    (subst (λ (t : Session). Does s told (Err (fault_of_move why)) t) (sym read) refused)
+
+pub returns-clause-plan : goal.returns-clause-plan
+returns-clause-plan g c =
+    let a = c.args in
+    let held = c.both_ready.new.files.held in
+    let file = a.file.now in
+    let to_file = a.to_file.now in
+    let seen = c.in-Some.source.now.text in
+    let found = c.in-Some-get.target.now.text in
+    let plan = c.in_ok-plan_across.field-0 in
+    let ready : AreReady (to_file ∷ file ∷ []) held = c.in_ok-both_ready.ensures.ready [] (none_ready a.files.now.held c.requires.begun) in
+    let names = c.both_ready.new.files.names in
+    let named : is_name names file ≡ true = ap (λ (ns : List (List ℕ)). is_name ns file) c.both_ready.ensures.names ∙ c.requires.file in
+    let also : is_name names to_file ≡ true = ap (λ (ns : List (List ℕ)). is_name ns to_file) c.both_ready.ensures.names ∙ c.requires.to_file in
+    let at : text_of held.now file ≡ Some seen = search rules in
+    let there : text_of held.now to_file ≡ Some found = search rules in
+    let made = c.in_ok-plan_across.ensures in
+    let more = the_value (λ (second : FileEdits). (second.file ≡ to_file) × AreEdits second.edits.items found.bytes (print made.0.target)) plan.second made.2.2 in
+    plan_of_two plan more.0 names held file to_file seen found (print made.0.source) (print made.0.target) c.requires.apart made.2.0 more.1 more.2.0 at there made.2.1 more.2.1 named also ready
+
+pub returns-clause-plans : goal.returns-clause-plans
+returns-clause-plans g c tally honest =
+    let a = c.args in
+    let texts : g.row.D.Denot → Image = λ disk. contents (g.D.Disk.files disk) in
+    let s = session_over texts a.states.now a.files.now tally in
+    let new = session_over texts a.states.now c.both_ready.new.files tally in
+    let held = c.both_ready.new.files.held in
+    let file = a.file.now in
+    let to_file = a.to_file.now in
+    let two = to_file ∷ file ∷ [] in
+    let seen = c.in-Some.source.now.text in
+    let found = c.in-Some-get.target.now.text in
+    let text = text_at s.names s.files file in
+    let target = text_at s.names s.files to_file in
+    let told = refile s file a.path.now to_file a.to.now a.place text target in
+    let plan = c.in_ok-plan_across.field-0 in
+    let read : new ≡ s = c.in_ok-both_ready.ensures.reads a.states.now tally honest in
+    let ready : AreReady two held = c.in_ok-both_ready.ensures.ready [] (none_ready a.files.now.held c.requires.begun) in
+    let names = c.both_ready.new.files.names in
+    let named : is_name names file ≡ true = ap (λ (ns : List (List ℕ)). is_name ns file) c.both_ready.ensures.names ∙ c.requires.file in
+    let also : is_name names to_file ≡ true = ap (λ (ns : List (List ℕ)). is_name ns to_file) c.both_ready.ensures.names ∙ c.requires.to_file in
+    let at : text_of held.now file ≡ Some seen = search rules in
+    let there : text_of held.now to_file ≡ Some found = search rules in
+    let old = ready_text two held file seen ready (second_name to_file file) at in
+    let other = ready_text two held to_file found ready (first_name to_file (file ∷ [])) there in
+    let first : text ≡ Some old.0.bytes = subst (λ (t : Session). text_at t.names t.files file ≡ Some old.0.bytes) read (text_held names held (texts c.both_ready.new.files.disk) file old.0 named old.1) in
+    let second : target ≡ Some other.0.bytes = subst (λ (t : Session). text_at t.names t.files to_file ≡ Some other.0.bytes) read (text_held names held (texts c.both_ready.new.files.disk) to_file other.0 also other.1) in
+    let is = ap (λ o. refile s file a.path.now to_file a.to.now a.place o target) first
+    ∙ ap (λ o. refile s file a.path.now to_file a.to.now a.place (Some old.0.bytes) o) second
+    ∙ across_is s file a.path.now to_file a.to.now a.place old.0.bytes seen.bytes other.0.bytes found.bytes c.requires.apart old.2 other.2 in
+    let made = c.in_ok-plan_across.ensures in
+    let more = the_value (λ (second : FileEdits). (second.file ≡ to_file) × AreEdits second.edits.items found.bytes (print made.0.target)) plan.second made.2.2 in
+    let changes = two_texts plan more.0 held file to_file seen found (print made.0.source) (print made.0.target) c.requires.apart made.2.0 more.1 more.2.0 at there made.2.1 more.2.1 in (
+      move_planned s (texts_across file to_file) told (refile_across a.states.now a.path.now (tree seen.bytes) a.states.now a.to.now (tree found.bytes) a.place) made.0 (new_texts plan held.now) is made.1 changes,
+      read,
+    )

@@ -1,0 +1,70 @@
+use Rattle.std.proofs.Common.{◌≡◌, ◌∙◌, List, ℕ, false, true, None, is_some, sym, ap, subst, rules}
+use Rattle.std.specs.Option.{IsSome}
+use Rattle.org_journal.specs.Standing.{Image, contents}
+use Rattle.org_texts.specs.Texts.{TextSet, text_of}
+use Rattle.org_store.specs.InOrder.{is_name}
+use Rattle.org_store.proofs.Held.{held_this, none_found, over_held, ready_held, sound_held, sound_still}
+use Rattle.org_store.proofs.Sessions.{session_still}
+use Rattle.org_store.proofs.files.Files.load.Goals as goal
+
+pub invariant_of-self-2 : goal.invariant_of-self-2
+invariant_of-self-2 g c =
+    let inside = c.self.inside in
+    let own = c.args.name.now in
+    let copy = c.in_ok-clone.field-0 in
+    let live = (inside.set.broken ≡ false) × g.D.Disk.honest inside.set.disk in
+    let now = (c.read.new.self.broken ≡ false) × g.D.Disk.honest c.read.new.self.disk in
+    let files = contents (g.D.Disk.files inside.set.disk) in
+    let left = contents (g.D.Disk.files c.read.new.self.disk) in
+    let cloned : copy ≡ own = search rules in
+    let there : is_name inside.set.names own ≡ true = rw (← c.self.view_is) at c.requires.name in
+    let named : is_name c.read.new.self.names copy ≡ true = ap (λ (ns : List (List ℕ)). is_name ns copy) c.read.ensures.set.same_names ∙ ap (is_name inside.set.names) cloned ∙ there in
+    let unbroken : inside.set.broken ≡ false = rw (← c.self.view_is) at c.requires.unbroken in
+    let still = sound_still inside.set.names c.read.new.self.names live now files left inside.texts c.self.invariant c.read.ensures.set.same_names
+    (λ n. ((unbroken, c.read.ensures.accounts.was_honest n.1), ap contents (c.read.ensures.looks n.1).same)) in
+    let missing : is_some c.get.result ≡ false = search rules in
+    let none : text_of inside.texts.now copy ≡ None = ap (text_of inside.texts.now) cloned ∙ none_found (λ held. held.now.text) c.get.result (text_of inside.texts.now own) missing c.get.ensures.text in
+    let none_before : text_of inside.texts.before copy ≡ None = ap (text_of inside.texts.before) cloned ∙ none_found (λ held. held.now.before) c.get.result (text_of inside.texts.before own) missing c.get.ensures.before in
+    sound_held copy c.in_ok-bytes.bytes.items c.read.new.self.names now left inside.texts c.hold.new.self none none_before named
+    (λ n. c.in_ok-bytes.ensures.text n.1 ∙ ap (λ (f : Image). f own) (sym (ap contents (c.read.ensures.looks n.1).same)) ∙ ap left (sym cloned))
+    c.in_ok-hold.ensures.now c.in_ok-hold.ensures.before still
+
+pub returns-clause-held : goal.returns-clause-held
+returns-clause-held g c =
+    let inside = c.self.inside in
+    let own = c.args.name.now in
+    let copy = c.in_ok-clone.field-0 in
+    let cloned : copy ≡ own = search rules in
+    let missing : is_some c.get.result ≡ false = search rules in
+    let none : text_of inside.texts.now copy ≡ None = ap (text_of inside.texts.now) cloned ∙ none_found (λ held. held.now.text) c.get.result (text_of inside.texts.now own) missing c.get.ensures.text in
+    subst (λ (n : List ℕ). IsSome (text_of c.hold.new.self.now n)) cloned
+    (subst (λ (s : TextSet). IsSome (text_of s copy)) (sym c.in_ok-hold.ensures.now) (ap is_some (held_this copy c.in_ok-bytes.bytes.items inside.texts.now none)))
+
+pub returns-clause-reads : goal.returns-clause-reads
+returns-clause-reads g c states tally honest =
+    let inside = c.self.inside in
+    let own = c.args.name.now in
+    let copy = c.in_ok-clone.field-0 in
+    let cloned : copy ≡ own = search rules in
+    let files = contents (g.D.Disk.files inside.set.disk) in
+    let left = contents (g.D.Disk.files c.read.new.self.disk) in
+    let same : left ≡ files = ap contents (c.read.ensures.looks honest).same in
+    let unbroken : inside.set.broken ≡ false = rw (← c.self.view_is) at c.requires.unbroken in
+    let whole : c.read.new.self.broken ≡ inside.set.broken = search rules in
+    rw (← c.self.view_is) (session_still (λ disk. contents (g.D.Disk.files disk)) states
+    (record { disk = inside.set.disk; names = inside.set.names; broken = inside.set.broken; held = inside.texts })
+    (record { disk = c.read.new.self.disk; names = c.read.new.self.names; broken = c.read.new.self.broken; held = c.hold.new.self }) tally
+    c.read.ensures.set.same_names same
+    (over_held own copy c.in_ok-bytes.bytes.items files left inside.texts.before c.hold.new.self.before cloned same (c.in_ok-bytes.ensures.text honest) c.in_ok-hold.ensures.before)
+    whole)
+
+pub returns-clause-ready : goal.returns-clause-ready
+returns-clause-ready g c names =
+    let inside = c.self.inside in
+    let own = c.args.name.now in
+    let copy = c.in_ok-clone.field-0 in
+    let cloned : copy ≡ own = search rules in
+    let missing : is_some c.get.result ≡ false = search rules in
+    let none : text_of inside.texts.now copy ≡ None = ap (text_of inside.texts.now) cloned ∙ none_found (λ held. held.now.text) c.get.result (text_of inside.texts.now own) missing c.get.ensures.text in
+    let none_before : text_of inside.texts.before copy ≡ None = ap (text_of inside.texts.before) cloned ∙ none_found (λ held. held.now.before) c.get.result (text_of inside.texts.before own) missing c.get.ensures.before in
+    rw (← c.self.view_is) (ready_held copy c.in_ok-bytes.bytes.items names inside.texts c.hold.new.self none none_before c.in_ok-hold.ensures.now c.in_ok-hold.ensures.before c.in_ok-hold.ensures.ready)

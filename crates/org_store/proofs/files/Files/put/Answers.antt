@@ -1,0 +1,40 @@
+use Rattle.std.proofs.Common.{◌≡◌, ◌∙◌, false, Ok, sym, ap, subst}
+use Rattle.std.specs.Option.{ForSome, IsSome}
+use Rattle.org_journal.specs.Standing.{contents}
+use Rattle.org_texts.specs.Plan.{IsPlan}
+use Rattle.org_texts.specs.Texts.{Holding, TextSet, text_of}
+use Rattle.org_store.specs.Files.{AreReady, AreSmallToWrite, OpenFiles, PutsPlan, files_of, has_large, new_texts, texts_in}
+use Rattle.org_store.proofs.Held.{first_held, second_held, small_put, sound_put}
+use Rattle.org_store.proofs.files.Files.put.Goals as goal
+
+pub is_large-requires-clause-first : goal.is_large-requires-clause-first
+is_large-requires-clause-first g c =
+    let plan = c.args.plan.now in
+    let is : IsPlan plan c.self.inside.texts.now = rw (← c.self.view_is) at c.requires.is in
+    subst (λ (set : TextSet). IsSome (text_of set plan.first.file)) (sym c.in_ok-apply.ensures.now) (first_held plan c.self.inside.texts.now is)
+
+pub is_large-requires-clause-second : goal.is_large-requires-clause-second
+is_large-requires-clause-second g c =
+    let plan = c.args.plan.now in
+    let is : IsPlan plan c.self.inside.texts.now = rw (← c.self.view_is) at c.requires.is in
+    subst (λ (set : TextSet). ForSome plan.second (λ change. IsSome (text_of set change.file))) (sym c.in_ok-apply.ensures.now) (second_held plan c.self.inside.texts.now is)
+
+pub invariant_of-self-else-is_large : goal.invariant_of-self-else-is_large
+invariant_of-self-else-is_large g c =
+    let inside = c.self.inside in
+    let plan = c.args.plan.now in
+    let is : IsPlan plan inside.texts.now = rw (← c.self.view_is) at c.requires.is in
+    sound_put plan inside.set.names ((inside.set.broken ≡ false) × g.D.Disk.honest inside.set.disk) (contents (g.D.Disk.files inside.set.disk)) inside.texts c.apply.new.self is
+    c.in_ok-apply.ensures.now c.in_ok-apply.ensures.before c.self.invariant
+
+pub returns-clause-puts : goal.returns-clause-puts
+returns-clause-puts g c =
+    let inside = c.self.inside in
+    let plan = c.args.plan.now in
+    let now = c.in_ok-apply.ensures.now in
+    let ready : AreReady (files_of plan) inside.texts = rw (← c.self.view_is) at c.requires.ready in
+    let test : c.is_large.result ≡ has_large (texts_in c.apply.new.self.now (files_of plan)) = c.is_large.ensures in
+    let small : has_large (new_texts plan inside.texts.now) ≡ false =
+    subst (λ (set : TextSet). has_large (texts_in set (files_of plan)) ≡ false) now (sym test ∙ c.if-is_large.false) in
+    let same : inside.texts ≡ c.args.self.now.held = ap (λ (f : OpenFiles g.row.D.Denot). f.held) c.self.view_is in
+    subst (λ (h : Holding). PutsPlan plan h (Ok tt) c.apply.new.self) same (small, now, subst AreSmallToWrite (sym now) (small_put plan inside.texts ready c.self.invariant.small small))

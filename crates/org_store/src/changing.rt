@@ -1,0 +1,168 @@
+//! How a change is made: planned on held texts, and accepted.
+ghost use Rattle.std.specs.Prelude.{◌≡◌, ◌≤◌, ◌<◌, ◌+◌, ◌^◌, ◌↔◌, IfOk, IsErrOf, IsOk, IsTrue, OnErr, OnOk, false};
+ghost use Rattle.org_disk.specs.Accounts.{Accounts, Looks};
+ghost use Rattle.org_journal.specs.Standing.{contents};
+ghost use Rattle.org_outline.specs.States.{Keywords};
+ghost use Rattle.org_texts.specs.Texts.{held_over};
+ghost use Rattle.org_store.specs.declared.tally.Tally.{Tally as Counted};
+ghost use Rattle.org_store.specs.Files.{AreSmallToWrite, IsPlanFor, new_texts};
+ghost use Rattle.org_store.specs.InOrder.{texts_of};
+ghost use Rattle.org_store.specs.Keeping.{Acts, IsLeftKeeping, Keeps, KeepsCounts, Plans};
+ghost use Rattle.org_store.specs.Outcome.{IsChange, changed, outcome};
+ghost use Rattle.org_store.specs.Runs.{LeavesDisk};
+ghost use Rattle.org_store.specs.Session.{kept_over, session_over};
+
+use crate::command::{Command, Refusal, Reply, RunFault};
+use crate::commands::capture::plan_capture;
+use crate::commands::refile::plan_refile;
+use crate::files::Files;
+use crate::tally::Tally;
+use org_disk::Disk;
+use org_fileset::SetFault;
+use org_outline::States;
+use org_texts::Plan;
+
+/// Counts one more command, which made the texts what they are. Where it fills the group, all is settled; else the texts
+/// are kept in memory.
+fn keep_or_settle<D: Disk>(files: &mut Files<D>, tally: &mut Tally) -> Result<(), RunFault>
+    requires unbroken { files.old.broken ≡ false }
+    requires small { AreSmallToWrite files.old.held.now }
+    requires counted { tally.old.acknowledged ≤ tally.old.accepted }
+    requires countable { tally.old.accepted + 1 < 2 ^ 64 }
+    ensures keeps { (states : Keywords) → D.honest files.new.disk
+        → Keeps (kept_over D.files states files.old tally.old).session
+        (texts_of (held_over files.old.held.now (contents (D.files files.old.disk)))
+        files.old.names) result (kept_over D.files states files.new tally.new).session }
+    ensures disk { (states : Keywords) → D.honest files.new.disk
+        → LeavesDisk D.files D.moment D.left_since (kept_over D.files states files.old tally.old)
+        (kept_over D.files states files.new tally.new)
+        (IsLeftKeeping (kept_over D.files states files.old tally.old).session
+        (contents (D.files files.old.disk))
+        (texts_of (held_over files.old.held.now (contents (D.files files.old.disk)))
+        files.old.names) result) (IsErrOf result RunFault.Device) }
+    ensures counts { (states : Keywords)
+        → KeepsCounts (kept_over D.files states files.old tally.old).session result
+        (kept_over D.files states files.new tally.new).session }
+    ensures begun { files.new.held.now ≡ files.new.held.before }
+    ensures counted { tally.new.acknowledged ≤ tally.new.accepted }
+    ensures breaks { IsErrOf result RunFault.Device ↔ IsTrue files.new.broken }
+    ensures accounts { Accounts D.steady D.honest D.failures files.old.disk files.new.disk
+        (IsErrOf result RunFault.Device) }
+{
+    if !tally.fills() {
+        files.keep();
+        tally.accepted += 1;
+        return Ok(());
+    }
+    match files.commit() {
+        Ok(()) => {
+            tally.accepted += 1;
+            tally.acknowledged = tally.accepted;
+            Ok(())
+        }
+        Err(SetFault::Device) => {
+            files.undo();
+            tally.accepted += 1;
+            Err(RunFault::Device)
+        }
+        Err(SetFault::OutOfMemory) => {
+            files.undo();
+            Err(RunFault::OutOfMemory)
+        }
+        Err(SetFault::Broken) => unreachable!(),
+    }
+}
+
+/// Accepts one more command, which makes these edits. Where it is refused, or there is no memory, all of its edits are
+/// taken back.
+fn accept<D: Disk>(files: &mut Files<D>, tally: &mut Tally, plan: &Plan) -> Result<Reply, RunFault>
+    requires unbroken { files.old.broken ≡ false }
+    requires counted { tally.old.acknowledged ≤ tally.old.accepted }
+    requires plan { IsPlanFor files.old.names files.old.held plan.now }
+    ensures acts { (states : Keywords)
+        → Acts D.files D.moment D.left_since D.honest (kept_over D.files states files.old tally.old)
+        (changed (kept_over D.files states files.old tally.old).session
+        (new_texts plan.now files.old.held.now)) result
+        (kept_over D.files states files.new tally.new) }
+    ensures begun { files.new.held.now ≡ files.new.held.before }
+    ensures counted { tally.new.acknowledged ≤ tally.new.accepted }
+    ensures accounts { Accounts D.steady D.honest D.failures files.old.disk files.new.disk
+        (IsErrOf result RunFault.Device) }
+{
+    files.put(plan)?;
+    if tally.accepted == u64::MAX {
+        files.undo();
+        return Err(RunFault::Refused(Refusal::TooLarge));
+    }
+    keep_or_settle(files, tally)?;
+    Ok(Reply::Done(tally.accepted))
+}
+
+/// What a command that changes files is to change: its files are read where they aren't held, and made ready. Nothing is
+/// edited.
+fn plan<D: Disk>(files: &mut Files<D>, states: &States, command: &Command) -> Result<Plan, RunFault>
+    requires change { IsChange command.now }
+    requires unbroken { files.old.broken ≡ false }
+    requires begun { files.old.held.now ≡ files.old.held.before }
+    ensures plan { IfOk result (λ plan. IsPlanFor files.new.names files.new.held plan) }
+    ensures plans { (tally : Counted) → D.honest files.new.disk
+        → Plans (kept_over D.files states.now files.old tally).session
+        (outcome (kept_over D.files states.now files.old tally).session command.now) result
+        files.new.held (kept_over D.files states.now files.new tally).session }
+    ensures looks { D.honest files.new.disk
+        → Looks D.files D.moment D.left_since files.old.disk files.new.disk }
+    ensures works { IsErrOf result RunFault.Broken → ⊥ }
+    ensures breaks { IsErrOf result RunFault.Device ↔ IsTrue files.new.broken }
+    ensures accounts { Accounts D.steady D.honest D.failures files.old.disk files.new.disk
+        (IsErrOf result RunFault.Device) }
+{
+    match command {
+        Command::Capture {
+            file,
+            target,
+            place,
+            moment,
+            template,
+            initial,
+        } => plan_capture(
+            files, states, file, target, *place, *moment, template, initial,
+        ),
+        Command::Refile {
+            file,
+            path,
+            to_file,
+            to_path,
+            place,
+        } => plan_refile(files, states, file, path, to_file, to_path, *place),
+        Command::Show { .. } | Command::Settle => unreachable!(),
+    }
+}
+
+/// Runs a command that changes files.
+pub(crate) fn change<D: Disk>(
+    files: &mut Files<D>,
+    states: &States,
+    tally: &mut Tally,
+    command: &Command,
+) -> Result<Reply, RunFault>
+    requires change { IsChange command.now }
+    requires unbroken { files.old.broken ≡ false }
+    requires begun { files.old.held.now ≡ files.old.held.before }
+    requires counted { tally.old.acknowledged ≤ tally.old.accepted }
+    ensures acts { Acts D.files D.moment D.left_since D.honest
+        (kept_over D.files states.now files.old tally.old)
+        (outcome (kept_over D.files states.now files.old tally.old).session command.now) result
+        (kept_over D.files states.now files.new tally.new) }
+    ensures begun { files.new.held.now ≡ files.new.held.before }
+    ensures counted { tally.new.acknowledged ≤ tally.new.accepted }
+    ensures accounts { Accounts D.steady D.honest D.failures files.old.disk files.new.disk
+        (IsErrOf result RunFault.Device) }
+{
+    match plan(files, states, command) {
+        Ok(plan) => accept(files, tally, &plan),
+        Err(fault) => {
+            files.undo();
+            Err(fault)
+        }
+    }
+}

@@ -1,0 +1,296 @@
+//! The files of a store, with what is held of their texts.
+ghost use Rattle.std.specs.Prelude.{◌≡◌, ◌⊎◌, ◌↔◌, ◌∷◌, [], List, ℕ, None, nat_lt, length, true, false, IfOk, IfErr, OnOk, OnErr, IsErrOf, IsSome, IsTrue};
+ghost use Rattle.std.specs.List.{All};
+ghost use Rattle.std.specs.Map.{lookup};
+ghost use Rattle.std.specs.Option.{ForSome, option_map};
+ghost use Rattle.std.specs.Str.{bytes_eq};
+ghost use Rattle.org_disk.specs.Accounts.{Accounts, Looks};
+ghost use Rattle.org_disk.specs.Names.{IsOrgFile};
+ghost use Rattle.org_journal.specs.Standing.{contents};
+ghost use Rattle.org_fileset.specs.Names.{with_archives, AreSorted, AreFew, first_large};
+ghost use Rattle.org_fileset.specs.Opening.{IsDeviceRefusal, IsReason, disk_in};
+ghost use Rattle.org_fileset.specs.Recovery.{Reopens};
+ghost use Rattle.org_fileset.specs.declared.open.OpenFault.{OpenFault};
+ghost use Rattle.org_fileset.specs.Names.{limit};
+ghost use Rattle.org_outline.specs.States.{Keywords};
+ghost use Rattle.org_texts.specs.Texts.{bytes_or, held_over, nothing_held, text_of};
+ghost use Rattle.org_store.specs.declared.tally.Tally.{Tally};
+ghost use Rattle.org_store.specs.Files.{AreReady, AreSmallToWrite, CommitsTexts, IsPlanFor, PutsPlan, files_of, has_large, texts_in};
+ghost use Rattle.org_store.specs.InOrder.{is_name, texts_of};
+ghost use Rattle.org_store.specs.Keeping.{Reads};
+ghost use Rattle.org_store.specs.Session.{kept_over};
+
+use crate::command::{Refusal, RunFault};
+use org_disk::{Disk, FileName};
+use org_fileset::{FileSet, LIMIT, OpenRefused, SetFault};
+use org_texts::{Held, Plan, Texts};
+use std::alloc::{AllocError, Global};
+use std::marker::Model;
+
+/// Files of a disk that are changed in memory: each is read once, and edited there until a commit puts all changed texts
+/// on the disk as one.
+///
+/// A clause sees its disk, its names, and what is held: the texts as they are, and as they were before the command that
+/// runs (specs/Files.antt).
+#[derive(Drop)]
+pub(crate) struct Files<D: Disk> {
+    alloc: Global,
+    set: FileSet<D>,
+    texts: Texts,
+}
+
+impl<D: Disk> Model for Files<D> {
+    ghost use Rattle.std.specs.Prelude.{◌≡◌, false};
+    ghost use Rattle.org_journal.specs.Standing.{contents};
+    ghost use Rattle.org_store.specs.Files.{OpenFiles, IsSound};
+
+    ghost Value = { OpenFiles D };
+
+    ghost view = { λ f. record {
+      disk = f.set.disk;
+      names = f.set.names;
+      broken = f.set.broken;
+      held = f.texts;
+    } };
+
+    ghost invariant = { λ f. IsSound f.set.names ((f.set.broken ≡ false) × D.honest f.set.disk)
+        (contents (D.files f.set.disk)) f.texts };
+}
+
+impl<D: Disk> Files<D> {
+    /// The files of the given names and of their archive files, with nothing held. No name is an archive file's or the
+    /// journal's; a repeated one counts once. What a stop cut short is brought to an end first: see `FileSet::open`,
+    /// whose faults it answers.
+    pub(crate) fn open(
+        alloc: Global,
+        disk: D,
+        names: Vec<FileName>,
+    ) -> Result<Files<D>, OpenRefused<D>>
+        requires { All IsOrgFile names.items }
+        ensures names { IfOk result (λ files. AreFew names.items
+            × AreSorted (with_archives names.items) files.names) }
+        ensures held { IfOk result (λ files. (files.held.now ≡ nothing_held)
+            × (files.held.before ≡ nothing_held)) }
+        ensures unbroken { IfOk result (λ files. files.broken ≡ false) }
+        ensures reopens { let now = disk_in result (λ files. files.disk) in D.honest now
+            → Reopens D.files D.moment D.left_since disk now result }
+        ensures sizes { IfOk result (λ files. D.honest files.disk
+            → first_large (contents (D.files files.disk)) files.names ≡ None) }
+        ensures refused { IfErr result (λ refused. IsReason names.items (D.honest refused.disk)
+            (contents (D.files disk)) (contents (D.files refused.disk)) refused.fault) }
+        ensures unused { IfErr result (λ refused. refused.fault ≡ OpenFault.TooManyFiles
+            → refused.disk ≡ disk) }
+        ensures accounts { Accounts D.steady D.honest D.failures disk
+            (disk_in result (λ files. files.disk)) (IsDeviceRefusal result) }
+    {
+        match FileSet::open(alloc, disk, names) {
+            Ok(set) => Ok(Files {
+                alloc,
+                set,
+                texts: Texts::new(alloc),
+            }),
+            Err(refused) => Err(refused),
+        }
+    }
+
+    /// Whether it is the name of one of the files: of those that were given, or of their archive files.
+    pub(crate) fn has(&self, name: &FileName) -> bool
+        ensures { result ≡ is_name self.now.names name.now }
+    {
+        self.set.names().contains(name)
+    }
+
+    /// Whether a call of the disk has failed since the files were opened.
+    pub(crate) fn is_broken(&self) -> bool
+        ensures { result ≡ self.now.broken }
+    {
+        self.set.is_broken()
+    }
+
+    /// The disk as it is. What was changed and not committed is given up.
+    pub(crate) fn close(self) -> D
+        ensures { result ≡ self.disk }
+    {
+        let Files { set, .. } = self;
+        set.close()
+    }
+
+    /// What is held of this name. Takes no memory.
+    pub(crate) fn get(&self, name: &FileName) -> Option<&Held>
+        ensures text { option_map (λ held. held.now.text) result
+            ≡ text_of self.now.held.now name.now }
+        ensures before { option_map (λ held. held.now.before) result
+            ≡ text_of self.now.held.before name.now }
+        ensures ready { option_map (λ held. held.now.ready) result
+            ≡ lookup (bytes_eq name.now) self.now.held.ready }
+    {
+        self.texts.get(name)
+    }
+
+    /// The allocator that the texts were made with.
+    pub(crate) fn alloc(&self) -> Global {
+        self.alloc
+    }
+
+    /// Reads one of the files, where it isn't held. No text changes by it. `Device` breaks the files; after `OutOfMemory`
+    /// the file can be read again.
+    pub(crate) fn load(&mut self, name: &FileName) -> Result<(), RunFault>
+        requires name { is_name self.old.names name.now ≡ true }
+        requires unbroken { self.old.broken ≡ false }
+        ensures held { OnOk result (IsSome (text_of self.new.held.now name.now)) }
+        ensures reads { (states : Keywords) (tally : Tally) → D.honest self.new.disk
+            → Reads (kept_over D.files states self.old tally).session result
+            (kept_over D.files states self.new tally).session }
+        ensures begun { self.old.held.now ≡ self.old.held.before
+            → self.new.held.now ≡ self.new.held.before }
+        ensures ready { (names : List (List ℕ)) → AreReady names self.old.held
+            → AreReady names self.new.held }
+        ensures looks { D.honest self.new.disk → Looks D.files D.moment D.left_since
+            self.old.disk self.new.disk }
+        ensures names { self.new.names ≡ self.old.names }
+        ensures works { IsErrOf result RunFault.Broken → ⊥ }
+        ensures breaks { IsErrOf result RunFault.Device ↔ IsTrue self.new.broken }
+        ensures accounts { Accounts D.steady D.honest D.failures self.old.disk self.new.disk
+            (IsErrOf result RunFault.Device) }
+    {
+        if self.texts.get(name).is_some() {
+            return Ok(());
+        }
+        let bytes = self.set.read(name)?;
+        self.texts.hold(name.clone()?, bytes)?;
+        Ok(())
+    }
+
+    // Makes the text of one of the files, which is held, ready for a command. Where there is no memory, all edits of the
+    // command are taken back.
+    fn make_ready(&mut self, name: &FileName) -> Result<(), AllocError>
+        requires { IsSome (text_of self.old.held.now name.now) }
+        ensures disk { self.new.disk ≡ self.old.disk }
+        ensures names { self.new.names ≡ self.old.names }
+        ensures broken { self.new.broken ≡ self.old.broken }
+        ensures ready { OnOk result ((names : List (List ℕ)) → AreReady names self.old.held
+            → AreReady (name.now ∷ names) self.new.held) }
+        ensures before { self.new.held.before ≡ self.old.held.before }
+    {
+        self.texts.make_ready(name)
+    }
+
+    /// Makes one of the files ready for a command: it is read where it isn't held, a last line without a newline gets one,
+    /// and its headings are read where they aren't held. The faults are those of `load`; the command's edits are to be
+    /// taken back behind them.
+    pub(crate) fn ready(&mut self, name: &FileName) -> Result<(), RunFault>
+        requires name { is_name self.old.names name.now ≡ true }
+        requires unbroken { self.old.broken ≡ false }
+        ensures ready { OnOk result ((names : List (List ℕ)) → AreReady names self.old.held
+            → AreReady (name.now ∷ names) self.new.held) }
+        ensures reads { (states : Keywords) (tally : Tally) → D.honest self.new.disk
+            → Reads (kept_over D.files states self.old tally).session result
+            (kept_over D.files states self.new tally).session }
+        ensures looks { D.honest self.new.disk → Looks D.files D.moment D.left_since
+            self.old.disk self.new.disk }
+        ensures names { self.new.names ≡ self.old.names }
+        ensures works { IsErrOf result RunFault.Broken → ⊥ }
+        ensures breaks { IsErrOf result RunFault.Device ↔ IsTrue self.new.broken }
+        ensures accounts { Accounts D.steady D.honest D.failures self.old.disk self.new.disk
+            (IsErrOf result RunFault.Device) }
+    {
+        self.load(name)?;
+        self.make_ready(name)?;
+        Ok(())
+    }
+
+    /// Makes the edits of a plan, in memory. `TooLarge` where one of the texts would be past the limit; then, and where
+    /// there is no memory, all edits of the command are taken back.
+    pub(crate) fn put(&mut self, plan: &Plan) -> Result<(), RunFault>
+        requires { IsPlanFor self.old.names self.old.held plan.now }
+        ensures disk { self.new.disk ≡ self.old.disk }
+        ensures names { self.new.names ≡ self.old.names }
+        ensures broken { self.new.broken ≡ self.old.broken }
+        ensures before { self.new.held.before ≡ self.old.held.before }
+        ensures puts { PutsPlan plan.now self.old.held result self.new.held }
+    {
+        self.texts.apply(plan)?;
+        if is_large(&self.texts, plan) {
+            self.texts.undo();
+            return Err(RunFault::Refused(Refusal::TooLarge));
+        }
+        Ok(())
+    }
+
+    /// Takes all edits of the command back. Takes no memory, and can't fail.
+    pub(crate) fn undo(&mut self)
+        ensures disk { self.new.disk ≡ self.old.disk }
+        ensures names { self.new.names ≡ self.old.names }
+        ensures broken { self.new.broken ≡ self.old.broken }
+        ensures now { self.new.held.now ≡ self.old.held.before }
+        ensures before { self.new.held.before ≡ self.old.held.before }
+    {
+        self.texts.undo();
+    }
+
+    /// Keeps all edits of the command, in memory. Takes none, and can't fail.
+    pub(crate) fn keep(&mut self)
+        requires { AreSmallToWrite self.old.held.now }
+        ensures disk { self.new.disk ≡ self.old.disk }
+        ensures names { self.new.names ≡ self.old.names }
+        ensures broken { self.new.broken ≡ self.old.broken }
+        ensures now { self.new.held.now ≡ self.old.held.now }
+        ensures before { self.new.held.before ≡ self.old.held.now }
+    {
+        self.texts.keep();
+    }
+
+    /// Commits the texts as they are, of which those that wait are within the limit, as they always are between commands:
+    /// see `FileSet::commit`. `OutOfMemory` leaves all as it was. Where no text waits, no call of the disk is made.
+    pub(crate) fn commit(&mut self) -> Result<(), SetFault>
+        requires unbroken { self.old.broken ≡ false }
+        requires small { (self.old.held.now ≡ self.old.held.before)
+            ⊎ AreSmallToWrite self.old.held.now }
+        ensures commits { D.honest self.new.disk → CommitsTexts D.files D.moment D.left_since
+            self.old.names (texts_of (held_over self.old.held.now
+            (contents (D.files self.old.disk))) self.old.names) self.old.disk self.new.disk result }
+        ensures texts { OnOk result (D.honest self.new.disk
+            → texts_of (held_over self.new.held.before (contents (D.files self.new.disk)))
+            self.old.names ≡ texts_of (held_over self.old.held.now
+            (contents (D.files self.old.disk))) self.old.names) }
+        ensures begun { OnOk result (self.new.held.now ≡ self.new.held.before) }
+        ensures held { OnErr result (self.new.held ≡ self.old.held) }
+        ensures memory { IsErrOf result SetFault.OutOfMemory → self.new ≡ self.old }
+        ensures nothing { self.old.held.now.waiting ≡ [] → self.new.disk ≡ self.old.disk }
+        ensures names { self.new.names ≡ self.old.names }
+        ensures works { IsErrOf result SetFault.Broken → ⊥ }
+        ensures breaks { IsErrOf result SetFault.Device ↔ IsTrue self.new.broken }
+        ensures accounts { Accounts D.steady D.honest D.failures self.old.disk self.new.disk
+            (IsErrOf result SetFault.Device) }
+    {
+        self.set.commit(&self.texts)?;
+        self.texts.settle();
+        Ok(())
+    }
+}
+
+/// Whether the text of this name, which is held, is past the limit.
+fn is_large_text(texts: &Texts, name: &FileName) -> bool
+    requires { IsSome (text_of texts.now.now name.now) }
+    ensures { result ≡ nat_lt limit (length (bytes_or [] (text_of texts.now.now name.now))) }
+{
+    match texts.get(name) {
+        Some(held) => held.bytes().len() > LIMIT,
+        None => unreachable!(),
+    }
+}
+
+/// Whether a text that a plan changed is past the limit.
+fn is_large(texts: &Texts, plan: &Plan) -> bool
+    requires first { IsSome (text_of texts.now.now plan.now.first.file) }
+    requires second { ForSome plan.now.second (λ change. IsSome (text_of texts.now.now change.file)) }
+    ensures { result ≡ has_large (texts_in texts.now.now (files_of plan.now)) }
+{
+    if is_large_text(texts, &plan.first.file) {
+        return true;
+    }
+    match &plan.second {
+        Some(change) => is_large_text(texts, &change.file),
+        None => false,
+    }
+}
