@@ -19,7 +19,7 @@ use Rattle.org_texts.specs.declared.plan.FileEdits.{FileEdits}
 use Rattle.org_texts.specs.declared.plan.Plan.{Plan}
 use Rattle.org_texts.specs.Files.{StandOver, waits}
 use Rattle.org_texts.specs.Plan.{CanEdit, IsPlan, planned, with_edits, with_second}
-use Rattle.org_texts.specs.Texts.{Holding, TextSet, bytes_or, closed_in, ends, held_over, text_of, text_or_none, with_change, with_name, with_text}
+use Rattle.org_texts.specs.Texts.{Holding, TextSet, bytes_or, closed_in, held_over, text_of, text_or_none, with_change, with_name, with_text}
 use Rattle.org_splice.proofs.Lines.{closed_twice}
 use Rattle.org_texts.proofs.Heads.{closed_text-bytes, is_closed-closed}
 use Rattle.org_texts.proofs.Looking.{change_this, change_other, held_over-held, not_equal, the_value}
@@ -62,12 +62,6 @@ waits_more own names name there apart = elim (cases_Bool (list_any (bytes_eq own
       | inl t ↦ rw t refl
       | inr f ↦ rw f (last ns (rw f at is))
     ]
-
-pub waits_closed : (own : List ℕ) (set : TextSet) (name : List ℕ) → waits (closed_in own set) name ≡ true → own ≢ name → waits set name ≡ true
-waits_closed own set name there apart = elim (cases_Bool (ends (text_of set own))) [
-  | inl t ↦ rw t at there
-  | inr f ↦ waits_more own set.waiting name (rw f at there) apart
-]
 
 -- ---- one more text is held
 
@@ -177,7 +171,7 @@ texts_closed own names live files set some are = record {
   named = λ name there. are.named name (sym (some_change own closed_text set.texts name) ∙ there);
   waiting = λ name waits. some_change own closed_text set.texts name ∙ elim (name_cases own name) [
     | inl is ↦ subst (λ (n : List ℕ). IsSome (text_of set n)) is.0 some
-    | inr apart ↦ are.waiting name (waits_closed own set name waits apart.0)
+    | inr apart ↦ are.waiting name (waits_more own set.waiting name waits apart.0)
   ];
   stand = λ l. StandOver-closed own files set some (are.stand l);
 }
@@ -240,7 +234,7 @@ ready_closed own names old new some now before ready are = record {
   waiting = λ name out there.
       let no = not_one own names name out in
       let was : waits (closed_in own old.now) name ≡ true = sym (ap (λ (s : TextSet). waits s name) now) ∙ there in
-      ap (λ (s : TextSet). waits s name) before ∙ are.waiting name no.1 (waits_closed own old.now name was no.0);
+      ap (λ (s : TextSet). waits s name) before ∙ are.waiting name no.1 (waits_more own old.now.waiting name was no.0);
 }
   where
     later : (name : List ℕ) → own ≢ name → is_name (own ∷ names) name ≡ true → is_name names name ≡ true

@@ -153,8 +153,8 @@ fn assert_waiting(rt: &impl Abort, texts: &Texts, expected: &[(&str, usize)]) ->
 
 fn two_files(alloc: Global) -> Result<Texts, Fail> {
     let mut texts = Texts::new(alloc);
-    hold(alloc, &mut texts, "b.org", b"* C\n")?;
     hold(alloc, &mut texts, "a.org", b"* A\n* B")?;
+    hold(alloc, &mut texts, "b.org", b"* C\n")?;
     Ok(texts)
 }
 
@@ -185,7 +185,7 @@ fn keep_and_take_back(rt: &(impl Abort + AllocGlobal), texts: &mut Texts) -> Res
     refile(rt.alloc(), texts)?;
     texts.undo();
     assert_text(rt, texts, "a.org", b"* A\n* B\n", 0)?;
-    assert_waiting(rt, texts, &[("a.org", 1)])
+    assert_waiting(rt, texts, &[("a.org", 1), ("b.org", 1)])
 }
 
 #[test]
@@ -283,6 +283,18 @@ fn a_text_keeps_its_place(rt: HostRuntime) -> Result<(), Fail> {
     assert_changes(&rt, &texts, &[("a.org", b"* C\n"), ("b.org", b"* B\n")]);
     assert_text(&rt, &texts, "b.org", b"* B\n", 0)?;
     assert!(rt; texts.get(&FileName::new(alloc, "c.org")?).is_none());
+    Ok(())
+}
+
+// The first is closed as it is, and waits before the second, which gets a newline.
+#[test]
+fn texts_wait_in_the_order_they_are_ready(rt: HostRuntime) -> Result<(), Fail> {
+    let mut texts = Texts::new(rt.alloc());
+    hold(rt.alloc(), &mut texts, "b.org", b"* B\n")?;
+    hold(rt.alloc(), &mut texts, "a.org", b"* A")?;
+    assert_changes(&rt, &texts, &[("b.org", b"* B\n"), ("a.org", b"* A\n")]);
+    texts.undo();
+    assert_changes(&rt, &texts, &[]);
     Ok(())
 }
 

@@ -1,5 +1,5 @@
 -- Texts whose headings are held are closed.
-use Rattle.std.proofs.Common.{◌≡◌, ◌↔◌, ℕ, Bool, true, false, List, [], ◌∷◌, ◌++◌, eqb, Option, Some, None, is_some, refl, sym, ap, ◌∙◌}
+use Rattle.std.proofs.Common.{◌≡◌, ℕ, true, false, List, [], ◌∷◌, ◌++◌, eqb, Option, Some, None, is_some, refl, sym, ap, ◌∙◌}
 use Rattle.std.proofs.lemmas.Bool.{cases_Bool}
 use Rattle.std.proofs.Common.{inl, inr}
 use Rattle.org_splice.specs.Lines.{closed, is_closed}
@@ -30,14 +30,6 @@ pub closed-is_closed : (t : List ℕ) → is_closed t ≡ true → closed t ≡ 
 closed-is_closed [] ends = refl
 closed-is_closed (b ∷ []) ends = let newline : eqb b 10 ≡ true = ends in rw newline refl
 closed-is_closed (b ∷ c ∷ bs) ends = ap (λ (l : List ℕ). b ∷ l) (closed-is_closed (c ∷ bs) ends)
-
--- a test that answers whether a text is closed
-pub is_closed-tested : (b : Bool) (t : List ℕ) → ((b ≡ true) ↔ (closed t ≡ t)) → b ≡ is_closed t
-is_closed-tested true t both = sym (is_closed-closed t (both.0 refl))
-is_closed-tested false t both = elim (cases_Bool (is_closed t)) [
-  | inl t_closed ↦ absurd (let no : false ≡ true = both.1 (closed-is_closed t t_closed) in cc)
-  | inr f ↦ sym f
-]
 
 closed-open : (t : List ℕ) → is_closed t ≡ false → closed t ≡ t ++ 10 ∷ []
 closed-open [] f = absurd (cc)

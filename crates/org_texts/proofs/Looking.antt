@@ -1,21 +1,19 @@
 -- Look-ups among held texts, of which one is changed, or one more is held.
-use Rattle.std.proofs.Common.{◌≡◌, inl, inr, ℕ, Bool, true, false, List, [], ◌∷◌, ◌++◌, ◌||◌, Option, Some, None, refl, sym, ◌∙◌, ap, subst, map}
-use Rattle.std.specs.Prelude.{if◌then◌else◌, IsSomeAnd}
-use Rattle.std.specs.List.{list_any}
+use Rattle.std.proofs.Common.{◌≡◌, inl, inr, ℕ, true, false, List, [], ◌∷◌, ◌++◌, Option, Some, None, refl, sym, ◌∙◌, ap, subst}
+use Rattle.std.specs.Prelude.{IsSomeAnd}
 use Rattle.std.specs.Map.{keys_of, lookup}
-use Rattle.std.specs.Option.{is_some, option_map, IsSome}
+use Rattle.std.specs.Option.{option_map, IsSome}
 use Rattle.std.specs.Str.{bytes_eq}
 use Rattle.std.proofs.lemmas.Bool.{cases_Bool}
-use Rattle.std.proofs.lemmas.Map.Made.{is_some-lookup, lookup-map_values}
+use Rattle.std.proofs.lemmas.Map.Made.{lookup-map_values}
 use Rattle.std.proofs.lemmas.Slice.Eq.{bytes_eq-Decides}
 use Rattle.org_splice.specs.Edits.{applied_each, CanApply}
-use Rattle.org_splice.specs.Lines.{closed, is_closed}
+use Rattle.org_splice.specs.Lines.{closed}
 use Rattle.org_splice.specs.Texts.{EditedText, closed_text, settled, spliced_each}
 use Rattle.org_splice.proofs.Applying.{spliced_each-bytes}
 use Rattle.org_texts.specs.declared.plan.FileEdits.{FileEdits}
-use Rattle.org_texts.specs.declared.plan.Plan.{Plan}
-use Rattle.org_texts.specs.Files.{files_closed, files_planned, files_with}
-use Rattle.org_texts.specs.Plan.{CanEdit, IsPlan, planned, with_edits}
+use Rattle.org_texts.specs.Files.{files_closed, files_with}
+use Rattle.org_texts.specs.Plan.{CanEdit, with_edits}
 use Rattle.org_texts.specs.Texts.{TextSet, bytes_or, closed_in, held_over, settled_set, text_of, with_change, with_text}
 use Rattle.org_texts.proofs.Heads.{closed_text-bytes}
 

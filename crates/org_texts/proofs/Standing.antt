@@ -1,26 +1,26 @@
 -- Held texts stay made of their files.
-use Rattle.std.proofs.Common.{◌≡◌, inl, inr, ℕ, ◌+◌, ◌≤◌, Bool, true, false, List, [], ◌∷◌, ◌++◌, length, Option, Some, None, refl, sym, ◌∙◌, ap, subst, arith}
+use Rattle.std.proofs.Common.{◌≡◌, inl, inr, ℕ, ◌+◌, ◌≤◌, true, false, List, [], ◌∷◌, ◌++◌, length, Option, Some, None, refl, sym, ◌∙◌, ap, subst, arith}
 use Rattle.std.specs.Prelude.{IsSomeAnd}
 use Rattle.std.specs.List.{list_any}
 use Rattle.std.specs.Map.{keys_of, lookup}
-use Rattle.std.specs.Option.{is_some, option_map, IsSome}
+use Rattle.std.specs.Option.{option_map, IsSome}
 use Rattle.std.specs.Str.{bytes_eq}
 use Rattle.std.proofs.lemmas.Bool.{cases_Bool}
 use Rattle.std.proofs.lemmas.List.{map-append}
-use Rattle.std.proofs.lemmas.Map.Made.{is_some-lookup, keys_of-map_values}
+use Rattle.std.proofs.lemmas.Map.Made.{is_some-lookup}
 use Rattle.std.proofs.lemmas.Slice.Eq.{bytes_eq-Decides}
 use Rattle.org_splice.specs.Edits.{CanApply}
 use Rattle.org_splice.specs.Lines.{is_closed}
 use Rattle.org_splice.specs.Ranges.{AreChanged}
-use Rattle.org_splice.specs.Texts.{EditedText, IsEditOf, closed_text, settled, spliced, spliced_each}
+use Rattle.org_splice.specs.Texts.{EditedText, IsEditOf, closed_text, settled, spliced_each}
 use Rattle.org_splice.proofs.Applying.{AreChanged-spliced, IsEditOf-spliced_each}
 use Rattle.org_splice.proofs.Edited.{IsEditOf-spliced}
 use Rattle.org_texts.specs.declared.plan.FileEdits.{FileEdits}
 use Rattle.org_texts.specs.Files.{IsTextOf, StandOver, waits}
 use Rattle.org_texts.specs.Inside.{AreAmong}
 use Rattle.org_texts.specs.Plan.{CanEdit, with_edits}
-use Rattle.org_texts.specs.Texts.{TextSet, closed_in, ends, settled_set, text_of, with_change, with_name, with_text}
-use Rattle.org_texts.proofs.Looking.{change_names, change_other, change_this, text_of-settled, the_value}
+use Rattle.org_texts.specs.Texts.{TextSet, closed_in, settled_set, text_of, with_name, with_text}
+use Rattle.org_texts.proofs.Looking.{change_names, change_other, change_this, text_of-settled}
 use Rattle.org_texts.proofs.Names.{among_more, among_name, any_more, some_of}
 
 -- a name that was marked waits, and those that waited still do
@@ -132,23 +132,6 @@ closed_one file text are edit = elim (cases_Bool (is_closed text.bytes)) [
       rw f (IsEditOf-spliced file (length text.bytes) 0 (10 ∷ []) text within are edit, AreChanged-spliced (length text.bytes) 0 (10 ∷ []) text within are)
 ]
 
--- the names that wait where one is closed
-waiting_closed : (own : List ℕ) (set : TextSet) (name : List ℕ) → waits (closed_in own set) name ≡ false → waits set name ≡ false
-waiting_closed own set name none = elim (cases_Bool (ends (text_of set own))) [
-  | inl t ↦ rw t at none
-  | inr f ↦ not_marked own name set.waiting (rw f at none)
-]
-
-still_closed : (own : List ℕ) (set : TextSet) (old : EditedText) → text_of set own ≡ Some old → waits (closed_in own set) own ≡ false → closed_text old ≡ old
-still_closed own set old is none = elim (cases_Bool (is_closed old.bytes)) [
-  | inl t ↦ rw t refl
-  | inr f ↦
-      let open_end : ends (text_of set own) ≡ false = ap ends is ∙ f in
-      let left : list_any (bytes_eq own) (with_name own set.waiting) ≡ false = rw open_end at none in
-      let no : true ≡ false = sym (marked own set.waiting) ∙ left in
-      absurd (cc)
-]
-
 pub StandOver-closed : (own : List ℕ) (files : List ℕ → List ℕ) (set : TextSet) → IsSome (text_of set own) → StandOver files set → StandOver files (closed_in own set)
 StandOver-closed own files set some stand = record {
   each = λ name text at. elim (cases_Bool (bytes_eq own name)) [
@@ -161,22 +144,18 @@ StandOver-closed own files set some stand = record {
         let is : IsTextOf (files own) (waits (closed_in own set) own) (closed_text old.0) = record {
           edit = made.0;
           ranges = made.1;
-          same = λ none. ap (λ (t : EditedText). t.bytes) (still_closed own set old.0 old.1 none) ∙ was.same (waiting_closed own set own none);
+          same = λ none. let no : true ≡ false = sym (marked own set.waiting) ∙ none in absurd (cc);
         } in
         subst (λ (n : List ℕ). IsTextOf (files n) (waits (closed_in own set) n) text) same
         (subst (IsTextOf (files own) (waits (closed_in own set) own)) (sym old.2) is)
     | inr f ↦
         let apart : own ≡ name → ⊥ = λ same. let yes : true ≡ false = sym ((bytes_eq-Decides own name).1 same) ∙ f in absurd (cc) in
         let was = stand.each name text (sym (change_other own name closed_text set.texts apart) ∙ at) in
-        record { edit = was.edit; ranges = was.ranges; same = λ none. was.same (waiting_closed own set name none) }
+        record { edit = was.edit; ranges = was.ranges; same = λ none. was.same (not_marked own name set.waiting none) }
   ];
   held =
-      let names : keys_of (closed_in own set).texts ≡ keys_of set.texts = change_names own closed_text set.texts in
-      let among : AreAmong (keys_of set.texts) (closed_in own set).waiting = elim (cases_Bool (ends (text_of set own))) [
-        | inl t ↦ rw t stand.held
-        | inr f ↦ rw f (among_name (keys_of set.texts) set.waiting own stand.held (held_name set own some))
-      ] in
-      subst (λ (l : List (List ℕ)). AreAmong l (closed_in own set).waiting) (sym names) among;
+      subst (λ (l : List (List ℕ)). AreAmong l (with_name own set.waiting)) (sym (change_names own closed_text set.texts))
+      (among_name (keys_of set.texts) set.waiting own stand.held (held_name set own some));
 }
 
 -- edits of one text leave what can be done to another

@@ -1,9 +1,8 @@
 -- Texts that are held in memory by the names of their files, as callers see them.
-use Rattle.std.specs.Prelude.{ℕ, Bool, true, Option, Some, None, List, [], ◌∷◌, ◌++◌, map, if◌then◌else◌}
+use Rattle.std.specs.Prelude.{ℕ, Bool, Option, Some, None, List, [], ◌∷◌, ◌++◌, map, if◌then◌else◌}
 use Rattle.std.specs.List.{list_any}
 use Rattle.std.specs.Map.{lookup}
 use Rattle.std.specs.Str.{bytes_eq}
-use Rattle.org_splice.specs.Lines.{is_closed}
 use Rattle.org_splice.specs.Texts.{EditedText, closed_text, settled}
 use Rattle.org_texts.specs.Held.{HeldText}
 
@@ -48,15 +47,11 @@ with_change name change (e ∷ es) = if bytes_eq name e.0 then (e.0, change e.1)
 abbrev pub with_name : List ℕ → List (List ℕ) → List (List ℕ)
 with_name name names = if list_any (bytes_eq name) names then names else names ++ name ∷ []
 
-abbrev pub ends : Option EditedText → Bool
-ends None = true
-ends (Some text) = is_closed text.bytes
-
--- the texts with the one of this name closed; it waits where it wasn't closed
+-- the texts with the one of this name closed; a command touches it by that, and it waits
 abbrev pub closed_in : List ℕ → TextSet → TextSet
 closed_in name set = record {
   texts = with_change name closed_text set.texts;
-  waiting = if ends (text_of set name) then set.waiting else with_name name set.waiting;
+  waiting = with_name name set.waiting;
 }
 
 -- the texts as the disk has them behind a commit: none waits

@@ -8,13 +8,12 @@ ghost use Rattle.org_splice.specs.Edits.{CanApply};
 ghost use Rattle.org_splice.specs.Texts.{closed_text, settled, spliced_each};
 ghost use Rattle.org_texts.specs.Inside.{IsHolding};
 ghost use Rattle.org_texts.specs.Plan.{CanEdit, IsPlan, planned, with_edits};
-ghost use Rattle.org_texts.specs.Texts.{before_of, closed_in, ends, nothing_held, now_of, on_disk, pairs, ready_of, settled_set, text_of, with_change, with_name, with_text};
+ghost use Rattle.org_texts.specs.Texts.{before_of, closed_in, nothing_held, now_of, on_disk, pairs, ready_of, settled_set, text_of, with_change, with_name, with_text};
 
 use crate::held::Held;
 use crate::plan::{FileEdits, Plan};
 use indexmap::{IndexMap, IndexSet};
 use org_disk::FileName;
-use org_outline::is_closed;
 use org_splice::{Changes, Edit, Editing};
 use std::alloc::{AllocError, Global};
 use std::marker::Model;
@@ -88,7 +87,8 @@ impl Texts {
     }
 
     /// Makes the text of this name, which is held, ready for a command: a last line without a newline gets one, and the
-    /// headings are read where they aren't held. `AllocError` takes all edits of the command back.
+    /// headings are read where they aren't held. It waits for a commit from then on, also where it stays as it is, so that
+    /// texts wait in the order in which a command makes them ready. `AllocError` takes all edits of the command back.
     pub fn make_ready(&mut self, name: &FileName) -> Result<(), AllocError>
         requires { IsSome (text_of self.old.now name.now) }
         ensures now { OnOk result (self.new.now ≡ closed_in name.now self.old.now) }
@@ -112,9 +112,7 @@ impl Texts {
             (self.new.ready ≡ with_change name.now (λ _. true) self.old.ready) }
         ensures before { self.new.before ≡ self.old.before }
     {
-        if !is_closed_at(&self.held, name) {
-            wait(&mut self.waiting, name)?;
-        }
+        wait(&mut self.waiting, name)?;
         ready_at(&mut self.held, name)
     }
 
@@ -231,17 +229,6 @@ fn wait(names: &mut IndexSet<FileName>, name: &FileName) -> Result<(), AllocErro
     }
     names.insert(name.clone()?)?;
     Ok(())
-}
-
-/// Whether the text of this name, which is held, is closed.
-fn is_closed_at(held: &IndexMap<FileName, Held>, name: &FileName) -> bool
-    requires { IsSome (lookup (bytes_eq name.now) (map now_of held.now.entries)) }
-    ensures { result ≡ ends (lookup (bytes_eq name.now) (map now_of held.now.entries)) }
-{
-    match held.get(name) {
-        Some(held) => is_closed(held.bytes()),
-        None => unreachable!(),
-    }
 }
 
 /// Makes the text of this name, which is held, ready, as far as there is memory.

@@ -1,7 +1,7 @@
 // Refiles, one at a time, on rows worked by hand from the rules of refiling.
 use super::{has_counts, open, shows_both};
 use org_disk::{FileName, MemoryDisk};
-use org_fixtures::two_files;
+use org_fixtures::{bytes_of, two_files};
 use org_outline::{Place, Titles};
 use org_store::{Command, Refusal, Reply, RunFault, Store};
 use std::alloc::{AllocError, Global};
@@ -346,4 +346,35 @@ fn refuses_in_order(rt: HostRuntime) -> Result<(), Fail> {
             ),
         ],
     )
+}
+
+// The journal's record of a refile from a.org, which ends in a newline, into b.org, which doesn't: the source first.
+const SOURCE_FIRST: [u8; 96] = [
+    0, 0x4f, 0x52, 0x47, 0x4a, 2, 0, 0, 0, 0, 0, 0, 0, 0, 0, 80, // gate, header
+    0, 0, 0, 2, 0, 5, 0x61, 0x2e, 0x6f, 0x72, 0x67, // a.org
+    0, 0, 0, 0, 0, 0, 0, 4, 0, 0, 0, 1, // final length, number of patches
+    0, 0, 0, 0, 0, 0, 0, 0, 0, 0, 0, 0, 0, 0, 0, 0, // patch
+    0, 5, 0x62, 0x2e, 0x6f, 0x72, 0x67, // b.org
+    0, 0, 0, 0, 0, 0, 0, 9, 0, 0, 0, 1, // final length, number of patches
+    0, 0, 0, 0, 0, 0, 0, 3, 0, 0, 0, 0, 0, 0, 0, 6, // patch
+    0x0a, 0x2a, 0x2a, 0x20, 0x42, 0x0a,
+];
+
+// The journal after the heading B of a.org is refiled below the one of b.org.
+fn journal_after(alloc: Global, disk: MemoryDisk) -> Result<Vec<u8>, Fail> {
+    let mut store = open(alloc, disk)?;
+    store.run(&refile(
+        alloc,
+        ("a.org", &["A", "B"]),
+        ("b.org", &["T"]),
+        Place::Last,
+    )?)?;
+    bytes_of(alloc, &mut store.close(), &FileName::journal_name(alloc)?)
+}
+
+#[test]
+fn a_record_has_the_source_first(rt: HostRuntime) -> Result<(), Fail> {
+    let disk = two_files(rt.alloc(), b"* A\n** B\n", b"* T")?;
+    assert!(rt; journal_after(rt.alloc(), disk)?.as_slice() == SOURCE_FIRST.as_slice());
+    Ok(())
 }

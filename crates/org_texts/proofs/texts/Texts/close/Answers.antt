@@ -2,27 +2,18 @@ use Rattle.std.proofs.Common.{rules, ◌≡◌, map, sym, subst, arith}
 use Rattle.std.specs.Map.{keys_of, lookup}
 use Rattle.std.specs.Option.{IsSome}
 use Rattle.std.specs.Str.{bytes_eq}
-use Rattle.org_texts.specs.declared.texts.Texts.TheInside.{Inside}
 use Rattle.org_texts.specs.Inside.{AreAmong, IsHolding}
 use Rattle.org_texts.specs.Texts.{Holding, now_of, text_of, with_name}
 use Rattle.org_texts.proofs.Names.{among_name, is_among, longer}
 use Rattle.org_texts.proofs.texts.Texts.close.Goals as goal
-use Rattle.org_texts.proofs.texts.Texts.close.Goals.{then-not-is_closed_at+in_ok-wait, else-not-is_closed_at}
 
 pub invariant_of-self-2 : goal.invariant_of-self-2
 invariant_of-self-2 c =
     let es = c.self.inside.held.entries in
     let name = c.args.name.now in
     let waiting = c.self.inside.waiting.keys in
-    let inside = c.if-not-is_closed_at.self-inside in
-    let Fits : Inside → Type 0 = λ i. IsHolding (keys_of i.held.entries) i.waiting.keys i.waited in
-    let fits : Fits inside = elim c.if-not-is_closed_at.branch [
-      | then-not-is_closed_at+in_ok-wait w ↦
-          let marked : w.wait.new.names.keys ≡ with_name name waiting = search rules in
-          let held : IsSome (lookup (bytes_eq name) (map now_of es)) = subst (λ (h : Holding). IsSome (text_of h.now name)) (sym c.self.view_is) c.requires in
-          let among : AreAmong (keys_of es) (with_name name waiting) = among_name (keys_of es) waiting name c.self.invariant.held (is_among name es held) in
-          let made : IsHolding (keys_of es) w.wait.new.names.keys c.self.inside.waited = rw marked (record { held = among; first = omega (arith, c.self.invariant.first, longer name waiting) }) in
-          subst Fits (sym w.self-inside-is) made
-      | else-not-is_closed_at w ↦ subst Fits (sym w.self-inside-is) c.self.invariant
-    ] in
-    rw c.ready_at.ensures.names fits
+    let marked : c.wait.new.names.keys ≡ with_name name waiting = search rules in
+    let held : IsSome (lookup (bytes_eq name) (map now_of es)) = subst (λ (h : Holding). IsSome (text_of h.now name)) (sym c.self.view_is) c.requires in
+    let among : AreAmong (keys_of es) (with_name name waiting) = among_name (keys_of es) waiting name c.self.invariant.held (is_among name es held) in
+    let made : IsHolding (keys_of es) c.wait.new.names.keys c.self.inside.waited = rw marked (record { held = among; first = omega (arith, c.self.invariant.first, longer name waiting) }) in
+    rw c.ready_at.ensures.names made

@@ -2,7 +2,7 @@ use Rattle.std.proofs.Common.{◌≡◌, ◌∙◌, List, ℕ, [], ◌∷◌, ma
 use Rattle.std.specs.List.{IsDistinct}
 use Rattle.std.specs.Map.{keys_of}
 use Rattle.std.specs.Str.{bytes_eq}
-use Rattle.org_texts.specs.Texts.{Holding, TextSet, pairs, text_of, text_or_none}
+use Rattle.org_texts.specs.Texts.{Holding, TextSet, text_of, text_or_none}
 use Rattle.org_texts.proofs.texts.Texts.waiting_len.Goals as goal
 
 names : (set : TextSet) (ns : List (List ℕ)) → keys_of (map (λ n. (n, text_or_none (text_of set n))) ns) ≡ ns
