@@ -9,7 +9,7 @@ ghost use Rattle.org_splice.specs.Versions.{AreUndos, revised, text_of_parts, un
 use crate::bytes::Bytes;
 use crate::edit::Edit;
 use crate::patch::{Patch, patches_of};
-use crate::text::replace;
+use crate::replacing::replace;
 use crate::undo::{Undo, undo_all};
 use crate::{Span, ranges};
 use std::alloc::AllocError;

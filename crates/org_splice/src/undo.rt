@@ -5,7 +5,7 @@ ghost use Rattle.org_splice.specs.Versions.{AreUndos, text_of_parts, undone_all}
 
 use crate::Span;
 use crate::bytes::Bytes;
-use crate::text::replace;
+use crate::replacing::replace;
 
 /// `added` bytes from `at` on give way to the bytes that stood there, and the changed ranges are these again.
 #[derive(Drop)]

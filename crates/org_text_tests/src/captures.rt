@@ -4,7 +4,7 @@ ghost use Rattle.org_splice.specs.Lines.{closed};
 
 use org_capture::{CaptureFault, Target, capture, entry, expand, expanded_length};
 use org_outline::{Outline, Place, States, Titles, is_closed};
-use org_splice::{Bytes, Edit, Text};
+use org_splice::{Bytes, Edit, Editing};
 use org_stamp::Moment;
 use std::alloc::{AllocError, Global};
 use std::process::Abort;
@@ -184,9 +184,9 @@ fn edit_of(
 /// The text after an edit, which removes nothing.
 fn edited(rt: &impl Abort, alloc: Global, text: &[u8], edit: &Edit) -> Result<Vec<u8>, AllocError> {
     assert!(rt; edit.removed == 0 && edit.at <= text.len());
-    let mut new = Text::new(text.to_vec(alloc)?);
+    let mut new = Editing::new(text.to_vec(alloc)?);
     new.apply(edit)?;
-    Ok(new.into_bytes())
+    new.bytes().to_vec(alloc)
 }
 
 /// The text after a capture.

@@ -1,7 +1,7 @@
 // Refiles through the public calls: rows worked by hand from the rules of refiling, and chains of many levels.
 use org_move::{MoveFault, refile_across, refile_within};
 use org_outline::{Outline, Place, States, is_closed};
-use org_splice::{Edit, Text};
+use org_splice::{Edit, Editing};
 use std::alloc::{AllocError, Global};
 use std::process::Abort;
 use std::test::Fail;
@@ -34,7 +34,7 @@ fn titles(alloc: Global, path: &[&str]) -> Result<Vec<Vec<u8>>, AllocError> {
 }
 
 /// Makes an edit, which has to lie in the text.
-fn make(rt: &impl Abort, text: &mut Text, edit: &Edit) -> Result<(), AllocError> {
+fn make(rt: &impl Abort, text: &mut Editing, edit: &Edit) -> Result<(), AllocError> {
     let size = text.bytes().len();
     assert!(rt; edit.at <= size && edit.removed <= size - edit.at);
     text.apply(edit)
@@ -42,9 +42,9 @@ fn make(rt: &impl Abort, text: &mut Text, edit: &Edit) -> Result<(), AllocError>
 
 /// The text after an edit of it.
 fn edited(rt: &impl Abort, alloc: Global, text: &[u8], edit: &Edit) -> Result<Vec<u8>, AllocError> {
-    let mut after = Text::new(Vec::from_slice(alloc, text)?);
+    let mut after = Editing::new(Vec::from_slice(alloc, text)?);
     make(rt, &mut after, edit)?;
-    Ok(after.into_bytes())
+    after.bytes().to_vec(alloc)
 }
 
 /// The edits of a refile within an outline.
@@ -84,10 +84,10 @@ fn within(
     place: Place,
 ) -> Result<Vec<u8>, MoveFault> {
     let edits = edits_within(rt, states, text, path, to, place)?;
-    let mut after = Text::new(Vec::from_slice(rt.alloc(), text)?);
+    let mut after = Editing::new(Vec::from_slice(rt.alloc(), text)?);
     make(rt, &mut after, &edits[0])?;
     make(rt, &mut after, &edits[1])?;
-    Ok(after.into_bytes())
+    Ok(after.bytes().to_vec(rt.alloc())?)
 }
 
 /// The edits of a refile from one outline to another.

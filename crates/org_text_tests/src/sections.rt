@@ -7,7 +7,7 @@ use org_meta::{
     property, put_property, repeat_planning, sections, set_closed, total,
 };
 use org_outline::is_closed;
-use org_splice::{Edit, Text};
+use org_splice::{Edit, Editing};
 use org_stamp::Moment;
 use std::alloc::{AllocError, Global};
 use std::process::Abort;
@@ -63,9 +63,9 @@ fn after(
     edit: &Edit,
 ) -> Result<Vec<u8>, AllocError> {
     assert!(rt; edit.at <= section.len() && edit.removed <= section.len() - edit.at);
-    let mut text = Text::new(Vec::from_slice(alloc, section)?);
+    let mut text = Editing::new(Vec::from_slice(alloc, section)?);
     text.apply(edit)?;
-    Ok(text.into_bytes())
+    text.bytes().to_vec(alloc)
 }
 
 /// The section after its edit, if there is one.

@@ -1,6 +1,5 @@
-// Edited texts, their patches, and sets of them.
+// Edited texts, and their patches.
 mod blanks;
-mod change_sets;
 mod editing;
 mod random;
 mod texts;

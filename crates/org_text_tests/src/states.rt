@@ -1,6 +1,6 @@
 // Changes of TODO states through the public call: rows worked by hand from the rules of closing and of repeated tasks.
 use org_outline::{Outline, States, is_closed};
-use org_splice::{Edit, Text};
+use org_splice::{Edit, Editing};
 use org_stamp::Moment;
 use org_state::{StateFault, todo};
 use std::alloc::{AllocError, Global};
@@ -29,7 +29,7 @@ fn titles(alloc: Global, path: &[&str]) -> Result<Vec<Vec<u8>>, AllocError> {
 }
 
 /// Makes an edit, which has to lie in the text.
-fn make(rt: &impl Abort, text: &mut Text, edit: &Edit) -> Result<(), AllocError> {
+fn make(rt: &impl Abort, text: &mut Editing, edit: &Edit) -> Result<(), AllocError> {
     let size = text.bytes().len();
     assert!(rt; edit.at <= size && edit.removed <= size - edit.at);
     text.apply(edit)
@@ -53,11 +53,11 @@ fn changed(
     if edits.is_empty() {
         return Ok(None);
     }
-    let mut after = Text::new(Vec::from_slice(alloc, text)?);
+    let mut after = Editing::new(Vec::from_slice(alloc, text)?);
     for edit in edits.iter() {
         make(rt, &mut after, edit)?;
     }
-    Ok(Some(after.into_bytes()))
+    Ok(Some(after.bytes().to_vec(alloc)?))
 }
 
 /// Asserts what each row's change makes, or why it is refused.

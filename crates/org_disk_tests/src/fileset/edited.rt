@@ -1,7 +1,6 @@
 //! Texts under edit that a commit can be told of.
 ghost use Rattle.std.specs.Prelude.{◌≡◌, [], OnOk};
-ghost use Rattle.std.specs.Str.{bytes_eq};
-ghost use Rattle.org_splice.specs.ChangeSet.{with_text};
+ghost use Rattle.org_disk_tests.specs.Edited.{with_text};
 
 use indexmap::IndexMap;
 use org_disk::FileName;
@@ -36,7 +35,7 @@ impl Edited {
 
     /// Puts a text under a name, in the place of one that is there.
     pub fn put(&mut self, name: FileName, text: Editing) -> Result<(), AllocError>
-        ensures { OnOk result (self.new ≡ with_text bytes_eq self.old name text.text) }
+        ensures { OnOk result (self.new ≡ with_text self.old name text.text) }
     {
         self.texts.insert(name, text)?;
         Ok(())

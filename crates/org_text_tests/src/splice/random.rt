@@ -1,7 +1,7 @@
 // The patches of texts that are spliced at random give the new text.
 ghost use Rattle.std.specs.Prelude.{◌<◌};
 
-use org_splice::{Patch, Text};
+use org_splice::{Editing, Patch};
 use std::alloc::{AllocError, Global};
 use std::process::Abort;
 
@@ -37,7 +37,7 @@ fn written(
 }
 
 /// Splices a text once, at random.
-fn splice_somewhere(text: &mut Text, state: &mut u64) -> Result<(), AllocError> {
+fn splice_somewhere(text: &mut Editing, state: &mut u64) -> Result<(), AllocError> {
     let letters: &[u8] = b"abcdefghijklmnop";
     let size = text.bytes().len();
     let at = below(state, size + 1);
@@ -60,12 +60,12 @@ fn assert_patches(
     splices: usize,
     state: &mut u64,
 ) -> Result<(), AllocError> {
-    let mut text = Text::new(bytes);
+    let mut text = Editing::new(bytes);
     let mut old = Vec::new(alloc);
     for step in 0..splices {
         splice_somewhere(&mut text, state)?;
         if step == 0 {
-            text.settled();
+            text.settle();
             old = Vec::from_slice(alloc, text.bytes())?;
         }
     }

@@ -1,5 +1,5 @@
 // Splices of small texts, and what their patches are.
-use org_splice::{Bytes, Edit, Patch, Text};
+use org_splice::{Bytes, Edit, Editing, Patch};
 use std::alloc::AllocError;
 use std::process::Abort;
 
@@ -8,8 +8,8 @@ fn edited<R: AllocGlobal + Abort>(
     rt: &R,
     old: &[u8],
     splices: &[(usize, usize, &[u8])],
-) -> Result<Text, AllocError> {
-    let mut text = Text::new(Vec::from_slice(rt.alloc(), old)?);
+) -> Result<Editing, AllocError> {
+    let mut text = Editing::new(Vec::from_slice(rt.alloc(), old)?);
     for (at, removed, bytes) in splices {
         let size = text.bytes().len();
         assert!(rt;
@@ -29,7 +29,7 @@ pub(crate) fn are(patches: &[Patch], expected: &[(usize, &[u8])]) -> bool {
 }
 
 /// Whether a text has these bytes and these patches.
-fn has(text: &Text, bytes: &[u8], patches: &[(usize, &[u8])]) -> Result<bool, AllocError> {
+fn has(text: &Editing, bytes: &[u8], patches: &[(usize, &[u8])]) -> Result<bool, AllocError> {
     Ok(text.bytes() == bytes && are(&text.patches()?, patches))
 }
 
@@ -89,7 +89,7 @@ fn splices_of_worked_texts(rt: HostRuntime) -> Result<(), AllocError> {
 }
 
 /// Changes every other byte of a text, and asserts that each is a patch of its own, up to a thousand.
-fn assert_counts(rt: &impl Abort, text: &mut Text) -> Result<(), AllocError> {
+fn assert_counts(rt: &impl Abort, text: &mut Editing) -> Result<(), AllocError> {
     for i in 0..1_001usize {
         assert!(rt; 2 * i + 1 <= text.bytes().len());
         text.splice(2 * i, 1, b"b")?;
@@ -112,7 +112,7 @@ fn assert_every_other(rt: &impl Abort, patches: &[Patch]) {
 
 #[test]
 fn more_than_a_thousand_ranges(rt: HostRuntime) -> Result<(), AllocError> {
-    let mut text = Text::new(vec![in rt.alloc(); b'a'; 2_002]?);
+    let mut text = Editing::new(vec![in rt.alloc(); b'a'; 2_002]?);
     assert_counts(&rt, &mut text)?;
     assert_every_other(&rt, &text.patches()?);
     Ok(())
@@ -135,28 +135,17 @@ fn texts_with_a_newline_at_their_end(rt: HostRuntime) -> Result<(), AllocError> 
 }
 
 #[test]
-fn settled_texts_and_copies(rt: HostRuntime) -> Result<(), AllocError> {
+fn settled_texts(rt: HostRuntime) -> Result<(), AllocError> {
     let mut text = edited(&rt, b"* A\n", &[(2, 1, b"B")])?;
-    let copy = text.copy()?;
-    text.settled();
+    assert!(rt; has(&text, b"* B\n", &[(2, b"B")])?);
+    text.settle();
     assert!(rt; has(&text, b"* B\n", &[(0, b"")])?);
-    assert!(rt; has(&copy, b"* B\n", &[(2, b"B")])?);
-    Ok(())
-}
-
-#[test]
-fn bytes_given_away(rt: HostRuntime) -> Result<(), AllocError> {
-    let mut text = Text::new(Vec::from_slice(rt.alloc(), b"* A")?);
-    text.splice(2, 0, b"B")?;
-    text.close_line()?;
-    let bytes = text.into_bytes();
-    assert!(rt; bytes.as_slice() == b"* BA\n".as_slice());
     Ok(())
 }
 
 #[test]
 fn edit_of_a_heading(rt: HostRuntime) -> Result<(), AllocError> {
-    let mut text = Text::new(Vec::from_slice(rt.alloc(), b"* A\n")?);
+    let mut text = Editing::new(Vec::from_slice(rt.alloc(), b"* A\n")?);
     let bytes = Bytes::new(Vec::from_slice(rt.alloc(), b"BC")?);
     text.apply(&Edit {
         at: 2,

@@ -6,7 +6,7 @@ use Rattle.std.proofs.lemmas.List.{get_or_default}
 use Rattle.org_disk.specs.Disk.{FileState}
 use Rattle.org_disk.specs.Memory.{memory_files}
 use Rattle.org_disk.proofs.Names.{name_cases}
-use Rattle.org_splice.specs.ChangeSet.{with_text}
+use Rattle.org_disk_tests.specs.Edited.{with_text}
 use Rattle.org_splice.specs.Texts.{EditedText, IsEditOf, settled}
 use Rattle.org_journal.specs.Standing.{contents}
 use Rattle.org_fileset.specs.Names.{limit}
@@ -17,19 +17,19 @@ abbrev Change : Type 0
 Change = List ℕ × EditedText
 
 module _ (P : Change → Type 0) (name : List ℕ) (text : EditedText) (this : P (name, text)) where
-  each_with : (changes : List Change) → AllByRecursion P changes → AllByRecursion P (with_text bytes_eq changes name text)
+  each_with : (changes : List Change) → AllByRecursion P changes → AllByRecursion P (with_text changes name text)
   each_with [] each = (this, tt)
   each_with (change ∷ changes) each = elim (name_cases name change.0) [
     | inl same ↦ let e : bytes_eq name change.0 ≡ true = same.1 in rw e (subst (λ (n : List ℕ). P (n, text)) same.0 this, each.1)
     | inr other ↦ let e : bytes_eq name change.0 ≡ false = other.1 in rw e (each.0, each_with changes each.1)
   ]
 
-  all_with : (changes : List Change) → All P changes → All P (with_text bytes_eq changes name text)
-  all_with changes all = All-from_recursion P (with_text bytes_eq changes name text) (each_with changes (recursion_from_All P changes all))
+  all_with : (changes : List Change) → All P changes → All P (with_text changes name text)
+  all_with changes all = All-from_recursion P (with_text changes name text) (each_with changes (recursion_from_All P changes all))
 
 -- one change more, after a read
 one_more : (names after shown : List (List ℕ)) (files now : List ℕ → FileState) (changes new : List Change) (k : ℕ) (name found : List ℕ) (text : EditedText) → AreCommittable names (contents files) changes
-    → after ≡ names → now ≡ files → new ≡ with_text bytes_eq changes name text → shown ≡ names → k < length shown → found ≡ get_or shown k found → name ≡ found
+    → after ≡ names → now ≡ files → new ≡ with_text changes name text → shown ≡ names → k < length shown → found ≡ get_or shown k found → name ≡ found
     → length text.bytes ≤ limit → IsEditOf (contents files name) text → AreCommittable after (contents now) new
 one_more names after shown files now changes new k name found text can same_names same_files put is_shown within found_is name_is small edit =
     let at : get_or shown k name ≡ name = get_or_default shown k name found within ∙ sym found_is ∙ sym name_is in
