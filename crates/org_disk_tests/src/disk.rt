@@ -6,7 +6,22 @@ mod stops;
 use org_disk::{Disk, DiskFault, FileName, MemoryDisk};
 use org_fixtures::bytes_of;
 use std::alloc::Global;
+use std::process::Abort;
 use std::test::Fail;
+
+// What a step gives, which has to go well. Where it doesn't the test stops here and lets go of nothing, so a function
+// that owns a disk has no exit for each of its steps, which its proof would have to follow.
+fn must<T>(rt: &impl Abort, given: Result<T, Fail>) -> T {
+    match given {
+        Ok(value) => value,
+        Err(_) => panic!(rt; "a step of the test failed"),
+    }
+}
+
+// The name of the one file that these tests write.
+fn a_org(rt: &impl Abort, alloc: Global) -> FileName {
+    FileName::new(alloc, "a.org").expect(rt, "no name")
+}
 
 fn holds<D: Disk>(disk: &mut D, alloc: Global, name: &FileName, text: &str) -> Result<bool, Fail> {
     let bytes = bytes_of(alloc, disk, name)?;

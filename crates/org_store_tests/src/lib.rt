@@ -1,7 +1,5 @@
-//! Tests of the crates that know outlines on disks: org_store and org_serve. This crate has nothing else.
+//! Tests of org_store. This crate has nothing else.
 #![tactic(auto)]
 
-#[cfg(test)]
-mod serve;
 #[cfg(test)]
 mod store;

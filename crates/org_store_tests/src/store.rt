@@ -17,7 +17,17 @@ use org_splice::Bytes;
 use org_stamp::Moment;
 use org_store::{Command, OpenRefused, Reply, RunFault, Store};
 use std::alloc::Global;
+use std::process::Abort;
 use std::test::Fail;
+
+// What a step gives, which has to go well. Where it doesn't the test stops here and lets go of nothing, so a function
+// that owns a store has no exit for each of its steps, which its proof would have to follow.
+fn must<T>(rt: &impl Abort, given: Result<T, Fail>) -> T {
+    match given {
+        Ok(value) => value,
+        Err(_) => panic!(rt; "a step of the test failed"),
+    }
+}
 
 // A store over a disk, or why it wasn't opened.
 fn opened(
@@ -37,6 +47,12 @@ fn open(alloc: Global, disk: MemoryDisk) -> Result<Store<MemoryDisk>, Fail> {
         Ok(store) => Ok(store),
         Err(refused) => Err(refused.fault)?,
     }
+}
+
+// A store over a.org and b.org, which have these texts.
+fn store_over(rt: &impl Abort, alloc: Global, a: &[u8], b: &[u8]) -> Store<MemoryDisk> {
+    let disk = must(rt, two_files(alloc, a, b));
+    must(rt, open(alloc, disk))
 }
 
 // A capture on 2026-07-01 at 10:00.
@@ -79,9 +95,9 @@ fn both(alloc: Global, store: &mut Store<MemoryDisk>) -> Result<(Vec<u8>, Vec<u8
 }
 
 // The texts of both files, as a store over this disk shows them.
-fn left_on(alloc: Global, disk: MemoryDisk) -> Result<(Vec<u8>, Vec<u8>), Fail> {
-    let mut store = open(alloc, disk)?;
-    both(alloc, &mut store)
+fn left_on(rt: &impl Abort, alloc: Global, disk: MemoryDisk) -> (Vec<u8>, Vec<u8>) {
+    let mut store = must(rt, open(alloc, disk));
+    must(rt, both(alloc, &mut store))
 }
 
 // Whether a show of the file answers this text.
@@ -136,7 +152,6 @@ fn has_counts(store: &Store<MemoryDisk>, accepted: u64, acknowledged: u64) -> bo
 }
 
 // How many calls of the disk an opening makes.
-fn calls_of_opening(alloc: Global) -> Result<u64, Fail> {
-    let store = open(alloc, two_files(alloc, b"* A\n", b"")?)?;
-    Ok(store.close().calls())
+fn calls_of_opening(rt: &impl Abort, alloc: Global) -> u64 {
+    store_over(rt, alloc, b"* A\n", b"").close().calls()
 }

@@ -11,6 +11,15 @@ use std::alloc::{AllocError, Global};
 use std::process::Abort;
 use std::test::Fail;
 
+// What a step gives, which has to go well. Where it doesn't the test stops here and lets go of nothing, so a function
+// that owns texts has no exit for each of its steps, which its proof would have to follow.
+fn must<T>(rt: &impl Abort, given: Result<T, Fail>) -> T {
+    match given {
+        Ok(value) => value,
+        Err(_) => panic!(rt; "a step of the test failed"),
+    }
+}
+
 // Makes an edit, if it can be made of the text and leaves a closed one.
 fn can_make(now: &mut Editing, edit: &Edit) -> Result<bool, AllocError>
     ensures { IfOk result (λ can. can ≡ true
@@ -131,81 +140,90 @@ fn assert_text(
     name: &str,
     text: &[u8],
     count: usize,
-) -> Result<(), Fail> {
-    let states = States::new(rt.alloc(), &["TODO"], &["DONE"])?;
-    let file = FileName::new(rt.alloc(), name)?;
+) {
+    let states = must(rt, states(rt.alloc()));
+    let file = must(rt, named(rt.alloc(), name));
     assert!(rt; is_held(texts, &file, &states, text, count), "{name}");
-    Ok(())
+}
+
+fn states(alloc: Global) -> Result<States, Fail> {
+    Ok(States::new(alloc, &["TODO"], &["DONE"])?)
+}
+
+fn named(alloc: Global, name: &str) -> Result<FileName, Fail> {
+    Ok(FileName::new(alloc, name)?)
+}
+
+// How many patches a text has.
+fn patches_of(text: &Editing) -> Result<usize, Fail> {
+    Ok(text.patches()?.len())
 }
 
 // Asserts that these names wait, in this order, each with so many patches.
-fn assert_waiting(rt: &impl Abort, texts: &Texts, expected: &[(&str, usize)]) -> Result<(), Fail> {
+fn assert_waiting(rt: &impl Abort, texts: &Texts, expected: &[(&str, usize)]) {
     assert!(rt; texts.len() == expected.len());
     for (i, (name, count)) in expected.iter().enumerate() {
         let (file, text) = texts.pair(i);
-        assert!(rt;
-            file.as_str() == *name && text.patches()?.len() == *count,
-            "{name}"
-        );
+        let patches = must(rt, patches_of(text));
+        assert!(rt; file.as_str() == *name && patches == *count, "{name}");
     }
-    Ok(())
 }
 
-fn two_files(alloc: Global) -> Result<Texts, Fail> {
+fn two_files(rt: &impl Abort, alloc: Global) -> Texts {
     let mut texts = Texts::new(alloc);
-    hold(alloc, &mut texts, "a.org", b"* A\n* B")?;
-    hold(alloc, &mut texts, "b.org", b"* C\n")?;
-    Ok(texts)
+    must(rt, hold(alloc, &mut texts, "a.org", b"* A\n* B"));
+    must(rt, hold(alloc, &mut texts, "b.org", b"* C\n"));
+    texts
 }
 
 // Asserts that the command was made, and changed both files.
-fn assert_made(rt: &(impl Abort + AllocGlobal), texts: &Texts) -> Result<(), Fail> {
-    assert_text(rt, texts, "a.org", b"* X\n", 1)?;
-    assert_text(rt, texts, "b.org", b"* C\n** B\n", 2)
+fn assert_made(rt: &(impl Abort + AllocGlobal), texts: &Texts) {
+    assert_text(rt, texts, "a.org", b"* X\n", 1);
+    assert_text(rt, texts, "b.org", b"* C\n** B\n", 2);
 }
 
-fn take_back(rt: &(impl Abort + AllocGlobal), texts: &mut Texts) -> Result<(), Fail> {
-    refile(rt.alloc(), texts)?;
-    assert_made(rt, texts)?;
-    assert_waiting(rt, texts, &[("a.org", 1), ("b.org", 1)])?;
+fn take_back(rt: &(impl Abort + AllocGlobal), texts: &mut Texts) {
+    must(rt, refile(rt.alloc(), texts));
+    assert_made(rt, texts);
+    assert_waiting(rt, texts, &[("a.org", 1), ("b.org", 1)]);
     texts.undo();
-    assert_text(rt, texts, "a.org", b"* A\n* B", 0)?;
-    assert_text(rt, texts, "b.org", b"* C\n", 0)?;
-    assert_waiting(rt, texts, &[])
+    assert_text(rt, texts, "a.org", b"* A\n* B", 0);
+    assert_text(rt, texts, "b.org", b"* C\n", 0);
+    assert_waiting(rt, texts, &[]);
 }
 
 #[test]
-fn a_command_taken_back(rt: HostRuntime) -> Result<(), Fail> {
-    let mut texts = two_files(rt.alloc())?;
-    take_back(&rt, &mut texts)
+fn a_command_taken_back(rt: HostRuntime) {
+    let mut texts = two_files(&rt, rt.alloc());
+    take_back(&rt, &mut texts);
 }
 
-fn keep_and_take_back(rt: &(impl Abort + AllocGlobal), texts: &mut Texts) -> Result<(), Fail> {
+fn keep_and_take_back(rt: &(impl Abort + AllocGlobal), texts: &mut Texts) {
     texts.keep();
-    refile(rt.alloc(), texts)?;
+    must(rt, refile(rt.alloc(), texts));
     texts.undo();
-    assert_text(rt, texts, "a.org", b"* A\n* B\n", 0)?;
-    assert_waiting(rt, texts, &[("a.org", 1), ("b.org", 1)])
+    assert_text(rt, texts, "a.org", b"* A\n* B\n", 0);
+    assert_waiting(rt, texts, &[("a.org", 1), ("b.org", 1)]);
 }
 
 #[test]
-fn a_command_kept_and_one_taken_back(rt: HostRuntime) -> Result<(), Fail> {
-    let mut texts = two_files(rt.alloc())?;
-    keep_and_take_back(&rt, &mut texts)
+fn a_command_kept_and_one_taken_back(rt: HostRuntime) {
+    let mut texts = two_files(&rt, rt.alloc());
+    keep_and_take_back(&rt, &mut texts);
 }
 
-fn commit(rt: &(impl Abort + AllocGlobal), texts: &mut Texts) -> Result<(), Fail> {
-    refile(rt.alloc(), texts)?;
+fn commit(rt: &(impl Abort + AllocGlobal), texts: &mut Texts) {
+    must(rt, refile(rt.alloc(), texts));
     texts.settle();
-    assert_waiting(rt, texts, &[])?;
+    assert_waiting(rt, texts, &[]);
     texts.undo();
-    assert_made(rt, texts)
+    assert_made(rt, texts);
 }
 
 #[test]
-fn a_commit_settles(rt: HostRuntime) -> Result<(), Fail> {
-    let mut texts = two_files(rt.alloc())?;
-    commit(&rt, &mut texts)
+fn a_commit_settles(rt: HostRuntime) {
+    let mut texts = two_files(&rt, rt.alloc());
+    commit(&rt, &mut texts);
 }
 
 // Makes edits of one file.
@@ -226,7 +244,7 @@ fn edit(
 
 // Where the subtree of the second heading of a.org lies.
 fn second_subtree(alloc: Global, texts: &Texts) -> Result<Span, Fail> {
-    let states = States::new(alloc, &["TODO"], &["DONE"])?;
+    let states = states(alloc)?;
     let held = texts
         .get(&FileName::new(alloc, "a.org")?)
         .ok_or("not held")?;
@@ -239,27 +257,39 @@ fn second_subtree(alloc: Global, texts: &Texts) -> Result<Span, Fail> {
 }
 
 #[test]
-fn a_text_is_closed_and_its_headings_follow(rt: HostRuntime) -> Result<(), Fail> {
+fn a_text_is_closed_and_its_headings_follow(rt: HostRuntime) {
     let mut texts = Texts::new(rt.alloc());
-    hold(rt.alloc(), &mut texts, "a.org", b"* A\ntext\n** B")?;
-    assert_text(&rt, &texts, "a.org", b"* A\ntext\n** B\n", 2)?;
-    edit(rt.alloc(), &mut texts, "a.org", &[(4, 5, b"* C\n")])?;
-    assert_text(&rt, &texts, "a.org", b"* A\n* C\n** B\n", 3)?;
-    assert!(rt; second_subtree(rt.alloc(), &texts)? == Span { start: 4, end: 13 });
+    must(
+        &rt,
+        hold(rt.alloc(), &mut texts, "a.org", b"* A\ntext\n** B"),
+    );
+    assert_text(&rt, &texts, "a.org", b"* A\ntext\n** B\n", 2);
+    must(
+        &rt,
+        edit(rt.alloc(), &mut texts, "a.org", &[(4, 5, b"* C\n")]),
+    );
+    assert_text(&rt, &texts, "a.org", b"* A\n* C\n** B\n", 3);
+    let subtree = must(&rt, second_subtree(rt.alloc(), &texts));
+    assert!(rt; subtree == Span { start: 4, end: 13 });
+}
+
+// Holds a text as the disk has it.
+fn hold_as_it_is(alloc: Global, texts: &mut Texts, name: &str, text: &[u8]) -> Result<(), Fail> {
+    let file = FileName::new(alloc, name)?;
+    if texts.get(&file).is_some() {
+        return Err(Fail::from("held"));
+    }
+    texts.hold(file, Vec::from_slice(alloc, text)?)?;
     Ok(())
 }
 
 // Holds texts as the disk has them.
-fn hold_each(alloc: Global, rows: &[(&str, &[u8])]) -> Result<Texts, Fail> {
+fn hold_each(rt: &impl Abort, alloc: Global, rows: &[(&str, &[u8])]) -> Texts {
     let mut texts = Texts::new(alloc);
     for (name, text) in rows {
-        let file = FileName::new(alloc, name)?;
-        if texts.get(&file).is_some() {
-            return Err(Fail::from("held"));
-        }
-        texts.hold(file, Vec::from_slice(alloc, text)?)?;
+        must(rt, hold_as_it_is(alloc, &mut texts, name, text));
     }
-    Ok(texts)
+    texts
 }
 
 // Asserts that these texts wait, in this order.
@@ -272,30 +302,33 @@ fn assert_changes(rt: &impl Abort, texts: &Texts, expected: &[(&str, &[u8])]) {
 }
 
 #[test]
-fn a_text_keeps_its_place(rt: HostRuntime) -> Result<(), Fail> {
+fn a_text_keeps_its_place(rt: HostRuntime) {
     let alloc = rt.alloc();
-    let mut texts = hold_each(alloc, &[("a.org", b"* A\n"), ("b.org", b"* B\n")])?;
-    edit(alloc, &mut texts, "a.org", &[(0, 0, b"")])?;
-    edit(alloc, &mut texts, "b.org", &[(0, 0, b"")])?;
+    let mut texts = hold_each(&rt, alloc, &[("a.org", b"* A\n"), ("b.org", b"* B\n")]);
+    must(&rt, edit(alloc, &mut texts, "a.org", &[(0, 0, b"")]));
+    must(&rt, edit(alloc, &mut texts, "b.org", &[(0, 0, b"")]));
     assert_changes(&rt, &texts, &[("a.org", b"* A\n"), ("b.org", b"* B\n")]);
     texts.keep();
-    edit(alloc, &mut texts, "a.org", &[(2, 1, b"C")])?;
+    must(&rt, edit(alloc, &mut texts, "a.org", &[(2, 1, b"C")]));
     assert_changes(&rt, &texts, &[("a.org", b"* C\n"), ("b.org", b"* B\n")]);
-    assert_text(&rt, &texts, "b.org", b"* B\n", 0)?;
-    assert!(rt; texts.get(&FileName::new(alloc, "c.org")?).is_none());
-    Ok(())
+    assert_text(&rt, &texts, "b.org", b"* B\n", 0);
+    assert!(rt; !must(&rt, holds(alloc, &texts, "c.org")));
+}
+
+// Whether there is a text of this name.
+fn holds(alloc: Global, texts: &Texts, name: &str) -> Result<bool, Fail> {
+    Ok(texts.get(&FileName::new(alloc, name)?).is_some())
 }
 
 // The first is closed as it is, and waits before the second, which gets a newline.
 #[test]
-fn texts_wait_in_the_order_they_are_ready(rt: HostRuntime) -> Result<(), Fail> {
+fn texts_wait_in_the_order_they_are_ready(rt: HostRuntime) {
     let mut texts = Texts::new(rt.alloc());
-    hold(rt.alloc(), &mut texts, "b.org", b"* B\n")?;
-    hold(rt.alloc(), &mut texts, "a.org", b"* A")?;
+    must(&rt, hold(rt.alloc(), &mut texts, "b.org", b"* B\n"));
+    must(&rt, hold(rt.alloc(), &mut texts, "a.org", b"* A"));
     assert_changes(&rt, &texts, &[("b.org", b"* B\n"), ("a.org", b"* A\n")]);
     texts.undo();
     assert_changes(&rt, &texts, &[]);
-    Ok(())
 }
 
 // Changes b.org, which waits, and c.org, which is new.
@@ -307,31 +340,29 @@ fn change_two(alloc: Global, texts: &mut Texts) -> Result<(), Fail> {
     Ok(())
 }
 
+const FOUR: [(&str, &[u8]); 4] = [
+    ("a.org", b"* A"),
+    ("c.org", b""),
+    ("b.org", b"* B"),
+    ("d.org", b"* E"),
+];
+
+const THREE_WAIT: [(&str, &[u8]); 3] = [
+    ("b.org", b"* D\n"),
+    ("a.org", b"* A\n"),
+    ("c.org", b"* C\n"),
+];
+
 #[test]
-fn changes_are_the_texts_that_wait(rt: HostRuntime) -> Result<(), Fail> {
+fn changes_are_the_texts_that_wait(rt: HostRuntime) {
     let alloc = rt.alloc();
-    let rows: [(&str, &[u8]); 4] = [
-        ("a.org", b"* A"),
-        ("c.org", b""),
-        ("b.org", b"* B"),
-        ("d.org", b"* E"),
-    ];
-    let mut texts = hold_each(alloc, &rows)?;
-    edit(alloc, &mut texts, "b.org", &[(3, 0, b"\n")])?;
-    edit(alloc, &mut texts, "a.org", &[(3, 0, b"\n")])?;
+    let mut texts = hold_each(&rt, alloc, &FOUR);
+    must(&rt, edit(alloc, &mut texts, "b.org", &[(3, 0, b"\n")]));
+    must(&rt, edit(alloc, &mut texts, "a.org", &[(3, 0, b"\n")]));
     texts.keep();
     assert_changes(&rt, &texts, &[("b.org", b"* B\n"), ("a.org", b"* A\n")]);
-    change_two(alloc, &mut texts)?;
-    assert_changes(
-        &rt,
-        &texts,
-        &[
-            ("b.org", b"* D\n"),
-            ("a.org", b"* A\n"),
-            ("c.org", b"* C\n"),
-        ],
-    );
-    Ok(())
+    must(&rt, change_two(alloc, &mut texts));
+    assert_changes(&rt, &texts, &THREE_WAIT);
 }
 
 // Whether a text has one patch, of no bytes.
@@ -342,17 +373,15 @@ fn is_settled(alloc: Global, texts: &Texts, name: &str) -> Result<bool, Fail> {
 }
 
 #[test]
-fn settled_texts_have_no_changes(rt: HostRuntime) -> Result<(), Fail> {
+fn settled_texts_have_no_changes(rt: HostRuntime) {
     let alloc = rt.alloc();
-    let mut texts = hold_each(alloc, &[("a.org", b"* A\n"), ("c.org", b"* C")])?;
-    edit(alloc, &mut texts, "a.org", &[(4, 0, b"* B\n")])?;
-    assert!(rt; !is_settled(alloc, &texts, "a.org")?);
+    let mut texts = hold_each(&rt, alloc, &[("a.org", b"* A\n"), ("c.org", b"* C")]);
+    must(&rt, edit(alloc, &mut texts, "a.org", &[(4, 0, b"* B\n")]));
+    assert!(rt; !must(&rt, is_settled(alloc, &texts, "a.org")));
     texts.settle();
     assert_changes(&rt, &texts, &[]);
-    assert_text(&rt, &texts, "a.org", b"* A\n* B\n", 0)?;
-    assert_text(&rt, &texts, "c.org", b"* C", 0)?;
-    for name in ["a.org", "c.org"] {
-        assert!(rt; is_settled(alloc, &texts, name)?, "{name}");
-    }
-    Ok(())
+    assert_text(&rt, &texts, "a.org", b"* A\n* B\n", 0);
+    assert_text(&rt, &texts, "c.org", b"* C", 0);
+    assert!(rt; must(&rt, is_settled(alloc, &texts, "a.org")), "a.org");
+    assert!(rt; must(&rt, is_settled(alloc, &texts, "c.org")), "c.org");
 }

@@ -2,32 +2,44 @@
 ghost use Rattle.std.specs.Prelude.{◌≡◌, List, ℕ, length, take, OnOk};
 ghost use Rattle.org_disk.specs.Disk.{AreImages};
 
-use super::{holds, sync_write_cut};
+use super::{a_org, holds, must, sync_write_cut};
 use org_disk::{Disk, DiskFault, FileName, Fuse, MemoryDisk};
 use std::alloc::Global;
+use std::process::Abort;
 use std::test::Fail;
 
+// Which of the six calls fails, and what the file then holds.
+const FAILED: [(u64, &str); 6] = [
+    (1, ""),
+    (2, ""),
+    (3, "abc"),
+    (4, "abc"),
+    (5, "aXY"),
+    (6, "aX"),
+];
+
+// Whether the k-th of the six calls fails, and leaves this text.
+fn fails(
+    disk: &mut MemoryDisk,
+    alloc: Global,
+    name: &FileName,
+    k: u64,
+    left: &str,
+) -> Result<bool, Fail> {
+    disk.fail_at(k);
+    let made = sync_write_cut(disk, name);
+    Ok(made.is_err() && holds(disk, alloc, name, left)?)
+}
+
 #[test]
-fn failed_calls_have_no_effect(rt: HostRuntime) -> Result<(), Fail> {
+fn failed_calls_have_no_effect(rt: HostRuntime) {
     let alloc = rt.alloc();
-    let a = FileName::new(alloc, "a.org")?;
-    for (k, left) in [
-        (1, ""),
-        (2, ""),
-        (3, "abc"),
-        (4, "abc"),
-        (5, "aXY"),
-        (6, "aX"),
-    ] {
+    let a = a_org(&rt, alloc);
+    for (k, left) in FAILED {
         let mut disk = MemoryDisk::new(alloc);
-        disk.fail_at(k);
-        let made = sync_write_cut(&mut disk, &a);
-        assert!(rt;
-            made.is_err() && holds(&mut disk, alloc, &a, left)?,
-            "call {k}"
-        );
+        let fails = must(&rt, fails(&mut disk, alloc, &a, k, left));
+        assert!(rt; fails, "call {k}");
     }
-    Ok(())
 }
 
 // Whether the k-th of the six calls fails, and that one alone; where there is none, they are made.
@@ -41,37 +53,36 @@ fn fails_once(disk: &mut MemoryDisk, alloc: Global, name: &FileName, k: u64) -> 
 }
 
 #[test]
-fn failed_calls(rt: HostRuntime) -> Result<(), Fail> {
+fn failed_calls(rt: HostRuntime) {
     let alloc = rt.alloc();
-    let a = FileName::new(alloc, "a.org")?;
+    let a = a_org(&rt, alloc);
     for k in 0..8u64 {
         let mut disk = MemoryDisk::new(alloc);
         disk.fail_at(1);
         disk.fail_at(k);
-        assert!(rt; fails_once(&mut disk, alloc, &a, k)?, "call {k}");
+        let fails_once = must(&rt, fails_once(&mut disk, alloc, &a, k));
+        assert!(rt; fails_once, "call {k}");
     }
-    Ok(())
 }
 
 // Whether a fuse blows after so many of the six calls, the disk then holding this text.
-fn blows(alloc: Global, name: &FileName, k: u64, held: &str) -> Result<bool, Fail> {
+fn blows(rt: &impl Abort, alloc: Global, name: &FileName, k: u64, held: &str) -> bool {
     let mut fuse = Fuse::new(MemoryDisk::new(alloc), k);
     let made = sync_write_cut(&mut fuse, name);
     let after = fuse.sync(name);
     let mut disk = fuse.into_inner();
     let calls = disk.calls();
-    let is_held = holds(&mut disk, alloc, name, held)?;
-    Ok(made.is_ok() == (k == 6) && after.is_err() && calls == k && is_held)
+    let is_held = must(rt, holds(&mut disk, alloc, name, held));
+    made.is_ok() == (k == 6) && after.is_err() && calls == k && is_held
 }
 
 #[test]
-fn blown_fuse(rt: HostRuntime) -> Result<(), Fail> {
+fn blown_fuse(rt: HostRuntime) {
     let alloc = rt.alloc();
-    let a = FileName::new(alloc, "a.org")?;
+    let a = a_org(&rt, alloc);
     for (k, held) in [(0, ""), (3, "abc"), (4, "aXY"), (6, "aX")] {
-        assert!(rt; blows(alloc, &a, k, held)?, "after {k} calls");
+        assert!(rt; blows(&rt, alloc, &a, k, held), "after {k} calls");
     }
-    Ok(())
 }
 
 // Whatever a stop leaves from then on, it holds what was written first.
@@ -91,11 +102,10 @@ fn write_sync_write<D: Disk>(
 }
 
 #[test]
-fn first_write_stays(rt: HostRuntime) -> Result<(), Fail> {
+fn first_write_stays(rt: HostRuntime) {
     let alloc = rt.alloc();
-    let a = FileName::new(alloc, "a.org")?;
+    let a = a_org(&rt, alloc);
     let mut disk = MemoryDisk::new(alloc);
     let made = write_sync_write(&mut disk, &a, b"kept", b" and more");
-    assert!(rt; made.is_ok() && holds(&mut disk, alloc, &a, "kept and more")?);
-    Ok(())
+    assert!(rt; made.is_ok() && must(&rt, holds(&mut disk, alloc, &a, "kept and more")));
 }

@@ -2,7 +2,7 @@
 ghost use Rattle.std.specs.Prelude.{◌≡◌, codes};
 ghost use Rattle.org_disk.specs.Disk.{stable};
 
-use super::{leaves, sync_write_cut};
+use super::{a_org, leaves, must, sync_write_cut};
 use org_disk::{Disk, DiskFault, FileName, MemoryDisk, Outcome};
 use std::alloc::Global;
 use std::test::Fail;
@@ -26,9 +26,9 @@ fn stops_write(alloc: Global, name: &FileName, outcome: Outcome, left: &str) -> 
 }
 
 #[test]
-fn stopped_write(rt: HostRuntime) -> Result<(), Fail> {
+fn stopped_write(rt: HostRuntime) {
     let alloc = rt.alloc();
-    let a = FileName::new(alloc, "a.org")?;
+    let a = a_org(&rt, alloc);
     for (outcome, left) in [
         (Outcome::All, "abXYPQRS"),
         (Outcome::None, "abcdef"),
@@ -38,9 +38,8 @@ fn stopped_write(rt: HostRuntime) -> Result<(), Fail> {
         (Outcome::Front(9), "abXYPQRS"),
         (Outcome::Fill(b'-'), "ab------"),
     ] {
-        assert!(rt; stops_write(alloc, &a, outcome, left)?, "{left}");
+        assert!(rt; must(&rt, stops_write(alloc, &a, outcome, left)), "{left}");
     }
-    Ok(())
 }
 
 // From `abcdef`: `XYcdef`, `XYc`.
@@ -61,24 +60,34 @@ fn stops_cut(alloc: Global, name: &FileName, outcome: Outcome, left: &str) -> Re
 }
 
 #[test]
-fn stopped_cut(rt: HostRuntime) -> Result<(), Fail> {
+fn stopped_cut(rt: HostRuntime) {
     let alloc = rt.alloc();
-    let a = FileName::new(alloc, "a.org")?;
+    let a = a_org(&rt, alloc);
     for (outcome, left) in [
         (Outcome::All, "XYc"),
         (Outcome::None, "abcdef"),
         (Outcome::Front(1), "XYcdef"),
         (Outcome::Fill(b'-'), "--c---"),
     ] {
-        assert!(rt; stops_cut(alloc, &a, outcome, left)?, "{left}");
+        assert!(rt; must(&rt, stops_cut(alloc, &a, outcome, left)), "{left}");
     }
-    Ok(())
+}
+
+// Whether the six calls fail, and what is left has this text.
+fn stops_at(
+    disk: &mut MemoryDisk,
+    alloc: Global,
+    name: &FileName,
+    left: &str,
+) -> Result<bool, Fail> {
+    let made = sync_write_cut(disk, name);
+    Ok(made.is_err() && leaves(disk, alloc, name, left)?)
 }
 
 #[test]
-fn stopped_sync(rt: HostRuntime) -> Result<(), Fail> {
+fn stopped_sync(rt: HostRuntime) {
     let alloc = rt.alloc();
-    let a = FileName::new(alloc, "a.org")?;
+    let a = a_org(&rt, alloc);
     for (k, outcome, left) in [
         (3, Outcome::All, "abc"),
         (3, Outcome::None, ""),
@@ -91,10 +100,9 @@ fn stopped_sync(rt: HostRuntime) -> Result<(), Fail> {
     ] {
         let mut disk = MemoryDisk::new(alloc);
         disk.stop_at(k, outcome);
-        let made = sync_write_cut(&mut disk, &a);
-        assert!(rt; made.is_err() && leaves(&disk, alloc, &a, left)?, "{left}");
+        let stops = must(&rt, stops_at(&mut disk, alloc, &a, left));
+        assert!(rt; stops, "{left}");
     }
-    Ok(())
 }
 
 // Whether the six calls are made and leave `aX`, also after a seventh, which answers this length.
@@ -112,16 +120,16 @@ fn goes_on(
 }
 
 #[test]
-fn no_stop(rt: HostRuntime) -> Result<(), Fail> {
+fn no_stop(rt: HostRuntime) {
     let alloc = rt.alloc();
-    let a = FileName::new(alloc, "a.org")?;
+    let a = a_org(&rt, alloc);
     for (k, length) in [(0, Ok(2)), (7, Err(DiskFault))] {
         let mut disk = MemoryDisk::new(alloc);
         disk.stop_at(1, Outcome::None);
         disk.stop_at(k, Outcome::None);
-        assert!(rt; goes_on(&mut disk, alloc, &a, length)?, "to stop at {k}");
+        let goes_on = must(&rt, goes_on(&mut disk, alloc, &a, length));
+        assert!(rt; goes_on, "to stop at {k}");
     }
-    Ok(())
 }
 
 // Whether a write, a cut and a sync fail.
@@ -139,15 +147,14 @@ fn stops_all(alloc: Global, name: &FileName, outcome: Outcome, left: &str) -> Re
 }
 
 #[test]
-fn nothing_counts_after_a_stop(rt: HostRuntime) -> Result<(), Fail> {
+fn nothing_counts_after_a_stop(rt: HostRuntime) {
     let alloc = rt.alloc();
-    let a = FileName::new(alloc, "a.org")?;
+    let a = a_org(&rt, alloc);
     for (outcome, left) in [
         (Outcome::All, "XYcdef"),
         (Outcome::None, "abcdef"),
         (Outcome::Front(1), "Xbcdef"),
     ] {
-        assert!(rt; stops_all(alloc, &a, outcome, left)?, "{left}");
+        assert!(rt; must(&rt, stops_all(alloc, &a, outcome, left)), "{left}");
     }
-    Ok(())
 }

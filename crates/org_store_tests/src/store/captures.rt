@@ -1,10 +1,11 @@
 // Captures, one at a time: what each makes of its file, and what a refused one leaves.
 ghost use Rattle.std.specs.Prelude.{◌≤◌};
 
-use super::{answered, capture, captured, has_counts, left_on, open, shown, shows, shows_both};
+use super::{
+    answered, capture, captured, has_counts, left_on, must, shown, shows, shows_both, store_over,
+};
 use org_capture::Target;
 use org_disk::MemoryDisk;
-use org_fixtures::two_files;
 use org_outline::{Place, Titles};
 use org_splice::Bytes;
 use org_store::{Command, Refusal, RunFault, Store};
@@ -16,24 +17,19 @@ fn settles(store: &mut Store<MemoryDisk>) -> bool {
     store.settle().is_ok()
 }
 
-fn capture_and_show(
-    rt: &impl Abort,
-    alloc: Global,
-    store: &mut Store<MemoryDisk>,
-) -> Result<(), Fail> {
-    assert!(rt; matches!(captured(alloc, store, "a.org", b"* B")?, Ok(1)));
-    assert!(rt; shows_both(alloc, store, b"* A\n* B\n", b"* Z")?);
-    assert!(rt; shows(alloc, store, "a.org_archive", b"")?);
+fn capture_and_show(rt: &impl Abort, alloc: Global, store: &mut Store<MemoryDisk>) {
+    assert!(rt; must(rt, captured(alloc, store, "a.org", b"* B")) == Ok(1));
+    assert!(rt; must(rt, shows_both(alloc, store, b"* A\n* B\n", b"* Z")));
+    assert!(rt; must(rt, shows(alloc, store, "a.org_archive", b"")));
     assert!(rt; settles(store));
     assert!(rt; has_counts(store, 1, 1) && !store.is_broken());
-    Ok(())
 }
 
 #[test]
-fn captures_and_shows(rt: HostRuntime) -> Result<(), Fail> {
+fn captures_and_shows(rt: HostRuntime) {
     let alloc = rt.alloc();
-    let mut store = open(alloc, two_files(alloc, b"* A", b"* Z")?)?;
-    capture_and_show(&rt, alloc, &mut store)
+    let mut store = store_over(&rt, alloc, b"* A", b"* Z");
+    capture_and_show(&rt, alloc, &mut store);
 }
 
 // What a new entry goes below.
@@ -153,80 +149,84 @@ const EXPANDED: [(&str, &str, &str); 3] = [
     ("* N\n> %i", "a\nb", "* N\n> a\n> b\n"),
 ];
 
-// What a capture into a.org, which has this text, makes of it: as a show answers it, and as the disk has it.
-fn text_behind(
+// Whether a capture into a.org is accepted as the one of this number.
+fn is_captured(
+    alloc: Global,
+    store: &mut Store<MemoryDisk>,
+    number: u64,
+    (below, place): (Below, Place),
+    (template, initial): (&str, &str),
+) -> Result<bool, Fail> {
+    let command = capture_below(alloc, "a.org", below, place, template, initial)?;
+    Ok(answered(store, &command)? == Ok(number))
+}
+
+// Whether a.org has this text, as a show answers it and as the disk has it.
+fn has_text(rt: &impl Abort, alloc: Global, store: Store<MemoryDisk>, wanted: &[u8]) -> bool {
+    let mut store = store;
+    let is_shown = must(rt, shows(alloc, &mut store, "a.org", wanted));
+    let (left, _) = left_on(rt, alloc, store.close());
+    is_shown && left.as_slice() == wanted
+}
+
+// Whether a capture into a.org, which has this text, makes the wanted one of it.
+fn makes(
+    rt: &impl Abort,
     alloc: Global,
     text: &str,
-    below: Below,
-    place: Place,
-    template: &str,
-    initial: &str,
-) -> Result<(Vec<u8>, Vec<u8>), Fail> {
-    let mut store = open(alloc, two_files(alloc, text.as_bytes(), b"* Z")?)?;
-    let command = capture_below(alloc, "a.org", below, place, template, initial)?;
-    match answered(&mut store, &command)? {
-        Ok(1) => {}
-        _ => return Err(Fail::from("not accepted")),
-    }
-    let shown = shown(alloc, &mut store, "a.org")?;
-    let (left, _) = left_on(alloc, store.close())?;
-    Ok((shown, left))
+    at: (Below, Place),
+    entry: (&str, &str),
+    wanted: &str,
+) -> bool {
+    let mut store = store_over(rt, alloc, text.as_bytes(), b"* Z");
+    let is_captured = must(rt, is_captured(alloc, &mut store, 1, at, entry));
+    is_captured && has_text(rt, alloc, store, wanted.as_bytes())
 }
 
 #[test]
-fn captures_below_each_target(rt: HostRuntime) -> Result<(), Fail> {
+fn captures_below_each_target(rt: HostRuntime) {
     for (text, below, place, wanted) in PLACED {
-        let (shown, left) = text_behind(rt.alloc(), text, below, place, "* N", "")?;
-        assert!(rt; shown.as_slice() == wanted.as_bytes(), "{text}");
-        assert!(rt; left.as_slice() == wanted.as_bytes(), "{text}");
+        let makes = makes(&rt, rt.alloc(), text, (below, place), ("* N", ""), wanted);
+        assert!(rt; makes, "{text}");
     }
-    Ok(())
 }
 
 #[test]
-fn captures_of_templates(rt: HostRuntime) -> Result<(), Fail> {
+fn captures_of_templates(rt: HostRuntime) {
+    let top = (Below::Top, Place::Last);
     for (template, initial, wanted) in EXPANDED {
-        let (shown, left) = text_behind(
-            rt.alloc(),
-            "",
-            Below::Top,
-            Place::Last,
-            template,
-            initial,
-        )?;
-        assert!(rt; shown.as_slice() == wanted.as_bytes(), "{template}");
-        assert!(rt; left.as_slice() == wanted.as_bytes(), "{template}");
+        let makes = makes(&rt, rt.alloc(), "", top, (template, initial), wanted);
+        assert!(rt; makes, "{template}");
     }
-    Ok(())
 }
 
-// What two captures of one day into a.org make of it, settled together or one by one.
-fn two_of_a_day(alloc: Global, group: u32) -> Result<(Vec<u8>, Vec<u8>), Fail>
+// Whether two captures of one day into a.org are accepted.
+fn are_captured(alloc: Global, store: &mut Store<MemoryDisk>) -> Result<bool, Fail> {
+    let at = (Below::Date(&[]), Place::Last);
+    Ok(
+        is_captured(alloc, store, 1, at, ("* N", ""))?
+            && is_captured(alloc, store, 2, at, ("* K", ""))?,
+    )
+}
+
+const DAY: &[u8] = b"* 2026\n** 2026-07 July\n*** 2026-07-01 Wednesday\n**** N\n**** K\n* 2027\n";
+
+// Whether two captures of one day make the day once, settled together or one by one.
+fn makes_a_day(rt: &impl Abort, alloc: Global, group: u32) -> bool
     requires { (1 ≤ group) × (group ≤ 1000) }
 {
-    let mut store = open(alloc, two_files(alloc, b"* 2027\n", b"")?)?;
+    let mut store = store_over(rt, alloc, b"* 2027\n", b"");
     store.set_group(group);
-    for template in ["* N", "* K"] {
-        let command = capture_below(alloc, "a.org", Below::Date(&[]), Place::Last, template, "")?;
-        if answered(&mut store, &command)?.is_err() {
-            return Err(Fail::from("not accepted"));
-        }
-    }
-    let shown = shown(alloc, &mut store, "a.org")?;
-    let (left, _) = left_on(alloc, store.close())?;
-    Ok((shown, left))
+    let are_captured = must(rt, are_captured(alloc, &mut store));
+    are_captured && has_text(rt, alloc, store, DAY)
 }
 
 // The second entry goes behind the first, and no other heading is new.
 #[test]
-fn a_day_is_made_once(rt: HostRuntime) -> Result<(), Fail> {
-    let wanted = b"* 2026\n** 2026-07 July\n*** 2026-07-01 Wednesday\n**** N\n**** K\n* 2027\n";
+fn a_day_is_made_once(rt: HostRuntime) {
     for group in 1..3u32 {
-        let (shown, left) = two_of_a_day(rt.alloc(), group)?;
-        assert!(rt; shown.as_slice() == wanted.as_slice(), "{group}");
-        assert!(rt; left.as_slice() == wanted.as_slice(), "{group}");
+        assert!(rt; makes_a_day(&rt, rt.alloc(), group), "{group}");
     }
-    Ok(())
 }
 
 // What a.org is, the file of a capture, what its entry goes below, its template, and why it is refused.
@@ -336,20 +336,26 @@ fn is_refused(
 
 // Whether a capture over such an a.org is refused for this reason, the first time and the second.
 fn is_refused_twice(
+    rt: &impl Abort,
     alloc: Global,
     (text, file, below, template, why): (&str, &str, Below, &str, Refusal),
-) -> Result<bool, Fail> {
-    let mut store = open(alloc, two_files(alloc, text.as_bytes(), b"")?)?;
-    let command = capture_below(alloc, file, below, Place::Last, template, "")?;
-    let first = is_refused(alloc, &mut store, &command, text, why)?;
-    let second = is_refused(alloc, &mut store, &command, text, why)?;
-    Ok(first && second)
+) -> bool {
+    let mut store = store_over(rt, alloc, text.as_bytes(), b"");
+    let place = Place::Last;
+    let command = must(rt, capture_below(alloc, file, below, place, template, ""));
+    let first = must(rt, is_refused(alloc, &mut store, &command, text, why));
+    let second = must(rt, is_refused(alloc, &mut store, &command, text, why));
+    first && second
 }
 
 #[test]
-fn refusals_leave_each_byte(rt: HostRuntime) -> Result<(), Fail> {
+fn refusals_leave_each_byte(rt: HostRuntime) {
     for row in REFUSED {
-        assert!(rt; is_refused_twice(rt.alloc(), row)?, "{} {}", row.0, row.3);
+        assert!(rt;
+            is_refused_twice(&rt, rt.alloc(), row),
+            "{} {}",
+            row.0,
+            row.3
+        );
     }
-    Ok(())
 }

@@ -1,9 +1,10 @@
 // The limits of files and names.
-use super::{captured, open, opened, shows};
+use super::{captured, must, opened, shows, store_over};
 use org_disk::MemoryDisk;
-use org_fixtures::{disk_with, numbered_names, org_names, two_files};
+use org_fixtures::{disk_with, numbered_names, org_names};
 use org_store::{OpenFault, OpenRefused, Refusal, RunFault, Store};
 use std::alloc::Global;
+use std::process::Abort;
 use std::test::Fail;
 
 fn fault_of(opened: Result<Store<MemoryDisk>, OpenRefused<MemoryDisk>>) -> Option<OpenFault> {
@@ -24,32 +25,32 @@ fn text_of(alloc: Global, size: usize, last: u8) -> Result<Vec<u8>, Fail> {
 
 // What a capture into a file of so many bytes is answered, and whether the file is as it was behind it.
 fn captured_at(
+    rt: &impl Abort,
     alloc: Global,
     size: usize,
     last: u8,
-) -> Result<(Result<u64, RunFault>, bool), Fail> {
-    let text = text_of(alloc, size, last)?;
-    let mut store = open(alloc, two_files(alloc, b"", &text)?)?;
-    let answer = captured(alloc, &mut store, "b.org", b"* B")?;
-    Ok((answer, shows(alloc, &mut store, "b.org", &text)?))
+) -> (Result<u64, RunFault>, bool) {
+    let text = must(rt, text_of(alloc, size, last));
+    let mut store = store_over(rt, alloc, b"", &text);
+    let answer = must(rt, captured(alloc, &mut store, "b.org", b"* B"));
+    (answer, must(rt, shows(alloc, &mut store, "b.org", &text)))
 }
 
 // The last newline that a text wants counts.
 #[test]
-fn the_limit_of_a_file(rt: HostRuntime) -> Result<(), Fail> {
+fn the_limit_of_a_file(rt: HostRuntime) {
     for (size, last) in [(67_108_860, b'\n'), (67_108_859, b'x')] {
-        let (answer, _) = captured_at(rt.alloc(), size, last)?;
-        assert!(rt; matches!(answer, Ok(1)), "{size}");
+        let (answer, _) = captured_at(&rt, rt.alloc(), size, last);
+        assert!(rt; answer == Ok(1), "{size}");
     }
     for (size, last) in [(67_108_861, b'\n'), (67_108_860, b'x')] {
-        let (answer, is_kept) = captured_at(rt.alloc(), size, last)?;
+        let (answer, is_kept) = captured_at(&rt, rt.alloc(), size, last);
         assert!(rt;
-            matches!(answer, Err(RunFault::Refused(Refusal::TooLarge))),
+            answer == Err(RunFault::Refused(Refusal::TooLarge)),
             "{size}"
         );
         assert!(rt; is_kept, "{size}");
     }
-    Ok(())
 }
 
 // A disk with two files of this text.

@@ -1,9 +1,9 @@
 // Refiles, one at a time, on rows worked by hand from the rules of refiling.
-use super::{has_counts, open, shows_both};
+use super::{answered, has_counts, must, shows_both, store_over};
 use org_disk::{FileName, MemoryDisk};
-use org_fixtures::{bytes_of, two_files};
+use org_fixtures::bytes_of;
 use org_outline::{Place, Titles};
-use org_store::{Command, Refusal, Reply, RunFault, Store};
+use org_store::{Command, Refusal, RunFault, Store};
 use std::alloc::{AllocError, Global};
 use std::process::Abort;
 use std::test::Fail;
@@ -45,307 +45,319 @@ fn refile(alloc: Global, from: Heading, to: Heading, place: Place) -> Result<Com
 fn refiled(
     alloc: Global,
     store: &mut Store<MemoryDisk>,
-    command: &Command,
+    from: Heading,
+    to: Heading,
+    place: Place,
 ) -> Result<Result<u64, RunFault>, Fail> {
-    match store.run(command) {
-        Ok(Reply::Done(number)) => Ok(Ok(number)),
-        Ok(_) => Err("no number")?,
-        Err(fault) => Ok(Err(fault)),
+    answered(store, &refile(alloc, from, to, place)?)
+}
+
+// Whether so many commands are accepted and on the disk, and these are the texts of both files.
+fn is_left(
+    alloc: Global,
+    store: &mut Store<MemoryDisk>,
+    count: u64,
+    (a, b): (&str, &str),
+) -> Result<bool, Fail> {
+    Ok(has_counts(store, count, count) && shows_both(alloc, store, a.as_bytes(), b.as_bytes())?)
+}
+
+// Whether a refile is answered what its row has, and makes of both files what the row has; one that is refused changes
+// nothing.
+fn goes(rt: &impl Abort, alloc: Global, ([a, b], from, to, place, expected): &Row) -> bool {
+    let mut store = store_over(rt, alloc, a.as_bytes(), b.as_bytes());
+    let answer = must(rt, refiled(alloc, &mut store, *from, *to, *place));
+    let (wanted, count, texts) = match expected {
+        Ok(after) => (Ok(1), 1, *after),
+        Err(refusal) => (Err(RunFault::Refused(*refusal)), 0, (*a, *b)),
+    };
+    answer == wanted && must(rt, is_left(alloc, &mut store, count, texts))
+}
+
+fn assert_rows(rt: &(impl Abort + AllocGlobal), rows: &[Row]) {
+    for row in rows {
+        assert!(rt; goes(rt, rt.alloc(), row), "{}{}", row.0[0], row.0[1]);
     }
 }
 
-// Asserts what each row's refile makes of both files, and that one that is refused changes nothing.
-fn assert_rows(rt: &(impl Abort + AllocGlobal), rows: &[Row]) -> Result<(), Fail> {
-    let alloc = rt.alloc();
-    for ([a, b], from, to, place, expected) in rows {
-        let mut store = open(alloc, two_files(alloc, a.as_bytes(), b.as_bytes())?)?;
-        let command = refile(alloc, *from, *to, *place)?;
-        let answer = refiled(alloc, &mut store, &command)?;
-        let (wanted, (after_a, after_b), count) = match expected {
-            Ok(after) => (Ok(1), *after, 1),
-            Err(refusal) => (Err(RunFault::Refused(*refusal)), (*a, *b), 0),
-        };
-        assert!(rt; answer == wanted, "{a}{b}");
-        assert!(rt; has_counts(&store, count, count), "{a}{b}");
-        let left = shows_both(alloc, &mut store, after_a.as_bytes(), after_b.as_bytes())?;
-        assert!(rt; left, "{a}{b}");
-    }
-    Ok(())
-}
+const DEEP: &str = "* S\n** B\n**** C\n* T\n** U\n*** V\n";
+
+const DOWN: &str = "* S\n* T\n** U\n*** V\n**** B\n****** C\n";
+
+const UP: &str = "* S\n** V\n** B\n**** C\n* T\n** U\n";
+
+const WITHIN: [Row; 5] = [
+    (
+        [DEEP, ""],
+        ("a.org", &["S", "B"]),
+        ("a.org", &["T", "U", "V"]),
+        Place::Last,
+        Ok((DOWN, "")),
+    ),
+    (
+        [DEEP, "* Z"],
+        ("a.org", &["T", "U", "V"]),
+        ("a.org", &["S"]),
+        Place::First,
+        Ok((UP, "* Z")),
+    ),
+    (
+        ["", DEEP],
+        ("b.org", &["S", "B"]),
+        ("b.org", &["T", "U", "V"]),
+        Place::Last,
+        Ok(("", DOWN)),
+    ),
+    (
+        ["* A\n** B\n* T", ""],
+        ("a.org", &["A", "B"]),
+        ("a.org", &["T"]),
+        Place::Last,
+        Ok(("* A\n* T\n** B\n", "")),
+    ),
+    (
+        ["* A\r\n** B\r\nb\r\n* T\r\n", ""],
+        ("a.org", &["A", "B"]),
+        ("a.org", &["T"]),
+        Place::Last,
+        Ok(("* A\r\n* T\r\n** B\r\nb\r\n", "")),
+    ),
+];
 
 #[test]
-fn moves_within_a_file(rt: HostRuntime) -> Result<(), Fail> {
-    let deep = "* S\n** B\n**** C\n* T\n** U\n*** V\n";
-    let down = "* S\n* T\n** U\n*** V\n**** B\n****** C\n";
-    let up = "* S\n** V\n** B\n**** C\n* T\n** U\n";
-    assert_rows(
-        &rt,
-        &[
-            (
-                [deep, ""],
-                ("a.org", &["S", "B"]),
-                ("a.org", &["T", "U", "V"]),
-                Place::Last,
-                Ok((down, "")),
-            ),
-            (
-                [deep, "* Z"],
-                ("a.org", &["T", "U", "V"]),
-                ("a.org", &["S"]),
-                Place::First,
-                Ok((up, "* Z")),
-            ),
-            (
-                ["", deep],
-                ("b.org", &["S", "B"]),
-                ("b.org", &["T", "U", "V"]),
-                Place::Last,
-                Ok(("", down)),
-            ),
-            (
-                ["* A\n** B\n* T", ""],
-                ("a.org", &["A", "B"]),
-                ("a.org", &["T"]),
-                Place::Last,
-                Ok(("* A\n* T\n** B\n", "")),
-            ),
-            (
-                ["* A\r\n** B\r\nb\r\n* T\r\n", ""],
-                ("a.org", &["A", "B"]),
-                ("a.org", &["T"]),
-                Place::Last,
-                Ok(("* A\r\n* T\r\n** B\r\nb\r\n", "")),
-            ),
-        ],
-    )
+fn moves_within_a_file(rt: HostRuntime) {
+    assert_rows(&rt, &WITHIN);
 }
+
+const PAIR: &str = "* T\n** E\n** X\n";
+
+const TURNED: &str = "* T\n** X\n** E\n";
+
+const DEEPER: &str = "* T\n*** X\n** E\n";
+
+const BELOW_PARENT: [Row; 5] = [
+    (
+        [PAIR, ""],
+        ("a.org", &["T", "E"]),
+        ("a.org", &["T"]),
+        Place::Last,
+        Ok((TURNED, "")),
+    ),
+    (
+        [PAIR, ""],
+        ("a.org", &["T", "X"]),
+        ("a.org", &["T"]),
+        Place::First,
+        Ok((TURNED, "")),
+    ),
+    (
+        [PAIR, ""],
+        ("a.org", &["T", "E"]),
+        ("a.org", &["T"]),
+        Place::First,
+        Ok((PAIR, "")),
+    ),
+    (
+        [DEEPER, ""],
+        ("a.org", &["T", "E"]),
+        ("a.org", &["T"]),
+        Place::First,
+        Ok((DEEPER, "")),
+    ),
+    (
+        ["* T\n** E", ""],
+        ("a.org", &["T", "E"]),
+        ("a.org", &["T"]),
+        Place::Last,
+        Ok(("* T\n** E\n", "")),
+    ),
+];
 
 // The place is that among the children that are left, and a refile that leaves the bytes is accepted.
 #[test]
-fn moves_below_its_own_parent(rt: HostRuntime) -> Result<(), Fail> {
-    let pair = "* T\n** E\n** X\n";
-    let turned = "* T\n** X\n** E\n";
-    let deeper = "* T\n*** X\n** E\n";
-    assert_rows(
-        &rt,
-        &[
-            (
-                [pair, ""],
-                ("a.org", &["T", "E"]),
-                ("a.org", &["T"]),
-                Place::Last,
-                Ok((turned, "")),
-            ),
-            (
-                [pair, ""],
-                ("a.org", &["T", "X"]),
-                ("a.org", &["T"]),
-                Place::First,
-                Ok((turned, "")),
-            ),
-            (
-                [pair, ""],
-                ("a.org", &["T", "E"]),
-                ("a.org", &["T"]),
-                Place::First,
-                Ok((pair, "")),
-            ),
-            (
-                [deeper, ""],
-                ("a.org", &["T", "E"]),
-                ("a.org", &["T"]),
-                Place::First,
-                Ok((deeper, "")),
-            ),
-            (
-                ["* T\n** E", ""],
-                ("a.org", &["T", "E"]),
-                ("a.org", &["T"]),
-                Place::Last,
-                Ok(("* T\n** E\n", "")),
-            ),
-        ],
-    )
+fn moves_below_its_own_parent(rt: HostRuntime) {
+    assert_rows(&rt, &BELOW_PARENT);
 }
 
+const FROM: &str = "* A\n** B\nb\n";
+
+const SKIPS: &str = "* S\n** B\n**** C\n";
+
+const INTO_ANOTHER: [Row; 9] = [
+    (
+        [FROM, "* T\n** K\n"],
+        ("a.org", &["A", "B"]),
+        ("b.org", &["T"]),
+        Place::First,
+        Ok(("* A\n", "* T\n** B\nb\n** K\n")),
+    ),
+    (
+        [FROM, "* T\n** K\n"],
+        ("a.org", &["A", "B"]),
+        ("b.org", &["T"]),
+        Place::Last,
+        Ok(("* A\n", "* T\n** K\n** B\nb\n")),
+    ),
+    (
+        ["* T\n** K\n", FROM],
+        ("b.org", &["A", "B"]),
+        ("a.org", &["T", "K"]),
+        Place::Last,
+        Ok(("* T\n** K\n*** B\nb\n", "* A\n")),
+    ),
+    // neither has a newline at its end
+    (
+        ["* A", "* T"],
+        ("a.org", &["A"]),
+        ("b.org", &["T"]),
+        Place::Last,
+        Ok(("", "* T\n** A\n")),
+    ),
+    (
+        ["* A\n** B\n* C", "* T"],
+        ("a.org", &["A", "B"]),
+        ("b.org", &["T"]),
+        Place::Last,
+        Ok(("* A\n* C\n", "* T\n** B\n")),
+    ),
+    (
+        ["* A\r\n** B\r\nb\r\n", "* T\r\n"],
+        ("a.org", &["A", "B"]),
+        ("b.org", &["T"]),
+        Place::Last,
+        Ok(("* A\r\n", "* T\r\n** B\r\nb\r\n")),
+    ),
+    // skipped levels stay skipped, and a child of another level is passed
+    (
+        [SKIPS, "* T\n*** K\n"],
+        ("a.org", &["S", "B"]),
+        ("b.org", &["T"]),
+        Place::First,
+        Ok(("* S\n", "* T\n*** K\n** B\n**** C\n")),
+    ),
+    (
+        [SKIPS, "* T\n*** K\n"],
+        ("a.org", &["S", "B"]),
+        ("b.org", &["T", "K"]),
+        Place::First,
+        Ok(("* S\n", "* T\n*** K\n**** B\n****** C\n")),
+    ),
+    // the same titles in both files are no two in one
+    (
+        ["* A\n** B\n", "* A\n"],
+        ("a.org", &["A", "B"]),
+        ("b.org", &["A"]),
+        Place::Last,
+        Ok(("* A\n", "* A\n** B\n")),
+    ),
+];
+
 #[test]
-fn moves_into_another_file(rt: HostRuntime) -> Result<(), Fail> {
-    let from = "* A\n** B\nb\n";
-    let skips = "* S\n** B\n**** C\n";
-    assert_rows(
-        &rt,
-        &[
-            (
-                [from, "* T\n** K\n"],
-                ("a.org", &["A", "B"]),
-                ("b.org", &["T"]),
-                Place::First,
-                Ok(("* A\n", "* T\n** B\nb\n** K\n")),
-            ),
-            (
-                [from, "* T\n** K\n"],
-                ("a.org", &["A", "B"]),
-                ("b.org", &["T"]),
-                Place::Last,
-                Ok(("* A\n", "* T\n** K\n** B\nb\n")),
-            ),
-            (
-                ["* T\n** K\n", from],
-                ("b.org", &["A", "B"]),
-                ("a.org", &["T", "K"]),
-                Place::Last,
-                Ok(("* T\n** K\n*** B\nb\n", "* A\n")),
-            ),
-            // neither has a newline at its end
-            (
-                ["* A", "* T"],
-                ("a.org", &["A"]),
-                ("b.org", &["T"]),
-                Place::Last,
-                Ok(("", "* T\n** A\n")),
-            ),
-            (
-                ["* A\n** B\n* C", "* T"],
-                ("a.org", &["A", "B"]),
-                ("b.org", &["T"]),
-                Place::Last,
-                Ok(("* A\n* C\n", "* T\n** B\n")),
-            ),
-            (
-                ["* A\r\n** B\r\nb\r\n", "* T\r\n"],
-                ("a.org", &["A", "B"]),
-                ("b.org", &["T"]),
-                Place::Last,
-                Ok(("* A\r\n", "* T\r\n** B\r\nb\r\n")),
-            ),
-            // skipped levels stay skipped, and a child of another level is passed
-            (
-                [skips, "* T\n*** K\n"],
-                ("a.org", &["S", "B"]),
-                ("b.org", &["T"]),
-                Place::First,
-                Ok(("* S\n", "* T\n*** K\n** B\n**** C\n")),
-            ),
-            (
-                [skips, "* T\n*** K\n"],
-                ("a.org", &["S", "B"]),
-                ("b.org", &["T", "K"]),
-                Place::First,
-                Ok(("* S\n", "* T\n*** K\n**** B\n****** C\n")),
-            ),
-            // the same titles in both files are no two in one
-            (
-                ["* A\n** B\n", "* A\n"],
-                ("a.org", &["A", "B"]),
-                ("b.org", &["A"]),
-                Place::Last,
-                Ok(("* A\n", "* A\n** B\n")),
-            ),
-        ],
-    )
+fn moves_into_another_file(rt: HostRuntime) {
+    assert_rows(&rt, &INTO_ANOTHER);
 }
+
+const TEXTS: [&str; 2] = ["* A\n** B\n", "* T\n* T\n* K"];
+
+const REFUSED: [Row; 13] = [
+    (
+        TEXTS,
+        ("q.org", &["A"]),
+        ("b.org", &["K"]),
+        Place::Last,
+        Err(Refusal::NoSuchFile),
+    ),
+    (
+        TEXTS,
+        ("a.org", &["A"]),
+        ("q.org", &["K"]),
+        Place::Last,
+        Err(Refusal::NoSuchFile),
+    ),
+    (
+        TEXTS,
+        ("a.org", &["Q"]),
+        ("q.org", &["T"]),
+        Place::Last,
+        Err(Refusal::NoSuchFile),
+    ),
+    (
+        TEXTS,
+        ("a.org", &["Q"]),
+        ("b.org", &["T"]),
+        Place::Last,
+        Err(Refusal::NotFound),
+    ),
+    (
+        TEXTS,
+        ("a.org", &["B"]),
+        ("b.org", &["K"]),
+        Place::Last,
+        Err(Refusal::NotFound),
+    ),
+    (
+        TEXTS,
+        ("a.org", &[]),
+        ("b.org", &["K"]),
+        Place::Last,
+        Err(Refusal::NotFound),
+    ),
+    (
+        TEXTS,
+        ("a.org", &["A"]),
+        ("b.org", &["Q"]),
+        Place::Last,
+        Err(Refusal::NotFound),
+    ),
+    (
+        TEXTS,
+        ("a.org", &["A"]),
+        ("b.org", &[]),
+        Place::Last,
+        Err(Refusal::NotFound),
+    ),
+    (
+        TEXTS,
+        ("a.org", &["A"]),
+        ("b.org", &["T"]),
+        Place::Last,
+        Err(Refusal::NotUnique),
+    ),
+    (
+        TEXTS,
+        ("b.org", &["T"]),
+        ("a.org", &["Q"]),
+        Place::Last,
+        Err(Refusal::NotUnique),
+    ),
+    (
+        TEXTS,
+        ("b.org", &["T"]),
+        ("b.org", &["T"]),
+        Place::Last,
+        Err(Refusal::NotUnique),
+    ),
+    (
+        TEXTS,
+        ("a.org", &["A"]),
+        ("a.org", &["A", "B"]),
+        Place::Last,
+        Err(Refusal::InsideItself),
+    ),
+    (
+        TEXTS,
+        ("a.org", &["A"]),
+        ("a.org", &["A"]),
+        Place::First,
+        Err(Refusal::InsideItself),
+    ),
+];
 
 // For the source's name first, then the target's, then the path in the source, then the one in the target, then where
 // the target lies in what moves.
 #[test]
-fn refuses_in_order(rt: HostRuntime) -> Result<(), Fail> {
-    let texts = ["* A\n** B\n", "* T\n* T\n* K"];
-    assert_rows(
-        &rt,
-        &[
-            (
-                texts,
-                ("q.org", &["A"]),
-                ("b.org", &["K"]),
-                Place::Last,
-                Err(Refusal::NoSuchFile),
-            ),
-            (
-                texts,
-                ("a.org", &["A"]),
-                ("q.org", &["K"]),
-                Place::Last,
-                Err(Refusal::NoSuchFile),
-            ),
-            (
-                texts,
-                ("a.org", &["Q"]),
-                ("q.org", &["T"]),
-                Place::Last,
-                Err(Refusal::NoSuchFile),
-            ),
-            (
-                texts,
-                ("a.org", &["Q"]),
-                ("b.org", &["T"]),
-                Place::Last,
-                Err(Refusal::NotFound),
-            ),
-            (
-                texts,
-                ("a.org", &["B"]),
-                ("b.org", &["K"]),
-                Place::Last,
-                Err(Refusal::NotFound),
-            ),
-            (
-                texts,
-                ("a.org", &[]),
-                ("b.org", &["K"]),
-                Place::Last,
-                Err(Refusal::NotFound),
-            ),
-            (
-                texts,
-                ("a.org", &["A"]),
-                ("b.org", &["Q"]),
-                Place::Last,
-                Err(Refusal::NotFound),
-            ),
-            (
-                texts,
-                ("a.org", &["A"]),
-                ("b.org", &[]),
-                Place::Last,
-                Err(Refusal::NotFound),
-            ),
-            (
-                texts,
-                ("a.org", &["A"]),
-                ("b.org", &["T"]),
-                Place::Last,
-                Err(Refusal::NotUnique),
-            ),
-            (
-                texts,
-                ("b.org", &["T"]),
-                ("a.org", &["Q"]),
-                Place::Last,
-                Err(Refusal::NotUnique),
-            ),
-            (
-                texts,
-                ("b.org", &["T"]),
-                ("b.org", &["T"]),
-                Place::Last,
-                Err(Refusal::NotUnique),
-            ),
-            (
-                texts,
-                ("a.org", &["A"]),
-                ("a.org", &["A", "B"]),
-                Place::Last,
-                Err(Refusal::InsideItself),
-            ),
-            (
-                texts,
-                ("a.org", &["A"]),
-                ("a.org", &["A"]),
-                Place::First,
-                Err(Refusal::InsideItself),
-            ),
-        ],
-    )
+fn refuses_in_order(rt: HostRuntime) {
+    assert_rows(&rt, &REFUSED);
 }
 
 // The journal's record of a refile from a.org, which ends in a newline, into b.org, which doesn't: the source first.
@@ -360,21 +372,15 @@ const SOURCE_FIRST: [u8; 96] = [
     0x0a, 0x2a, 0x2a, 0x20, 0x42, 0x0a,
 ];
 
-// The journal after the heading B of a.org is refiled below the one of b.org.
-fn journal_after(alloc: Global, disk: MemoryDisk) -> Result<Vec<u8>, Fail> {
-    let mut store = open(alloc, disk)?;
-    store.run(&refile(
-        alloc,
-        ("a.org", &["A", "B"]),
-        ("b.org", &["T"]),
-        Place::Last,
-    )?)?;
+// The journal that a store leaves.
+fn journal_of(alloc: Global, store: Store<MemoryDisk>) -> Result<Vec<u8>, Fail> {
     bytes_of(alloc, &mut store.close(), &FileName::journal_name(alloc)?)
 }
 
 #[test]
-fn a_record_has_the_source_first(rt: HostRuntime) -> Result<(), Fail> {
-    let disk = two_files(rt.alloc(), b"* A\n** B\n", b"* T")?;
-    assert!(rt; journal_after(rt.alloc(), disk)?.as_slice() == SOURCE_FIRST.as_slice());
-    Ok(())
+fn a_record_has_the_source_first(rt: HostRuntime) {
+    let mut store = store_over(&rt, rt.alloc(), b"* A\n** B\n", b"* T");
+    let source = ("a.org", &["A", "B"] as &[&str]);
+    let _ = must(&rt, refiled(rt.alloc(), &mut store, source, ("b.org", &["T"]), Place::Last));
+    assert!(rt; must(&rt, journal_of(rt.alloc(), store)).as_slice() == SOURCE_FIRST.as_slice());
 }

@@ -1,10 +1,10 @@
 // A disk that stops at a call, and what opening it again finds.
 ghost use Rattle.std.specs.Prelude.{◌≤◌};
 
-use super::{calls_of_opening, captured, left_on, opened};
+use super::{calls_of_opening, captured, left_on, must, opened};
 use org_disk::{MemoryDisk, Outcome};
 use org_fixtures::{OUTCOMES, org_names, two_files};
-use org_store::Store;
+use org_store::{OpenRefused, Store};
 use std::alloc::Global;
 use std::process::Abort;
 use std::test::Fail;
@@ -18,38 +18,52 @@ fn capture_twice(alloc: Global, store: &mut Store<MemoryDisk>) -> Result<(), Fai
 
 // Makes two captures, in groups, and tells how many were acknowledged and how many accepted, and the disk then.
 fn captured_twice(
+    rt: &impl Abort,
     alloc: Global,
     store: Store<MemoryDisk>,
     group: u32,
-) -> Result<(u64, u64, MemoryDisk), Fail>
+) -> (u64, u64, MemoryDisk)
     requires { (1 ≤ group) × (group ≤ 1000) }
 {
     let mut store = store;
     store.set_group(group);
-    capture_twice(alloc, &mut store)?;
+    must(rt, capture_twice(alloc, &mut store));
     let (acknowledged, accepted) = (store.acknowledged(), store.accepted());
-    Ok((acknowledged, accepted, store.close()))
+    (acknowledged, accepted, store.close())
 }
 
 // A disk that stops at this call.
-fn stopping_disk(alloc: Global, call: u64, outcome: Outcome) -> Result<MemoryDisk, Fail> {
-    let mut disk = two_files(alloc, b"* A\n", b"* Z")?;
+fn stopping_disk(rt: &impl Abort, alloc: Global, call: u64, outcome: Outcome) -> MemoryDisk {
+    let mut disk = must(rt, two_files(alloc, b"* A\n", b"* Z"));
     disk.stop_at(call, outcome);
-    Ok(disk)
+    disk
+}
+
+// A store over the two files of a disk, or why it wasn't opened.
+fn opened_two(
+    alloc: Global,
+    disk: MemoryDisk,
+) -> Result<Result<Store<MemoryDisk>, OpenRefused<MemoryDisk>>, Fail> {
+    opened(alloc, disk, org_names(alloc, &["a.org", "b.org"])?)
 }
 
 // Makes two captures, in groups, over a disk that stops on the way, and tells how many were acknowledged, how many
 // accepted, and how many are in the files that the stop left.
-fn stopped(alloc: Global, group: u32, call: u64, outcome: Outcome) -> Result<(u64, u64, u64), Fail>
+fn stopped(
+    rt: &impl Abort,
+    alloc: Global,
+    group: u32,
+    call: u64,
+    outcome: Outcome,
+) -> (u64, u64, u64)
     requires { (1 ≤ group) × (group ≤ 1000) }
 {
-    let names = org_names(alloc, &["a.org", "b.org"])?;
-    let opened = opened(alloc, stopping_disk(alloc, call, outcome)?, names)?;
-    let (acknowledged, accepted, disk) = match opened {
+    let disk = stopping_disk(rt, alloc, call, outcome);
+    let (acknowledged, accepted, disk) = match must(rt, opened_two(alloc, disk)) {
         Err(refused) => (0, 0, refused.disk),
-        Ok(store) => captured_twice(alloc, store, group)?,
+        Ok(store) => captured_twice(rt, alloc, store, group),
     };
-    Ok((acknowledged, accepted, prefix_in(alloc, &disk)?))
+    (acknowledged, accepted, prefix_in(rt, alloc, &disk))
 }
 
 // How many of the two captures are in files with these texts.
@@ -66,45 +80,47 @@ fn prefix_of(a: &[u8], b: &[u8]) -> Option<u64> {
     }
 }
 
+fn image(alloc: Global, disk: &MemoryDisk) -> Result<MemoryDisk, Fail> {
+    Ok(disk.image(alloc)?)
+}
+
 // How many of the two captures are in the files that are left of a disk.
-fn prefix_in(alloc: Global, disk: &MemoryDisk) -> Result<u64, Fail> {
-    let (a, b) = left_on(alloc, disk.image(alloc)?)?;
-    Ok(prefix_of(&a, &b).ok_or("no prefix")?)
+fn prefix_in(rt: &impl Abort, alloc: Global, disk: &MemoryDisk) -> u64 {
+    let (a, b) = left_on(rt, alloc, must(rt, image(alloc, disk)));
+    prefix_of(&a, &b).expect(rt, "no prefix")
 }
 
 // Stops the two captures at a call in each way: what is left is one of the states between those that were acknowledged
 // and those that were accepted.
-fn stop_at(rt: &impl Abort, alloc: Global, group: u32, call: u64) -> Result<(), Fail>
+fn stop_at(rt: &impl Abort, alloc: Global, group: u32, call: u64)
     requires { (1 ≤ group) × (group ≤ 1000) }
 {
     for outcome in OUTCOMES {
-        let (acknowledged, accepted, prefix) = stopped(alloc, group, call, outcome)?;
+        let (acknowledged, accepted, prefix) = stopped(rt, alloc, group, call, outcome);
         assert!(rt; acknowledged <= prefix && prefix <= accepted);
     }
-    Ok(())
 }
 
 // Stops the two captures at each of so many calls behind the opening. After all calls both are there.
-fn stop_each_call(rt: &impl Abort, alloc: Global, group: u32, calls: u64) -> Result<(), Fail>
+fn stop_each_call(rt: &impl Abort, alloc: Global, group: u32, calls: u64)
     requires { (1 ≤ group) × (group ≤ 1000) }
 {
-    let end = calls_of_opening(alloc)?.wrapping_add(calls);
+    let end = calls_of_opening(rt, alloc).wrapping_add(calls);
     for call in 1..end {
-        stop_at(rt, alloc, group, call)?;
+        stop_at(rt, alloc, group, call);
     }
-    assert!(rt; stopped(alloc, group, end, Outcome::None)? == (2, 2, 2));
-    Ok(())
+    assert!(rt; stopped(rt, alloc, group, end, Outcome::None) == (2, 2, 2));
 }
 
 // Each capture reads a length and a text, and makes nine calls to be settled.
 #[test]
-fn stopped_at_every_call(rt: HostRuntime) -> Result<(), Fail> {
-    stop_each_call(&rt, rt.alloc(), 1, 23)
+fn stopped_at_every_call(rt: HostRuntime) {
+    stop_each_call(&rt, rt.alloc(), 1, 23);
 }
 
 // The captures read two calls each. They are settled in one: the record and the gate with a sync each, a write and a
 // length for each file, a sync of each, and the gate with its sync.
 #[test]
-fn a_group_stopped_at_every_call(rt: HostRuntime) -> Result<(), Fail> {
-    stop_each_call(&rt, rt.alloc(), 2, 17)
+fn a_group_stopped_at_every_call(rt: HostRuntime) {
+    stop_each_call(&rt, rt.alloc(), 2, 17);
 }

@@ -1,9 +1,9 @@
 // Calls of the disk that fail.
 ghost use Rattle.org_serve.specs.Group.{IsGroup};
 
-use super::stops::{CAPTURE, calls, files, image, is_prefix, prefix_in, prefix_left};
-use super::{Ended, run};
-use org_disk::MemoryDisk;
+use super::stops::{CAPTURE, calls_over_files, files, image, is_prefix, prefix_in, prefix_left};
+use super::{Ended, must, run};
+use org_disk::{MemoryDisk, Outcome};
 use org_fixtures::OUTCOMES;
 use org_serve::ServeEnd;
 use org_store::OpenFault;
@@ -57,53 +57,53 @@ fn is_broken(group: u32, failed: &Failed) -> bool {
 }
 
 // Where this call fails, the opening is refused, or a line is told.
-fn fail_at(rt: &(impl Abort + AllocGlobal), group: u32, opening: u64, call: u64) -> Result<(), Fail>
+fn fail_at(rt: &(impl Abort + AllocGlobal), group: u32, opening: u64, call: u64)
     requires { IsGroup group }
 {
-    let failed = serve_failing(rt.alloc(), group, THREE, call)?;
+    let failed = must(rt, serve_failing(rt.alloc(), group, THREE, call));
     let is_right = if call <= opening {
         is_refused(&failed)
     } else {
         is_broken(group, &failed)
     };
     assert!(rt; is_right, "{} after {call}", failed.prefix);
-    Ok(())
 }
 
-fn fail_at_every_call(rt: &(impl Abort + AllocGlobal), group: u32, wanted: u64) -> Result<(), Fail>
+fn fail_at_every_call(rt: &(impl Abort + AllocGlobal), group: u32, wanted: u64)
     requires { IsGroup group }
 {
-    let opening = calls(rt.alloc(), files(rt.alloc())?, group, b"")?;
-    let all = calls(rt.alloc(), files(rt.alloc())?, group, THREE)?;
-    assert_eq!(rt; all.saturating_sub(opening), wanted);
+    let opening = must(rt, calls_over_files(rt.alloc(), group, b""));
+    let all = must(rt, calls_over_files(rt.alloc(), group, THREE));
+    assert!(rt; all.saturating_sub(opening) == wanted);
     for call in 0..all {
-        fail_at(rt, group, opening, call + 1)?;
+        fail_at(rt, group, opening, call + 1);
     }
-    Ok(())
 }
 
 #[test]
-fn each_failed_call(rt: HostRuntime) -> Result<(), Fail> {
-    fail_at_every_call(&rt, 1, 22)
+fn each_failed_call(rt: HostRuntime) {
+    fail_at_every_call(&rt, 1, 22);
 }
 
 #[test]
-fn each_failed_call_of_a_group(rt: HostRuntime) -> Result<(), Fail> {
-    fail_at_every_call(&rt, 2, 16)
+fn each_failed_call_of_a_group(rt: HostRuntime) {
+    fail_at_every_call(&rt, 2, 16);
 }
 
 // A show of a file that isn't held reads it.
 #[test]
-fn a_show_that_fails(rt: HostRuntime) -> Result<(), Fail> {
+fn a_show_that_fails(rt: HostRuntime) {
     let alloc = rt.alloc();
-    let before = calls(alloc, files(alloc)?, 1, CAPTURE)?;
+    let before = must(&rt, calls_over_files(alloc, 1, CAPTURE));
     let lines =
         b"capture\ta.org\ttop\tlast\t2026-07-01 10:00\t* N\t\nshow\tb.org\nshow\ta.org\nnothing\n";
-    let failed = serve_failing(alloc, 1, lines, before.saturating_add(1))?;
+    let failed = must(
+        &rt,
+        serve_failing(alloc, 1, lines, before.saturating_add(1)),
+    );
     assert!(rt; matches!(failed.end, Ok(ServeEnd::Device)) && failed.prefix == 1);
     let wanted = b"ok 1\nsafe 1\nfault Device\nfault Broken\nrefused 20 BadLine\n";
     assert!(rt; failed.written.as_slice() == wanted.as_slice());
-    Ok(())
 }
 
 // The call of a capture that syncs the open gate.
@@ -116,16 +116,24 @@ fn failed_disk(alloc: Global, call: u64) -> Result<MemoryDisk, Fail> {
     Ok(run(alloc, disk, 1, CAPTURE)?.disk)
 }
 
+// How many of the two captures are in the image of such a disk.
+fn prefix_in_image(alloc: Global, call: u64) -> Result<u64, Fail> {
+    let disk = failed_disk(alloc, call)?;
+    prefix_in(alloc, image(alloc, &disk)?)
+}
+
+// The same once the next call of it was stopped.
+fn prefix_left_failed(alloc: Global, call: u64, outcome: Outcome) -> Result<u64, Fail> {
+    prefix_left(alloc, failed_disk(alloc, call)?, outcome)
+}
+
 // Once the gate was written, the capture may be done or not, in every image.
 #[test]
-fn the_sync_behind_the_gate_fails(rt: HostRuntime) -> Result<(), Fail> {
+fn the_sync_behind_the_gate_fails(rt: HostRuntime) {
     let alloc = rt.alloc();
-    let call = calls(alloc, files(alloc)?, 1, b"")?.saturating_add(GATE_SYNC);
-    let whole = image(alloc, &failed_disk(alloc, call)?)?;
-    assert_eq!(rt; prefix_in(alloc, whole)?, 1);
+    let call = must(&rt, calls_over_files(alloc, 1, b"")).saturating_add(GATE_SYNC);
+    assert!(rt; must(&rt, prefix_in_image(alloc, call)) == 1);
     for outcome in OUTCOMES {
-        let prefix = prefix_left(alloc, failed_disk(alloc, call)?, outcome)?;
-        assert!(rt; prefix <= 1);
+        assert!(rt; must(&rt, prefix_left_failed(alloc, call, outcome)) <= 1);
     }
-    Ok(())
 }

@@ -1,7 +1,7 @@
 // Stops of the disk, and what opening it again finds.
 ghost use Rattle.org_serve.specs.Group.{IsGroup};
 
-use super::{Ended, run, served};
+use super::{Ended, must, run, served};
 use org_disk::{MemoryDisk, Outcome};
 use org_fixtures::{OUTCOMES, two_files};
 use std::alloc::Global;
@@ -86,6 +86,23 @@ pub fn calls(alloc: Global, disk: MemoryDisk, group: u32, lines: &[u8]) -> Resul
     Ok(run(alloc, disk, group, lines)?.disk.calls())
 }
 
+// How many calls it takes over the two files.
+pub fn calls_over_files(alloc: Global, group: u32, lines: &[u8]) -> Result<u64, Fail>
+    requires { IsGroup group }
+{
+    calls(alloc, files(alloc)?, group, lines)
+}
+
+// How many calls an opening takes over what a disk left.
+pub fn calls_of_opening(alloc: Global, disk: &MemoryDisk) -> Result<u64, Fail> {
+    calls(alloc, image(alloc, disk)?, 1, b"")
+}
+
+// How many of the two captures are in the files that a disk left.
+fn prefix_in_image(alloc: Global, disk: &MemoryDisk) -> Result<u64, Fail> {
+    prefix_in(alloc, image(alloc, disk)?)
+}
+
 // How many commands were told to be safe.
 fn safe_in(written: &[u8]) -> u64 {
     if written.ends_with(b"safe 2\n") {
@@ -104,86 +121,64 @@ pub fn is_prefix(group: u64, written: &[u8], prefix: u64) -> bool {
 }
 
 // A stop at this call leaves a prefix, and opening it again may be stopped in turn.
-fn stop_at(
-    rt: &(impl Abort + AllocGlobal),
-    group: u32,
-    call: u64,
-    outcome: Outcome,
-) -> Result<(), Fail>
+fn stop_at(rt: &(impl Abort + AllocGlobal), group: u32, call: u64, outcome: Outcome)
     requires { IsGroup group }
 {
     let alloc = rt.alloc();
-    let (written, left) = stopped(alloc, files(alloc)?, group, CAPTURES, call, outcome)?;
-    let prefix = prefix_in(alloc, image(alloc, &left)?)?;
+    let disk = must(rt, files(alloc));
+    let (written, left) = must(rt, stopped(alloc, disk, group, CAPTURES, call, outcome));
+    let prefix = must(rt, prefix_in_image(alloc, &left));
     assert!(rt;
         is_prefix(u64::from(group), &written, prefix),
         "{prefix} after {call}"
     );
-    stop_each_opening(rt, &left, prefix)
+    stop_each_opening(rt, &left, prefix);
 }
 
 // A stop at any call of an opening leaves what the disk stood for.
-fn stop_each_opening(
-    rt: &(impl Abort + AllocGlobal),
-    disk: &MemoryDisk,
-    prefix: u64,
-) -> Result<(), Fail> {
-    let opening = calls(rt.alloc(), image(rt.alloc(), disk)?, 1, b"")?;
+fn stop_each_opening(rt: &(impl Abort + AllocGlobal), disk: &MemoryDisk, prefix: u64) {
+    let opening = must(rt, calls_of_opening(rt.alloc(), disk));
     for call in 0..opening {
-        stop_opening(rt, disk, call + 1, prefix)?;
+        stop_opening(rt, disk, call + 1, prefix);
     }
-    Ok(())
 }
 
-fn stop_opening(
-    rt: &(impl Abort + AllocGlobal),
-    disk: &MemoryDisk,
-    call: u64,
-    prefix: u64,
-) -> Result<(), Fail> {
+fn stop_opening(rt: &(impl Abort + AllocGlobal), disk: &MemoryDisk, call: u64, prefix: u64) {
     let alloc = rt.alloc();
     for outcome in OUTCOMES {
-        let left = stopped_opening(alloc, image(alloc, disk)?, call, outcome)?;
-        assert_eq!(rt; prefix_in(alloc, left)?, prefix);
+        let image = must(rt, image(alloc, disk));
+        let left = must(rt, stopped_opening(alloc, image, call, outcome));
+        assert!(rt; must(rt, prefix_in(alloc, left)) == prefix);
     }
-    Ok(())
 }
 
-fn stop_at_every_call(
-    rt: &(impl Abort + AllocGlobal),
-    group: u32,
-    outcome: Outcome,
-) -> Result<(), Fail>
+fn stop_at_every_call(rt: &(impl Abort + AllocGlobal), group: u32, outcome: Outcome)
     requires { IsGroup group }
 {
-    let all = calls(rt.alloc(), files(rt.alloc())?, group, CAPTURES)?;
+    let all = must(rt, calls_over_files(rt.alloc(), group, CAPTURES));
     for call in 0..all {
-        stop_at(rt, group, call + 1, outcome)?;
+        stop_at(rt, group, call + 1, outcome);
     }
-    Ok(())
 }
 
 #[test]
-fn stopped_in_groups_of_one(rt: HostRuntime) -> Result<(), Fail> {
+fn stopped_in_groups_of_one(rt: HostRuntime) {
     for outcome in OUTCOMES {
-        stop_at_every_call(&rt, 1, outcome)?;
+        stop_at_every_call(&rt, 1, outcome);
     }
-    Ok(())
 }
 
 #[test]
-fn stopped_in_a_group_of_two(rt: HostRuntime) -> Result<(), Fail> {
+fn stopped_in_a_group_of_two(rt: HostRuntime) {
     for outcome in OUTCOMES {
-        stop_at_every_call(&rt, 2, outcome)?;
+        stop_at_every_call(&rt, 2, outcome);
     }
-    Ok(())
 }
 
 // The group is settled at the end of the input.
 #[test]
-fn stopped_in_a_group_of_three(rt: HostRuntime) -> Result<(), Fail> {
+fn stopped_in_a_group_of_three(rt: HostRuntime) {
     for outcome in OUTCOMES {
-        stop_at_every_call(&rt, 3, outcome)?;
+        stop_at_every_call(&rt, 3, outcome);
     }
-    Ok(())
 }

@@ -1,7 +1,7 @@
 // Input that comes in pieces, and pipes that fail.
 ghost use Rattle.org_serve.specs.Group.{IsGroup};
 
-use super::{serve_over, served};
+use super::{must, serve_over, served};
 use org_disk::MemoryDisk;
 use org_fixtures::two_files;
 use org_serve::{PipeFault, ServeEnd, Served, Sink, Source};
@@ -139,65 +139,59 @@ fn many_lines(alloc: Global) -> Result<Vec<u8>, Fail> {
 }
 
 // In pieces of this size the input is answered so.
-fn answers_pieces(
-    rt: &(impl Abort + AllocGlobal),
-    size: usize,
-    input: &[u8],
-    wanted: &[u8],
-) -> Result<(), Fail> {
+fn answers_pieces(rt: &(impl Abort + AllocGlobal), size: usize, input: &[u8], wanted: &[u8]) {
     let alloc = rt.alloc();
-    let disk = two_files(alloc, b"", b"* Z\n")?;
+    let disk = must(rt, two_files(alloc, b"", b"* Z\n"));
     let mut reader = in_pieces(input, size);
-    let (end, written) = paged(alloc, disk, &mut reader, Page::new(alloc), 100_000)?;
+    let (end, written) = must(
+        rt,
+        paged(alloc, disk, &mut reader, Page::new(alloc), 100_000),
+    );
     assert!(rt; end == ServeEnd::End && written.as_slice() == wanted);
-    Ok(())
 }
 
 #[test]
-fn any_pieces_give_one_output(rt: HostRuntime) -> Result<(), Fail> {
-    let input = many_lines(rt.alloc())?;
-    let disk = two_files(rt.alloc(), b"", b"* Z\n")?;
-    let wanted = served(rt.alloc(), disk, 1, &input)?;
+fn any_pieces_give_one_output(rt: HostRuntime) {
+    let input = must(&rt, many_lines(rt.alloc()));
+    let disk = must(&rt, two_files(rt.alloc(), b"", b"* Z\n"));
+    let wanted = must(&rt, served(rt.alloc(), disk, 1, &input));
     assert!(rt; wanted.starts_with(b"ok 1\nsafe 1\ntext 4\n* Z\n\nrefused 20 BadLine\nok 2\n"));
     assert!(rt; wanted.ends_with(b"* N\n* N\n\nrefused 20 BadLine\n"));
     for size in [1, 7, 4095, 4096, 4097] {
-        answers_pieces(&rt, size, &input, &wanted)?;
+        answers_pieces(&rt, size, &input, &wanted);
     }
-    Ok(())
 }
 
 // Where a read fails, or the turns are used up, the lines that were read whole are answered.
-fn ends_by_reading(rt: &(impl Abort + AllocGlobal), fails_at: u64, turns: u64) -> Result<(), Fail> {
+fn ends_by_reading(rt: &(impl Abort + AllocGlobal), fails_at: u64, turns: u64) {
     let alloc = rt.alloc();
-    let disk = two_files(alloc, b"", b"* Z\n")?;
+    let disk = must(rt, two_files(alloc, b"", b"* Z\n"));
     let mut reader = in_pieces(b"show\tb.org\nshow\ta.org", 11);
     reader.fails_at = fails_at;
-    let (end, written) = paged(alloc, disk, &mut reader, Page::new(alloc), turns)?;
+    let (end, written) = must(rt, paged(alloc, disk, &mut reader, Page::new(alloc), turns));
     assert!(rt; end == ServeEnd::Read && written.as_slice() == b"text 4\n* Z\n\n".as_slice());
-    Ok(())
 }
 
 #[test]
-fn a_read_that_fails(rt: HostRuntime) -> Result<(), Fail> {
-    ends_by_reading(&rt, 3, 100)?;
-    ends_by_reading(&rt, 0, 2)
+fn a_read_that_fails(rt: HostRuntime) {
+    ends_by_reading(&rt, 3, 100);
+    ends_by_reading(&rt, 0, 2);
 }
 
 // An input of one piece, served in so many turns, ends so.
-fn ends_in(rt: &(impl Abort + AllocGlobal), turns: u64, wanted: ServeEnd) -> Result<(), Fail> {
+fn ends_in(rt: &(impl Abort + AllocGlobal), turns: u64, wanted: ServeEnd) {
     let alloc = rt.alloc();
-    let disk = two_files(alloc, b"", b"")?;
+    let disk = must(rt, two_files(alloc, b"", b""));
     let mut reader = in_pieces(b"show\ta.org\n", 100);
-    let (end, _) = paged(alloc, disk, &mut reader, Page::new(alloc), turns)?;
+    let (end, _) = must(rt, paged(alloc, disk, &mut reader, Page::new(alloc), turns));
     assert!(rt; end == wanted && reader.reads == turns);
-    Ok(())
 }
 
 #[test]
-fn turns(rt: HostRuntime) -> Result<(), Fail> {
-    ends_in(&rt, 0, ServeEnd::Read)?;
-    ends_in(&rt, 1, ServeEnd::Read)?;
-    ends_in(&rt, 2, ServeEnd::End)
+fn turns(rt: HostRuntime) {
+    ends_in(&rt, 0, ServeEnd::Read);
+    ends_in(&rt, 1, ServeEnd::Read);
+    ends_in(&rt, 2, ServeEnd::End);
 }
 
 // How serving ends where this call of the writer fails, if it isn't 0, and what was written by then.
@@ -214,15 +208,13 @@ fn written_until(alloc: Global, fails_at: u64) -> Result<(ServeEnd, Vec<u8>), Fa
 
 // A text takes five writes, a change and its settling six, a bad line one; each line is flushed.
 #[test]
-fn a_write_that_fails(rt: HostRuntime) -> Result<(), Fail> {
-    let (end, whole) = written_until(rt.alloc(), 0)?;
-    assert_eq!(rt; end, ServeEnd::End);
+fn a_write_that_fails(rt: HostRuntime) {
+    let (end, whole) = must(&rt, written_until(rt.alloc(), 0));
+    assert!(rt; end == ServeEnd::End);
     for fails_at in 1..18 {
-        let (end, written) = written_until(rt.alloc(), fails_at)?;
-        assert_eq!(rt; end, ServeEnd::Write);
-        assert!(rt; whole.starts_with(written.as_slice()));
+        let (end, written) = must(&rt, written_until(rt.alloc(), fails_at));
+        assert!(rt; end == ServeEnd::Write && whole.starts_with(written.as_slice()));
     }
-    let (end, _) = written_until(rt.alloc(), 18)?;
-    assert_eq!(rt; end, ServeEnd::End);
-    Ok(())
+    let (end, _) = must(&rt, written_until(rt.alloc(), 18));
+    assert!(rt; end == ServeEnd::End);
 }

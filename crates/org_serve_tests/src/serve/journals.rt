@@ -1,6 +1,6 @@
 // Journals that a stop or an older program left.
-use super::stops::{CAPTURE, calls, files, image, prefix_in, stopped, stopped_opening};
-use super::{Ended, is_answered, run};
+use super::stops::{CAPTURE, calls_of_opening, files, image, prefix_in, stopped, stopped_opening};
+use super::{Ended, is_answered, must, run};
 use org_disk::{FileName, MemoryDisk, Outcome};
 use org_fixtures::{OLD, OUTCOMES, bytes_of};
 use org_store::OpenFault;
@@ -20,7 +20,7 @@ fn stopped_behind(
     call: u64,
     outcome: Outcome,
 ) -> Result<MemoryDisk, Fail> {
-    let call = calls(alloc, image(alloc, disk)?, 1, b"")?.saturating_add(call);
+    let call = calls_of_opening(alloc, disk)?.saturating_add(call);
     let (_, left) = stopped(alloc, image(alloc, disk)?, 1, CAPTURE, call, outcome)?;
     Ok(left)
 }
@@ -42,17 +42,12 @@ fn gate_of(alloc: Global, disk: MemoryDisk) -> Result<u8, Fail> {
 }
 
 #[test]
-fn the_gate_goes_out(rt: HostRuntime) -> Result<(), Fail> {
+fn the_gate_goes_out(rt: HostRuntime) {
     let alloc = rt.alloc();
-    assert_eq!(rt;
-        gate_of(alloc, stopped_at_gate(alloc, Outcome::Fill(1))?)?,
-        1
-    );
-    assert_eq!(rt;
-        prefix_in(alloc, stopped_at_gate(alloc, Outcome::Fill(1))?)?,
-        1
-    );
-    Ok(())
+    let left = must(&rt, stopped_at_gate(alloc, Outcome::Fill(1)));
+    assert!(rt; must(&rt, gate_of(alloc, left)) == 1);
+    let left = must(&rt, stopped_at_gate(alloc, Outcome::Fill(1)));
+    assert!(rt; must(&rt, prefix_in(alloc, left)) == 1);
 }
 
 // The gate once a disk was opened.
@@ -61,33 +56,31 @@ fn gate_opened(alloc: Global, disk: MemoryDisk) -> Result<u8, Fail> {
 }
 
 // A byte that closes the gate is left alone, also where its opening is stopped.
-fn keeps_gate(rt: &(impl Abort + AllocGlobal), left: &MemoryDisk, call: u64) -> Result<(), Fail> {
+fn keeps_gate(rt: &(impl Abort + AllocGlobal), left: &MemoryDisk, call: u64) {
     let alloc = rt.alloc();
     for outcome in OUTCOMES {
-        let again = stopped_opening(alloc, image(alloc, left)?, call, outcome)?;
-        assert_eq!(rt; gate_opened(alloc, again)?, 0x55);
+        let image = must(rt, image(alloc, left));
+        let again = must(rt, stopped_opening(alloc, image, call, outcome));
+        assert!(rt; must(rt, gate_opened(alloc, again)) == 0x55);
     }
-    Ok(())
 }
 
-fn keeps_gate_at_every_call(
-    rt: &(impl Abort + AllocGlobal),
-    left: &MemoryDisk,
-) -> Result<(), Fail> {
-    let opening = calls(rt.alloc(), image(rt.alloc(), left)?, 1, b"")?;
+fn keeps_gate_at_every_call(rt: &(impl Abort + AllocGlobal), left: &MemoryDisk) {
+    let opening = must(rt, calls_of_opening(rt.alloc(), left));
     for call in 0..opening {
-        keeps_gate(rt, left, call + 1)?;
+        keeps_gate(rt, left, call + 1);
     }
-    Ok(())
 }
 
 #[test]
-fn another_byte_goes_out(rt: HostRuntime) -> Result<(), Fail> {
+fn another_byte_goes_out(rt: HostRuntime) {
     let alloc = rt.alloc();
     let outcome = Outcome::Fill(0x55);
-    assert_eq!(rt; gate_opened(alloc, stopped_at_gate(alloc, outcome)?)?, 0x55);
-    assert_eq!(rt; prefix_in(alloc, stopped_at_gate(alloc, outcome)?)?, 0);
-    keeps_gate_at_every_call(&rt, &stopped_at_gate(alloc, outcome)?)
+    let left = must(&rt, stopped_at_gate(alloc, outcome));
+    assert!(rt; must(&rt, gate_opened(alloc, left)) == 0x55);
+    let left = must(&rt, stopped_at_gate(alloc, outcome));
+    assert!(rt; must(&rt, prefix_in(alloc, left)) == 0);
+    keeps_gate_at_every_call(&rt, &must(&rt, stopped_at_gate(alloc, outcome)));
 }
 
 // The two files, and a journal of these bytes.
@@ -99,13 +92,13 @@ fn with_journal(alloc: Global, journal: &[u8]) -> Result<MemoryDisk, Fail> {
 
 // A journal of one byte that reads as an open gate has no record.
 #[test]
-fn a_journal_of_one_byte(rt: HostRuntime) -> Result<(), Fail> {
+fn a_journal_of_one_byte(rt: HostRuntime) {
     let alloc = rt.alloc();
     for outcome in OUTCOMES {
-        let left = stopped_behind(alloc, &with_journal(alloc, b"\x01")?, RECORD, outcome)?;
-        assert_eq!(rt; prefix_in(alloc, left)?, 0);
+        let disk = must(&rt, with_journal(alloc, b"\x01"));
+        let left = must(&rt, stopped_behind(alloc, &disk, RECORD, outcome));
+        assert!(rt; must(&rt, prefix_in(alloc, left)) == 0);
     }
-    Ok(())
 }
 
 // The gate and the version of a journal.
@@ -124,14 +117,14 @@ fn journal_behind(alloc: Global, lines: &[u8]) -> Result<(u8, u8), Fail> {
 }
 
 #[test]
-fn an_old_journal(rt: HostRuntime) -> Result<(), Fail> {
+fn an_old_journal(rt: HostRuntime) {
     let alloc = rt.alloc();
     let lines = b"show\tinbox.org\n";
     let wanted = b"text 16\n* TODO Call Ann\n\n";
-    assert!(rt; is_answered(alloc, with_journal(alloc, &OLD)?, 1, lines, wanted)?);
-    assert!(rt; journal_behind(alloc, lines)? == (0, 1));
-    assert!(rt; journal_behind(alloc, CAPTURE)? == (0, 2));
-    Ok(())
+    let disk = must(&rt, with_journal(alloc, &OLD));
+    assert!(rt; must(&rt, is_answered(alloc, disk, 1, lines, wanted)));
+    assert!(rt; must(&rt, journal_behind(alloc, lines)) == (0, 1));
+    assert!(rt; must(&rt, journal_behind(alloc, CAPTURE)) == (0, 2));
 }
 
 // Its record is longer than the file.
@@ -146,10 +139,10 @@ fn is_untouched(alloc: Global, disk: MemoryDisk) -> Result<bool, Fail> {
 }
 
 #[test]
-fn a_bad_journal(rt: HostRuntime) -> Result<(), Fail> {
+fn a_bad_journal(rt: HostRuntime) {
     let alloc = rt.alloc();
-    let Ended { written, end, disk } = run(alloc, with_journal(alloc, BAD)?, 1, CAPTURE)?;
-    assert!(rt; is_untouched(alloc, disk)?);
+    let disk = must(&rt, with_journal(alloc, BAD));
+    let Ended { written, end, disk } = must(&rt, run(alloc, disk, 1, CAPTURE));
+    assert!(rt; must(&rt, is_untouched(alloc, disk)));
     assert!(rt; matches!(end, Err(OpenFault::BadJournal)) && written.is_empty());
-    Ok(())
 }

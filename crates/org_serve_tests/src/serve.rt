@@ -27,6 +27,15 @@ struct Ended {
     disk: MemoryDisk,
 }
 
+// What a step gives, which has to go well. Where it doesn't the test stops here and lets go of nothing, so a function
+// that owns a disk has no exit for each of its steps, which its proof would have to follow.
+fn must<T>(rt: &impl Abort, given: Result<T, Fail>) -> T {
+    match given {
+        Ok(value) => value,
+        Err(_) => panic!(rt; "a step of the test failed"),
+    }
+}
+
 // A store of these two files and of inbox.org, which is absent.
 fn setup(alloc: Global, group: u32) -> Result<Setup, Fail>
     requires { IsGroup group }
@@ -105,9 +114,13 @@ fn is_answered(
 }
 
 // Over a.org, which holds `* A`, and b.org, which holds `* Z`, this input is answered so.
-fn answers(rt: &(impl Abort + AllocGlobal), input: &str, wanted: &str) -> Result<(), Fail> {
-    let disk = two_files(rt.alloc(), b"* A", b"* Z")?;
-    let is_answered = is_answered(rt.alloc(), disk, 1, input.as_bytes(), wanted.as_bytes())?;
-    assert!(rt; is_answered, "{input}");
-    Ok(())
+fn answers(rt: &(impl Abort + AllocGlobal), input: &str, wanted: &str) {
+    answers_over(rt, ("* A", "* Z"), input, wanted);
+}
+
+// Over such a.org and b.org this input is answered so.
+fn answers_over(rt: &(impl Abort + AllocGlobal), (a, b): (&str, &str), input: &str, wanted: &str) {
+    let disk = must(rt, two_files(rt.alloc(), a.as_bytes(), b.as_bytes()));
+    let is_answered = is_answered(rt.alloc(), disk, 1, input.as_bytes(), wanted.as_bytes());
+    assert!(rt; must(rt, is_answered), "{input}");
 }

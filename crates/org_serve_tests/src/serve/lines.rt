@@ -1,5 +1,5 @@
 // What is answered to each line.
-use super::{answers, is_answered};
+use super::{answers, answers_over, is_answered, must};
 use org_disk::MemoryDisk;
 use org_fixtures::two_files;
 use std::alloc::Global;
@@ -49,28 +49,18 @@ const ANSWERED: [(&str, &str); 9] = [
 ];
 
 #[test]
-fn answered_lines(rt: HostRuntime) -> Result<(), Fail> {
+fn answered_lines(rt: HostRuntime) {
     for (input, wanted) in ANSWERED {
-        answers(&rt, input, wanted)?;
+        answers(&rt, input, wanted);
     }
-    Ok(())
 }
 
 // A capture at the top level goes behind the text before the first heading.
 #[test]
-fn first_behind_the_text_before_headings(rt: HostRuntime) -> Result<(), Fail> {
-    let lines = b"capture\ta.org\ttop\tfirst\t2026-07-01 10:00\t* B\t\nshow\ta.org\n";
-    let disk = two_files(rt.alloc(), b"p\n* A\n", b"")?;
-    assert!(rt;
-        is_answered(
-            rt.alloc(),
-            disk,
-            1,
-            lines,
-            b"ok 1\nsafe 1\ntext 10\np\n* B\n* A\n\n"
-        )?
-    );
-    Ok(())
+fn first_behind_the_text_before_headings(rt: HostRuntime) {
+    let lines = "capture\ta.org\ttop\tfirst\t2026-07-01 10:00\t* B\t\nshow\ta.org\n";
+    let wanted = "ok 1\nsafe 1\ntext 10\np\n* B\n* A\n\n";
+    answers_over(&rt, ("p\n* A\n", ""), lines, wanted);
 }
 
 // Captures of `* N` into a.org: what it held, the target, the place, and what it holds then.
@@ -103,17 +93,29 @@ const CAPTURED: [(&str, &str, &str, &str); 6] = [
     ),
 ];
 
+// The line of a capture into a.org.
+fn capture_line(alloc: Global, target: &str, place: &str) -> Result<String, Fail> {
+    Ok(format!(in alloc; "capture\ta.org\t{target}\t{place}\t2026-07-01 10:00\t* N\t\n")?)
+}
+
+// Such a line, and a show.
+fn capture_and_show(alloc: Global, target: &str, place: &str) -> Result<String, Fail> {
+    let capture = capture_line(alloc, target, place)?;
+    Ok(format!(in alloc; "{}show\ta.org\n", capture.as_str())?)
+}
+
+// What is answered to them where the capture makes this text.
+fn answer_of(alloc: Global, new: &str) -> Result<String, Fail> {
+    Ok(format!(in alloc; "ok 1\nsafe 1\ntext {}\n{new}\n", new.len())?)
+}
+
 #[test]
-fn captured_below_targets(rt: HostRuntime) -> Result<(), Fail> {
+fn captured_below_targets(rt: HostRuntime) {
     for (old, target, place, new) in CAPTURED {
-        let input = format!(in rt.alloc();
-            "capture\ta.org\t{target}\t{place}\t2026-07-01 10:00\t* N\t\nshow\ta.org\n"
-        )?;
-        let wanted = format!(in rt.alloc(); "ok 1\nsafe 1\ntext {}\n{new}\n", new.len())?;
-        let disk = two_files(rt.alloc(), old.as_bytes(), b"")?;
-        assert!(rt; is_answered(rt.alloc(), disk, 1, input.as_bytes(), wanted.as_bytes())?);
+        let input = must(&rt, capture_and_show(rt.alloc(), target, place));
+        let wanted = must(&rt, answer_of(rt.alloc(), new));
+        answers_over(&rt, (old, ""), input.as_str(), wanted.as_str());
     }
-    Ok(())
 }
 
 // Captures into a.org that are refused: what it holds, the target, and the answer.
@@ -125,15 +127,11 @@ const REFUSED: [(&str, &str, &str); 4] = [
 ];
 
 #[test]
-fn refused_targets(rt: HostRuntime) -> Result<(), Fail> {
+fn refused_targets(rt: HostRuntime) {
     for (old, target, wanted) in REFUSED {
-        let input = format!(in rt.alloc();
-            "capture\ta.org\t{target}\tlast\t2026-07-01 10:00\t* N\t\n"
-        )?;
-        let disk = two_files(rt.alloc(), old.as_bytes(), b"")?;
-        assert!(rt; is_answered(rt.alloc(), disk, 1, input.as_bytes(), wanted.as_bytes())?);
+        let input = must(&rt, capture_line(rt.alloc(), target, "last"));
+        answers_over(&rt, (old, ""), input.as_str(), wanted);
     }
-    Ok(())
 }
 
 // Lines that aren't run: by their form, and by a field.
@@ -157,11 +155,10 @@ const BAD: [&str; 16] = [
 ];
 
 #[test]
-fn bad_lines(rt: HostRuntime) -> Result<(), Fail> {
+fn bad_lines(rt: HostRuntime) {
     for line in BAD {
-        answers(&rt, line, "refused 20 BadLine\n")?;
+        answers(&rt, line, "refused 20 BadLine\n");
     }
-    Ok(())
 }
 
 // A line that captures an entry, of this many bytes in all without its newline.
@@ -174,17 +171,21 @@ fn long_line(alloc: Global, length: usize) -> Result<Vec<u8>, Fail> {
     Ok(line)
 }
 
-fn answers_long(rt: &(impl Abort + AllocGlobal), length: usize, wanted: &str) -> Result<(), Fail> {
-    let line = long_line(rt.alloc(), length)?;
-    let disk = two_files(rt.alloc(), b"", b"")?;
-    assert!(rt; is_answered(rt.alloc(), disk, 1, &line, wanted.as_bytes())?);
-    Ok(())
+fn answers_long(rt: &(impl Abort + AllocGlobal), length: usize, wanted: &str) {
+    let line = must(rt, long_line(rt.alloc(), length));
+    let disk = must(rt, two_files(rt.alloc(), b"", b""));
+    assert!(rt;
+        must(
+            rt,
+            is_answered(rt.alloc(), disk, 1, &line, wanted.as_bytes())
+        )
+    );
 }
 
 #[test]
-fn the_limit_of_a_line(rt: HostRuntime) -> Result<(), Fail> {
-    answers_long(&rt, 1_048_576, "ok 1\nsafe 1\n")?;
-    answers_long(&rt, 1_048_577, "refused 20 BadLine\n")
+fn the_limit_of_a_line(rt: HostRuntime) {
+    answers_long(&rt, 1_048_576, "ok 1\nsafe 1\n");
+    answers_long(&rt, 1_048_577, "refused 20 BadLine\n");
 }
 
 // A disk whose a.org has a line of so many bytes.
@@ -195,15 +196,19 @@ fn long_file(alloc: Global, length: usize) -> Result<MemoryDisk, Fail> {
 }
 
 // A capture into a.org, which has a line of so many bytes, is answered so.
-fn answers_at(rt: &(impl Abort + AllocGlobal), length: usize, wanted: &str) -> Result<(), Fail> {
+fn answers_at(rt: &(impl Abort + AllocGlobal), length: usize, wanted: &str) {
     let line = b"capture\ta.org\ttop\tlast\t2026-07-01 10:00\t* B\t\n";
-    let disk = long_file(rt.alloc(), length)?;
-    assert!(rt; is_answered(rt.alloc(), disk, 1, line, wanted.as_bytes())?);
-    Ok(())
+    let disk = must(rt, long_file(rt.alloc(), length));
+    assert!(rt;
+        must(
+            rt,
+            is_answered(rt.alloc(), disk, 1, line, wanted.as_bytes())
+        )
+    );
 }
 
 #[test]
-fn the_limit_of_a_file(rt: HostRuntime) -> Result<(), Fail> {
-    answers_at(&rt, 67_108_859, "ok 1\nsafe 1\n")?;
-    answers_at(&rt, 67_108_860, "refused 14 TooLarge\n")
+fn the_limit_of_a_file(rt: HostRuntime) {
+    answers_at(&rt, 67_108_859, "ok 1\nsafe 1\n");
+    answers_at(&rt, 67_108_860, "refused 14 TooLarge\n");
 }

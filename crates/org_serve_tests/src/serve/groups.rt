@@ -1,0 +1,106 @@
+// Groups of commands that are settled together.
+ghost use Rattle.org_serve.specs.Group.{IsGroup};
+
+use super::pipes::{Page, in_pieces, pipe};
+use super::stops::{CAPTURES, calls, prefix_left};
+use super::{is_answered, must};
+use org_disk::MemoryDisk;
+use org_fixtures::{OUTCOMES, two_files};
+use org_serve::ServeEnd;
+use std::alloc::Global;
+use std::process::Abort;
+use std::test::Fail;
+
+// In groups of this size the lines are answered so.
+fn answers_in(rt: &(impl Abort + AllocGlobal), group: u32, lines: &[u8], wanted: &str)
+    requires { IsGroup group }
+{
+    let disk = must(rt, two_files(rt.alloc(), b"* A\n", b"* Z"));
+    assert!(rt;
+        must(
+            rt,
+            is_answered(rt.alloc(), disk, group, lines, wanted.as_bytes())
+        )
+    );
+}
+
+const THREE: &[u8] = b"capture\ta.org\ttop\tlast\t2026-07-01 10:00\t* N\t\n\
+    capture\tb.org\ttop\tlast\t2026-07-01 10:00\t* K\t\n\
+    capture\ta.org\ttop\tlast\t2026-07-01 10:00\t* L\t\n";
+
+#[test]
+fn three_captures(rt: HostRuntime) {
+    answers_in(&rt, 1, THREE, "ok 1\nsafe 1\nok 2\nsafe 2\nok 3\nsafe 3\n");
+    answers_in(&rt, 2, THREE, "ok 1\nok 2\nsafe 2\nok 3\nsafe 3\n");
+    answers_in(&rt, 3, THREE, "ok 1\nok 2\nok 3\nsafe 3\n");
+    answers_in(&rt, 1000, THREE, "ok 1\nok 2\nok 3\nsafe 3\n");
+}
+
+// A refused command changes no number, and a show shows what is accepted.
+#[test]
+fn a_refusal_between(rt: HostRuntime) {
+    let lines = b"capture\ta.org\ttop\tlast\t2026-07-01 10:00\t* N\t\n\
+        capture\ta.org\ttop\tlast\t2026-07-01 10:00\tN\t\nshow\ta.org\n\
+        capture\tb.org\ttop\tlast\t2026-07-01 10:00\t* K\t\n";
+    answers_in(
+        &rt,
+        2,
+        lines,
+        "ok 1\nrefused 3 BadEntry\ntext 8\n* A\n* N\n\nok 2\nsafe 2\n",
+    );
+}
+
+// What is left of the disk where the input breaks off behind these lines, so that nothing is settled at its end.
+fn broken_off(
+    rt: &impl Abort,
+    alloc: Global,
+    group: u32,
+    lines: &[u8],
+    written: &[u8],
+) -> MemoryDisk
+    requires { IsGroup group }
+{
+    let disk = must(rt, two_files(alloc, b"* A\n", b"* Z"));
+    let mut reader = in_pieces(lines, 4096);
+    reader.fails_at = 2;
+    let mut writer = Page::new(alloc);
+    let (end, disk) = must(rt, pipe(alloc, disk, group, &mut reader, &mut writer, 100));
+    assert!(rt; end == ServeEnd::Read && writer.bytes.as_slice() == written);
+    disk
+}
+
+#[test]
+fn a_group_that_is_not_full(rt: HostRuntime) {
+    for outcome in OUTCOMES {
+        let disk = broken_off(&rt, rt.alloc(), 3, CAPTURES, b"ok 1\nok 2\n");
+        assert!(rt; must(&rt, prefix_left(rt.alloc(), disk, outcome)) == 0);
+    }
+}
+
+const SETTLED: &[u8] = b"capture\ta.org\ttop\tlast\t2026-07-01 10:00\t* N\t\n\
+    capture\tb.org\ttop\tlast\t2026-07-01 10:00\t* K\t\nsettle\n";
+
+#[test]
+fn a_group_that_is_settled(rt: HostRuntime) {
+    for outcome in OUTCOMES {
+        let disk = broken_off(&rt, rt.alloc(), 3, SETTLED, b"ok 1\nok 2\nsafe 2\n");
+        assert!(rt; must(&rt, prefix_left(rt.alloc(), disk, outcome)) == 2);
+    }
+}
+
+// Nothing is pending on a fresh store.
+#[test]
+fn settle_of_nothing(rt: HostRuntime) {
+    let alloc = rt.alloc();
+    let disk = must(&rt, two_files(alloc, b"", b""));
+    assert!(rt; must(&rt, is_answered(alloc, disk, 1, b"settle\n", b"safe 0\n")));
+    let opening = must(
+        &rt,
+        calls(alloc, must(&rt, two_files(alloc, b"", b"")), 1, b""),
+    );
+    let all = must(
+        &rt,
+        calls(alloc, must(&rt, two_files(alloc, b"", b"")), 1, b"settle\n"),
+    );
+    assert!(rt; all == opening);
+}
