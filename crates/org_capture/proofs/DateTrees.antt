@@ -70,7 +70,7 @@ found_passes p (y ∷ ys) x is =
     ]
 
 -- a heading that was found has the level of what goes below the parent
-found_level : (states : Keywords) (d : Document) (up : Option ℕ) (kind : DateKind) (key : List ℕ) (wanted : Ordering) (i : ℕ) → first_dated states d up kind key wanted ≡ Some i
+pub found_level : (states : Keywords) (d : Document) (up : Option ℕ) (kind : DateKind) (key : List ℕ) (wanted : Ordering) (i : ℕ) → first_dated states d up kind key wanted ≡ Some i
     → (node_at d i).node.level ≡ level_below up d
 found_level states d up kind key wanted i is =
     let passes = found_passes (λ i. is_dated states (level_below up d) kind key wanted (node_at d i).node) (children_of d up) i is in

@@ -1,5 +1,6 @@
 -- Templates filled in, piece by piece.
 use Rattle.std.proofs.Common.{◌≡◌, ℕ, ◌+◌, ◌<◌, true, false, List, [], ◌∷◌, ◌++◌, length, take, get_or, eqb, Option, Some, None, Result, Ok, Err, refl, sym, ◌∙◌, ap, append_assoc, inl, inr}
+use Rattle.std.specs.List.{list_any}
 use Rattle.std.proofs.lemmas.Bool.{cases_Bool}
 use Rattle.std.proofs.lemmas.List.{append-nil, take_more}
 use Rattle.org_stamp.specs.Calendar.{CivilMinute}
@@ -42,3 +43,12 @@ fills m initial old more new pieces rest piece is said put = rw (is, said) (ap (
 
 pub fills_badly : (m : CivilMinute) (initial old : List ℕ) (pieces rest : List Piece) (piece : Piece) → pieces ≡ piece ∷ rest → text_of m initial (last_line old) piece ≡ None → filled m initial old pieces ≡ Err BadTemplate
 fills_badly m initial old pieces rest piece is said = rw (is, said) refl
+
+-- bytes without a newline have no place for a prefix
+pub with_prefix-none : (prefix bytes : List ℕ) → list_any (λ b. eqb b 10) bytes ≡ false → with_prefix prefix bytes ≡ bytes
+with_prefix-none prefix [] none = refl
+with_prefix-none prefix (b ∷ bytes) none =
+    elim (cases_Bool (eqb b 10)) [
+      | inl e ↦ absurd (let f = rw e at none in cc)
+      | inr e ↦ rw e (ap (λ (l : List ℕ). b ∷ l) (with_prefix-none prefix bytes (rw e at none)))
+    ]

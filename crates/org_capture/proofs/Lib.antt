@@ -6,3 +6,6 @@ pub mod DateTrees
 pub mod Fillings
 pub mod Counting
 pub mod Rows
+pub mod Numbers
+pub mod OneByOne
+pub mod Kept

@@ -2,6 +2,7 @@
 use Rattle.std.proofs.Common.{◌≡◌, ℕ, List, [], ◌∷◌, ◌++◌, Some, None, codes, refl}
 use Rattle.std.specs.Prelude.{Result, Ok, Err}
 use Rattle.org_outline.specs.declared.moves.Place.TheVariants.{Last}
+use Rattle.org_outline.specs.States.{Keywords}
 use Rattle.org_outline.specs.Tree.{Empty, Node, Document, tree, print}
 use Rattle.org_stamp.specs.Calendar.{CivilMinute, civil_day}
 use Rattle.org_capture.specs.declared.fault.CaptureFault.{CaptureFault}
@@ -11,8 +12,9 @@ use Rattle.org_capture.specs.declared.target.Target.TheVariants.{Top, Head, Path
 use Rattle.org_capture.specs.declared.dates.DateKind.TheVariants.{Year, Month}
 use Rattle.org_capture.specs.Template.{expanded}
 use Rattle.org_capture.specs.Entry.{entry_text}
-use Rattle.org_capture.specs.Dates.{key_of, date_title}
+use Rattle.org_capture.specs.Dates.{key_of, date_title, dated}
 use Rattle.org_capture.specs.Capture.{captured}
+use Rattle.org_capture.specs.Made.{dated_one_by_one, missing, missing_dates}
 
 -- 2026-07-01 10:00
 abbrev now : CivilMinute
@@ -64,11 +66,17 @@ month_title = refl
 
 -- ---- targets
 
+abbrev states : Keywords
+states = record { active = codes "TODO" ∷ []; done = codes "DONE" ∷ [] }
+
+-- `* N`
+abbrev entry : Node
+entry = record { level = 1; rest = codes " N"; section = []; children = Empty }
+
 -- what a text is with an entry `* N` put last below a target, and nothing where that is refused
 abbrev with_entry : List ℕ → Target → List ℕ
 with_entry text target =
-    let entry : Node = record { level = 1; rest = codes " N"; section = []; children = Empty } in
-    printed (captured (record { active = codes "TODO" ∷ []; done = codes "DONE" ∷ [] }) target Last now entry (tree text))
+    printed (captured states target Last now entry (tree text))
   where
     printed : Result Document CaptureFault → List ℕ
     printed (Ok d) = print d
@@ -92,3 +100,29 @@ head_twice = refl
 used_again : with_entry (line (codes "* 2026") ++ line (codes "** 2026-07 July") ++ line (codes "*** 2026-07-01 Wednesday")) (Date [])
     ≡ line (codes "* 2026") ++ line (codes "** 2026-07 July") ++ line (codes "*** 2026-07-01 Wednesday") ++ line (codes "**** N")
 used_again = refl
+
+-- ---- made headings
+
+-- the month is among the children of a year that is made before a later one
+one_by_one : print (dated_one_by_one states Last now.day entry (tree (line (codes "* 2027"))) (Year ∷ Month ∷ []) None)
+    ≡ line (codes "* 2026") ++ line (codes "** 2026-07 July") ++ line (codes "*** N") ++ line (codes "* 2027")
+one_by_one = refl
+
+as_one_chain : print (dated states Last now.day entry (tree (line (codes "* 2027"))) (Year ∷ Month ∷ []) None)
+    ≡ line (codes "* 2026") ++ line (codes "** 2026-07 July") ++ line (codes "*** N") ++ line (codes "* 2027")
+as_one_chain = refl
+
+both_missing : missing_dates states now.day (tree (line (codes "* 2027"))) (Year ∷ Month ∷ []) None ≡ codes " 2026" ∷ codes " 2026-07 July" ∷ []
+both_missing = refl
+
+year_there : missing_dates states now.day (tree (line (codes "* 2026") ++ line (codes "** 2026-08"))) (Year ∷ Month ∷ []) None ≡ codes " 2026-07 July" ∷ []
+year_there = refl
+
+none_missing : missing states (Date []) now (tree (line (codes "* 2026") ++ line (codes "** 2026-07 July") ++ line (codes "*** 2026-07-01"))) ≡ []
+none_missing = refl
+
+title_missing : missing states (Head (codes "Tasks")) now (tree (line (codes "x"))) ≡ codes " Tasks" ∷ []
+title_missing = refl
+
+title_there : missing states (Head (codes "Tasks")) now (tree (line (codes "*** TODO Tasks :x:"))) ≡ []
+title_there = refl

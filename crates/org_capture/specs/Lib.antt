@@ -4,3 +4,4 @@ pub mod Lengths
 pub mod Entry
 pub mod Dates
 pub mod Capture
+pub mod Made

@@ -54,6 +54,8 @@ fn push_piece(
             let stamp = Stamp::at(moment, active, timed).print(alloc)?;
             text.extend_from_slice(stamp.as_slice())?;
         }
+        // Without a newline no prefix is looked for, so that many of them on one line are put in at once.
+        Piece::Initial if !initial_text.contains(&b'\n') => text.extend_from_slice(initial_text)?,
         Piece::Initial => {
             let prefix = last_line(text.as_slice()).to_vec(alloc)?;
             push_with_prefix(text, prefix.as_slice(), initial_text)?;

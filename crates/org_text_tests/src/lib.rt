@@ -4,6 +4,8 @@
 #[cfg(test)]
 mod archives;
 #[cfg(test)]
+mod capture_rows;
+#[cfg(test)]
 mod captures;
 #[cfg(test)]
 mod held_texts;
