@@ -1,6 +1,7 @@
-/* The system calls of captures into one file, and nothing else of a store: bare DIR NAME GROUP [reads]
-   Reads lines `capture` from standard input as the program does, and puts each template at the end of the file, in the
-   order of a commit with its journal. With `reads` it reads the whole file before each capture. */
+/* The system calls of commands, and nothing else of a store: bare DIR GROUP SCRIPT
+   Reads command lines from standard input as the program does, and answers each as accepted. Each time a group is full,
+   and at the end of the input, it makes the calls of one commit, with the next record of SCRIPT: its length in 8 bytes,
+   and what the journal has from byte 1 on. */
 #define _GNU_SOURCE
 #include <fcntl.h>
 #include <stdint.h>
@@ -10,13 +11,20 @@
 #include <sys/stat.h>
 #include <unistd.h>
 
-enum { PIECE = 4096, ROOM = 1 << 20 };
+enum { PIECE = 4096, NAME = 256, FILES = 512, HEADER = 15 };
 
-static int journal, file;
-static const char *name;
+struct file {
+    char name[NAME];
+    int fd;
+};
+
+static const char *folder;
+static int journal;
+static struct file files[FILES];
+static size_t file_count;
+static const unsigned char *script;
+static const unsigned char *script_end;
 static uint64_t accepted, acknowledged;
-static unsigned char pending[ROOM];
-static size_t pending_bytes;
 
 static void fail(const char *call)
 {
@@ -36,12 +44,12 @@ static void sync_data(int fd)
         fail("fdatasync");
 }
 
-static off_t length(int fd)
+static uint64_t length_of(int fd)
 {
     struct statx now;
     if (statx(fd, "", AT_EMPTY_PATH, STATX_BASIC_STATS, &now) != 0)
         fail("statx");
-    return (off_t)now.stx_size;
+    return now.stx_size;
 }
 
 static void set_gate(unsigned char gate)
@@ -50,57 +58,74 @@ static void set_gate(unsigned char gate)
     sync_data(journal);
 }
 
-static unsigned char *number(unsigned char *at, uint64_t value, int bytes)
+static int open_in(const char *of)
 {
-    for (int i = bytes - 1; i >= 0; i--)
-        *at++ = (unsigned char)(value >> (8 * i));
-    return at;
+    char path[PIECE];
+    snprintf(path, sizeof path, "%s/%s", folder, of);
+    int fd = open(path, O_RDWR | O_CREAT | O_CLOEXEC, 0666);
+    if (fd < 0)
+        fail(path);
+    return fd;
 }
 
-/* The journal from its second byte on, with one patch: what is pending, from `from` on. */
-static size_t encode(unsigned char *body, off_t from)
+static int opened(const unsigned char *name, size_t count)
 {
-    size_t named = strlen(name);
-    size_t record = 4 + 2 + named + 8 + 4 + 8 + 8 + pending_bytes;
-    unsigned char *at = body;
-    memcpy(at, "ORGJ\2\0\0", 7);
-    at = number(at + 7, record, 8);
-    at = number(at, 1, 4);
-    at = number(at, named, 2);
-    memcpy(at, name, named);
-    at = number(at + named, (uint64_t)from + pending_bytes, 8);
-    at = number(at, 1, 4);
-    at = number(at, (uint64_t)from, 8);
-    at = number(at, pending_bytes, 8);
-    memcpy(at, pending, pending_bytes);
-    return (size_t)(at - body) + pending_bytes;
+    for (size_t i = 0; i < file_count; i++)
+        if (strlen(files[i].name) == count && memcmp(files[i].name, name, count) == 0)
+            return files[i].fd;
+    if (file_count == FILES || count >= NAME)
+        exit(1);
+    struct file *one = &files[file_count++];
+    memcpy(one->name, name, count);
+    one->fd = open_in(one->name);
+    return one->fd;
 }
 
-static void commit(off_t *size)
+static uint64_t number(const unsigned char **at, int bytes)
 {
-    static unsigned char body[ROOM + 4 * PIECE];
-    put_at(journal, body, encode(body, *size), 1);
+    uint64_t value = 0;
+    while (bytes-- > 0)
+        value = value << 8 | *(*at)++;
+    return value;
+}
+
+/* Lays the patches of a record, and syncs its files. */
+static void lay(const unsigned char *at)
+{
+    int changed[FILES];
+    uint64_t entries = number(&at, 4);
+    for (uint64_t entry = 0; entry < entries; entry++) {
+        size_t named = number(&at, 2);
+        int fd = changed[entry] = opened(at, named);
+        at += named;
+        uint64_t final = number(&at, 8);
+        for (uint64_t patches = number(&at, 4); patches > 0; patches--) {
+            uint64_t from = number(&at, 8), count = number(&at, 8);
+            if (count > 0)
+                put_at(fd, at, count, (off_t)from);
+            at += count;
+        }
+        if (length_of(fd) > final && ftruncate(fd, (off_t)final) != 0)
+            fail("ftruncate");
+    }
+    for (uint64_t entry = 0; entry < entries; entry++)
+        sync_data(changed[entry]);
+}
+
+static void commit(void)
+{
+    if (script == script_end) {
+        fputs("bare: the script is over\n", stderr);
+        exit(1);
+    }
+    size_t body = number(&script, 8);
+    put_at(journal, script, body, 1);
     sync_data(journal);
     set_gate(1);
-    put_at(file, pending, pending_bytes, *size);
-    *size = length(file);
-    sync_data(file);
+    lay(script + HEADER);
     set_gate(0);
-    pending_bytes = 0;
+    script += body;
     acknowledged = accepted;
-}
-
-static void read_whole(void)
-{
-    static unsigned char *bytes;
-    static size_t held;
-    size_t size = (size_t)length(file);
-    if (size > held) {
-        held = 2 * size;
-        bytes = realloc(bytes, held);
-    }
-    if (size > 0 && (bytes == NULL || pread(file, bytes, size, 0) != (ssize_t)size))
-        fail("pread");
 }
 
 static void reply(uint64_t done, int safe)
@@ -115,68 +140,59 @@ static void reply(uint64_t done, int safe)
         fail("write");
 }
 
-/* The template is the field behind the fifth tab. */
-static void capture(const char *line, uint64_t group, int reads, off_t *size)
+static void command(uint64_t group)
 {
-    for (int tabs = 0; tabs < 5; tabs++)
-        line = strchr(line, '\t') + 1;
-    size_t count = strcspn(line, "\t");
-    if (reads)
-        read_whole();
-    if (pending_bytes + count + 1 > ROOM) {
-        fputs("bare: too much is pending\n", stderr);
-        exit(1);
-    }
-    memcpy(pending + pending_bytes, line, count);
-    pending[pending_bytes + count] = '\n';
-    pending_bytes += count + 1;
     accepted++;
     if (accepted - acknowledged == group)
-        commit(size);
+        commit();
     reply(accepted, acknowledged == accepted);
 }
 
-static int open_in(const char *folder, const char *of)
+/* The whole script, in memory before the first line is read. */
+static void load(const char *path)
 {
-    char path[PIECE];
-    snprintf(path, sizeof path, "%s/%s", folder, of);
-    int fd = open(path, O_RDWR | O_CREAT | O_CLOEXEC, 0666);
+    int fd = open(path, O_RDONLY | O_CLOEXEC);
     if (fd < 0)
         fail(path);
-    return fd;
+    size_t size = (size_t)length_of(fd), got = 0;
+    unsigned char *bytes = malloc(size + 1);
+    while (bytes != NULL && got < size) {
+        ssize_t more = read(fd, bytes + got, size - got);
+        if (more <= 0)
+            fail("read");
+        got += (size_t)more;
+    }
+    if (bytes == NULL)
+        fail("malloc");
+    script = bytes;
+    script_end = bytes + size;
+    close(fd);
 }
 
 int main(int count, char **words)
 {
-    static char line[2 * PIECE];
-    size_t held = 0;
+    static char piece[PIECE];
     if (count < 4) {
-        fputs("usage: bare DIR NAME GROUP [reads]\n", stderr);
+        fputs("usage: bare DIR GROUP SCRIPT\n", stderr);
         return 2;
     }
-    name = words[2];
-    journal = open_in(words[1], "orgstore.journal");
-    file = open_in(words[1], name);
+    folder = words[1];
+    uint64_t group = strtoull(words[2], NULL, 10);
+    load(words[3]);
+    journal = open_in("orgstore.journal");
     set_gate(0);
-    off_t size = length(file);
     for (;;) {
-        ssize_t got = read(0, line + held, PIECE);
+        ssize_t got = read(0, piece, PIECE);
         if (got < 0)
             fail("read");
         if (got == 0)
             break;
-        held += (size_t)got;
-        char *from = line, *end;
-        while ((end = memchr(from, '\n', held - (size_t)(from - line))) != NULL) {
-            *end = '\0';
-            capture(from, strtoull(words[3], NULL, 10), count > 4, &size);
-            from = end + 1;
-        }
-        held -= (size_t)(from - line);
-        memmove(line, from, held);
+        for (ssize_t at = 0; at < got; at++)
+            if (piece[at] == '\n')
+                command(group);
     }
-    if (pending_bytes > 0) {
-        commit(&size);
+    if (acknowledged < accepted) {
+        commit();
         reply(0, 1);
     }
     return 0;

@@ -1,3 +1,5 @@
 pub mod Starting
 mod Words
 mod Rows
+mod Firsts
+mod Causing

@@ -1,11 +1,11 @@
 -- Where each fault of the program comes from.
-use Rattle.std.specs.Prelude.{◌≡◌, ◌⊎◌, ℕ, List, string_bytes, Result, Ok, Err, IsFalse}
-use Rattle.std.specs.List.{Contains}
+use Rattle.std.specs.Prelude.{◌≡◌, ℕ, List, Option, Some, None, Result, Ok, Err, IsTrue, IsFalse, find, not, string_bytes}
 use Rattle.org_fileset.specs.declared.open.OpenFault.{OpenFault}
 use Rattle.org_fileset.specs.declared.open.OpenFault.TheVariants as refused
 use Rattle.org_folder.specs.OrgFiles.{is_org_file}
 use Rattle.org_folder.specs.declared.list.ListFault.{ListFault}
 use Rattle.org_folder.specs.declared.list.ListFault.TheVariants as list
+use Rattle.org_outline.specs.States.{Keywords, are_states}
 use Rattle.org_outline.specs.declared.states.StatesFault.{StatesFault}
 use Rattle.org_outline.specs.declared.states.StatesFault.TheVariants as states
 use Rattle.org_serve.specs.declared.end.ServeEnd.{ServeEnd}
@@ -32,19 +32,31 @@ abbrev pub stating : StatesFault → Fault
 stating states.BadStates = BadStates
 stating states.OutOfMemory = Open refused.OutOfMemory
 
--- why a new name can't be one of a store's
-abbrev pub IsCauseOf : List ℕ → Fault → Type 0
-IsCauseOf text (BadName name) = (string_bytes name ≡ text) × IsFalse (is_org_file text)
-IsCauseOf text (Open refused.OutOfMemory) = Unit {0}
-IsCauseOf text (Open refused.Device) = ⊥
-IsCauseOf text (Open refused.TooManyFiles) = ⊥
-IsCauseOf text (Open refused.BadJournal) = ⊥
-IsCauseOf text (Open (refused.TooLarge name)) = ⊥
-IsCauseOf text (Usage told) = ⊥
-IsCauseOf text BadStates = ⊥
-IsCauseOf text (Ended end) = ⊥
+-- the first of the names that is no Org file's
+abbrev pub first_bad : List (List ℕ) → Option (List ℕ)
+first_bad names = find (λ name. not (is_org_file name)) names
 
--- Why the names of a store couldn't be had: one of the new ones isn't an Org file's, the folder can't be listed, or there
--- was no memory.
-abbrev pub IsCause : List (List ℕ) → Fault → Type 0
-IsCause new fault = ((name : List ℕ) × Contains new name × IsCauseOf name fault) ⊎ (fault ≡ Open refused.Device) ⊎ (fault ≡ Open refused.OutOfMemory)
+-- why new names aren't a store's: the first bad one, or else want of memory
+abbrev pub IsCauseOfNames : List (List ℕ) → Fault → Type 0
+IsCauseOfNames new (BadName name) = first_bad new ≡ Some (string_bytes name)
+IsCauseOfNames new (Open refused.OutOfMemory) = Unit {0}
+IsCauseOfNames new (Open refused.Device) = ⊥
+IsCauseOfNames new (Open refused.TooManyFiles) = ⊥
+IsCauseOfNames new (Open refused.BadJournal) = ⊥
+IsCauseOfNames new (Open (refused.TooLarge name)) = ⊥
+IsCauseOfNames new (Usage told) = ⊥
+IsCauseOfNames new BadStates = ⊥
+IsCauseOfNames new (Ended end) = ⊥
+
+-- Why new names and states aren't a store's, or a folder's names can't be had beside them. What comes first in this order
+-- is told: the first bad name, bad states, the folder. Want of memory may take the place of each.
+abbrev pub IsCause : List (List ℕ) → Keywords → Fault → Type 0
+IsCause new states (BadName name) = first_bad new ≡ Some (string_bytes name)
+IsCause new states BadStates = (first_bad new ≡ None) × IsFalse (are_states states)
+IsCause new states (Open refused.Device) = (first_bad new ≡ None) × IsTrue (are_states states)
+IsCause new states (Open refused.OutOfMemory) = Unit {0}
+IsCause new states (Open refused.TooManyFiles) = ⊥
+IsCause new states (Open refused.BadJournal) = ⊥
+IsCause new states (Open (refused.TooLarge name)) = ⊥
+IsCause new states (Usage told) = ⊥
+IsCause new states (Ended end) = ⊥

@@ -1,3 +1,4 @@
 pub mod Statuses
 pub mod Causes
 pub mod Words
+pub mod Lists

@@ -9,8 +9,8 @@ use Rattle.orgstore.specs.declared.arguments.Arguments.{Arguments}
 use Rattle.orgstore.specs.declared.fault.Fault.{Fault}
 use Rattle.orgstore.specs.declared.fault.Fault.TheVariants.{Usage, BadName, BadStates, Open, Ended}
 
--- The command line, as clap has it: a folder, which has to be there, any number of `--new NAME`, and `--group K`, which is 1
--- where it isn't there.
+-- The command line, as clap has it: a folder, which has to be there; any number of `--new NAME`; and, at most once each,
+-- `--todo LIST`, `--done LIST` and `--group K`, which are TODO, DONE and 1 where they aren't there.
 
 abbrev pub folder_argument : Rule
 folder_argument = record (new_rule (codes "DIR")) { required = true }
@@ -18,11 +18,19 @@ folder_argument = record (new_rule (codes "DIR")) { required = true }
 abbrev pub new_argument : Rule
 new_argument = record (new_rule (codes "new")) { long = Some (codes "new"); value_names = 1; action = Some Append }
 
+abbrev pub todo_argument : Rule
+todo_argument = record (new_rule (codes "todo")) { long = Some (codes "todo"); value_names = 1; defaults = codes "TODO" ∷ [] }
+
+abbrev pub done_argument : Rule
+done_argument = record (new_rule (codes "done")) { long = Some (codes "done"); value_names = 1; defaults = codes "DONE" ∷ [] }
+
 abbrev pub group_argument : Rule
 group_argument = record (new_rule (codes "group")) { long = Some (codes "group"); value_names = 1; defaults = codes "1" ∷ [] }
 
 abbrev pub command_line : App
-command_line = with_rule (with_rule (with_rule (new_app (codes "orgstore")) folder_argument) new_argument) group_argument
+command_line =
+    with_rule (with_rule (with_rule (with_rule (with_rule (new_app (codes "orgstore")) folder_argument) new_argument)
+    todo_argument) done_argument) group_argument
 
 -- What the words give, of which the first is the program's name.
 
@@ -34,6 +42,12 @@ folder_in words = unwrap_or (first_of (codes "DIR") (given words)) []
 
 abbrev pub new_in : List (List ℕ) → List (List ℕ)
 new_in words = unwrap_or (all_of (codes "new") (given words)) []
+
+abbrev pub todo_in : List (List ℕ) → List ℕ
+todo_in words = unwrap_or (first_of (codes "todo") (given words)) (codes "TODO")
+
+abbrev pub done_in : List (List ℕ) → List ℕ
+done_in words = unwrap_or (first_of (codes "done") (given words)) (codes "DONE")
 
 abbrev pub group_in : List (List ℕ) → List ℕ
 group_in words = unwrap_or (first_of (codes "group") (given words)) (codes "1")
@@ -51,6 +65,8 @@ pub record Tells (words : List (List ℕ)) (arguments : Arguments) : Type 0 wher
   pub taken : AreTaken words
   pub folder : string_bytes arguments.folder ≡ folder_in words
   pub new : map string_bytes arguments.new.items ≡ new_in words
+  pub todo : string_bytes arguments.todo ≡ todo_in words
+  pub done : string_bytes arguments.done ≡ done_in words
   pub group : arguments.group ≡ digits_value 10 (group_in words)
 
 -- there was no memory for the words, or else they are refused, for this reason

@@ -21,6 +21,10 @@ pub struct Arguments {
     pub folder: String,
     /// Names of files that the folder may lack.
     pub new: Vec<String>,
+    /// The active states, with a comma between each two.
+    pub todo: String,
+    /// The done states, likewise.
+    pub done: String,
     /// How many commands are accepted before they are settled.
     pub group: u32,
 }
@@ -62,6 +66,8 @@ fn parse(alloc: Global, words: &[String]) -> Result<Arguments, Error>
     Ok(Arguments {
         folder: String::from_str(alloc, matches.get_str("DIR").unwrap_or(""))?,
         new: owned(alloc, matches.get_strs("new").unwrap_or(&[]))?,
+        todo: String::from_str(alloc, matches.get_str("todo").unwrap_or("TODO"))?,
+        done: String::from_str(alloc, matches.get_str("done").unwrap_or("DONE"))?,
         group,
     })
 }
@@ -78,6 +84,16 @@ fn command<'a>(alloc: Global) -> Result<Command<'a>, AllocError>
         .value_name("NAME")
         .help("An Org file that the folder may lack")
         .action(ArgAction::Append);
+    let todo = Arg::new(alloc, "todo")
+        .long("todo")
+        .value_name("LIST")
+        .help("The active states, with commas between them")
+        .default_value("TODO");
+    let done = Arg::new(alloc, "done")
+        .long("done")
+        .value_name("LIST")
+        .help("The done states, with commas between them")
+        .default_value("DONE");
     let group = Arg::new(alloc, "group")
         .long("group")
         .value_name("K")
@@ -86,6 +102,8 @@ fn command<'a>(alloc: Global) -> Result<Command<'a>, AllocError>
     Command::new(alloc, "orgstore")
         .arg(folder)?
         .arg(new)?
+        .arg(todo)?
+        .arg(done)?
         .arg(group)
 }
 

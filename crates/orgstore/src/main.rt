@@ -1,30 +1,33 @@
-//! `orgstore DIR [--new NAME].. [--group K]`: runs the command lines of standard input over the Org files of a folder,
-//! and writes their replies to standard output. A fault is a line on standard error and the exit status.
+//! `orgstore DIR [--new NAME].. [--todo LIST] [--done LIST] [--group K]`: runs the command lines of standard input over
+//! the Org files of a folder, and writes their replies to standard output. A fault is a line on standard error and the
+//! exit status.
 #![tactic(auto)]
 
-ghost use Rattle.std.specs.Prelude.{◌≡◌, [], ◌∷◌, ◌++◌, ℕ, List, map, string_bytes, codes, IfOk, IfErr, All};
+ghost use Rattle.std.specs.Prelude.{◌≡◌, [], ◌++◌, ℕ, List, map, string_bytes, IfOk, IfErr, All};
 ghost use Rattle.std.specs.Io.Buffered.{writer_buffer};
 ghost use Rattle.org_disk.specs.Names.{IsOrgFile};
 ghost use Rattle.org_fileset.specs.declared.open.OpenFault.TheVariants.{OutOfMemory};
 ghost use Rattle.org_store.specs.Group.{IsGroup};
 ghost use Rattle.orgstore.specs.Causes.{told, IsCause};
+ghost use Rattle.orgstore.specs.Lists.{states_in};
 ghost use Rattle.orgstore.specs.declared.fault.Fault.TheVariants.{Open};
 
 mod arguments;
 mod fault;
 mod folder;
 mod names;
+mod states;
 #[cfg(test)]
 mod tests;
 
 use arguments::Arguments;
 use fault::Fault;
 use folder::serve_folder;
-use names::names;
-use org_folder::{FolderDisk, Unknown};
-use org_outline::States;
+use names::new_names;
+use org_folder::{FolderDisk, Unknown, org_files};
 use org_serve::{Counted, ServeEnd, Served, Setup};
 use org_store::OpenFault;
+use states::states;
 use std::io::{BufWriter, Stdout};
 use std::process::ExitCode;
 
@@ -72,14 +75,17 @@ fn setup(rt: &HostRuntime, arguments: &Arguments) -> Result<Setup, Fault>
     ensures names { IfOk result (λ setup. All IsOrgFile setup.names.items) }
     ensures new { IfOk result (λ setup. (listed : List (List ℕ))
         × (setup.names.items ≡ map string_bytes arguments.now.new.items ++ listed)) }
-    ensures states { IfOk result (λ setup. setup.states
-        ≡ record { active = codes "TODO" ∷ []; done = codes "DONE" ∷ [] }) }
+    ensures states { IfOk result (λ setup. setup.states ≡ states_in arguments.now) }
     ensures group { IfOk result (λ setup. setup.group ≡ arguments.now.group) }
-    ensures cause { IfErr result (IsCause (map string_bytes arguments.now.new.items)) }
+    ensures cause { IfErr result
+        (IsCause (map string_bytes arguments.now.new.items) (states_in arguments.now)) }
 {
+    let mut names = new_names(rt, &arguments.new)?;
+    let states = states(rt.alloc(), &arguments.todo, &arguments.done)?;
+    names.append(&mut org_files(rt, &arguments.folder)?)?;
     Ok(Setup {
-        names: names(rt, &arguments.folder, &arguments.new)?,
-        states: States::new(rt.alloc(), &["TODO"], &["DONE"])?,
+        names,
+        states,
         group: arguments.group,
     })
 }

@@ -1,29 +1,20 @@
 //! The names that the store is opened with.
-ghost use Rattle.std.specs.Prelude.{◌≡◌, ◌++◌, ℕ, List, map, string_bytes, IfOk, IfErr, All};
+ghost use Rattle.std.specs.Prelude.{◌≡◌, [], ◌∷◌, None, map, string_bytes, IfOk, IfErr, OnOk, IsTrue, All};
 ghost use Rattle.org_disk.specs.Names.{IsOrgFile};
-ghost use Rattle.orgstore.specs.Causes.{IsCause, IsCauseOf};
+ghost use Rattle.org_folder.specs.OrgFiles.{is_org_file};
+ghost use Rattle.orgstore.specs.Causes.{IsCauseOfNames, first_bad};
 
 use crate::fault::Fault;
 use org_disk::{FileName, NameFault};
-use org_folder::{org_file, org_files};
+use org_folder::org_file;
 use org_store::OpenFault;
 
-/// The names given as new ones, each a file name in `.org`, and those of the folder's Org files.
-pub fn names(rt: &HostRuntime, folder: &str, new: &[String]) -> Result<Vec<FileName>, Fault>
-    ensures openable { IfOk result (λ names. All IsOrgFile names.items) }
-    ensures new { IfOk result (λ names. (listed : List (List ℕ))
-        × (names.items ≡ map string_bytes new.now ++ listed)) }
-    ensures cause { IfErr result (IsCause (map string_bytes new.now)) }
-{
-    let mut names = new_names(rt, new)?;
-    names.append(&mut org_files(rt, folder)?)?;
-    Ok(names)
-}
-
-fn new_names(rt: &HostRuntime, new: &[String]) -> Result<Vec<FileName>, Fault>
+/// The names given as new ones, each a file name in `.org`. `BadName` tells the first that is none.
+pub fn new_names(rt: &HostRuntime, new: &[String]) -> Result<Vec<FileName>, Fault>
     ensures openable { IfOk result (λ names. All IsOrgFile names.items) }
     ensures names { IfOk result (λ names. names.items ≡ map string_bytes new.now) }
-    ensures cause { IfErr result (IsCause (map string_bytes new.now)) }
+    ensures good { OnOk result (first_bad (map string_bytes new.now) ≡ None) }
+    ensures cause { IfErr result (IsCauseOfNames (map string_bytes new.now)) }
 {
     let mut names = Vec::new(rt.alloc());
     for name in new {
@@ -35,7 +26,8 @@ fn new_names(rt: &HostRuntime, new: &[String]) -> Result<Vec<FileName>, Fault>
 fn new_name(rt: &HostRuntime, name: &str) -> Result<FileName, Fault>
     ensures openable { IfOk result IsOrgFile }
     ensures name { IfOk result (λ one. one ≡ name.now) }
-    ensures cause { IfErr result (IsCauseOf name.now) }
+    ensures good { OnOk result (IsTrue (is_org_file name.now)) }
+    ensures cause { IfErr result (IsCauseOfNames (name.now ∷ [])) }
 {
     match org_file(rt.alloc(), name) {
         Ok(name) => Ok(name),

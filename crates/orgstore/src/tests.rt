@@ -3,6 +3,7 @@ mod folder;
 
 use crate::arguments::{Arguments, read_words};
 use crate::fault::Fault;
+use crate::states::states;
 use org_disk::FileName;
 use org_serve::ServeEnd;
 use org_store::OpenFault;
@@ -105,6 +106,77 @@ fn groups(rt: HostRuntime) -> Result<(), Fail> {
     Ok(())
 }
 
+const LISTS: [(&str, &str, &str); 5] = [
+    ("orgstore notes", "TODO", "DONE"),
+    ("orgstore notes --todo A", "A", "DONE"),
+    ("orgstore --done A,B notes --group 2", "TODO", "A,B"),
+    (
+        "orgstore --done=-A --new a.org notes --todo=W-1,,",
+        "W-1,,",
+        "-A",
+    ),
+    ("orgstore notes --todo=", "", "DONE"),
+];
+
+fn are_lists(arguments: &Arguments, todo: &str, done: &str) -> bool {
+    arguments.todo.as_str() == todo && arguments.done.as_str() == done
+}
+
+#[test]
+fn lists(rt: HostRuntime) -> Result<(), Fail> {
+    for (line, todo, done) in LISTS {
+        let arguments = read(rt.alloc(), line)??;
+        assert!(rt; are_lists(&arguments, todo, done), "{line}");
+    }
+    Ok(())
+}
+
+const GOOD_STATES: [(&str, &str); 4] = [
+    ("TODO", "DONE"),
+    ("TODO,WAIT-2", "-,x_9"),
+    ("ABCDEFGHIJKLMNOPQRSTUVWX", "DONE"),
+    (
+        "A,B,C,D,E,F,G,H,I,J,K,L,M,N,O,P,Q,R,S,T,U,V,W,X,Y",
+        "0,1,2,3,4,5,6",
+    ),
+];
+
+#[test]
+fn states_of_lists(rt: HostRuntime) -> Result<(), Fail> {
+    for (todo, done) in GOOD_STATES {
+        let states = states(rt.alloc(), todo, done)?;
+        assert!(rt; todo.starts_with(states.first_active()), "{todo}");
+    }
+    Ok(())
+}
+
+const BAD_STATES: [(&str, &str); 9] = [
+    ("TODO", "TODO"),
+    ("TODO,TODO", "DONE"),
+    ("TODO", ""),
+    ("A,", "DONE"),
+    (",A", "DONE"),
+    ("A, B", "DONE"),
+    ("ABCDEFGHIJKLMNOPQRSTUVWXY", "DONE"),
+    ("TODO", "ERLEDIGTÜ"),
+    (
+        "A,B,C,D,E,F,G,H,I,J,K,L,M,N,O,P,Q,R,S,T,U,V,W,X,Y",
+        "0,1,2,3,4,5,6,7",
+    ),
+];
+
+fn are_bad(alloc: Global, todo: &str, done: &str) -> bool {
+    matches!(states(alloc, todo, done), Err(Fault::BadStates))
+}
+
+#[test]
+fn bad_states(rt: HostRuntime) -> Result<(), Fail> {
+    for (todo, done) in BAD_STATES {
+        assert!(rt; are_bad(rt.alloc(), todo, done), "{todo} {done}");
+    }
+    Ok(())
+}
+
 // The status of the fault that these words are.
 fn status(alloc: Global, line: &str) -> Result<Option<u8>, AllocError> {
     match read(alloc, line)? {
@@ -113,7 +185,7 @@ fn status(alloc: Global, line: &str) -> Result<Option<u8>, AllocError> {
     }
 }
 
-const USAGES: [&str; 14] = [
+const USAGES: [&str; 18] = [
     "orgstore",
     "orgstore --help",
     "orgstore notes more",
@@ -128,6 +200,10 @@ const USAGES: [&str; 14] = [
     "orgstore notes --group 4294967296",
     "orgstore notes --group -1",
     "orgstore notes --group x",
+    "orgstore notes --todo",
+    "orgstore notes --todo A --todo B",
+    "orgstore notes --done A --todo B --done A",
+    "orgstore notes --done -A",
 ];
 
 #[test]

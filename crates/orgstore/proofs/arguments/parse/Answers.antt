@@ -2,7 +2,7 @@ use Rattle.std.proofs.Common.{◌≡◌, ◌∙◌, inr, ap, sym, subst, ℕ, Li
 use Rattle.std.proofs.lemmas.Result.{err_from_is_err_and}
 use Rattle.std.specs.Str.Parse.{digits_value}
 use Rattle.clap.specs.Words.{app_of}
-use Rattle.orgstore.specs.Words.{IsGroupText, folder_in, new_in, group_in}
+use Rattle.orgstore.specs.Words.{IsGroupText, folder_in, new_in, todo_in, done_in, group_in}
 use Rattle.orgstore.proofs.Words.{refused, none_refused, first_given, all_given, read_or}
 use Rattle.orgstore.proofs.arguments.parse.Goals as goal
 
@@ -35,9 +35,15 @@ returns-clause-told c =
     ap (λ (r : Bor (List (Bor (List ℕ)))). map (λ word. word.now) r.now) c.unwrap_or-3.ensures
     ∙ read_or (λ (r : Bor (List (Bor (List ℕ)))). map (λ word. word.now) r.now) c.get_strs.result _ _
     (c.get_strs.ensures ∙ all_given words app c.in_ok-command.ensures c.in_ok-matches.matches has _) in
+    let todo_is : c.unwrap_or-4.result.now ≡ todo_in words =
+    ap (λ (r : Bor (List ℕ)). r.now) c.unwrap_or-4.ensures ∙ read_or (λ (r : Bor (List ℕ)). r.now) c.get_str-3.result _ _ (c.get_str-3.ensures ∙ first _) in
+    let done_is : c.unwrap_or-5.result.now ≡ done_in words =
+    ap (λ (r : Bor (List ℕ)). r.now) c.unwrap_or-5.ensures ∙ read_or (λ (r : Bor (List ℕ)). r.now) c.get_str-4.result _ _ (c.get_str-4.ensures ∙ first _) in
     record {
       taken = (none_refused words app c.in_ok-command.ensures c.in_ok-matches.ensures.kinds, subst IsGroupText group_is c.in-Some.ensures.0);
       folder = c.in_ok-from_str.ensures.ok ∙ folder_is;
       new = c.in_ok-owned.ensures ∙ new_is;
+      todo = c.in_ok-from_str-2.ensures.ok ∙ todo_is;
+      done = c.in_ok-from_str-3.ensures.ok ∙ done_is;
       group = c.in-Some.ensures.1 ∙ ap (digits_value 10) group_is;
     }
