@@ -1,11 +1,16 @@
 -- How calls of a store that may break it follow one another.
 use Rattle.std.proofs.Common.{◌≡◌, ℕ, true, false, true≢false, refl, sym, ap, ◌∙◌, arith, inl, inr, ◌⊎◌, Bool, subst}
-use Rattle.std.specs.Prelude.{IsTrue}
+use Rattle.std.specs.Prelude.{IsTrue, IsErrOf, Result, Ok, Err}
 use Rattle.org_disk.specs.Accounts.{Accounts}
 use Rattle.org_disk.proofs.Accounting.{accounts_then}
 use Rattle.org_disk.specs.Disk.{HasRisen}
-use Rattle.org_store.specs.Session.{Kept}
-use Rattle.org_serve.specs.Serving.{HasBroken}
+use Rattle.org_store.specs.declared.command.RunFault.{RunFault}
+use Rattle.org_store.specs.declared.command.RunFault.TheVariants as run
+use Rattle.org_store.specs.Session.{Session, Kept}
+use Rattle.org_serve.specs.declared.end.ServeEnd.{ServeEnd}
+use Rattle.org_serve.specs.declared.end.ServeEnd.TheVariants.{End, Unsettled, Device, Read, Write}
+use Rattle.org_serve.specs.Serving.{HasBroken, EndsBroken, end_of}
+use Rattle.org_serve.specs.Whole.{HasFailed}
 use Rattle.org_serve.proofs.Counting.{HasRisen-later, HasRisen-before}
 
 broken_or_not : (b : Bool) → (b ≡ true) ⊎ (b ≡ false)
@@ -38,16 +43,60 @@ breaks_then {D} {failures = failures} {old = old} {mid = mid} {new = new} kept_f
       ∙ first.equal (λ has. fine (has.0, ap (λ (k : Kept D). k.session.broken) (kept_second has.1) ∙ has.1));
 }
 
+-- whether the store is broken after a settling, by how serving ends then
+pub ends_broken : (answer : Result (Unit {0}) RunFault) (old new : Session) → old.broken ≡ false → (IsTrue new.broken → IsTrue old.broken ⊎ IsErrOf answer run.Device)
+    → (IsTrue old.broken ⊎ IsErrOf answer run.Device → IsTrue new.broken) → (IsErrOf answer run.Broken → IsTrue old.broken) → EndsBroken (end_of answer) new
+ends_broken (Ok done) old new sound only_so so was = elim (broken_or_not new.broken) [
+  | inl broke ↦ absurd (elim (only_so broke) [
+    | inl before ↦ both_ways before sound
+    | inr failed ↦ let apart : ◌≡◌ {A = Result (Unit {0}) RunFault} (Ok done) (Err run.Device) = failed in cc
+  ])
+  | inr fine ↦ fine
+]
+ends_broken (Err run.OutOfMemory) old new sound only_so so was = elim (broken_or_not new.broken) [
+  | inl broke ↦ absurd (elim (only_so broke) [
+    | inl before ↦ both_ways before sound
+    | inr failed ↦ let apart : ◌≡◌ {A = Result (Unit {0}) RunFault} (Err run.OutOfMemory) (Err run.Device) = failed in cc
+  ])
+  | inr fine ↦ fine
+]
+ends_broken (Err (run.Refused why)) old new sound only_so so was = elim (broken_or_not new.broken) [
+  | inl broke ↦ absurd (elim (only_so broke) [
+    | inl before ↦ both_ways before sound
+    | inr failed ↦ let apart : ◌≡◌ {A = Result (Unit {0}) RunFault} (Err (run.Refused why)) (Err run.Device) = failed in cc
+  ])
+  | inr fine ↦ fine
+]
+ends_broken (Err run.Device) old new sound only_so so was = so (inr refl)
+ends_broken (Err run.Broken) old new sound only_so so was = absurd (both_ways (was refl) sound)
+
 -- a store that was opened and served, as its disk's count tells it
-pub served_accounts : {D : Type 0} {steady : Type 0} {honest : D → Type 0} {failures : D → ℕ} {disk new : D} (store after : Kept D)
-    → Accounts steady honest failures disk store.disk ⊥ → Accounts steady honest failures store.disk after.disk (HasBroken store.session after.session) → new ≡ after.disk
-    → Accounts steady honest failures disk new (HasRisen (failures disk) (failures new))
-served_accounts {D} {steady} {honest} {failures} {disk} store after opened served is =
+pub served_accounts : {D : Type 0} {steady : Type 0} {honest : D → Type 0} {failures : D → ℕ} {disk new : D} (end : ServeEnd) (store after : Kept D)
+    → Accounts steady honest failures disk store.disk ⊥ → Accounts steady honest failures store.disk after.disk (HasBroken store.session after.session)
+    → store.session.broken ≡ false → EndsBroken end after.session → new ≡ after.disk
+    → Accounts steady honest failures disk new (HasFailed (Ok end) (failures disk) (failures new))
+served_accounts {D} {steady} {honest} {failures} {disk} end store after opened served sound ends is =
     let whole = accounts_then opened served in
-    subst (λ (d : D). Accounts steady honest failures disk d (HasRisen (failures disk) (failures d))) (sym is) (record {
+    subst (λ (d : D). Accounts steady honest failures disk d (HasFailed (Ok end) (failures disk) (failures d))) (sym is) (record {
       was_honest = whole.was_honest;
       stays_honest = whole.stays_honest;
       no_less = whole.no_less;
-      risen = λ rose. rose;
-      equal = λ fine. whole.equal (λ has. fine (whole.risen has));
+      risen = risen end ends whole.risen;
+      equal = equal end ends whole.risen whole.equal;
     })
+  where
+    risen : (end : ServeEnd) → EndsBroken end after.session → (HasBroken store.session after.session → HasRisen (failures disk) (failures after.disk))
+        → HasFailed (Ok end) (failures disk) (failures after.disk) → HasRisen (failures disk) (failures after.disk)
+    risen End ends rises failed = absurd failed
+    risen Unsettled ends rises failed = absurd failed
+    risen Device ends rises failed = rises (sound, ends)
+    risen Read ends rises failed = failed
+    risen Write ends rises failed = failed
+
+    equal : (end : ServeEnd) → EndsBroken end after.session → (HasBroken store.session after.session → HasRisen (failures disk) (failures after.disk))
+        → ((HasBroken store.session after.session → ⊥) → failures after.disk ≡ failures disk) → (HasFailed (Ok end) (failures disk) (failures after.disk) → ⊥) → failures after.disk ≡ failures disk
+    equal End ends rises stays fine = stays (λ broke. both_ways broke.1 ends)
+    equal Unsettled ends rises stays fine = stays (λ broke. both_ways broke.1 ends)
+    equal Device ends rises stays fine = absurd (fine tt)
+    equal Read ends rises stays fine = stays (λ broke. fine (rises broke))
+    equal Write ends rises stays fine = stays (λ broke. fine (rises broke))

@@ -10,4 +10,6 @@ pub mod Breaking
 pub mod Escapes
 pub mod Paths
 pub mod Stops
+pub mod History
 mod Opened
+mod Told

@@ -1,22 +1,29 @@
 -- A whole run over a disk: an opening, and what is served then.
-use Rattle.std.proofs.Common.{◌≡◌, ◌≢◌, ◌⊎◌, inl, inr, ℕ, false, List, Option, sym, ap, ◌∙◌, subst, arith}
-use Rattle.std.specs.Prelude.{IsSomeAnd}
-use Rattle.org_disk.specs.Disk.{FileState, LeavesOnly}
+use Rattle.std.proofs.Common.{◌≡◌, ◌⊎◌, inl, inr, ℕ, ◌≤◌, Bool, true, false, nat_lt, is_some, List, [], ◌∷◌, Option, Some, None, Result, Ok, Err, refl, sym, ap, ◌∙◌, subst, arith}
+use Rattle.std.specs.Prelude.{IsSomeAnd, slice_get}
+use Rattle.org_disk.specs.Disk.{FileState, AreImages, LeavesOnly}
 use Rattle.org_disk.proofs.Moments.{Image, passes_as, passes_then, leaves_only}
 use Rattle.org_outline.specs.States.{Keywords}
-use Rattle.org_journal.specs.Standing.{SameFiles, stands, contents}
+use Rattle.org_journal.specs.Standing.{SameFiles, StandsFor, IsFit, stands, contents}
 use Rattle.org_fileset.specs.Names.{with_archives, AreSorted}
-use Rattle.org_fileset.specs.Recovery.{StandsAsBefore}
-use Rattle.org_store.specs.InOrder.{texts_of}
+use Rattle.org_fileset.specs.Recovery.{EachStands, StandsAsBefore}
+use Rattle.org_fileset.specs.Replay.{IsAtRest}
+use Rattle.org_store.specs.declared.command.RunFault.{RunFault}
+use Rattle.org_store.specs.declared.command.RunFault.TheVariants as run
+use Rattle.org_store.specs.declared.command.RunFault.TheVariants.{Refused, OutOfMemory, Broken}
+use Rattle.org_store.specs.InOrder.{texts_of, with_texts}
 use Rattle.org_store.specs.Opening.{opened}
-use Rattle.org_store.specs.Runs.{IsBetween, IsLeftOf}
-use Rattle.org_store.specs.Session.{Session, Kept}
+use Rattle.org_store.specs.Runs.{IsOnDisk}
+use Rattle.org_store.specs.Session.{Session, Kept, Holds}
+use Rattle.org_store.specs.Step.{Settles}
+use Rattle.org_store.proofs.Keeping.{others_same}
 use Rattle.org_serve.specs.declared.end.ServeEnd.{ServeEnd}
-use Rattle.org_serve.specs.declared.end.ServeEnd.TheVariants.{Read, Write}
-use Rattle.org_serve.specs.Serving.{AnswersLine, Finishes, HasSettled}
-use Rattle.org_serve.specs.Stops.{Runs, Reaches}
-use Rattle.org_serve.specs.Transcript.{ServesAll}
-use Rattle.org_serve.specs.Whole.{Begins, ServesOver, IsLeftServing}
+use Rattle.org_serve.specs.declared.end.ServeEnd.TheVariants.{End, Device, Read, Write}
+use Rattle.org_serve.specs.History.{Past}
+use Rattle.org_serve.specs.Serving.{EndsBy, Finishes, end_of}
+use Rattle.org_serve.specs.Stops.{RunsLine, HasSettledOver, Runs}
+use Rattle.org_serve.specs.Whole.{Begins, Serves, ServesOver, HoldsServed, Lasts}
+use Rattle.org_serve.proofs.History.{Lists, lift_run, since, whole_prefix}
 
 -- one run after another, of which each leaves something else
 leaves_then : {m n k : ℕ} {s u v : ℕ → Image → Type 0} {P Q : Image → Type 0} → LeavesOnly m n s u P → LeavesOnly n k u v Q → LeavesOnly m k s v (λ image. P image ⊎ Q image)
@@ -43,37 +50,162 @@ module _ {D : Type 0} (files : D → List ℕ → FileState) (states : Keywords)
   pub is_sound : begun.session.broken ≡ false
   is_sound = ap (λ (k : Kept D). k.session.broken) is ∙ ap (λ (s : Session). s.broken) opens
 
-  pub serves : (sorted : AreSorted (with_archives given) store.session.names) → IsSomeAnd (stands (contents (files disk))) (SameFiles (contents (files store.disk)))
-      → {end : ServeEnd} {left left' written written' : Option (List ℕ)} (after : Session) → Runs AnswersLine HasSettled begun.session after end left left' written written'
-      → (end ≢ Read → end ≢ Write → ServesAll AnswersLine Finishes begun.session end after left left' written written')
-      → ServesOver states group given (contents (files disk)) end left left' written written'
-  serves sorted stood after run whole = record {
-    files = contents (files begun.disk);
-    stood = of_disk (λ d. IsSomeAnd (stands (contents (files disk))) (SameFiles (contents (files d)))) stood;
-    begin = begun.session;
-    begins = of_disk (λ d. Begins states group given (contents (files d)) begun.session)
-        (begins states group given (contents (files store.disk)) store.session begun.session (ap (λ (k : Kept D). k.session) is) opens sorted);
-    after = after;
-    run = run;
-    whole = whole;
-  }
+  -- the session that it begins with
+  begun_so : AreSorted (with_archives given) store.session.names → Begins states group given (contents (files begun.disk)) begun.session
+  begun_so sorted = of_disk (λ d. Begins states group given (contents (files d)) begun.session)
+      (begins states group given (contents (files store.disk)) store.session begun.session (ap (λ (k : Kept D). k.session) is) opens sorted)
 
-  -- what a stop leaves meanwhile, in the opening and then
-  pub leaves : (moment : D → ℕ) (left_since : D → ℕ → Image → Type 0) (sorted : AreSorted (with_archives given) store.session.names)
+  pub serves : (honest : D → Type 0) (moment : D → ℕ) (left_since : D → ℕ → Image → Type 0) → AreSorted (with_archives given) store.session.names
       → IsSomeAnd (stands (contents (files disk))) (SameFiles (contents (files store.disk)))
-      → LeavesOnly (moment disk) (moment store.disk) (left_since disk) (left_since store.disk) (StandsAsBefore (files disk))
-      → {end : ServeEnd} {left left' written written' : Option (List ℕ)} (after : Session) (now last : D) → now ≡ last
-      → (end ≢ Read → end ≢ Write → ServesAll AnswersLine Finishes begun.session end after left left' written written')
-      → (run : Runs AnswersLine HasSettled begun.session after end left left' written written')
-      → LeavesOnly (moment begun.disk) (moment last) (left_since begun.disk) (left_since last)
-      (IsLeftOf begun.session (contents (files begun.disk)) (λ mid. Reaches begun.session run.ran run.out mid × IsBetween begun.session after mid))
-      → (served : ServesOver states group given (contents (files disk)) end left left' written written')
-      × LeavesOnly (moment disk) (moment now) (left_since disk) (left_since now) (IsLeftServing (files disk) served)
+      → {end : ServeEnd} {left left' written written' : Option (List ℕ)} (after : Kept D) (now : D) → now ≡ after.disk
+      → Runs (RunsLine honest files moment left_since) (HasSettledOver honest files moment left_since) begun after end left left' written written'
+      → Serves begun.session end after.session left left' written written'
+      → ServesOver honest files moment left_since states group given disk now end left left' written written'
+  serves honest moment left_since sorted stood after now closed run told =
+      let first : Past D = record { store = begun; texts = begun.session.files ∷ [] } in
+      let past = lift_run honest files moment left_since first run in record {
+        first = first;
+        last = record { store = after; texts = past.0 };
+        stood = of_disk (λ d. IsSomeAnd (stands (contents (files disk))) (SameFiles (contents (files d)))) stood;
+        begins = begun_so sorted;
+        texts = refl;
+        run = past.1;
+        closed = closed;
+        serves = told;
+      }
+
+-- what is listed of a store that was just opened
+lists_first : (states : Keywords) (group : ℕ) (given : List (List ℕ)) (files : Image) (begin : Session) → Begins states group given files begin → Lists begin (begin.files ∷ [])
+lists_first states group given files begin begins =
+    subst (λ (s : Session). Lists s (s.files ∷ [])) (sym begins.session) (record { size = refl; order = omega arith; files = λ sound. refl; settled = λ sound. refl })
+
+on_disk_first : (states : Keywords) (group : ℕ) (given : List (List ℕ)) (files : Image) (begin : Session) → Begins states group given files begin → IsOnDisk begin files
+on_disk_first states group given files begin begins =
+    subst (λ texts. SameFiles files (with_texts begin.names texts files)) (sym (ap (λ (s : Session). s.settled) begins.session)) (others_same begin.names files)
+
+-- an image that stands for files
+stands_for : (image texts : Image) → StandsFor texts image → is_some (stands image) ≡ true
+stands_for image texts holds = some (stands image) holds
+  where
+    some : (found : Option Image) → IsSomeAnd found (λ found. SameFiles found texts) → is_some found ≡ true
+    some None held = absurd held
+    some (Some found) held = refl
+
+-- of a disk that a stop leaves so, each image stands for files
+pub each_stands : {D : Type 0} (files : D → List ℕ → FileState) (moment : D → ℕ) (left_since : D → ℕ → Image → Type 0) (disk now : D) (P : Image → Type 0)
+    → ((image : Image) → AreImages (files now) image → left_since now (moment disk) image)
+    → LeavesOnly (moment disk) (moment now) (left_since disk) (left_since now) P → ((image : Image) → P image → (texts : Image) × StandsFor texts image) → EachStands (files now)
+each_stands files moment left_since disk now P counts leaves each image left = let holds = each image (leaves.each image (counts image left)) in stands_for image holds.0 holds.1
+
+-- a store that ended well has settled all
+ended : (broken pending : Bool) (s : Session) (out : List ℕ) (new : Session) → EndsBy Settles (λ s. s) broken pending s End out new → broken ≡ s.broken → (pending ≡ false → s.accepted ≤ s.acknowledged)
+    → (new.broken ≡ false) × (new.accepted ≤ new.acknowledged)
+ended true pending s out new ends is none = absurd (apart ends.0)
+  where
+    apart : End ≡ Device → ⊥
+    apart same = cc
+ended false true s out new ends is none = settles ends.0 ends.1 ends.2
+  where
+    settles : (answer : Result (Unit {0}) RunFault) → Settles s answer new → End ≡ end_of answer → (new.broken ≡ false) × (new.accepted ≤ new.acknowledged)
+    settles (Ok done) step same = subst (λ (t : Session). (t.broken ≡ false) × (t.accepted ≤ t.acknowledged)) (sym step.1) (step.0, omega arith)
+    settles (Err (Refused why)) step same = absurd step
+    settles (Err OutOfMemory) step same = absurd (cc)
+    settles (Err run.Device) step same = absurd (cc)
+    settles (Err Broken) step same = absurd (cc)
+ended false false s out new ends is none = subst (λ (t : Session). (t.broken ≡ false) × (t.accepted ≤ t.acknowledged)) (sym ends.2) (sym is, none refl)
+
+module _ {D : Type 0} {honest : D → Type 0} {files : D → List ℕ → FileState} {moment : D → ℕ} {left_since : D → ℕ → Image → Type 0}
+    (only_now : (disk : D) (image : Image) → honest disk → left_since disk (moment disk) image → AreImages (files disk) image)
+    (counts_now : (disk : D) (t : ℕ) (image : Image) → honest disk → t ≤ moment disk → AreImages (files disk) image → left_since disk t image)
+    {states : Keywords} {group : ℕ} {given : List (List ℕ)} {disk now : D} {end : ServeEnd} {left left' written written' : Option (List ℕ)}
+    (served : ServesOver honest files moment left_since states group given disk now end left left' written written') where
+  session_is : served.first.store.session ≡ record (opened states served.first.store.session.names (texts_of (contents (files served.first.store.disk)) served.first.store.session.names)) { group = group }
+  session_is = served.begins.session
+
+  -- what a stop leaves of a run, where the opening left the disk at rest
+  pub lasts : honest served.first.store.disk → honest now → IsAtRest (files served.first.store.disk)
+      → LeavesOnly (moment disk) (moment served.first.store.disk) (left_since disk) (left_since served.first.store.disk) (StandsAsBefore (files disk)) → Lasts served
+  lasts honest_first honest_now rest opening =
+      let first = served.first in
+      let last = served.last in
+      let honest_last : honest last.store.disk = subst honest served.closed honest_now in
+      let lists : Lists first.store.session first.texts =
+      subst (Lists first.store.session) (sym served.texts) (lists_first states group given (contents (files first.store.disk)) first.store.session served.begins) in
+      let on_disk = on_disk_first states group given (contents (files first.store.disk)) first.store.session served.begins in
+      let of_run = since honest files moment left_since only_now served.run honest_first honest_last rest on_disk lists in
+      let no_command : first.store.session.acknowledged ≡ 0 = ap (λ (s : Session). s.acknowledged) session_is in
+      let sound : first.store.session.broken ≡ false = ap (λ (s : Session). s.broken) session_is in
+      let closes : (P : Image → Type 0) (here : D) → LeavesOnly (moment here) (moment last.store.disk) (left_since here) (left_since last.store.disk) P
+      → LeavesOnly (moment here) (moment now) (left_since here) (left_since now) P =
+      λ P here leaves. subst (λ d. LeavesOnly (moment here) (moment d) (left_since here) (left_since d) P) (sym served.closed) leaves in
+      let at_first = of_run first (inl (record {
+        answered = [];
+        others = served.run.ran;
+        written = [];
+        more = served.run.out;
+        all_lines = refl;
+        all_written = refl;
+        before = (refl, refl);
+        behind = served.run.answered;
+      })) sound in
+      record {
+        any_moment = closes (λ image. StandsAsBefore (files disk) image ⊎ HoldsServed served 0 image) disk
+            (leaves_then opening (subst (λ least. LeavesOnly (moment first.store.disk) (moment last.store.disk) (left_since first.store.disk) (left_since last.store.disk) (HoldsServed served least)) no_command at_first));
+        since = λ here way unbroken. closes (HoldsServed served here.store.session.acknowledged) here.store.disk (of_run here way unbroken);
+        ended = λ well image images.
+            let done = all_settled well in
+            let from_last = of_run last (inr refl) done.0 in
+            let same_images : AreImages (files last.store.disk) image = subst (λ d. AreImages (files d) image) served.closed images in
+            whole_prefix honest files moment left_since only_now served.run honest_first honest_last rest on_disk lists image done.0 done.1
+            (from_last.each image (counts_now last.store.disk (moment last.store.disk) image honest_last (omega arith) same_images));
+      }
+    where
+      apart_read : End ≡ Read → ⊥
+      apart_read same = cc
+
+      apart_write : End ≡ Write → ⊥
+      apart_write same = cc
+
+      not_less : (a b : ℕ) → nat_lt a b ≡ false → b ≤ a
+      not_less a b not = grind (arith, not)
+
+      all_settled : end ≡ End → (served.last.store.session.broken ≡ false) × (served.last.store.session.accepted ≤ served.last.store.session.acknowledged)
+      all_settled well =
+          let whole = served.serves.all (λ (read : end ≡ Read). apart_read (sym well ∙ read)) (λ (write : end ≡ Write). apart_write (sym well ∙ write)) in
+          let tells = whole.4 in
+          let finish : Finishes tells.0 End tells.3 served.last.store.session = subst (λ e. Finishes tells.0 e tells.3 served.last.store.session) well tells.6 in
+          ended tells.0.broken (nat_lt tells.0.acknowledged tells.0.accepted) tells.0 tells.3 served.last.store.session finish refl (not_less tells.0.acknowledged tells.0.accepted)
+
+  -- each image of the disk that is left stands for files
+  pub left_stands : honest now → Lasts served → EachStands (files now)
+  left_stands honest_now lasts =
+      each_stands files moment left_since disk now (λ image. StandsAsBefore (files disk) image ⊎ HoldsServed served 0 image)
+      (λ image left. counts_now now (moment disk) image honest_now lasts.any_moment.passes.later left) lasts.any_moment (λ image left. elim left [
+        | inl before ↦ (before.texts, before.stands_now)
+        | inr holds ↦ some image (slice_get served.last.texts holds.0) holds.2
+      ])
+    where
+      some : (image : Image) (found : Option (List (List ℕ))) → IsSomeAnd found (λ texts. Holds served.first.store.session (contents (files served.first.store.disk)) texts image) → (texts : Image) × StandsFor texts image
+      some image None held = absurd held
+      some image (Some texts) held = (with_texts served.first.store.session.names texts (contents (files served.first.store.disk)), held)
+
+-- a store that was opened, and in which the group was set: what it serves, and what a stop leaves
+module _ {D : Type 0} (honest : D → Type 0) (files : D → List ℕ → FileState) (moment : D → ℕ) (left_since : D → ℕ → Image → Type 0)
+    (only_now : (disk : D) (image : Image) → honest disk → left_since disk (moment disk) image → AreImages (files disk) image)
+    (counts_now : (disk : D) (t : ℕ) (image : Image) → honest disk → t ≤ moment disk → AreImages (files disk) image → left_since disk t image)
+    (states : Keywords) (group : ℕ) (given : List (List ℕ)) (disk : D) (store begun : Kept D)
+    (is : begun ≡ record store { session = record store.session { group = group } })
+    (opens : store.session ≡ opened states store.session.names (texts_of (contents (files store.disk)) store.session.names)) where
+  pub serves_lasting : AreSorted (with_archives given) store.session.names → IsSomeAnd (stands (contents (files disk))) (SameFiles (contents (files store.disk)))
+      → {end : ServeEnd} {left left' written written' : Option (List ℕ)} (after : Kept D) (now : D) → now ≡ after.disk
+      → Runs (RunsLine honest files moment left_since) (HasSettledOver honest files moment left_since) begun after end left left' written written'
+      → Serves begun.session end after.session left left' written written' → honest begun.disk → honest now
+      → (IsFit (files disk) → EachStands (files disk) → IsAtRest (files begun.disk) × LeavesOnly (moment disk) (moment begun.disk) (left_since disk) (left_since begun.disk) (StandsAsBefore (files disk)))
+      → (served : ServesOver honest files moment left_since states group given disk now end left left' written written')
+      × (IsFit (files disk) → EachStands (files disk) → Lasts served)
   unfolding serves
-  leaves moment left_since sorted stood first after now last same whole run second =
-      let served = serves sorted stood after run whole in (
+  serves_lasting sorted stood after now closed run told honest_first honest_now opening =
+      let served = serves files states group given disk store begun is opens honest moment left_since sorted stood after now closed run told in (
         served,
-        subst (λ d. LeavesOnly (moment disk) (moment d) (left_since disk) (left_since d) (IsLeftServing (files disk) served)) (sym same)
-            (leaves_then first (subst (λ d. LeavesOnly (moment d) (moment last) (left_since d) (left_since last)
-            (IsLeftOf begun.session (contents (files begun.disk)) (λ mid. Reaches begun.session run.ran run.out mid × IsBetween begun.session after mid))) same_disk second)),
+        λ fit each. let begins = opening fit each in lasts only_now counts_now served honest_first honest_now begins.0 begins.1,
       )

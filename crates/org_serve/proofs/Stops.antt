@@ -11,7 +11,7 @@ use Rattle.org_store.specs.declared.command.RunFault.TheVariants as run
 use Rattle.org_store.specs.Session.{Session, Kept}
 use Rattle.org_store.specs.Outcome.{outcome}
 use Rattle.org_store.specs.Step.{Step, Settles, done}
-use Rattle.org_store.specs.Runs.{RunsOver, SettlesOver, IsOnDisk, IsBetween, IsLeftOf}
+use Rattle.org_store.specs.Runs.{IsOnDisk, IsBetween, IsLeftOf}
 use Rattle.org_store.proofs.Runs.{Course, course_none, course_as, course_run, course_settle, course_leaves, goes_on}
 use Rattle.org_serve.specs.declared.end.ServeEnd.{ServeEnd}
 use Rattle.org_serve.specs.declared.end.ServeEnd.TheVariants.{End, Unsettled, Device, Read, Write}
@@ -21,7 +21,7 @@ use Rattle.org_serve.specs.Feeding.{EndsWith}
 use Rattle.org_serve.specs.Lines.{cut}
 use Rattle.org_serve.specs.Replies.{answer_text, settled_text}
 use Rattle.org_serve.specs.Serving.{IsReadAs, AnswersReadBy, AnswersLine, EndsBy, Finishes, HasSettled, end_of}
-use Rattle.org_serve.specs.Stops.{RunsLine, HasSettledOver, FinishesOver, Runs, Reaches, KeepsDisk}
+use Rattle.org_serve.specs.Stops.{RunsHonest, SettlesHonest, RunsLine, HasSettledOver, FinishesOver, Runs, Reaches, KeepsDisk}
 use Rattle.org_serve.specs.Transcript.{Answers, RunsSome}
 use Rattle.org_serve.proofs.Inputs.{Served}
 use Rattle.org_serve.proofs.Joins.{Appends-append, Appends-none}
@@ -81,21 +81,21 @@ answers_by : {S T : Type 0} (view : S → T) (One : S → List ℕ → List ℕ 
 answers_by view One Other each old [] out new a = (a.0, ap view a.1)
 answers_by view One Other each old (line ∷ lines) out new a = (view a.0, a.1, a.2, each old line a.1 a.0 a.3, a.4, answers_by view One Other each a.0 lines a.2 new a.5)
 
-module _ {D : Type 0} (files : D → List ℕ → FileState) (moment : D → ℕ) (left_since : D → ℕ → Image → Type 0) where
+module _ {D : Type 0} (honest : D → Type 0) (files : D → List ℕ → FileState) (moment : D → ℕ) (left_since : D → ℕ → Image → Type 0) where
   abbrev Line : Kept D → List ℕ → List ℕ → Kept D → Type 0
-  Line = RunsLine files moment left_since
+  Line = RunsLine honest files moment left_since
 
   abbrev Settled : Kept D → Kept D → Type 0
-  Settled = HasSettledOver files moment left_since
+  Settled = HasSettledOver honest files moment left_since
 
   -- What is said of the session alone.
 
   abbrev Reads : Kept D → Result Command LineFault → List ℕ → Kept D → Type 0
-  Reads = AnswersReadBy (RunsOver files moment left_since) (λ k. k.session)
+  Reads = AnswersReadBy (RunsHonest honest files moment left_since) (λ k. k.session)
 
   session_of_read : (old : Kept D) (read : Result Command LineFault) (out : List ℕ) (new : Kept D) → Reads old read out new → AnswersReadBy Step (λ s. s) old.session read out new.session
   session_of_read old (Err fault) out new ran = (ran.0, ap (λ (k : Kept D). k.session) ran.1)
-  session_of_read old (Ok command) out new ran = (ran.0, ran.1.step, ran.2)
+  session_of_read old (Ok command) out new ran = (ran.0, ran.1.0.step, ran.2)
 
   pub session_of_lines : (old : Kept D) (lines : List (List ℕ)) (out : List ℕ) (new : Kept D) → Answers Line old lines out new → Answers AnswersLine old.session lines out new.session
   session_of_lines old lines out new a =
@@ -116,14 +116,14 @@ module _ {D : Type 0} (files : D → List ℕ → FileState) (moment : D → ℕ
   session_of_some old new left left' some = (some.0, some.1, some.2, some.3, some.4, some.5, session_of_lines old some.1 some.3 new some.6)
 
   pub session_of_settled : (old new : Kept D) → Settled old new → HasSettled old.session new.session
-  session_of_settled old new settled = (settled.0, settled.1.step)
+  session_of_settled old new settled = (settled.0, settled.1.0.step)
 
   abbrev Ends : Bool → Bool → Kept D → ServeEnd → List ℕ → Kept D → Type 0
-  Ends = EndsBy (SettlesOver files moment left_since) (λ k. k.session)
+  Ends = EndsBy (SettlesHonest honest files moment left_since) (λ k. k.session)
 
   session_of_end : (fell pending : Bool) (old : Kept D) (end : ServeEnd) (out : List ℕ) (new : Kept D) → Ends fell pending old end out new → EndsBy Settles (λ s. s) fell pending old.session end out new.session
   session_of_end true pending old end out new f = (f.0, f.1, ap (λ (k : Kept D). k.session) f.2)
-  session_of_end false true old end out new f = (f.0, f.1.step, f.2, f.3)
+  session_of_end false true old end out new f = (f.0, f.1.0.step, f.2, f.3)
   session_of_end false false old end out new f = (f.0, f.1, ap (λ (k : Kept D). k.session) f.2)
 
   settled_or_not : (fell pending : Bool) (old : Kept D) (end : ServeEnd) (out : List ℕ) (new : Kept D) → Ends fell pending old end out new → (new ≡ old) ⊎ Settled old new
@@ -131,25 +131,25 @@ module _ {D : Type 0} (files : D → List ℕ → FileState) (moment : D → ℕ
   settled_or_not false true old end out new f = inr (f.0, f.1)
   settled_or_not false false old end out new f = inl f.2
 
-  pub session_of_ends : (part : List ℕ) (old : Kept D) (end : ServeEnd) (new : Kept D) (written written' : Option (List ℕ)) → EndsWith (FinishesOver files moment left_since) part old end new written written'
+  pub session_of_ends : (part : List ℕ) (old : Kept D) (end : ServeEnd) (new : Kept D) (written written' : Option (List ℕ)) → EndsWith (FinishesOver honest files moment left_since) part old end new written written'
       → EndsWith Finishes part old.session end new.session written written'
   session_of_ends part old end new written written' e =
       (e.0, e.1, e.2, session_of_end old.session.broken (nat_lt old.session.acknowledged old.session.accepted) old end e.1 new e.3, e.4)
 
-  settled_at_end : (part : List ℕ) (old : Kept D) (end : ServeEnd) (new : Kept D) (written written' : Option (List ℕ)) → EndsWith (FinishesOver files moment left_since) part old end new written written'
+  settled_at_end : (part : List ℕ) (old : Kept D) (end : ServeEnd) (new : Kept D) (written written' : Option (List ℕ)) → EndsWith (FinishesOver honest files moment left_since) part old end new written written'
       → (new ≡ old) ⊎ Settled old new
   settled_at_end part old end new written written' e = settled_or_not old.session.broken (nat_lt old.session.acknowledged old.session.accepted) old end e.1 new e.3
 
   -- the input was read to its end
   pub runs_finish : {old mid : Kept D} {left left' written among : Option (List ℕ)} {pending : Pending} → (s : Served Line old mid left left' written among pending) (new : Kept D) (end : ServeEnd) (written' : Option (List ℕ))
-      → (end ≢ Write → EndsWith (FinishesOver files moment left_since) (cut s.input).rest mid end new among written') → (end ≡ Write → (new ≡ mid) ⊎ Settled mid new)
+      → (end ≢ Write → EndsWith (FinishesOver honest files moment left_since) (cut s.input).rest mid end new among written') → (end ≡ Write → (new ≡ mid) ⊎ Settled mid new)
       → Runs Line Settled old new end left left' written written'
   runs_finish s new end written' told failed =
       runs_whole Settled s new end written' (⊎_elim failed (λ not. settled_at_end _ _ _ _ _ _ (told not)) (write_or_not end)) (λ not. let e = told not in (e.0 ++ e.1, e.4))
 
   -- a settling at the end
   pub finishes_settling : (old : Kept D) (answer : Result (Unit {0}) RunFault) (new : Kept D) (end : ServeEnd) → old.session.broken ≡ false → old.session.acknowledged < old.session.accepted
-      → SettlesOver files moment left_since old answer new → end ≡ end_of answer → FinishesOver files moment left_since old end (settled_text answer new.session.acknowledged) new
+      → SettlesHonest honest files moment left_since old answer new → end ≡ end_of answer → FinishesOver honest files moment left_since old end (settled_text answer new.session.acknowledged) new
   finishes_settling old answer new end sound pending over is =
       let less : nat_lt old.session.acknowledged old.session.accepted ≡ true = grind (arith, pending) in
       ends old.session.broken (nat_lt old.session.acknowledged old.session.accepted) sound less
@@ -164,10 +164,10 @@ module _ {D : Type 0} (files : D → List ℕ → FileState) (moment : D → ℕ
   abbrev Goes : Kept D → Kept D → (Session → Type 0) → Type 0
   Goes old new P = Course files moment left_since old new P
 
-  course_end : (mid new : Kept D) → (new ≡ mid) ⊎ Settled mid new → Goes mid new (λ s. s ≡ mid.session)
+  pub course_end : (mid new : Kept D) → (new ≡ mid) ⊎ Settled mid new → Goes mid new (λ s. s ≡ mid.session)
   course_end mid new ends = ⊎_elim
       (λ same. subst (λ k. Goes mid k (λ s. s ≡ mid.session)) (sym same) (course_none files moment left_since mid (λ s. s ≡ mid.session) refl))
-      (λ settled. course_settle files moment left_since mid new settled.0 (λ s. s ≡ mid.session) settled.1 refl)
+      (λ settled. course_settle files moment left_since mid new settled.0 (λ s. s ≡ mid.session) settled.1.0 refl)
       ends
 
   reaches_self : (s : Session) (lines : List (List ℕ)) (out : List ℕ) → Reaches s lines out s
@@ -183,12 +183,12 @@ module _ {D : Type 0} (files : D → List ℕ → FileState) (moment : D → ℕ
         (λ s reached. inr (mid.session, first, later, (Err fault, readable, (ran.0, session)), is, reached)) in
         subst (λ k. Goes k new (Reaches old.session (line ∷ lines) out)) ran.1 same
     course_read (Ok command) readable ran =
-        course_run files moment left_since old mid new command ran.0 (Reaches old.session (line ∷ lines) out) (Reaches mid.session lines later) ran.1 course (inl refl)
+        course_run files moment left_since old mid new command ran.0 (Reaches old.session (line ∷ lines) out) (Reaches mid.session lines later) ran.1.0 course (inl refl)
         (λ fine s reached. inr (
           mid.session,
           first,
           later,
-          (Ok command, readable, (ran.0, goes_on old.session mid.session (outcome old.session command) ran.0 fine ran.1.step, ran.2)),
+          (Ok command, readable, (ran.0, goes_on old.session mid.session (outcome old.session command) ran.0 fine ran.1.0.step, ran.2)),
           is,
           reached,
         ))

@@ -10,4 +10,5 @@ pub mod Feeding
 pub mod Replies
 pub mod Serving
 pub mod Stops
+pub mod History
 pub mod Whole

@@ -1,5 +1,5 @@
 -- The bytes of replies.
-use Rattle.std.specs.Prelude.{ℕ, List, [], ◌++◌, nat_lt, if◌then◌else◌, length, codes, decimal, Result, Ok, Err}
+use Rattle.std.specs.Prelude.{ℕ, List, [], ◌++◌, nat_lt, if◌then◌else◌, length, codes, decimal, Option, Some, None, Result, Ok, Err}
 use Rattle.org_store.specs.declared.command.Reply.{Reply}
 use Rattle.org_store.specs.declared.command.Reply.TheVariants.{Done, Safe, Text}
 use Rattle.org_store.specs.declared.command.RunFault.{RunFault}
@@ -32,3 +32,10 @@ answer_text (Err fault) old new = fault_line fault
 abbrev pub settled_text : Result (Unit {0}) RunFault → ℕ → List ℕ
 settled_text (Ok done) safe = safe_line safe
 settled_text (Err fault) safe = fault_line fault
+
+-- how many commands the answer tells to be on the disk, where it tells that
+abbrev pub told_safe : Result Reply RunFault → ℕ → ℕ → Option ℕ
+told_safe (Ok (Done n)) old new = if nat_lt old new then Some new else None
+told_safe (Ok (Safe n)) old new = Some n
+told_safe (Ok (Text bytes)) old new = None
+told_safe (Err fault) old new = None

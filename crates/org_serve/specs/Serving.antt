@@ -7,7 +7,7 @@ use Rattle.org_store.specs.declared.command.RunFault.TheVariants as run
 use Rattle.org_store.specs.Session.{Session}
 use Rattle.org_store.specs.Step.{Step, Settles}
 use Rattle.org_serve.specs.declared.end.ServeEnd.{ServeEnd}
-use Rattle.org_serve.specs.declared.end.ServeEnd.TheVariants.{End, Unsettled, Device}
+use Rattle.org_serve.specs.declared.end.ServeEnd.TheVariants.{End, Unsettled, Device, Read, Write}
 use Rattle.org_serve.specs.declared.fault.LineFault.{LineFault}
 use Rattle.org_serve.specs.declared.fault.LineFault.TheVariants.{BadLine, OutOfMemory}
 use Rattle.org_serve.specs.Faults.{fault_text}
@@ -40,11 +40,21 @@ AnswersLineBy Does session old line out new = (read : Result Command LineFault) 
 abbrev pub AnswersLine : Session → List ℕ → List ℕ → Session → Type 0
 AnswersLine = AnswersLineBy Step (λ s. s)
 
--- how serving ends after the settling
+-- how serving ends after the settling, which never answers a refusal
 abbrev pub end_of : Result (Unit {0}) RunFault → ServeEnd
 end_of (Ok done) = End
+end_of (Err run.Device) = Device
+end_of (Err run.Broken) = Device
 end_of (Err run.OutOfMemory) = Unsettled
-end_of (Err fault) = Device
+end_of (Err (run.Refused why)) = Unsettled
+
+-- A store is broken where serving ends with Device, and isn't where the input was read to its end and it ends otherwise.
+abbrev pub EndsBroken : ServeEnd → Session → Type 0
+EndsBroken End new = IsFalse new.broken
+EndsBroken Unsettled new = IsFalse new.broken
+EndsBroken Device new = IsTrue new.broken
+EndsBroken Read new = Unit {0}
+EndsBroken Write new = Unit {0}
 
 -- At the end of the input, by whether the store is broken and whether it holds accepted commands that aren't on the disk:
 -- a broken one is left; one that holds such commands settles, as Settles says; any other is done.

@@ -1,11 +1,14 @@
 -- What serving does to the disk of a store, and what a stop leaves meanwhile. `files`, `moment` and `left_since` are what
 -- is seen of a disk of the type D.
-use Rattle.std.specs.Prelude.{◌≡◌, ◌≢◌, ◌⊎◌, ℕ, List, [], ◌∷◌, ◌++◌, Option, IsTrue, IsFalse}
+use Rattle.std.specs.Prelude.{◌≡◌, ◌≢◌, ◌⊎◌, ℕ, List, [], ◌∷◌, ◌++◌, Option, Result, IsTrue, IsFalse}
 use Rattle.std.specs.Io.KnownBytes.{Consumes, Appends}
 use Rattle.org_disk.specs.Disk.{FileState}
 use Rattle.org_journal.specs.Standing.{Image, SameFiles, IsFit, contents}
 use Rattle.org_fileset.specs.Replay.{IsAtRest}
 use Rattle.org_store.specs.InOrder.{with_texts}
+use Rattle.org_store.specs.declared.command.Command.{Command}
+use Rattle.org_store.specs.declared.command.Reply.{Reply}
+use Rattle.org_store.specs.declared.command.RunFault.{RunFault}
 use Rattle.org_store.specs.Session.{Session, Kept}
 use Rattle.org_store.specs.Outcome.{outcome}
 use Rattle.org_store.specs.Runs.{RunsOver, SettlesOver, GoesOn}
@@ -15,15 +18,23 @@ use Rattle.org_serve.specs.Lines.{cut}
 use Rattle.org_serve.specs.Serving.{AnswersLineBy, FinishesBy, HasSettledBy}
 use Rattle.org_serve.specs.Transcript.{Answers}
 
+-- a command was run over a disk that is honest after it
+abbrev pub RunsHonest : {D : Type 0} → (D → Type 0) → (D → List ℕ → FileState) → (D → ℕ) → (D → ℕ → Image → Type 0) → Kept D → Command → Result Reply RunFault → Kept D → Type 0
+RunsHonest honest files moment left_since old command answer new = RunsOver files moment left_since old command answer new × honest new.disk
+
+-- the same of a settling
+abbrev pub SettlesHonest : {D : Type 0} → (D → Type 0) → (D → List ℕ → FileState) → (D → ℕ) → (D → ℕ → Image → Type 0) → Kept D → Result (Unit {0}) RunFault → Kept D → Type 0
+SettlesHonest honest files moment left_since old answer new = SettlesOver files moment left_since old answer new × honest new.disk
+
 -- a line is answered by one call of the store
-abbrev pub RunsLine : {D : Type 0} → (D → List ℕ → FileState) → (D → ℕ) → (D → ℕ → Image → Type 0) → Kept D → List ℕ → List ℕ → Kept D → Type 0
-RunsLine files moment left_since = AnswersLineBy (RunsOver files moment left_since) (λ k. k.session)
+abbrev pub RunsLine : {D : Type 0} → (D → Type 0) → (D → List ℕ → FileState) → (D → ℕ) → (D → ℕ → Image → Type 0) → Kept D → List ℕ → List ℕ → Kept D → Type 0
+RunsLine honest files moment left_since = AnswersLineBy (RunsHonest honest files moment left_since) (λ k. k.session)
 
-abbrev pub HasSettledOver : {D : Type 0} → (D → List ℕ → FileState) → (D → ℕ) → (D → ℕ → Image → Type 0) → Kept D → Kept D → Type 0
-HasSettledOver files moment left_since = HasSettledBy (SettlesOver files moment left_since)
+abbrev pub HasSettledOver : {D : Type 0} → (D → Type 0) → (D → List ℕ → FileState) → (D → ℕ) → (D → ℕ → Image → Type 0) → Kept D → Kept D → Type 0
+HasSettledOver honest files moment left_since = HasSettledBy (SettlesHonest honest files moment left_since)
 
-abbrev pub FinishesOver : {D : Type 0} → (D → List ℕ → FileState) → (D → ℕ) → (D → ℕ → Image → Type 0) → Kept D → ServeEnd → List ℕ → Kept D → Type 0
-FinishesOver files moment left_since = FinishesBy (SettlesOver files moment left_since) (λ k. k.session)
+abbrev pub FinishesOver : {D : Type 0} → (D → Type 0) → (D → List ℕ → FileState) → (D → ℕ) → (D → ℕ → Image → Type 0) → Kept D → ServeEnd → List ℕ → Kept D → Type 0
+FinishesOver honest files moment left_since = FinishesBy (SettlesHonest honest files moment left_since) (λ k. k.session)
 
 -- Some of the lines of what was read, from the first on, were run, and then the settling was made or wasn't. Unless a
 -- write failed, what was written begins with the replies to these lines.

@@ -1,21 +1,23 @@
--- A whole run over a disk: a store is opened, serves the lines of an input, and is given up.
-use Rattle.std.specs.Prelude.{◌≡◌, ◌≢◌, ◌⊎◌, ℕ, List, Option, IsSomeAnd, Result, Ok, Err}
-use Rattle.org_disk.specs.Disk.{FileState, HasRisen}
+-- A whole run over a disk: a store is opened, serves the lines of an input, and is given up. `honest`, `files`, `moment`
+-- and `left_since` are what is seen of a disk of the type D.
+use Rattle.std.specs.Prelude.{◌≡◌, ◌≢◌, ◌⊎◌, ℕ, List, [], ◌∷◌, Option, IsSomeAnd, IsFalse, Result, Ok, Err}
+use Rattle.org_disk.specs.Disk.{FileState, AreImages, HasRisen}
+use Rattle.org_disk.specs.Accounts.{LeavesOver}
 use Rattle.org_outline.specs.States.{Keywords}
-use Rattle.org_journal.specs.Standing.{Image, SameFiles, stands}
+use Rattle.org_journal.specs.Standing.{Image, SameFiles, contents, stands}
 use Rattle.org_fileset.specs.declared.open.OpenFault.{OpenFault}
 use Rattle.org_fileset.specs.declared.open.OpenFault.TheVariants as open_fault
 use Rattle.org_fileset.specs.Names.{with_archives, AreSorted}
 use Rattle.org_fileset.specs.Recovery.{StandsAsBefore}
 use Rattle.org_store.specs.InOrder.{texts_of}
 use Rattle.org_store.specs.Opening.{opened}
-use Rattle.org_store.specs.Runs.{IsBetween, IsLeftOf}
-use Rattle.org_store.specs.Session.{Session}
+use Rattle.org_store.specs.Session.{Session, Holds}
 use Rattle.org_serve.specs.declared.end.ServeEnd.{ServeEnd}
-use Rattle.org_serve.specs.declared.end.ServeEnd.TheVariants.{Read, Write}
+use Rattle.org_serve.specs.declared.end.ServeEnd.TheVariants.{End, Unsettled, Device, Read, Write}
+use Rattle.org_serve.specs.History.{Past, PastLine, HasSettledPast, LeadsBy, HoldsPrefix}
 use Rattle.org_serve.specs.Serving.{AnswersLine, Finishes, HasSettled}
-use Rattle.org_serve.specs.Stops.{Runs, Reaches}
-use Rattle.org_serve.specs.Transcript.{ServesAll}
+use Rattle.org_serve.specs.Stops.{Runs}
+use Rattle.org_serve.specs.Transcript.{ServesAll, ServesLines, RunsSome, RunsAllAndSettles}
 
 -- The session of a store that was just opened over these files, with these states, in groups of this size: it has the
 -- given names and those of their archive files.
@@ -23,27 +25,59 @@ pub record Begins (states : Keywords) (group : ℕ) (given : List (List ℕ)) (f
   pub names : AreSorted (with_archives given) begin.names
   pub session : begin ≡ record (opened states begin.names (texts_of files begin.names)) { group = group }
 
--- A store was opened over what a disk stood for, and served to this end: `before` is what the disk held at first, `files`
--- what it stood for.
-pub record ServesOver (states : Keywords) (group : ℕ) (given : List (List ℕ)) (before : Image) (end : ServeEnd) (left left' written written' : Option (List ℕ)) : Type 0 where
-  pub files : Image
-  pub stood : IsSomeAnd (stands before) (SameFiles files)
-  pub begin : Session
-  pub begins : Begins states group given files begin
-  pub after : Session
-  pub run : Runs AnswersLine HasSettled begin after end left left' written written'
-  pub whole : end ≢ Read → end ≢ Write → ServesAll AnswersLine Finishes begin end after left left' written written'
+-- What is read and written of a run, by the sessions before it and after it: to the input's end, up to a read that
+-- failed, or up to a write that failed.
+pub record Serves (old : Session) (end : ServeEnd) (new : Session) (left left' written written' : Option (List ℕ)) : Type 0 where
+  pub all : end ≢ Read → end ≢ Write → ServesAll AnswersLine Finishes old end new left left' written written'
+  pub read : end ≡ Read → ServesLines AnswersLine old new left left' written written'
+  pub write : end ≡ Write → RunsSome AnswersLine old new left left' ⊎ RunsAllAndSettles AnswersLine HasSettled old new left left'
 
--- What a stop leaves meanwhile: within the opening, what stands for what the disk stood for; then what stands for the
--- files as they were opened, or as they are after some of the lines that are run, from the first on.
-abbrev pub IsLeftServing : {states : Keywords} {group : ℕ} {given : List (List ℕ)} {before : Image} {end : ServeEnd} {left left' written written' : Option (List ℕ)}
-    → (List ℕ → FileState) → ServesOver states group given before end left left' written written' → Image → Type 0
-IsLeftServing disk served image =
-    StandsAsBefore disk image
-    ⊎ IsLeftOf served.begin served.files (λ mid. Reaches served.begin served.run.ran served.run.out mid × IsBetween served.begin served.after mid) image
+-- A store was opened over the disk `disk`, served to this end, and gave up the disk `now`, which is honest. Between the
+-- two stands each store on the way, and the list has the texts of all files as they were opened and after each accepted
+-- command.
+pub record ServesOver {D : Type 0} (honest : D → Type 0) (files : D → List ℕ → FileState) (moment : D → ℕ) (left_since : D → ℕ → Image → Type 0)
+    (states : Keywords) (group : ℕ) (given : List (List ℕ)) (disk now : D) (end : ServeEnd) (left left' written written' : Option (List ℕ)) : Type 0 where
+  pub first : Past D
+  pub last : Past D
+  pub stood : IsSomeAnd (stands (contents (files disk))) (SameFiles (contents (files first.store.disk)))
+  pub begins : Begins states group given (contents (files first.store.disk)) first.store.session
+  pub texts : first.texts ≡ first.store.session.files ∷ []
+  pub run : Runs (PastLine honest files moment left_since) (HasSettledPast honest files moment left_since) first last end left left' written written'
+  pub closed : now ≡ last.store.disk
+  pub serves : Serves first.store.session end last.store.session left left' written written'
 
--- The disk failed in a run that ended so: where the store wasn't opened, the fault tells it; where it was, the disk's
--- count of failures alone.
+-- the image stands for the files after one prefix of the accepted commands, which has at least so many of them
+abbrev pub HoldsServed : {D : Type 0} {honest : D → Type 0} {files : D → List ℕ → FileState} {moment : D → ℕ} {left_since : D → ℕ → Image → Type 0}
+    {states : Keywords} {group : ℕ} {given : List (List ℕ)} {disk now : D} {end : ServeEnd} {left left' written written' : Option (List ℕ)}
+    → ServesOver honest files moment left_since states group given disk now end left left' written written' → ℕ → Image → Type 0
+HoldsServed {files = files} served = HoldsPrefix served.first.store.session (contents (files served.first.store.disk)) served.last.texts
+
+-- a store on the way of a run: after some of its lines were answered, from the first on, or at its end
+abbrev pub IsOnTheWay : {D : Type 0} {honest : D → Type 0} {files : D → List ℕ → FileState} {moment : D → ℕ} {left_since : D → ℕ → Image → Type 0}
+    {states : Keywords} {group : ℕ} {given : List (List ℕ)} {disk now : D} {end : ServeEnd} {left left' written written' : Option (List ℕ)}
+    → ServesOver honest files moment left_since states group given disk now end left left' written written' → Past D → Type 0
+IsOnTheWay {honest = honest} {files = files} {moment = moment} {left_since = left_since} served here =
+    LeadsBy (PastLine honest files moment left_since) served.first served.run.ran served.run.out served.run.mid here ⊎ (here ≡ served.last)
+
+-- What a stop leaves of a run over a disk that was fit.
+pub record Lasts {D : Type 0} {honest : D → Type 0} {files : D → List ℕ → FileState} {moment : D → ℕ} {left_since : D → ℕ → Image → Type 0}
+    {states : Keywords} {group : ℕ} {given : List (List ℕ)} {disk now : D} {end : ServeEnd} {left left' written written' : Option (List ℕ)}
+    (served : ServesOver honest files moment left_since states group given disk now end left left' written written') : Type 0 where
+  -- since it began: what the disk stood for, or the files after a prefix of the accepted commands
+  pub any_moment : LeavesOver moment left_since disk now (λ image. StandsAsBefore (files disk) image ⊎ HoldsServed served 0 image)
+  -- since each store on the way that wasn't broken: a prefix that has all commands that were acknowledged there
+  pub since : (here : Past D) → IsOnTheWay served here → IsFalse here.store.session.broken
+      → LeavesOver moment left_since here.store.disk now (HoldsServed served here.store.session.acknowledged)
+  -- at the end, where it ended well: all of them
+  pub ended : end ≡ End → (image : Image) → AreImages (files now) image
+      → Holds served.first.store.session (contents (files served.first.store.disk)) served.last.store.session.files image
+
+-- The disk failed in a run that ended so: the fault of the opening tells it, or the end. An end with a failed read or
+-- write tells nothing of the disk.
 abbrev pub HasFailed : Result ServeEnd OpenFault → ℕ → ℕ → Type 0
 HasFailed (Err fault) before now = fault ≡ open_fault.Device
-HasFailed (Ok end) before now = HasRisen before now
+HasFailed (Ok Device) before now = Unit {0}
+HasFailed (Ok End) before now = ⊥
+HasFailed (Ok Unsettled) before now = ⊥
+HasFailed (Ok Read) before now = HasRisen before now
+HasFailed (Ok Write) before now = HasRisen before now

@@ -1,8 +1,14 @@
 //! Laws of the definitions, each the contract of a function that does nothing.
-ghost use Rattle.std.specs.Prelude.{ℕ, List, ◌≡◌, ◌∷◌};
-ghost use Rattle.std.specs.Prelude.{All, Some};
+ghost use Rattle.std.specs.Prelude.{ℕ, List, ◌≡◌, ◌∷◌, ◌++◌};
+ghost use Rattle.std.specs.Prelude.{All, Some, Result, IsFalse};
+ghost use Rattle.org_store.specs.declared.command.Command.{Command};
+ghost use Rattle.org_store.specs.declared.command.Reply.{Reply};
+ghost use Rattle.org_store.specs.declared.command.RunFault.{RunFault};
+ghost use Rattle.org_store.specs.Session.{Session};
+ghost use Rattle.org_store.specs.Step.{Step};
 ghost use Rattle.org_serve.specs.Grammar.{escaped, unescaped, path_of, path_field};
 ghost use Rattle.org_serve.specs.Lines.{cut, joined, HasNoNewline};
+ghost use Rattle.org_serve.specs.Replies.{answer_text, safe_line, told_safe};
 
 /// The lines of any bytes, each with its newline, and what stands behind the last newline are those bytes; and no
 /// line holds a newline, nor does the rest.
@@ -21,4 +27,16 @@ pub fn escaped_text_reads_back()
 pub fn written_path_reads_back()
     ensures { (title : List ℕ) → (titles : List (List ℕ))
         → path_of (path_field (title ∷ titles)) ≡ Some (title ∷ titles) }
+{}
+
+/// A reply that tells `safe a` ends with that line, and a commands are acknowledged as it is written, by a store that
+/// isn't broken. What a stop leaves from then on is said of such a store: `serve_disk`.
+pub fn safe_tells_acknowledged()
+    ensures written { (answer : Result Reply RunFault) (old new a : ℕ)
+        → told_safe answer old new ≡ Some a
+        → (front : List ℕ) × (answer_text answer old new ≡ front ++ safe_line a) }
+    ensures acknowledged { (old new : Session) (command : Command)
+        (answer : Result Reply RunFault) (a : ℕ) → Step old command answer new
+        → told_safe answer old.acknowledged new.acknowledged ≡ Some a
+        → (new.acknowledged ≡ a) × IsFalse new.broken }
 {}

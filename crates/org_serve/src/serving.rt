@@ -5,13 +5,13 @@ ghost use Rattle.org_disk.specs.Disk.{HasRisen};
 ghost use Rattle.org_disk.specs.Accounts.{Accounts, LeavesOver};
 ghost use Rattle.org_journal.specs.Standing.{contents};
 ghost use Rattle.org_fileset.specs.Replay.{IsAtRest};
-ghost use Rattle.org_store.specs.Runs.{RunsOver, IsBetween, IsLeftOf};
+ghost use Rattle.org_store.specs.Runs.{IsBetween, IsLeftOf};
 ghost use Rattle.org_serve.specs.Counts.{HasRisenBy};
 ghost use Rattle.org_serve.specs.Feeding.{FeedOk, FeedErr, EndsWith};
 ghost use Rattle.org_serve.specs.Lines.{cut};
 ghost use Rattle.org_serve.specs.Pending.{Stands};
-ghost use Rattle.org_serve.specs.Serving.{IsReadAs, AnswersReadBy, AnswersLine, Finishes, HasSettled, HasBroken, end_of};
-ghost use Rattle.org_serve.specs.Stops.{RunsLine, HasSettledOver, FinishesOver, Runs, Reaches, KeepsDisk};
+ghost use Rattle.org_serve.specs.Serving.{IsReadAs, AnswersReadBy, AnswersLine, Finishes, HasSettled, HasBroken, EndsBroken, end_of};
+ghost use Rattle.org_serve.specs.Stops.{RunsHonest, RunsLine, HasSettledOver, FinishesOver, Runs, Reaches, KeepsDisk};
 ghost use Rattle.org_serve.specs.Transcript.{AnswersRest, ServesAll, ServesLines, RunsSome, RunsAllAndSettles};
 
 use crate::end::ServeEnd;
@@ -40,7 +40,8 @@ const PIECE: usize = 4096;
 /// call began what a stop leaves stands for the files after the commands that were acknowledged then, or for those
 /// after some of the lines that are run, from the first on; a command in which the disk failed may be the last of them.
 /// The store is changed by calls of `run` and `settle` alone. One that was broken is left as it is; one that wasn't is
-/// broken only where its disk counted a failure, and where it isn't, none was counted.
+/// broken only where its disk counted a failure, and where it isn't, none was counted. It is broken where this ends with
+/// `Device`, and isn't where it ends with `End` or `Unsettled`.
 pub fn serve<D: Disk, R: Source, W: Sink>(
     alloc: Global,
     store: &mut Store<D>,
@@ -68,8 +69,8 @@ pub fn serve<D: Disk, R: Source, W: Sink>(
         → HasRisen (W.failures writer.old) (W.failures writer.new) }
 
     ensures calls { D.honest store.new.disk
-        → Runs (RunsLine D.files D.moment D.left_since)
-        (HasSettledOver D.files D.moment D.left_since) store.old store.new result
+        → Runs (RunsLine D.honest D.files D.moment D.left_since)
+        (HasSettledOver D.honest D.files D.moment D.left_since) store.old store.new result
         (R.left reader.old) (R.left reader.new) (W.written writer.old) (W.written writer.new) }
     ensures any_moment { D.honest store.new.disk → IsAtRest (D.files store.old.disk)
         → IsFalse store.old.session.broken
@@ -81,6 +82,7 @@ pub fn serve<D: Disk, R: Source, W: Sink>(
         × IsBetween store.old.session store.new.session mid)) }
     ensures disk { D.honest store.new.disk → KeepsDisk D.files store.old store.new }
 
+    ensures broken { EndsBroken result store.new.session }
     ensures untouched { IsTrue store.old.session.broken → store.new ≡ store.old }
     ensures accounts { Accounts D.steady D.honest D.failures store.old.disk store.new.disk
         (HasBroken store.old.session store.new.session) }
@@ -112,9 +114,10 @@ fn feed<D: Disk, W: Sink>(
     ensures fed { D.honest store.new.disk → (part : List ℕ) → (cut part).lines ≡ []
         → Stands pending.old part
         → MatchResult result
-        (λ _. FeedOk (RunsLine D.files D.moment D.left_since) store.old (part ++ piece.now)
+        (λ _. FeedOk (RunsLine D.honest D.files D.moment D.left_since) store.old (part ++ piece.now)
         store.new (W.written writer.old) (W.written writer.new) pending.new)
-        (λ _. FeedErr (RunsLine D.files D.moment D.left_since) store.old (part ++ piece.now)
+        (λ _. FeedErr (RunsLine D.honest D.files D.moment D.left_since) store.old (part ++
+        piece.now)
         store.new) }
     ensures same { OnOk result (W.failures writer.new ≡ W.failures writer.old) }
     ensures err { OnErr result (HasRisen (W.failures writer.old) (W.failures writer.new)) }
@@ -140,7 +143,8 @@ fn answer<D: Disk, W: Sink>(
     writer: &mut W,
 ) -> Result<(), PipeFault>
     ensures step { D.honest store.new.disk → (part : List ℕ) → Stands pending.old part
-        → (out : List ℕ) × RunsLine D.files D.moment D.left_since store.old (part ++ last.now) out
+        → (out : List ℕ) × RunsLine D.honest D.files D.moment D.left_since store.old (part ++
+        last.now) out
         store.new
         × OnOk result (Appends (W.written writer.old) (W.written writer.new) out) }
     ensures cleared { Stands pending.new [] }
@@ -173,7 +177,8 @@ fn answer_read<D: Disk, W: Sink>(
     writer: &mut W,
 ) -> Result<(), PipeFault>
     ensures step { D.honest store.new.disk → (out : List ℕ)
-        × AnswersReadBy (RunsOver D.files D.moment D.left_since) (λ kept. kept.session) store.old
+        × AnswersReadBy (RunsHonest D.honest D.files D.moment D.left_since) (λ kept. kept.session)
+        store.old
         read.now out store.new
         × OnOk result (Appends (W.written writer.old) (W.written writer.new) out) }
     ensures same { OnOk result (W.failures writer.new ≡ W.failures writer.old) }
@@ -196,14 +201,16 @@ fn answer_read<D: Disk, W: Sink>(
 fn finish<D: Disk, W: Sink>(store: &mut Store<D>, pending: &Pending, writer: &mut W) -> ServeEnd
     ensures told { D.honest store.new.disk → result ≢ ServeEnd.Write → (part : List ℕ)
         → Stands pending.now part
-        → EndsWith (FinishesOver D.files D.moment D.left_since) part store.old result store.new
+        → EndsWith (FinishesOver D.honest D.files D.moment D.left_since)
+        part store.old result store.new
         (W.written writer.old) (W.written writer.new) }
     ensures never { result ≢ ServeEnd.Read }
     ensures write { D.honest store.new.disk → result ≡ ServeEnd.Write
-        → (store.new ≡ store.old) ⊎ HasSettledOver D.files D.moment D.left_since store.old
+        → (store.new ≡ store.old) ⊎ HasSettledOver D.honest D.files D.moment D.left_since store.old
         store.new }
     ensures write_cause { result ≡ ServeEnd.Write
         → HasRisen (W.failures writer.old) (W.failures writer.new) }
+    ensures broken { EndsBroken result store.new.session }
     ensures untouched { IsTrue store.old.session.broken → store.new ≡ store.old }
     ensures accounts { Accounts D.steady D.honest D.failures store.old.disk store.new.disk
         (HasBroken store.old.session store.new.session) }
@@ -231,13 +238,14 @@ fn answer_rest<W: Sink>(pending: &Pending, writer: &mut W) -> Result<(), PipeFau
 // Settles where accepted commands aren't settled yet.
 fn settle<D: Disk, W: Sink>(store: &mut Store<D>, writer: &mut W) -> ServeEnd
     ensures told { D.honest store.new.disk → result ≢ ServeEnd.Write → (tail : List ℕ)
-        × FinishesOver D.files D.moment D.left_since store.old result tail store.new
+        × FinishesOver D.honest D.files D.moment D.left_since store.old result tail store.new
         × Appends (W.written writer.old) (W.written writer.new) tail }
     ensures never { result ≢ ServeEnd.Read }
     ensures write { D.honest store.new.disk → result ≡ ServeEnd.Write
-        → HasSettledOver D.files D.moment D.left_since store.old store.new }
+        → HasSettledOver D.honest D.files D.moment D.left_since store.old store.new }
     ensures write_cause { result ≡ ServeEnd.Write
         → HasRisen (W.failures writer.old) (W.failures writer.new) }
+    ensures broken { EndsBroken result store.new.session }
     ensures untouched { IsTrue store.old.session.broken → store.new ≡ store.old }
     ensures accounts { Accounts D.steady D.honest D.failures store.old.disk store.new.disk
         (HasBroken store.old.session store.new.session) }
@@ -261,7 +269,8 @@ fn end_of(answer: Result<(), RunFault>) -> ServeEnd
 {
     match answer {
         Ok(()) => ServeEnd::End,
-        Err(RunFault::OutOfMemory) => ServeEnd::Unsettled,
-        Err(_) => ServeEnd::Device,
+        Err(RunFault::Device) | Err(RunFault::Broken) => ServeEnd::Device,
+        // It answers no refusal.
+        Err(RunFault::OutOfMemory) | Err(RunFault::Refused(_)) => ServeEnd::Unsettled,
     }
 }

@@ -1,5 +1,5 @@
 //! A whole run over a disk, from the opening to the end of the input.
-ghost use Rattle.std.specs.Prelude.{◌≡◌, ◌⊎◌, Ok, All, IfOk, IfErr, MatchResult};
+ghost use Rattle.std.specs.Prelude.{◌≡◌, ◌⊎◌, Ok, All, IfOk, IfErr};
 ghost use Rattle.org_disk.specs.Disk.{HasRisen};
 ghost use Rattle.org_disk.specs.Accounts.{Accounts, LeavesOver};
 ghost use Rattle.org_journal.specs.Standing.{IsFit, contents};
@@ -8,7 +8,7 @@ ghost use Rattle.org_fileset.specs.Opening.{IsReason};
 ghost use Rattle.org_fileset.specs.Recovery.{EachStands, StandsAsBefore};
 ghost use Rattle.org_serve.specs.Counts.{HasRisenBy};
 ghost use Rattle.org_store.specs.Group.{IsGroup};
-ghost use Rattle.org_serve.specs.Whole.{ServesOver, IsLeftServing, HasFailed};
+ghost use Rattle.org_serve.specs.Whole.{ServesOver, Lasts, HasFailed};
 
 use crate::end::ServeEnd;
 use crate::pipes::{Sink, Source};
@@ -39,14 +39,19 @@ pub struct Served<D> {
 }
 
 /// Opens a store over the files of a disk, answers the lines of a reader by it as `serve` does, and gives the disk
-/// back.
+/// back. It hands on each store on the way with one list: the texts of all files as they were opened, and after each
+/// accepted command.
 ///
 /// On a disk that is fit, and honest at the end, of which each image stands for files, every image at every moment
-/// since the call began stands for what an image at the start stood for, or for the files as the store was opened over
-/// them, or for those after some of the lines that are run, from the first on. The disk is as fit at the end, so that
-/// all this may be done again.
+/// since the call began stands for what an image at the start stood for, or for the files after one prefix of the
+/// accepted commands. Every image since a store on the way that wasn't broken stands for a prefix that has all commands
+/// that were acknowledged there: so since a reply `safe a` was answered, for one that has the first a
+/// (`laws::safe_tells_acknowledged`). Where it ends with `End`, each image at the end stands for the files after all of
+/// them. The disk is as fit at the end, so that all this may be done again.
 ///
-/// The faults are those of `Store::open`; the ends, and when each comes, those of `serve`.
+/// The faults are those of `Store::open`; the ends, and when each comes, those of `serve`. With `Device`, or an opening
+/// that is refused so, it ends only where the disk counted a failure, and with `End` or `Unsettled` only where it
+/// counted none.
 pub fn serve_disk<D: Disk, R: Source, W: Sink>(
     alloc: Global,
     disk: D,
@@ -57,19 +62,16 @@ pub fn serve_disk<D: Disk, R: Source, W: Sink>(
 ) -> Served<D>
     requires names { All IsOrgFile setup.names.items }
     requires group { IsGroup setup.group }
-    ensures served { D.honest result.disk → IfOk result.end (λ end.
-        ServesOver setup.states setup.group setup.names.items (contents (D.files disk)) end
-        (R.left reader.old) (R.left reader.new) (W.written writer.old) (W.written writer.new)) }
-    ensures any_moment { D.honest result.disk → IsFit (D.files disk) → EachStands (D.files disk)
-        → MatchResult result.end
-        (λ end. (served : ServesOver setup.states setup.group setup.names.items (contents
-        (D.files disk)) end
-        (R.left reader.old) (R.left reader.new) (W.written writer.old) (W.written writer.new))
-        × LeavesOver D.moment D.left_since disk result.disk (IsLeftServing (D.files disk) served))
-        (λ fault. LeavesOver D.moment D.left_since disk result.disk
-        (StandsAsBefore (D.files disk))) }
+    ensures served { D.honest result.disk → IfOk result.end (λ end. (served : ServesOver
+        D.honest D.files D.moment D.left_since setup.states setup.group setup.names.items
+        disk result.disk end (R.left reader.old) (R.left reader.new) (W.written writer.old)
+        (W.written writer.new))
+        × (IsFit (D.files disk) → EachStands (D.files disk) → Lasts served)) }
+    ensures unopened { D.honest result.disk → IsFit (D.files disk) → EachStands (D.files disk)
+        → IfErr result.end (λ _.
+        LeavesOver D.moment D.left_since disk result.disk (StandsAsBefore (D.files disk))) }
     ensures fit { D.honest result.disk → IsFit (D.files disk) → EachStands (D.files disk)
-        → IsFit (D.files result.disk) }
+        → IsFit (D.files result.disk) × EachStands (D.files result.disk) }
     ensures read_cause { result.end ≡ Ok ServeEnd.Read
         → HasRisen (R.failures reader.old) (R.failures reader.new)
         ⊎ HasRisenBy turns (R.reads reader.old) (R.reads reader.new) }

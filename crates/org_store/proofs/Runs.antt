@@ -83,10 +83,10 @@ onward_then old mid new first second = record {
 }
 
 -- the session after an accepted command
-done_files : (s : Session) (files : List (List ℕ)) → (done s files).files ≡ files
+pub done_files : (s : Session) (files : List (List ℕ)) → (done s files).files ≡ files
 done_files s files = elim (cases_Bool (fills s)) [ inl t ↦ rw t refl | inr f ↦ rw f refl ]
 
-done_accepted : (s : Session) (files : List (List ℕ)) → (done s files).accepted ≡ s.accepted + 1
+pub done_accepted : (s : Session) (files : List (List ℕ)) → (done s files).accepted ≡ s.accepted + 1
 done_accepted s files = elim (cases_Bool (fills s)) [ inl t ↦ rw t refl | inr f ↦ rw f refl ]
 
 abbrev Settling : Session → Session → Type 0
@@ -130,7 +130,7 @@ counts_rise old new command (Err Device) step = elim step.1 [
   ]
 ]
 
-falls : (old new : Session) (command : Command) → Step old command (Err Device) new → new.broken ≡ true
+pub falls : (old new : Session) (command : Command) → Step old command (Err Device) new → new.broken ≡ true
 falls old new command step = elim step.1 [
   | inl in_read ↦ subst (λ s. s.broken ≡ true) (sym in_read) refl
   | inr torn ↦ elim torn [
@@ -208,13 +208,13 @@ others_over old mid before after onward disk same texts which name not =
     (agree mid.names old.settled old.files mid.settled mid.files before after name (rw onward.names (disk name not)) (same name not)
     (rw onward.names onward.settled) (rw onward.names onward.texts) texts which)
 
-holds_back : (old mid : Session) (before after image : Image) → Onward old mid → IsOnDisk old before → SameFiles after (with_texts mid.names mid.settled before)
+pub holds_back : (old mid : Session) (before after image : Image) → Onward old mid → IsOnDisk old before → SameFiles after (with_texts mid.names mid.settled before)
     → (texts : List (List ℕ)) → (texts ≡ mid.settled) ⊎ HaveTexts mid.names mid.files texts → Holds mid after texts image → Holds old before texts image
 holds_back old mid before after image onward disk same texts which holds =
     subst (λ names. StandsFor (with_texts names texts before) image) onward.names
     (stands_as (with_texts mid.names texts after) (with_texts mid.names texts before) image (others_over old mid before after onward disk same texts which) holds)
 
-on_disk_after : (names settled : List (List ℕ)) (before after : Image) → SameFiles after (with_texts names settled before) → SameFiles after (with_texts names settled after)
+pub on_disk_after : (names settled : List (List ℕ)) (before after : Image) → SameFiles after (with_texts names settled before) → SameFiles after (with_texts names settled after)
 on_disk_after names settled before after same name not =
     same name not ∙ texts_over names settled before after name (λ none. sym (same name not ∙ texts_apart names settled before name none))
 

@@ -1,4 +1,3 @@
-pub mod Starting
 mod Words
 mod Rows
 mod Firsts

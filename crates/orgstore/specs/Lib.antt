@@ -1,4 +1,5 @@
 pub mod Statuses
 pub mod Causes
+pub mod Folder
 pub mod Words
 pub mod Lists

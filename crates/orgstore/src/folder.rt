@@ -1,82 +1,74 @@
 //! Lines served over a folder.
-ghost use Rattle.std.specs.Prelude.{◌≡◌, ◌⊎◌, Ok, IfOk, IfErr, MatchResult, All, []};
+ghost use Rattle.std.specs.Prelude.{◌≡◌, ◌⊎◌, Ok, IfOk, IfErr, All, []};
 ghost use Rattle.org_disk.specs.Disk.{HasRisen};
-ghost use Rattle.org_journal.specs.Standing.{Image, IsFit, contents};
+ghost use Rattle.org_disk.specs.Accounts.{Accounts, LeavesOver};
+ghost use Rattle.org_journal.specs.Standing.{IsFit, contents};
 ghost use Rattle.org_disk.specs.Names.{IsOrgFile};
 ghost use Rattle.org_fileset.specs.Opening.{IsReason};
 ghost use Rattle.org_fileset.specs.Recovery.{EachStands, StandsAsBefore};
-ghost use Rattle.org_folder.specs.Calls.{files, AreRight, LeftSince};
 ghost use Rattle.org_folder.specs.FolderDisk.{record_of};
 ghost use Rattle.org_serve.specs.Counts.{HasRisenBy};
 ghost use Rattle.org_store.specs.Group.{IsGroup};
-ghost use Rattle.org_serve.specs.Whole.{ServesOver, IsLeftServing};
+ghost use Rattle.org_serve.specs.Whole.{ServesOver, Lasts, HasFailed};
+ghost use Rattle.orgstore.specs.Folder.{is_right, files_of, moment_of, left_of, failures_of};
 
 use org_folder::{FolderDisk, Start};
 use org_serve::{ServeEnd, Served, Setup, Sink, Source, serve_disk};
-use org_store::OpenFault;
-use std::alloc::{AllocError, Global};
+use std::alloc::Global;
 use std::fs::Files;
 use std::os::unix::fs::FileExt;
 
 /// The most reads of an input; one that takes more ends with `Read`.
 const TURNS: u64 = 4_294_967_295;
 
-/// Serves the lines of a reader over the folder at this path. It fails only where there is no memory for the path.
+/// Serves the lines of a reader over a folder whose disk has made no call yet.
 ///
 /// `S` says what the folder held at first; no code reads it, and what is promised holds for every `S`. What the calls
 /// of the operating system did to the files, and what they answered, is noted in a record, which stands in proofs alone
-/// and is empty at first. That each answer in it was right up to the end (`AreRight`) is the premise of what is said of
+/// and is empty at first, where the files are those of `S`. That each answer in it was right up to the end (`is_right`) is the premise of what is said of
 /// files and of stops.
 ///
-/// Where the input was read to its end, what was written is the transcript of its lines. If the folder was fit at
-/// first, and each image of it stood for files, each image that a stop might have left, at any moment since this began,
-/// stands for the files as they were opened, or as they are after some of the lines that are run, from the first on;
-/// within the opening, for what the folder stood for before. The folder is left as one that can be opened again.
+/// Where the input was read to its end, what was written is the transcript of its lines; where a read failed, that of the
+/// complete lines before it. If the folder was fit at first, and each image of it stood for files, each image that a stop
+/// might have left, at any moment since this began, stands for what the folder stood for, or for the files after one
+/// prefix of the accepted commands; since a store on the way, for one that has all commands that were acknowledged
+/// there; and after an end with `End` for all of them. The folder is left as one of which all this can be said again.
 ///
-/// An opening is refused for its reason alone, as Device exactly where a call failed. It ends with Read or Write only
-/// for a cause: a failed call of the reader or the writer, or 4,294,967,295 reads.
+/// An opening is refused for its reason alone. It ends with Read or Write only for a cause: a failed call of the reader
+/// or the writer, or 4,294,967,295 reads; with Device, or an opening that is refused so, only where a call failed.
 pub fn serve_folder<F: Files + AllocGlobal + Drop, S: Start, R: Source, W: Sink>(
-    rt: F,
     alloc: Global,
-    path: &str,
+    disk: FolderDisk<F, S>,
     setup: Setup,
     reader: &mut R,
     writer: &mut W,
-) -> Result<Served<FolderDisk<F, S>>, AllocError>
+) -> Served<FolderDisk<F, S>>
 where
     F::File: FileExt,
     requires names { All IsOrgFile setup.names.items }
     requires group { IsGroup setup.group }
-    ensures served { IfOk result (λ served. AreRight S.world (record_of served.disk)
-        → IfOk served.end (λ end.
-        ServesOver setup.states setup.group setup.names.items (contents S.world.start) end
-        (R.left reader.old) (R.left reader.new) (W.written writer.old) (W.written writer.new))) }
-    ensures any_moment { IfOk result (λ served. AreRight S.world (record_of served.disk)
-        → IsFit S.world.start → EachStands S.world.start
-        → MatchResult served.end
-        (λ end. (serves : ServesOver setup.states setup.group setup.names.items (contents
-        S.world.start) end
-        (R.left reader.old) (R.left reader.new) (W.written writer.old) (W.written writer.new))
-        × ((image : Image) → LeftSince S.world (record_of served.disk) 0 image
-        → IsLeftServing S.world.start serves image))
-        (λ fault. (image : Image) → LeftSince S.world (record_of served.disk) 0 image
-        → StandsAsBefore S.world.start image)) }
-    ensures fit { IfOk result (λ served. AreRight S.world (record_of served.disk)
-        → IsFit S.world.start → EachStands S.world.start
-        → IsFit (files S.world (record_of served.disk))) }
-    ensures read_cause { IfOk result (λ served. served.end ≡ Ok ServeEnd.Read
+    requires unused { (record_of disk ≡ []) × (disk.failures ≡ 0) }
+    ensures served { is_right S.world result.disk → IfOk result.end (λ end. (served : ServesOver
+        (is_right S.world) (files_of S.world) moment_of (left_of S.world) setup.states setup.group
+        setup.names.items disk result.disk end (R.left reader.old) (R.left reader.new)
+        (W.written writer.old) (W.written writer.new))
+        × (IsFit (files_of S.world disk) → EachStands (files_of S.world disk)
+        → Lasts served)) }
+    ensures unopened { is_right S.world result.disk → IsFit (files_of S.world disk)
+        → EachStands (files_of S.world disk) → IfErr result.end (λ _. LeavesOver moment_of
+        (left_of S.world) disk result.disk (StandsAsBefore (files_of S.world disk))) }
+    ensures fit { is_right S.world result.disk → IsFit (files_of S.world disk)
+        → EachStands (files_of S.world disk)
+        → IsFit (files_of S.world result.disk) × EachStands (files_of S.world result.disk) }
+    ensures read_cause { result.end ≡ Ok ServeEnd.Read
         → HasRisen (R.failures reader.old) (R.failures reader.new)
-        ⊎ HasRisenBy 4294967295 (R.reads reader.old) (R.reads reader.new)) }
-    ensures write_cause { IfOk result (λ served. served.end ≡ Ok ServeEnd.Write
-        → HasRisen (W.failures writer.old) (W.failures writer.new)) }
-    ensures refused { IfOk result (λ served. IfErr served.end
-        (IsReason setup.names.items (AreRight S.world (record_of served.disk))
-        (contents S.world.start) (contents (files S.world (record_of served.disk))))) }
-    ensures failed { IfOk result (λ served. IfErr served.end
-        (λ fault. fault ≡ OpenFault.Device → HasRisen 0 served.disk.failures)) }
-    ensures told { IfOk result (λ served. IfErr served.end
-        (λ fault. (fault ≡ OpenFault.Device → ⊥) → served.disk.failures ≡ 0)) }
+        ⊎ HasRisenBy 4294967295 (R.reads reader.old) (R.reads reader.new) }
+    ensures write_cause { result.end ≡ Ok ServeEnd.Write
+        → HasRisen (W.failures writer.old) (W.failures writer.new) }
+    ensures refused { IfErr result.end (IsReason setup.names.items (is_right S.world result.disk)
+        (contents (files_of S.world disk)) (contents (files_of S.world result.disk))) }
+    ensures accounts { Accounts ⊥ (is_right S.world) failures_of disk result.disk
+        (HasFailed result.end disk.failures result.disk.failures) }
 {
-    let disk: FolderDisk<F, S> = FolderDisk::new(rt, alloc, path)?;
-    Ok(serve_disk(alloc, disk, setup, reader, writer, TURNS))
+    serve_disk(alloc, disk, setup, reader, writer, TURNS)
 }

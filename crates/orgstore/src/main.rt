@@ -47,15 +47,12 @@ fn run(rt: &HostRuntime) -> Result<(), Fault> {
     let setup = setup(rt, &arguments)?;
     let mut reader = Counted::new(rt.stdin());
     let mut writer = Counted::new(stdout(rt)?);
-    let served: Served<FolderDisk<HostRuntime, Unknown>> = serve_folder(
+    let disk: FolderDisk<HostRuntime, Unknown> = FolderDisk::new(
         rt.clone()?,
         rt.alloc(),
         &arguments.folder,
-        setup,
-        &mut reader,
-        &mut writer,
     )?;
-    let Served { disk: _, end } = served;
+    let Served { disk: _, end } = serve_folder(rt.alloc(), disk, setup, &mut reader, &mut writer);
     told(end)
 }
 

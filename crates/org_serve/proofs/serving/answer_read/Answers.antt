@@ -14,6 +14,6 @@ returns-in-Ok-clause-step g c = λ honest.
     } in
     rw c.in-Ok.is (
       answer_text c.run-answer.result c.args.store.now.session.acknowledged c.run-answer.new.self.session.acknowledged,
-      (c.run-answer.result, over, refl),
+      (c.run-answer.result, (over, honest), refl),
       rw (c.acknowledged-before.ensures, c.acknowledged.ensures) at c.write_answer.ensures.ok,
     )

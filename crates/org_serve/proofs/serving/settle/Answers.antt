@@ -1,6 +1,8 @@
-use Rattle.std.proofs.Common.{◌≡◌, ◌∙◌, ◌<◌, false, sym, arith}
+use Rattle.std.proofs.Common.{◌≡◌, ◌∙◌, ◌<◌, false, sym, subst, arith}
 use Rattle.org_store.specs.Runs.{SettlesOver}
 use Rattle.org_serve.specs.Replies.{settled_text}
+use Rattle.org_serve.specs.Serving.{EndsBroken}
+use Rattle.org_serve.proofs.Breaking.{ends_broken}
 use Rattle.org_serve.proofs.Stops.{finishes_settling}
 use Rattle.org_serve.proofs.serving.settle.Goals as goal
 
@@ -18,6 +20,13 @@ returns-in-Ok-clause-told g c = λ honest not.
       untouched = e.untouched;
     } in (
       settled_text c.settle-answer.result new.session.acknowledged,
-      finishes_settling d.files d.moment d.left_since old c.settle-answer.result new c.end_of.result sound pending over c.end_of.ensures.value,
+      finishes_settling d.honest d.files d.moment d.left_since old c.settle-answer.result new c.end_of.result sound pending (over, honest) c.end_of.ensures.value,
       rw c.acknowledged-2.ensures at c.in-Ok.ensures.ok,
     )
+
+pub returns-in-Ok-clause-broken : goal.returns-in-Ok-clause-broken
+returns-in-Ok-clause-broken g c =
+    let e = c.settle-answer.ensures in
+    let sound : c.args.store.now.session.broken ≡ false = sym c.is_broken.ensures ∙ c.if-is_broken.false in
+    subst (λ end. EndsBroken end c.settle-answer.new.self.session) (sym c.end_of.ensures.value)
+    (ends_broken c.settle-answer.result c.args.store.now.session c.settle-answer.new.self.session sound e.breaks.0 e.breaks.1 e.broken.0)

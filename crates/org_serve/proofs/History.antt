@@ -1,0 +1,408 @@
+-- What a stop leaves of a run that is told in one list of texts.
+use Rattle.std.proofs.Common.{◌≡◌, ◌⊎◌, inl, inr, ⊎_elim, ℕ, zero, suc, ◌+◌, ◌<◌, ◌≤◌, true, false, List, [], ◌∷◌, ◌++◌, length, Option, Some, None, Result, Ok, Err, refl, sym, ap, ◌∙◌, subst, arith}
+use Rattle.std.specs.Prelude.{slice_get, IsSomeAnd, IsErrOf}
+use Rattle.std.proofs.lemmas.Bool.{cases_Bool, false≢true}
+use Rattle.std.proofs.lemmas.List.{length-append}
+use Rattle.std.proofs.lemmas.Option.{slice_get_within}
+use Rattle.org_disk.specs.Disk.{FileState, AreImages, LeavesOnly}
+use Rattle.org_disk.proofs.Moments.{passes_as, leaves_only}
+use Rattle.org_journal.specs.Standing.{Image, contents}
+use Rattle.org_fileset.specs.Replay.{IsAtRest}
+use Rattle.org_fileset.proofs.Commits.{at_rest_stands}
+use Rattle.org_fileset.proofs.Stands.{stands_as}
+use Rattle.org_store.specs.declared.command.Command.{Command}
+use Rattle.org_store.specs.declared.command.Reply.{Reply}
+use Rattle.org_store.specs.declared.command.Reply.TheVariants.{Done, Safe, Text}
+use Rattle.org_store.specs.declared.command.RunFault.{RunFault}
+use Rattle.org_store.specs.declared.command.RunFault.TheVariants.{Refused, OutOfMemory, Device, Broken}
+use Rattle.org_store.specs.InOrder.{with_texts}
+use Rattle.org_store.specs.Session.{Session, Kept, Holds}
+use Rattle.org_store.specs.Outcome.{Outcome, Accepts, outcome}
+use Rattle.org_store.specs.Step.{Step, Settles, fills, done, settled}
+use Rattle.org_store.specs.Runs.{IsOnDisk, IsBetween}
+use Rattle.org_store.proofs.Runs.{Course, HaveTexts, course_none, course_run, course_settle, done_accepted, done_files, falls, holds_back, on_disk_after}
+use Rattle.org_serve.specs.declared.fault.LineFault.{LineFault}
+use Rattle.org_serve.specs.Serving.{AnswersReadBy}
+use Rattle.org_serve.specs.Stops.{RunsHonest, RunsLine, HasSettledOver, Runs}
+use Rattle.org_serve.specs.declared.end.ServeEnd.{ServeEnd}
+use Rattle.org_serve.specs.History.{Past, Adds, RunsPast, PastLine, HasSettledPast, LeadsBy, HoldsPrefix}
+use Rattle.org_serve.specs.Transcript.{Answers}
+
+abbrev pub Texts : Type 0
+Texts = List (List (List ℕ))
+
+-- A list and one that it begins.
+
+abbrev pub Begin : Texts → Texts → Type 0
+Begin some all = (k : ℕ) (files : List (List ℕ)) → slice_get some k ≡ Some files → slice_get all k ≡ Some files
+
+begin_append : (some more : Texts) → Begin some (some ++ more)
+begin_append [] more k files is = let none : ◌≡◌ {A = Option (List (List ℕ))} None (Some files) = is in absurd (cc)
+begin_append (one ∷ some) more zero files is = is
+begin_append (one ∷ some) more (suc k) files is = begin_append some more k files is
+
+at_end : (some : Texts) (files : List (List ℕ)) → slice_get (some ++ files ∷ []) (length some) ≡ Some files
+at_end [] files = refl
+at_end (one ∷ some) files = at_end some files
+
+same_accepted : (files more : List (List ℕ)) → Accepts files ≡ Accepts more → files ≡ more
+same_accepted files more same = cc
+
+pub done_broken : (s : Session) (files : List (List ℕ)) → (done s files).broken ≡ s.broken
+done_broken s files = elim (cases_Bool (fills s)) [ inl t ↦ rw t refl | inr f ↦ rw f refl ]
+
+-- What a command adds to the list.
+adds : (old new : Session) (command : Command) (answer : Result Reply RunFault) (texts : Texts) → Step old command answer new → (more : Texts) × Adds (outcome old command) old.accepted new.accepted texts more
+adds old new command (Ok (Done n)) texts step =
+    (texts ++ step.1.0 ∷ [], inr (ap (λ (s : Session). s.accepted) step.1.3 ∙ done_accepted old step.1.0, (step.1.0, step.1.1, refl)))
+adds old new command (Ok (Text bytes)) texts step = (texts, inl (ap (λ (s : Session). s.accepted) step.2, refl))
+adds old new command (Ok (Safe n)) texts step = (texts, inl (ap (λ (s : Session). s.accepted) step.3, refl))
+adds old new command (Err (Refused why)) texts step = (texts, inl (ap (λ (s : Session). s.accepted) step.2, refl))
+adds old new command (Err OutOfMemory) texts step = (texts, inl (ap (λ (s : Session). s.accepted) step.1, refl))
+adds old new command (Err Broken) texts step = (texts, inl (ap (λ (s : Session). s.accepted) step.1, refl))
+adds old new command (Err Device) texts step = elim step.1 [
+  | inl in_read ↦ (texts, inl (ap (λ (s : Session). s.accepted) in_read, refl))
+  | inr torn ↦ elim torn [
+    | inl fell ↦ (texts ++ fell.0 ∷ [], inr (ap (λ (s : Session). s.accepted) fell.5, (fell.0, fell.3, refl)))
+    | inr between ↦ (texts, inl (ap (λ (s : Session). s.accepted) between.3, refl))
+  ]
+]
+
+-- The list has the texts that the session tells.
+pub record Lists (s : Session) (texts : Texts) : Type 0 where
+  pub size : length texts ≡ s.accepted + 1
+  pub order : s.acknowledged ≤ s.accepted
+  pub files : s.broken ≡ false → slice_get texts s.accepted ≡ Some s.files
+  pub settled : s.broken ≡ false → slice_get texts s.acknowledged ≡ Some s.settled
+
+lists_same : (old new : Session) (texts more : Texts) → new ≡ old → more ≡ texts → Lists old texts → Lists new more
+lists_same old new texts more same is lists = subst (λ s. Lists s more) (sym same) (subst (Lists old) (sym is) lists)
+
+-- nothing is added where nothing is counted
+none_added : (outcome : Outcome) (before now : ℕ) (old new : Texts) → Adds outcome before now old new → now ≡ before → new ≡ old
+none_added outcome before now old new added same = elim added [ inl none ↦ none.1 | inr one ↦ absurd (omega (arith, one.0, same)) ]
+
+lists_done : (old : Session) (files : List (List ℕ)) (texts more : Texts) → Adds (Accepts files) old.accepted (done old files).accepted texts more → Lists old texts → Lists (done old files) more
+lists_done old files texts more added lists = elim added [
+  | inl none ↦ absurd (omega (arith, none.0, done_accepted old files))
+  | inr one ↦
+      let same : files ≡ one.1.0 = same_accepted files one.1.0 one.1.1 in
+      let is : more ≡ texts ++ files ∷ [] = one.1.2 ∙ ap (λ t. texts ++ t ∷ []) (sym same) in
+      let here : slice_get (texts ++ files ∷ []) (old.accepted + 1) ≡ Some files = subst (λ n. slice_get (texts ++ files ∷ []) n ≡ Some files) lists.size (at_end texts files) in
+      subst (Lists (done old files)) (sym is) (elim (cases_Bool (fills old)) [
+        | inl t ↦ rw t (record {
+          size = length-append texts (files ∷ []) ∙ omega (arith, lists.size);
+          order = omega arith;
+          files = λ sound. here;
+          settled = λ sound. here;
+        })
+        | inr f ↦ rw f (record {
+          size = length-append texts (files ∷ []) ∙ omega (arith, lists.size);
+          order = omega (arith, lists.order);
+          files = λ sound. here;
+          settled = λ sound. begin_append texts (files ∷ []) old.acknowledged old.settled (lists.settled sound);
+        })
+      ])
+]
+
+lists_broken : (old new : Session) (outcome : Outcome) (texts more : Texts) → Adds outcome old.accepted new.accepted texts more → new.broken ≡ true → new.acknowledged ≡ old.acknowledged → Lists old texts → Lists new more
+lists_broken old new outcome texts more added fell same lists = record {
+  size = elim added [
+    | inl none ↦ rw none.1 (lists.size ∙ omega (arith, none.0))
+    | inr one ↦ rw one.1.2 (length-append texts (one.1.0 ∷ []) ∙ omega (arith, lists.size, one.0))
+  ];
+  order = elim added [ inl none ↦ omega (arith, same, lists.order, none.0) | inr one ↦ omega (arith, same, lists.order, one.0) ];
+  files = λ sound. absurd (false≢true (sym sound ∙ fell));
+  settled = λ sound. absurd (false≢true (sym sound ∙ fell));
+}
+
+lists_settled : (old new : Session) (texts : Texts) → old.broken ≡ false → new ≡ settled old → Lists old texts → Lists new texts
+lists_settled old new texts sound is lists =
+    subst (λ s. Lists s texts) (sym is) (record { size = lists.size; order = omega arith; files = lists.files; settled = λ still. lists.files sound })
+
+lists_step : (old new : Session) (command : Command) (answer : Result Reply RunFault) (texts more : Texts) → Step old command answer new → Adds (outcome old command) old.accepted new.accepted texts more
+    → Lists old texts → Lists new more
+lists_step old new command (Ok (Done n)) texts more step added lists =
+    let is : new ≡ done old step.1.0 = step.1.3 in
+    subst (λ s. Lists s more) (sym is)
+    (lists_done old step.1.0 texts more (subst (λ o. Adds o old.accepted (done old step.1.0).accepted texts more) step.1.1 (subst (λ (s : Session). Adds (outcome old command) old.accepted s.accepted texts more) is added)) lists)
+lists_step old new command (Ok (Text bytes)) texts more step added lists =
+    lists_same old new texts more step.2 (none_added (outcome old command) old.accepted new.accepted texts more added (ap (λ (s : Session). s.accepted) step.2)) lists
+lists_step old new command (Ok (Safe n)) texts more step added lists =
+    let none : more ≡ texts = none_added (outcome old command) old.accepted new.accepted texts more added (ap (λ (s : Session). s.accepted) step.3) in
+    subst (Lists new) (sym none) (lists_settled old new texts step.0 step.3 lists)
+lists_step old new command (Err (Refused why)) texts more step added lists =
+    lists_same old new texts more step.2 (none_added (outcome old command) old.accepted new.accepted texts more added (ap (λ (s : Session). s.accepted) step.2)) lists
+lists_step old new command (Err OutOfMemory) texts more step added lists =
+    lists_same old new texts more step.1 (none_added (outcome old command) old.accepted new.accepted texts more added (ap (λ (s : Session). s.accepted) step.1)) lists
+lists_step old new command (Err Broken) texts more step added lists =
+    lists_same old new texts more step.1 (none_added (outcome old command) old.accepted new.accepted texts more added (ap (λ (s : Session). s.accepted) step.1)) lists
+lists_step old new command (Err Device) texts more step added lists = elim step.1 [
+  | inl in_read ↦ lists_broken old new (outcome old command) texts more added (ap (λ (s : Session). s.broken) in_read) (ap (λ (s : Session). s.acknowledged) in_read) lists
+  | inr torn ↦ elim torn [
+    | inl fell ↦ lists_broken old new (outcome old command) texts more added (ap (λ (s : Session). s.broken) fell.5) (ap (λ (s : Session). s.acknowledged) fell.5) lists
+    | inr between ↦ lists_broken old new (outcome old command) texts more added (ap (λ (s : Session). s.broken) between.3) (ap (λ (s : Session). s.acknowledged) between.3) lists
+  ]
+]
+
+lists_settling : (old new : Session) (answer : Result (Unit {0}) RunFault) (texts : Texts) → Settles old answer new → Lists old texts → Lists new texts
+lists_settling old new (Ok _) texts settles lists = lists_settled old new texts settles.0 settles.1 lists
+lists_settling old new (Err (Refused why)) texts settles lists = absurd settles
+lists_settling old new (Err OutOfMemory) texts settles lists = lists_same old new texts texts settles.1 refl lists
+lists_settling old new (Err Broken) texts settles lists = lists_same old new texts texts settles.1 refl lists
+lists_settling old new (Err Device) texts settles lists =
+    subst (λ s. Lists s texts) (sym settles.1.2) (record { size = lists.size; order = lists.order; files = λ sound. absurd (false≢true (sym sound)); settled = λ sound. absurd (false≢true (sym sound)) })
+
+-- where no call of the disk failed, the session is as it was, or it isn't broken
+same_or_sound : (old new : Session) (command : Command) (answer : Result Reply RunFault) → (IsErrOf answer Device → ⊥) → Step old command answer new → (new ≡ old) ⊎ (new.broken ≡ false)
+same_or_sound old new command (Ok (Done n)) fine step = inr (ap (λ (s : Session). s.broken) step.1.3 ∙ done_broken old step.1.0 ∙ step.0)
+same_or_sound old new command (Ok (Text bytes)) fine step = inl step.2
+same_or_sound old new command (Ok (Safe n)) fine step = inr (ap (λ (s : Session). s.broken) step.3 ∙ step.0)
+same_or_sound old new command (Err (Refused why)) fine step = inl step.2
+same_or_sound old new command (Err OutOfMemory) fine step = inl step.1
+same_or_sound old new command (Err Broken) fine step = inl step.1
+same_or_sound old new command (Err Device) fine step = absurd (fine refl)
+
+module _ {D : Type 0} (honest : D → Type 0) (files : D → List ℕ → FileState) (moment : D → ℕ) (left_since : D → ℕ → Image → Type 0) where
+  abbrev Line : Past D → List ℕ → List ℕ → Past D → Type 0
+  Line = PastLine honest files moment left_since
+
+  abbrev Settled : Past D → Past D → Type 0
+  Settled = HasSettledPast honest files moment left_since
+
+  abbrev Reads : Past D → Result Command LineFault → List ℕ → Past D → Type 0
+  Reads = AnswersReadBy (RunsPast honest files moment left_since) (λ past. past.store.session)
+
+  abbrev ReadsKept : Kept D → Result Command LineFault → List ℕ → Kept D → Type 0
+  ReadsKept = AnswersReadBy (RunsHonest honest files moment left_since) (λ k. k.session)
+
+  -- A run of stores has such a list.
+
+  lift_read : (old : Past D) (read : Result Command LineFault) (out : List ℕ) (new : Kept D) → ReadsKept old.store read out new → (texts : Texts) × Reads old read out (record { store = new; texts = texts })
+  lift_read old (Err fault) out new ran = (old.texts, (ran.0, ap (λ (k : Kept D). record { store = k; texts = old.texts }) ran.1))
+  lift_read old (Ok command) out new ran =
+      let added = adds old.store.session new.session command ran.0 old.texts ran.1.0.step in
+      (added.0, (ran.0, (ran.1.0, ran.1.1, added.1), ran.2))
+
+  pub lift_lines : (old : Past D) (lines : List (List ℕ)) (out : List ℕ) (new : Kept D) → Answers (RunsLine honest files moment left_since) old.store lines out new
+      → (texts : Texts) × Answers Line old lines out (record { store = new; texts = texts })
+  lift_lines old [] out new a = (old.texts, (a.0, ap (λ (k : Kept D). record { store = k; texts = old.texts }) a.1))
+  lift_lines old (line ∷ lines) out new a =
+      let one = lift_read old a.3.0 a.1 a.0 a.3.2 in
+      let mid : Past D = record { store = a.0; texts = one.0 } in
+      let rest = lift_lines mid lines a.2 new a.5 in
+      (rest.0, (mid, a.1, a.2, (a.3.0, a.3.1, one.1), a.4, rest.1))
+
+  pub lift_end : (mid : Past D) (new : Kept D) → (new ≡ mid.store) ⊎ HasSettledOver honest files moment left_since mid.store new
+      → let last : Past D = record { store = new; texts = mid.texts } in (last ≡ mid) ⊎ Settled mid last
+  lift_end mid new ends = ⊎_elim
+      (λ same. inl (ap (λ (k : Kept D). record { store = k; texts = mid.texts }) same))
+      (λ settled. inr (settled.0, (settled.1.0, settled.1.1, refl)))
+      ends
+
+  -- What holds of each store of a run.
+
+  pub honest_lines : (old new : Past D) (lines : List (List ℕ)) (out : List ℕ) → Answers Line old lines out new → honest old.store.disk → honest new.store.disk
+  honest_lines old new [] out a here = subst (λ (p : Past D). honest p.store.disk) (sym a.1) here
+  honest_lines old new (line ∷ lines) out a here = honest_lines a.0 new lines a.2 a.5 (honest_read old a.3.0 a.1 a.0 a.3.2 here)
+    where
+      honest_read : (old : Past D) (read : Result Command LineFault) (out : List ℕ) (new : Past D) → Reads old read out new → honest old.store.disk → honest new.store.disk
+      honest_read old (Err fault) out new ran here = subst (λ (p : Past D). honest p.store.disk) (sym ran.1) here
+      honest_read old (Ok command) out new ran here = ran.1.1
+
+  lists_read : (old : Past D) (read : Result Command LineFault) (out : List ℕ) (new : Past D) → Reads old read out new → Lists old.store.session old.texts → Lists new.store.session new.texts
+  lists_read old (Err fault) out new ran lists = subst (λ (p : Past D). Lists p.store.session p.texts) (sym ran.1) lists
+  lists_read old (Ok command) out new ran lists = lists_step old.store.session new.store.session command ran.0 old.texts new.texts ran.1.0.step ran.1.2 lists
+
+  pub lists_lines : (old new : Past D) (lines : List (List ℕ)) (out : List ℕ) → Answers Line old lines out new → Lists old.store.session old.texts → Lists new.store.session new.texts
+  lists_lines old new [] out a lists = subst (λ (p : Past D). Lists p.store.session p.texts) (sym a.1) lists
+  lists_lines old new (line ∷ lines) out a here = lists_lines a.0 new lines a.2 a.5 (lists_read old a.3.0 a.1 a.0 a.3.2 here)
+
+  pub lists_end : (mid last : Past D) → (last ≡ mid) ⊎ Settled mid last → Lists mid.store.session mid.texts → Lists last.store.session last.texts
+  lists_end mid last ends lists = ⊎_elim
+      (λ same. subst (λ (p : Past D). Lists p.store.session p.texts) (sym same) lists)
+      (λ settled. subst (Lists last.store.session) (sym settled.1.2) (lists_settling mid.store.session last.store.session settled.0 mid.texts settled.1.0.step lists))
+      ends
+
+  begin_read : (old : Past D) (read : Result Command LineFault) (out : List ℕ) (new : Past D) → Reads old read out new → Begin old.texts new.texts
+  begin_read old (Err fault) out new ran = subst (λ (p : Past D). Begin old.texts p.texts) (sym ran.1) (λ k files is. is)
+  begin_read old (Ok command) out new ran = ⊎_elim
+      (λ none. subst (Begin old.texts) (sym none.1) (λ k files is. is))
+      (λ one. subst (Begin old.texts) (sym one.1.2) (begin_append old.texts (one.1.0 ∷ [])))
+      ran.1.2
+
+  pub begin_lines : (old new : Past D) (lines : List (List ℕ)) (out : List ℕ) → Answers Line old lines out new → Begin old.texts new.texts
+  begin_lines old new [] out a = subst (λ (p : Past D). Begin old.texts p.texts) (sym a.1) (λ k files is. is)
+  begin_lines old new (line ∷ lines) out a = λ k files is. begin_lines a.0 new lines a.2 a.5 k files (begin_read old a.3.0 a.1 a.0 a.3.2 k files is)
+
+  pub begin_end : (mid last : Past D) → (last ≡ mid) ⊎ Settled mid last → Begin mid.texts last.texts
+  begin_end mid last ends = ⊎_elim
+      (λ same. subst (λ (p : Past D). Begin mid.texts p.texts) (sym same) (λ k files is. is))
+      (λ settled. subst (Begin mid.texts) (sym settled.1.2) (λ k files is. is))
+      ends
+
+  -- What is reached by lines.
+
+  abbrev Goes : Past D → Past D → (Session → Type 0) → Type 0
+  Goes old new P = Course files moment left_since old.store new.store P
+
+  -- the session's texts stand in the list
+  abbrev Stands : Past D → Session → Type 0
+  Stands last s = slice_get last.texts s.accepted ≡ Some s.files
+
+  -- a session that is reached from here: it is the one here, or its texts stand in the list, or it isn't counted at the end
+  abbrev pub Counts : Past D → Past D → Session → Type 0
+  Counts last here s = (s ≡ here.store.session) ⊎ (Stands last s ⊎ (last.store.session.accepted < s.accepted))
+
+  -- one line, and the lines after it
+  module _ (old mid last : Past D) (course : Goes mid last (Counts last mid)) (lists : Lists old.store.session old.texts) (ends : Begin mid.texts last.texts) where
+    further : (command : Command) (answer : Result Reply RunFault) (ran : RunsPast honest files moment left_since old command answer mid) → (IsErrOf answer Device → ⊥)
+        → (s : Session) → Counts last mid s → Counts last old s
+    further command answer ran fine s (inr counts) = inr counts
+    further command answer ran fine s (inl same) = ⊎_elim
+        (λ is. inl (same ∙ is))
+        (λ sound. inr (inl (subst (Stands last) (sym same)
+        (ends mid.store.session.accepted mid.store.session.files ((lists_step old.store.session mid.store.session command answer old.texts mid.texts ran.0.step ran.2 lists).files sound)))))
+        (same_or_sound old.store.session mid.store.session command answer fine ran.0.step)
+
+    torn : (command : Command) (answer : Result Reply RunFault) (ran : RunsPast honest files moment left_since old command answer mid) (texts : List (List ℕ)) → IsErrOf answer Device
+        → outcome old.store.session command ≡ Accepts texts → Counts last old (done old.store.session texts)
+    torn command answer ran texts failed accepted =
+        let fell = falls old.store.session mid.store.session command (subst (λ a. Step old.store.session command a mid.store.session) failed ran.0.step) in
+        let same : last.store.session.accepted ≡ mid.store.session.accepted = ap (λ (k : Kept D). k.session.accepted) (course.stays fell) in
+        let counted : (done old.store.session texts).accepted ≡ old.store.session.accepted + 1 = done_accepted old.store.session texts in
+        ⊎_elim
+        (λ none. inr (inr (omega (arith, same, counted, none.0))))
+        (λ one.
+        let is : texts ≡ one.1.0 = same_accepted texts one.1.0 (sym accepted ∙ one.1.1) in
+        let list : mid.texts ≡ old.texts ++ texts ∷ [] = one.1.2 ∙ ap (λ t. old.texts ++ t ∷ []) (sym is) in
+        let here : slice_get mid.texts (old.store.session.accepted + 1) ≡ Some texts =
+        subst (λ l. slice_get l (old.store.session.accepted + 1) ≡ Some texts) (sym list) (subst (λ n. slice_get (old.texts ++ texts ∷ []) n ≡ Some texts) lists.size (at_end old.texts texts)) in
+        inr (inl (rw (counted, done_files old.store.session texts) (ends (old.store.session.accepted + 1) texts here))))
+        ran.2
+
+    course_read : (read : Result Command LineFault) (out : List ℕ) → Reads old read out mid → Goes old last (Counts last old)
+    course_read (Err fault) out ran = subst (λ p. Goes p last (Counts last p)) ran.1 course
+    course_read (Ok command) out ran =
+        course_run files moment left_since old.store mid.store last.store command ran.0 (Counts last old) (Counts last mid) ran.1.0 course (inl refl)
+        (further command ran.0 ran.1) (inl refl) (λ texts failed accepted full. torn command ran.0 ran.1 texts failed accepted)
+
+  pub course_past : (old mid last : Past D) (lines : List (List ℕ)) (out : List ℕ) → Answers Line old lines out mid → Goes mid last (Counts last mid) → Begin mid.texts last.texts
+      → Lists old.store.session old.texts → Goes old last (Counts last old)
+  course_past old mid last [] out a course ends lists = subst (λ p. Goes p last (Counts last p)) a.1 course
+  course_past old mid last (line ∷ lines) out a course ends lists =
+      course_read old a.0 last
+      (course_past a.0 mid last lines a.2 a.5 course ends (lists_read old a.3.0 a.1 a.0 a.3.2 lists)) lists
+      (λ k files is. ends k files (begin_lines a.0 mid lines a.2 a.5 k files is)) a.3.0 a.1 a.3.2
+
+  pub course_last : (mid last : Past D) → (last ≡ mid) ⊎ Settled mid last → Goes mid last (Counts last mid)
+  course_last mid last ends = ⊎_elim
+      (λ same. subst (λ p. Goes mid p (Counts p mid)) (sym same) (course_none files moment left_since mid.store (Counts mid mid) (inl refl)))
+      (λ settled. course_settle files moment left_since mid.store last.store settled.0 (Counts last mid) settled.1.0 (inl refl))
+      ends
+
+  -- What a stop leaves since a store of a run that wasn't broken.
+  pub leaves_since : (only_now : (disk : D) (image : Image) → honest disk → left_since disk (moment disk) image → AreImages (files disk) image)
+      → (first here last : Past D) → honest here.store.disk → IsAtRest (files first.store.disk) → IsOnDisk first.store.session (contents (files first.store.disk)) → here.store.session.broken ≡ false
+      → Lists here.store.session here.texts → Begin here.texts last.texts → (P : Session → Type 0) → Goes first here P → Goes here last (Counts last here)
+      → LeavesOnly (moment here.store.disk) (moment last.store.disk) (left_since here.store.disk) (left_since last.store.disk)
+      (HoldsPrefix first.store.session (contents (files first.store.disk)) last.texts here.store.session.acknowledged)
+  leaves_since only_now first here last honestly rest disk sound lists ends P before behind =
+      let rest_here = before.rest sound rest in
+      let made = before.others sound disk in
+      let disk_here = on_disk_after here.store.session.names here.store.session.settled (contents (files first.store.disk)) (contents (files here.store.disk)) made in
+      let back : (texts : List (List ℕ)) (image : Image) → (texts ≡ here.store.session.settled) ⊎ HaveTexts here.store.session.names here.store.session.files texts
+      → Holds here.store.session (contents (files here.store.disk)) texts image → Holds first.store.session (contents (files first.store.disk)) texts image =
+      λ texts image which held.
+      holds_back first.store.session here.store.session (contents (files first.store.disk)) (contents (files here.store.disk)) image (before.onward sound) disk made texts which held in
+      let settled_holds : (image : Image) → Holds here.store.session (contents (files here.store.disk)) here.store.session.settled image
+      → HoldsPrefix first.store.session (contents (files first.store.disk)) last.texts here.store.session.acknowledged image =
+      λ image held. (
+        here.store.session.acknowledged,
+        omega arith,
+        rw (ends here.store.session.acknowledged here.store.session.settled (lists.settled sound)) (back here.store.session.settled image (inl refl) held),
+      ) in
+      let stands : (s : Session) → IsBetween here.store.session last.store.session s → Counts last here s → Stands last s =
+      λ s between counts. ⊎_elim
+      (λ same. subst (Stands last) (sym same) (ends here.store.session.accepted here.store.session.files (lists.files sound)))
+      (λ more. ⊎_elim (λ is. is) (λ past. absurd (omega (arith, past, between.no_more))) more)
+      counts in
+      leaves_only
+      (passes_as (behind.passes rest_here disk_here sound) (λ image left. ⊎_elim
+      (settled_holds image)
+      (λ reached. (
+        reached.0.accepted,
+        omega (arith, lists.order, reached.1.1.no_fewer),
+        rw (stands reached.0 reached.1.1 reached.1.2) (back reached.0.files image (inr reached.1.0) reached.2),
+      ))
+      left))
+      (λ image left. settled_holds image (stands_as (contents (files here.store.disk)) (with_texts here.store.session.names here.store.session.settled (contents (files here.store.disk))) image disk_here
+      (at_rest_stands (files here.store.disk) rest_here image (only_now here.store.disk image honestly left))))
+
+  -- the whole run
+  pub lift_run : (first : Past D) {after : Kept D} {end : ServeEnd} {left left' written written' : Option (List ℕ)}
+      → Runs (RunsLine honest files moment left_since) (HasSettledOver honest files moment left_since) first.store after end left left' written written'
+      → (texts : Texts) × Runs Line Settled first (record { store = after; texts = texts }) end left left' written written'
+  lift_run first {after} run =
+      let lines = lift_lines first run.ran run.out run.mid run.answered in
+      let mid : Past D = record { store = run.mid; texts = lines.0 } in (
+        lines.0,
+        record {
+          input = run.input;
+          ran = run.ran;
+          others = run.others;
+          out = run.out;
+          mid = mid;
+          read = run.read;
+          lines = run.lines;
+          answered = lines.1;
+          ends = lift_end mid after run.ends;
+          wrote = run.wrote;
+        },
+      )
+
+  -- What a stop leaves since each store on the way of a run, and at its end.
+  module _ (only_now : (disk : D) (image : Image) → honest disk → left_since disk (moment disk) image → AreImages (files disk) image)
+      {first last : Past D} {end : ServeEnd} {left left' written written' : Option (List ℕ)} (run : Runs Line Settled first last end left left' written written')
+      (honest_first : honest first.store.disk) (honest_last : honest last.store.disk) (rest : IsAtRest (files first.store.disk)) (disk : IsOnDisk first.store.session (contents (files first.store.disk)))
+      (lists : Lists first.store.session first.texts) where
+    course_to_last : Goes first last (Counts last first)
+    course_to_last = course_past first run.mid last run.ran run.out run.answered (course_last run.mid last run.ends) (begin_end run.mid last run.ends) lists
+
+    lists_last : Lists last.store.session last.texts
+    lists_last = lists_end run.mid last run.ends (lists_lines first run.mid run.ran run.out run.answered lists)
+
+    pub since : (here : Past D) → LeadsBy Line first run.ran run.out run.mid here ⊎ (here ≡ last) → here.store.session.broken ≡ false
+        → LeavesOnly (moment here.store.disk) (moment last.store.disk) (left_since here.store.disk) (left_since last.store.disk)
+        (HoldsPrefix first.store.session (contents (files first.store.disk)) last.texts here.store.session.acknowledged)
+    since here (inl leads) sound =
+        leaves_since only_now first here last (honest_lines first here leads.answered leads.written leads.before honest_first) rest disk sound
+        (lists_lines first here leads.answered leads.written leads.before lists)
+        (λ k texts is. begin_end run.mid last run.ends k texts (begin_lines here run.mid leads.others leads.more leads.behind k texts is))
+        (Counts here first)
+        (course_past first here here leads.answered leads.written leads.before (course_none files moment left_since here.store (Counts here here) (inl refl)) (λ k texts is. is) lists)
+        (course_past here run.mid last leads.others leads.more leads.behind (course_last run.mid last run.ends) (begin_end run.mid last run.ends)
+        (lists_lines first here leads.answered leads.written leads.before lists))
+    since here (inr same) sound =
+        subst (λ (h : Past D). LeavesOnly (moment h.store.disk) (moment last.store.disk) (left_since h.store.disk) (left_since last.store.disk)
+        (HoldsPrefix first.store.session (contents (files first.store.disk)) last.texts h.store.session.acknowledged)) (sym same)
+        (leaves_since only_now first last last honest_last rest disk (ap (λ (h : Past D). h.store.session.broken) (sym same) ∙ sound) lists_last (λ k texts is. is) (Counts last first) course_to_last
+        (course_none files moment left_since last.store (Counts last last) (inl refl)))
+
+    -- a prefix that has all commands
+    pub whole_prefix : (image : Image) → last.store.session.broken ≡ false → last.store.session.accepted ≤ last.store.session.acknowledged
+        → HoldsPrefix first.store.session (contents (files first.store.disk)) last.texts last.store.session.acknowledged image
+        → Holds first.store.session (contents (files first.store.disk)) last.store.session.files image
+    whole_prefix image sound all holds = some (slice_get last.texts holds.0) refl holds.2
+      where
+        the_same : (one other : List (List ℕ)) → Some one ≡ Some other → one ≡ other
+        the_same one other same = cc
+
+        some : (found : Option (List (List ℕ))) → slice_get last.texts holds.0 ≡ found → IsSomeAnd found (λ texts. Holds first.store.session (contents (files first.store.disk)) texts image)
+            → Holds first.store.session (contents (files first.store.disk)) last.store.session.files image
+        some None is held = absurd held
+        some (Some texts) is held =
+            let within = slice_get_within last.texts holds.0 texts is in
+            let at : holds.0 ≡ last.store.session.accepted = omega (arith, within, lists_last.size, holds.1, all) in
+            let same : Some texts ≡ Some last.store.session.files = sym is ∙ (ap (slice_get last.texts) at ∙ lists_last.files sound) in
+            subst (λ t. Holds first.store.session (contents (files first.store.disk)) t image) (the_same texts last.store.session.files same) held

@@ -1,0 +1,39 @@
+-- What a reply tells of the commands that are on the disk.
+use Rattle.std.proofs.Common.{◌≡◌, inl, inr, ℕ, Bool, true, false, nat_lt, List, [], ◌++◌, Option, Some, None, Result, Ok, Err, sym, ap, ◌∙◌, codes}
+use Rattle.std.specs.Prelude.{decimal, if◌then◌else◌}
+use Rattle.std.proofs.lemmas.Bool.{cases_Bool}
+use Rattle.org_store.specs.declared.command.Command.{Command}
+use Rattle.org_store.specs.declared.command.Reply.{Reply}
+use Rattle.org_store.specs.declared.command.Reply.TheVariants.{Done, Safe, Text}
+use Rattle.org_store.specs.declared.command.RunFault.{RunFault}
+use Rattle.org_store.specs.Session.{Session}
+use Rattle.org_store.specs.Step.{Step}
+use Rattle.org_serve.specs.Replies.{answer_text, safe_line, told_safe}
+use Rattle.org_serve.proofs.History.{done_broken}
+
+same_some : (one other : ℕ) → Some one ≡ Some other → one ≡ other
+same_some one other same = cc
+
+none_some : {A : Type 0} (a : ℕ) → ◌≡◌ {A = Option ℕ} None (Some a) → A
+none_some a same = absurd (cc)
+
+written_done : (n new a : ℕ) (risen : Bool) → (if risen then Some new else None) ≡ Some a → (front : List ℕ) × (codes "ok " ++ decimal n ++ codes "\n" ++ (if risen then safe_line new else []) ≡ front ++ safe_line a)
+written_done n new a true told = (codes "ok " ++ decimal n ++ codes "\n", ap (λ m. codes "ok " ++ decimal n ++ codes "\n" ++ safe_line m) (same_some new a told))
+written_done n new a false told = none_some a told
+
+pub safe_written : (answer : Result Reply RunFault) (old new a : ℕ) → told_safe answer old new ≡ Some a → (front : List ℕ) × (answer_text answer old new ≡ front ++ safe_line a)
+safe_written (Ok (Done n)) old new a told = written_done n new a (nat_lt old new) told
+safe_written (Ok (Safe n)) old new a told = ([], ap safe_line (same_some n a told))
+safe_written (Ok (Text bytes)) old new a told = none_some a told
+safe_written (Err fault) old new a told = none_some a told
+
+pub safe_known : (old new : Session) (command : Command) (answer : Result Reply RunFault) (a : ℕ) → Step old command answer new → told_safe answer old.acknowledged new.acknowledged ≡ Some a
+    → (new.acknowledged ≡ a) × (new.broken ≡ false)
+safe_known old new command (Ok (Done n)) a step told = elim (cases_Bool (nat_lt old.acknowledged new.acknowledged)) [
+  | inl t ↦ (same_some new.acknowledged a (rw t at told), ap (λ (s : Session). s.broken) step.1.3 ∙ done_broken old step.1.0 ∙ step.0)
+  | inr f ↦ none_some a (rw f at told)
+]
+safe_known old new command (Ok (Safe n)) a step told =
+    (ap (λ (s : Session). s.acknowledged) step.3 ∙ sym step.2 ∙ same_some n a told, ap (λ (s : Session). s.broken) step.3 ∙ step.0)
+safe_known old new command (Ok (Text bytes)) a step told = none_some a told
+safe_known old new command (Err fault) a step told = none_some a told

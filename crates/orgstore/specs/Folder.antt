@@ -1,0 +1,27 @@
+-- The disk of a folder of the operating system, as the record of its calls tells it; `world` is what the folder held at
+-- first, and what calls that failed left.
+use Rattle.std.specs.Prelude.{ℕ, List, length}
+use Rattle.org_disk.specs.Disk.{FileState}
+use Rattle.org_folder.specs.Calls.{World, AreRight, LeftSince, files}
+use Rattle.org_folder.specs.FolderDisk.{record_of}
+use Rattle.org_folder.specs.declared.disk.CallsDisk.{CallsDisk}
+use Rattle.org_folder.specs.declared.system.SystemCalls.{SystemCalls}
+
+-- each answer in the record was right
+abbrev pub is_right : {R S A B F : Type 0} → World → CallsDisk (SystemCalls R S A B) F → Type 0
+is_right world disk = AreRight world (record_of disk)
+
+-- the files that the record stands for
+abbrev pub files_of : {R S A B F : Type 0} → World → CallsDisk (SystemCalls R S A B) F → List ℕ → FileState
+files_of world disk = files world (record_of disk)
+
+-- how many calls are in the record
+abbrev pub moment_of : {R S A B F : Type 0} → CallsDisk (SystemCalls R S A B) F → ℕ
+moment_of disk = length (record_of disk)
+
+-- what a stop since the call of this number might have left
+abbrev pub left_of : {R S A B F : Type 0} → World → CallsDisk (SystemCalls R S A B) F → ℕ → (List ℕ → List ℕ) → Type 0
+left_of world disk = LeftSince world (record_of disk)
+
+abbrev pub failures_of : {R S A B F : Type 0} → CallsDisk (SystemCalls R S A B) F → ℕ
+failures_of disk = disk.failures
