@@ -11,5 +11,6 @@ pub mod Escapes
 pub mod Paths
 pub mod Stops
 pub mod History
+mod OnePlace
 mod Opened
 mod Told

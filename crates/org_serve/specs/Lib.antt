@@ -11,4 +11,5 @@ pub mod Replies
 pub mod Serving
 pub mod Stops
 pub mod History
+pub mod OnePlace
 pub mod Whole

@@ -1,11 +1,16 @@
 //! Laws of the definitions, each the contract of a function that does nothing.
 ghost use Rattle.std.specs.Prelude.{ℕ, List, ◌≡◌, ◌∷◌, ◌++◌};
 ghost use Rattle.std.specs.Prelude.{All, Some, Result, IsFalse};
+ghost use Rattle.org_journal.specs.Standing.{Image};
 ghost use Rattle.org_store.specs.declared.command.Command.{Command};
 ghost use Rattle.org_store.specs.declared.command.Reply.{Reply};
 ghost use Rattle.org_store.specs.declared.command.RunFault.{RunFault};
+ghost use Rattle.org_store.specs.OnePlace.{HaveSameNodes, HasNodesOf, HasNodesOfOne, IsSessionOf};
+ghost use Rattle.org_store.specs.Runs.{IsBetween, IsLeftOf};
 ghost use Rattle.org_store.specs.Session.{Session};
 ghost use Rattle.org_store.specs.Step.{Step};
+ghost use Rattle.org_serve.specs.OnePlace.{OnlyRefiles};
+ghost use Rattle.org_serve.specs.Stops.{Reaches};
 ghost use Rattle.org_serve.specs.Grammar.{escaped, unescaped, path_of, path_field};
 ghost use Rattle.org_serve.specs.Lines.{cut, joined, HasNoNewline};
 ghost use Rattle.org_serve.specs.Replies.{answer_text, safe_line, told_safe};
@@ -39,4 +44,20 @@ pub fn safe_tells_acknowledged()
         (answer : Result Reply RunFault) (a : ℕ) → Step old command answer new
         → told_safe answer old.acknowledged new.acknowledged ≡ Some a
         → (new.acknowledged ≡ a) × IsFalse new.broken }
+{}
+
+/// Each node in one place, in what a stop leaves while lines are served (`any_moment` of `serve`, and of `serve_disk` behind
+/// the opening): each node is there as often, over all files of the store, as after the commands that were acknowledged
+/// when serving began, or after some of the lines, from the first on. Where no line that is run is a command but a refile,
+/// a show or a settling, that is as often as when serving began.
+pub fn one_place()
+    ensures any_moment { (given : List (List ℕ)) (old new : Session) (others image : Image)
+        (lines : List (List ℕ)) (out : List ℕ) → IsSessionOf given old
+        → IsLeftOf old others (λ mid. Reaches old lines out mid × IsBetween old new mid) image
+        → HasNodesOfOne old (λ mid. Reaches old lines out mid × IsBetween old new mid) image }
+    ensures refiles { (given : List (List ℕ)) (old new : Session) (others image : Image)
+        (lines : List (List ℕ)) (out : List ℕ) → IsSessionOf given old → All OnlyRefiles lines
+        → HaveSameNodes old.settled old.files
+        → IsLeftOf old others (λ mid. Reaches old lines out mid × IsBetween old new mid) image
+        → HasNodesOf old.names old.files image }
 {}

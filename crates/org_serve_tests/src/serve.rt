@@ -6,7 +6,9 @@ ghost use Rattle.org_serve.specs.Group.{IsGroup};
 mod failures;
 mod groups;
 mod journals;
+mod large_moves;
 mod lines;
+mod moves;
 mod pipes;
 mod stops;
 

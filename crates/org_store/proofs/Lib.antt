@@ -17,3 +17,4 @@ pub mod Sortings
 pub mod Runs
 pub mod Reopening
 pub mod NodeCounts
+pub mod OnePlace

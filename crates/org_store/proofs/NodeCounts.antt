@@ -23,7 +23,7 @@ use Rattle.org_store.specs.Session.{Session}
 
 -- ---- one text is new
 
-not_again : (one : List ℕ) (names : List (List ℕ)) → AllByRecursion (λ other. bytes_eq one other ≡ false) names → is_name names one ≡ false
+pub not_again : (one : List ℕ) (names : List (List ℕ)) → AllByRecursion (λ other. bytes_eq one other ≡ false) names → is_name names one ≡ false
 not_again one [] apart = refl
 not_again one (other ∷ names) apart = elim (name_cases other one) [
   | inl is ↦

@@ -42,7 +42,7 @@ agreeing : (stood : Option Image) (now texts : Image) → IsSomeAnd stood (SameF
 agreeing (Some found) now texts made is = λ name not. made name not ∙ is name not
 agreeing None now texts made is = absurd made
 
-apart_names : (given names : List (List ℕ)) → All IsOrgFile given → AreSorted (with_archives given) names → AllByRecursion (λ name. name ≢ journal_name) names
+pub apart_names : (given names : List (List ℕ)) → All IsOrgFile given → AreSorted (with_archives given) names → AllByRecursion (λ name. name ≢ journal_name) names
 apart_names given names all sorted =
     recursion_from_All (λ name. name ≢ journal_name) names
     (all_sorted (λ name. name ≢ journal_name) (with_archives given) names sorted
@@ -214,7 +214,7 @@ left_opens given s others image command answer accepted few sorted before are le
     held_opens given s others image held.0 few sorted held.1 held.2
 
 -- the texts after commands that were run one after another
-abbrev StaysSmall : Session → Session → Type 0
+abbrev pub StaysSmall : Session → Session → Type 0
 StaysSmall old new = (new.names ≡ old.names) × AreSmall old.names new.files
 
 stays_same : (old new : Session) → AreSmall old.names old.files → new ≡ old → StaysSmall old new
@@ -228,7 +228,7 @@ done_small old new files are is = subst (StaysSmall old) (sym is) (go (fills old
     go true = (refl, are)
     go false = (refl, are)
 
-goes_small : (old new : Session) (command : Command) (answer : Result Reply RunFault) → AreSmall old.names old.files → GoesOn old (outcome old command) answer new → StaysSmall old new
+pub goes_small : (old new : Session) (command : Command) (answer : Result Reply RunFault) → AreSmall old.names old.files → GoesOn old (outcome old command) answer new → StaysSmall old new
 goes_small old new command (Ok (Done n)) are on = done_small old new on.1.0 (accepted_small old command on.1.0 are on.1.1) on.1.3
 goes_small old new command (Ok (Text text)) are on = stays_same old new are on.2
 goes_small old new command (Ok (Safe n)) are on = let is : new ≡ settled old = on.3 in subst (StaysSmall old) (sym is) (refl, are)
@@ -237,7 +237,7 @@ goes_small old new command (Err run.OutOfMemory) are on = stays_same old new are
 goes_small old new command (Err run.Device) are on = done_small old new on.0 (accepted_small old command on.0 are on.1) on.3
 goes_small old new command (Err run.Broken) are on = stays_same old new are on.1
 
-reached_small : (old mid : Session) (commands : List Command) (answers : List (Result Reply RunFault)) → AreSmall old.names old.files → Reaches old commands answers mid → StaysSmall old mid
+pub reached_small : (old mid : Session) (commands : List Command) (answers : List (Result Reply RunFault)) → AreSmall old.names old.files → Reaches old commands answers mid → StaysSmall old mid
 reached_small old mid [] answers are is = stays_same old mid are is
 reached_small old mid (command ∷ commands) [] are is = stays_same old mid are is
 reached_small old mid (command ∷ commands) (answer ∷ answers) are reaches = ⊎_elim

@@ -12,4 +12,5 @@ pub mod Runs
 pub mod Keeping
 pub mod Opening
 pub mod Reopening
+pub mod OnePlace
 pub mod Group

@@ -19,6 +19,7 @@ ghost use Rattle.org_store.specs.declared.command.Reply.{Reply};
 ghost use Rattle.org_store.specs.declared.command.Reply.TheVariants.{Done};
 ghost use Rattle.org_store.specs.declared.command.RunFault.{RunFault};
 ghost use Rattle.org_store.specs.Left.{IsLeft};
+ghost use Rattle.org_store.specs.OnePlace.{HaveSameNodes, HasNodesOf, HasNodesOfOne, IsSessionOf, OnlyRefiles};
 ghost use Rattle.org_store.specs.Outcome.{Accepts, outcome};
 ghost use Rattle.org_store.specs.Reopening.{AreSameNames, AreSmall, IsOpenable};
 ghost use Rattle.org_store.specs.Runs.{RunsAllOver, IsOnDisk, Reaches, IsBetween, IsLeftOf};
@@ -74,6 +75,34 @@ pub fn stops_leave_a_prefix<D: Disk>()
     ensures broken { (old new : Kept D) (commands : List Command)
         (answers : List (Result Reply RunFault)) → IsTrue old.session.broken
         → RunsAllOver D.files D.moment D.left_since old commands answers new → new ≡ old }
+{}
+
+/// Each node in one place. Where a run of commands began as for `stops_leave_a_prefix`, each node is in what a stop leaves
+/// as often, over all files of the store, as after the commands that were acknowledged then, or after some of the commands
+/// of the run, from the first on. Where no command but refiles is accepted, that is as often as when the run began: a stop
+/// within a refile loses no node of the subtree and doubles none, in the old place or the new.
+pub fn one_place<D: Disk>()
+    ensures any_moment { (given : List (List ℕ)) (old new : Kept D) (commands : List Command)
+        (answers : List (Result Reply RunFault)) → D.honest old.disk → IsAtRest (D.files old.disk)
+        → IsOnDisk old.session (contents (D.files old.disk)) → IsFalse old.session.broken
+        → IsSessionOf given old.session
+        → RunsAllOver D.files D.moment D.left_since old commands answers new
+        → LeavesOver D.moment D.left_since old.disk new.disk (HasNodesOfOne old.session
+        (λ mid. Reaches old.session commands answers mid × IsBetween old.session new.session mid)) }
+    ensures refiles { (given : List (List ℕ)) (old new : Kept D) (commands : List Command)
+        (answers : List (Result Reply RunFault)) → D.honest old.disk → IsAtRest (D.files old.disk)
+        → IsOnDisk old.session (contents (D.files old.disk)) → IsFalse old.session.broken
+        → IsSessionOf given old.session
+        → RunsAllOver D.files D.moment D.left_since old commands answers new
+        → OnlyRefiles commands answers → HaveSameNodes old.session.settled old.session.files
+        → LeavesOver D.moment D.left_since old.disk new.disk
+        (HasNodesOf old.session.names old.session.files) }
+    // after such a run, so it is of the next one
+    ensures kept { (given : List (List ℕ)) (old new : Session) (commands : List Command)
+        (answers : List (Result Reply RunFault)) → IsSessionOf given old
+        → Run old commands answers new → IsFalse new.broken → OnlyRefiles commands answers
+        → HaveSameNodes new.files old.files
+        × (HaveSameNodes old.settled old.files → HaveSameNodes new.settled new.files) }
 {}
 
 /// There is one way to put names in order, each once. So the given names are few or too many, and never both.
