@@ -2,5 +2,8 @@ pub mod Steps
 pub mod Words
 pub mod Fronts
 pub mod Turning
+pub mod Searches
+pub mod Switching
+pub mod Both
 pub mod One
 pub mod Rows

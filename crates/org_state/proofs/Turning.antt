@@ -26,7 +26,7 @@ use Rattle.org_meta.proofs.Puts.{joined_split}
 use Rattle.org_meta.proofs.AllLines.{AllByRecursion-take}
 use Rattle.org_meta.proofs.Resplit.{split_planning, split_front}
 use Rattle.org_state.specs.declared.fault.StateFault.{StateFault}
-use Rattle.org_state.specs.declared.fault.StateFault.TheVariants.{NotFound, NotUnique, UnknownState, OddPlanning, BadRepeat, DateRange, OutOfMemory}
+use Rattle.org_state.specs.declared.fault.StateFault.TheVariants.{NotFound, NotUnique, UnknownState, OddPlanning, BadRepeat, DateRange, ClockBackwards, OutOfMemory}
 use Rattle.org_state.specs.Keyword.{is_state, keyword_in, with_keyword}
 use Rattle.org_state.specs.Edits.{section_start, moved, EditsRest}
 use Rattle.org_state.specs.Todo.{Own, own_at, with_own_at, with_lines, changed, first_active, if_repeating, repeating, repeated_parts, TurnsDone, Turns, IsChanged, is_done, IsTodo, IsTodoAt, heading_asked, heading_to_change, fault_of_planning}
@@ -272,4 +272,5 @@ todo_answers states path state now t i result found known other answers = by_res
     by_result (Err OddPlanning) a = todo_is (Err OddPlanning) a
     by_result (Err BadRepeat) a = todo_is (Err BadRepeat) a
     by_result (Err DateRange) a = todo_is (Err DateRange) a
+    by_result (Err ClockBackwards) a = todo_is (Err ClockBackwards) a
     by_result (Err OutOfMemory) a = (i, asked)

@@ -1,5 +1,7 @@
 -- Edits of a heading's own lines, as edits of the text.
 use Rattle.std.specs.Prelude.{◌≡◌, ℕ, ◌+◌, ◌≤◌, List, length}
+use Rattle.org_splice.specs.Lines.{print_lines}
+use Rattle.org_meta.specs.Edits.{Gives}
 use Rattle.org_splice.specs.declared.edit.Edit.{Edit}
 use Rattle.org_splice.specs.Edits.{applied}
 use Rattle.org_outline.specs.Text.{heading_line}
@@ -27,3 +29,9 @@ pub record EditsRest (e : Edit) (d : Document) (i : ℕ) (new : List ℕ) : Type
   pub own : Edit
   pub is : e ≡ moved (rest_start d i) own
   pub gives : GivesRest own (node_at d i).node.rest new
+
+-- the edit of the text makes of heading i's section these lines
+pub record EditsSection (e : Edit) (d : Document) (i : ℕ) (new : List (List ℕ)) : Type 0 where
+  pub own : Edit
+  pub is : e ≡ moved (section_start d i) own
+  pub gives : Gives own (print_lines (node_at d i).node.section) new

@@ -2,3 +2,4 @@ pub mod Keyword
 pub mod Todo
 pub mod Edits
 pub mod Answers
+pub mod Clock

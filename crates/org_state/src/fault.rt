@@ -1,10 +1,10 @@
-//! Why a state can't be changed.
-use org_meta::PlanningFault;
+//! Why a state can't be changed, or a clock.
+use org_meta::{ClockFault, PlanningFault};
 use org_outline::PathFault;
 use std::alloc::{AllocError, AllocFailed};
 use thiserror::Error;
 
-/// Why a state can't be changed.
+/// Why a state can't be changed, or a clock.
 #[derive(Clone, Copy, Debug, PartialEq, Eq, Error)]
 pub enum StateFault {
     /// The path is empty, or leads to no heading.
@@ -25,6 +25,9 @@ pub enum StateFault {
     /// The year of a repeated timestamp is past 9999.
     #[error("the repeated date is past the year 9999")]
     DateRange,
+    /// The moment is before the clock's start.
+    #[error("the clock would run backwards")]
+    ClockBackwards,
     /// There was no memory for the edits.
     #[error("out of memory")]
     OutOfMemory,
@@ -56,6 +59,20 @@ impl From<PlanningFault> for StateFault {
             PlanningFault::BadRepeat => StateFault::BadRepeat,
             PlanningFault::DateRange => StateFault::DateRange,
             PlanningFault::OutOfMemory => StateFault::OutOfMemory,
+        }
+    }
+}
+
+impl From<ClockFault> for StateFault {
+    ghost use Rattle.std.specs.Prelude.{◌≡◌};
+    ghost use Rattle.org_state.specs.Clock.{fault_of_clock};
+
+    ghost from_gives = { λ fault e. e ≡ fault_of_clock fault };
+
+    fn from(fault: ClockFault) -> Self {
+        match fault {
+            ClockFault::ClockBackwards => StateFault::ClockBackwards,
+            ClockFault::OutOfMemory => StateFault::OutOfMemory,
         }
     }
 }

@@ -18,6 +18,7 @@ pub(crate) fn section_of<'a>(outline: &Outline<'a>, node: Node) -> &'a [u8]
     ensures bytes { result.now ≡ print_lines (node_at (tree outline.now.text) node).node.section }
     ensures lines { lines_of result.now ≡ (node_at (tree outline.now.text) node).node.section }
     ensures closed { closed result.now ≡ result.now }
+    ensures whole { closed outline.now.text ≡ outline.now.text }
 {
     let span = outline.section(node);
     &outline.text()[span.start..span.end]

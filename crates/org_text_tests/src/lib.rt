@@ -8,6 +8,8 @@ mod capture_rows;
 #[cfg(test)]
 mod captures;
 #[cfg(test)]
+mod clocks;
+#[cfg(test)]
 mod held_texts;
 #[cfg(test)]
 mod outline;

@@ -1,0 +1,209 @@
+//! Clocks of a text: which one runs, clocking in and out, and the time clocked.
+ghost use Rattle.std.specs.Prelude.{◌≡◌, ◌≢◌, ◌<◌, ◌≤◌, ◌∷◌, [], length, Some, Ok, IfOk};
+ghost use Rattle.org_splice.specs.Lines.{closed, print_lines};
+ghost use Rattle.org_outline.specs.Paths.{find_path, titles_of};
+ghost use Rattle.org_outline.specs.Tree.{node_at, node_count, tree};
+ghost use Rattle.org_state.specs.Clock.{span_from, running_in, opened_section, clocked_minutes, clocked_at};
+ghost use Rattle.org_state.specs.Clock.{AnswersOpening, AnswersClosing, ClosesSection, AnswersSwitch};
+ghost use Rattle.org_state.specs.Edits.{section_start, EditsSection};
+
+use crate::fault::StateFault;
+use crate::own::{in_section, section_of};
+use crate::run::Running;
+use org_meta::{close_clock, find_open, open_clock, total};
+use org_outline::{Node, Outline, PathFault};
+use org_splice::{Edit, Span};
+use org_stamp::Moment;
+use std::alloc::{AllocError, Global};
+
+/// A part of the heading's section, as a part of the text.
+fn span_in_section(outline: &Outline<'_>, node: Node, span: Span) -> Span
+    requires node { node < node_count (tree outline.now.text) }
+    requires ordered { span.start ≤ span.end }
+    requires within { span.end
+        ≤ length (print_lines (node_at (tree outline.now.text) node).node.section) }
+    ensures { result ≡ span_from (section_start (tree outline.now.text) node) span }
+{
+    let section = outline.section(node);
+    Span {
+        start: section.start + span.start,
+        end: section.start + span.end,
+    }
+}
+
+/// The clock that runs in the text: the first open clock line in the section of a heading (Org
+/// Syntax, "Clocks"). Takes no memory.
+pub fn running(outline: &Outline<'_>) -> Option<Running>
+    ensures { result ≡ running_in (tree outline.now.text) }
+{
+    for index in 0..outline.count() {
+        let heading = outline.node(index);
+        if let Some(line) = find_open(section_of(outline, heading)) {
+            return Some(Running {
+                heading,
+                line: span_in_section(outline, heading, line),
+            });
+        }
+    }
+    None
+}
+
+/// The edit that opens a clock at a heading.
+fn opening(
+    alloc: Global,
+    outline: &Outline<'_>,
+    node: Node,
+    now: Moment,
+) -> Result<Edit, AllocError>
+    requires { node < node_count (tree outline.now.text) }
+    ensures edits { let d = tree outline.now.text in
+        IfOk result (λ edit. EditsSection edit d node (opened_section now d node)) }
+    ensures closed { closed outline.now.text ≡ outline.now.text }
+{
+    let edit = open_clock(alloc, section_of(outline, node), now)?;
+    Ok(in_section(outline, node, edit))
+}
+
+/// The edit that clocks in at the heading at `path` (Org manual, "Clocking commands"): an open
+/// clock line with the moment first in its LOGBOOK drawer, or in a new one before the rest of its
+/// section. A clock that runs elsewhere, or there already, isn't closed by it.
+///
+/// # Errors
+/// `NotFound` or `NotUnique` of `path`, and `OutOfMemory`.
+pub fn clock_in(
+    alloc: Global,
+    outline: &Outline<'_>,
+    path: &[Vec<u8>],
+    now: Moment,
+) -> Result<Edit, StateFault>
+    ensures { AnswersOpening outline.now.states (titles_of path.now) now outline.now.text result }
+{
+    let node = outline.find(path)?;
+    Ok(opening(alloc, outline, node, now)?)
+}
+
+/// The edit that closes the clock that runs in the text.
+fn closing(alloc: Global, text: &[u8], running: Running, now: Moment) -> Result<Edit, StateFault>
+    requires closed { closed text.now ≡ text.now }
+    requires runs { running_in (tree text.now) ≡ Some running }
+    ensures { ClosesSection now (tree text.now) running.heading result }
+{
+    let line = &text[running.line.start..running.line.end];
+    let whole = Span {
+        start: 0,
+        end: line.len(),
+    };
+    let edit = close_clock(alloc, line, whole, now)?;
+    Ok(Edit {
+        at: running.line.start + edit.at,
+        removed: edit.removed,
+        bytes: edit.bytes,
+    })
+}
+
+/// The edit that clocks out of the clock that runs in the text, as `running` answers it (Org
+/// manual, "Clocking commands"): `--`, the moment and the time clocked take the place of what
+/// follows the timestamp in its line.
+///
+/// # Errors
+/// `ClockBackwards` where the moment is before the clock's start, and `OutOfMemory`.
+pub fn clock_out(
+    alloc: Global,
+    text: &[u8],
+    running: Running,
+    now: Moment,
+) -> Result<Edit, StateFault>
+    requires closed { closed text.now ≡ text.now }
+    requires runs { running_in (tree text.now) ≡ Some running }
+    ensures { AnswersClosing now text.now running.heading result }
+{
+    closing(alloc, text, running, now)
+}
+
+/// Two edits in their order.
+fn in_order(alloc: Global, first: Edit, second: Edit) -> Result<Vec<Edit>, AllocError>
+    ensures { IfOk result (λ edits. edits.items ≡ first ∷ second ∷ []) }
+{
+    let mut edits = Vec::new(alloc);
+    edits.push(first)?;
+    edits.push(second)?;
+    Ok(edits)
+}
+
+/// The edits that close the clock that runs in the text, and open one at another heading.
+fn switch(
+    alloc: Global,
+    outline: &Outline<'_>,
+    node: Node,
+    running: Running,
+    now: Moment,
+) -> Result<Vec<Edit>, StateFault>
+    requires node { node < node_count (tree outline.now.text) }
+    requires runs { running_in (tree outline.now.text) ≡ Some running }
+    requires other { node ≢ running.heading }
+    ensures { AnswersSwitch now outline.now.text running.heading (Ok node) result }
+{
+    let stop = closing(alloc, outline.text(), running, now)?;
+    let start = opening(alloc, outline, node, now)?;
+    // The later first, so that each stands where it does in the text as it was.
+    if running.heading.number() < node.number() {
+        return Ok(in_order(alloc, start, stop)?);
+    }
+    Ok(in_order(alloc, stop, start)?)
+}
+
+/// The edits, to be made in this order, that clock in at the heading at `path` of a text in which a
+/// clock runs, as `running` answers it (Org manual, "Clocking commands"): that clock is closed at
+/// the same moment. No edits where it runs at that heading, and then nothing changes, whatever the
+/// moment.
+///
+/// # Errors
+/// In this order: `NotFound` or `NotUnique` of `path`; `ClockBackwards` where the moment is before
+/// the start of the clock that is to be closed; and `OutOfMemory`.
+pub fn switch_clock(
+    alloc: Global,
+    outline: &Outline<'_>,
+    path: &[Vec<u8>],
+    running: Running,
+    now: Moment,
+) -> Result<Vec<Edit>, StateFault>
+    requires { running_in (tree outline.now.text) ≡ Some running }
+    ensures { let d = tree outline.now.text in
+        AnswersSwitch now outline.now.text running.heading
+        (find_path outline.now.states d (titles_of path.now)) result }
+{
+    let node = outline.find(path)?;
+    if node.number() == running.heading.number() {
+        return Ok(Vec::new(alloc));
+    }
+    switch(alloc, outline, node, running, now)
+}
+
+/// The minutes clocked at a heading and below it, at most 2^64 - 1.
+fn clocked_below(outline: &Outline<'_>, node: Node) -> u64
+    requires { node < node_count (tree outline.now.text) }
+    ensures { result ≡ clocked_minutes (tree outline.now.text) node }
+{
+    let first = node.number();
+    let count = outline.count();
+    prove!(first < count);
+    let mut minutes: u64 = 0;
+    for index in first..first + outline.size(node) {
+        minutes = minutes.saturating_add(total(section_of(outline, outline.node(index))));
+    }
+    minutes
+}
+
+/// The minutes of all closed clock lines of the heading at `path` and of the headings below it, at
+/// most 2^64 - 1 (Org manual, "The clock table"): from their first timestamps to their second ones;
+/// the written durations aren't read. Takes no memory.
+///
+/// # Errors
+/// `NotFound` or `NotUnique` of `path`.
+pub fn clocked(outline: &Outline<'_>, path: &[Vec<u8>]) -> Result<u64, PathFault>
+    ensures { result
+        ≡ clocked_at outline.now.states (titles_of path.now) (tree outline.now.text) }
+{
+    let node = outline.find(path)?;
+    Ok(clocked_below(outline, node))
+}
