@@ -18,7 +18,7 @@ use Rattle.org_move.proofs.Found.{some_holds}
 use Rattle.org_move.proofs.Moving.{Within, Across, within_of, across_of, number_in}
 
 -- a node of a valid document is one
-valid_node : (d : Document) (i : ℕ) → IsValid d → i < node_count d → IsNode (node_at d i).node
+pub valid_node : (d : Document) (i : ℕ) → IsValid d → i < node_count d → IsNode (node_at d i).node
 valid_node d i valid lt =
     let P : Document → Type 0 = λ d. i < node_count d → IsNode (node_at d i).node in
     subst P (tree-print d valid) (node-valid (print d) i) lt

@@ -12,3 +12,12 @@ pub mod Utf8
 pub mod Places
 pub mod Joins
 pub mod Puts
+pub mod Values
+pub mod Targets
+pub mod Given
+pub mod Each
+pub mod Subtrees
+pub mod Archived
+pub mod Putting
+pub mod Apart
+pub mod Across

@@ -59,7 +59,7 @@ shifted_is t u out i level start end same lt is made =
 
 -- ---- within a text
 
-inside_is : (d : Document) (top i : ℕ) (b : Bool) → (IsTrue b ↔ LiesIn d top i) → is_inside d top i ≡ b
+pub inside_is : (d : Document) (top i : ℕ) (b : Bool) → (IsTrue b ↔ LiesIn d top i) → is_inside d top i ≡ b
 inside_is d top i true lies =
     let inside = lies.0 refl in
     let low : top ≤ i = inside.low in

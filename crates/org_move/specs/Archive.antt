@@ -41,6 +41,11 @@ abbrev pub unless_none : {X : Type 0} → List X → NodeProperty → List NodeP
 unless_none [] p = []
 unless_none (x ∷ xs) p = p ∷ []
 
+-- texts with a byte between each two; nothing where there are none
+abbrev pub joined_if_any : ℕ → List (List ℕ) → Option (List ℕ)
+joined_if_any b [] = None
+joined_if_any b (text ∷ texts) = Some (join_with_byte b (text ∷ texts))
+
 -- the properties, in their order, of the heading i in the file of this name
 abbrev pub archive_properties : Keywords → List ℕ → CivilMinute → Document → ℕ → List NodeProperty
 archive_properties states name now d i =

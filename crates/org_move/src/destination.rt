@@ -24,7 +24,7 @@ impl Model for Location {
 }
 
 impl Location {
-    ghost use Rattle.std.specs.Prelude.{◌≡◌};
+    ghost use Rattle.std.specs.Prelude.{◌≡◌, ◌+◌, ◌<◌, ◌^◌};
 
     /// The file.
     pub fn file(&self) -> &FileName
@@ -35,7 +35,8 @@ impl Location {
 
     /// The level of the heading; 0 is the top level of the file.
     pub fn level(&self) -> usize
-        ensures { result ≡ self.now.level }
+        ensures value { result ≡ self.now.level }
+        ensures room { result + 1 < 2 ^ 63 }
     {
         self.level
     }

@@ -4,13 +4,17 @@
 //! A call only says what is to be done: it answers the edits of the texts, and changes nothing.
 #![tactic(auto)]
 
+mod archiving;
 mod destination;
 mod fault;
 mod inherited;
 pub mod laws;
 mod locating;
+mod place;
 mod properties;
 mod refile;
+mod subtree;
+mod target;
 
 pub use destination::Location;
 pub use fault::MoveFault;

@@ -15,7 +15,7 @@ use org_splice::{Bytes, Edit};
 use std::alloc::{AllocError, Global};
 
 /// The edit that takes a subtree out of its text. Takes no memory.
-fn without(alloc: Global, outline: &Outline<'_>, node: Node) -> Edit
+pub(crate) fn without(alloc: Global, outline: &Outline<'_>, node: Node) -> Edit
     requires { node < node_count (tree outline.now.text) }
     ensures { result ≡ removal node (tree outline.now.text) }
 {

@@ -1,0 +1,57 @@
+-- What is put last below a heading, or at the end.
+use Rattle.std.proofs.Common.{◌≡◌, ℕ, ◌+◌, ◌-◌, ◌<◌, true, false, Bool, List, [], ◌∷◌, ◌++◌, length, Option, Some, None, refl, sym, ap, subst, ◌∙◌, arith, inl, inr, length-append}
+use Rattle.std.specs.Prelude.{◌==◌}
+use Rattle.std.specs.Option.{option_map}
+use Rattle.std.proofs.lemmas.Bool.{cases_Bool}
+use Rattle.std.proofs.lemmas.List.{append-nil}
+use Rattle.org_outline.specs.declared.moves.Place.TheVariants.{Last}
+use Rattle.org_outline.specs.Tree.{Document, IsValid, Node, node_at, node_count, print, print_node, tree}
+use Rattle.org_outline.specs.Moves.{InsertsAt, append_heading, insert, shift_node, take}
+use Rattle.org_outline.proofs.Changes.{take_local, take_valid}
+use Rattle.org_outline.specs.Numbers.{heading_over}
+use Rattle.org_splice.specs.Lines.{closed}
+use Rattle.org_outline.proofs.Trees.{tree-is}
+use Rattle.org_outline.proofs.Making.{made_end}
+use Rattle.org_move.proofs.Made.{prints}
+use Rattle.org_outline.proofs.Placing.{insert_local}
+use Rattle.org_move.specs.Archive.{filled, put_last}
+use Rattle.org_move.specs.Location.{Destination}
+
+-- with no heading there, it goes to the end
+pub at_the_end : (to : Destination) (node : Node) (d : Document) → IsValid d → InsertsAt (print d) (put_last to None node d) (length (print d)) (filled to None node)
+at_the_end to node d valid =
+    elim (cases_Bool (to.level == 0)) [
+      | inl e ↦ rw e (insert_local None Last node d (λ i none. absurd cc) valid)
+      | inr e ↦ rw e (record {
+        front = print d;
+        back = [];
+        at = refl;
+        was = sym (append-nil (print d));
+        is =
+            made_end Last to.level (32 ∷ to.title) node d
+            ∙ ap (λ (added : List ℕ). print d ++ added) (sym (append-nil (print_node (heading_over to.level (32 ∷ to.title) (shift_node (to.level + 1) node)))));
+      })
+    ]
+
+-- the level of the heading, if it is there
+abbrev pub level_at : Option ℕ → Document → Option ℕ
+level_at up d = option_map (λ i. (node_at d i).node.level) up
+
+-- once a subtree is taken out, as the code counts
+pub at_the_new_end : (to : Destination) (node : Node) (d : Document) (i size left : ℕ) → IsValid d → i < node_count d → size ≡ length (print d) → left ≡ size - length (print_node (node_at d i).node)
+    → InsertsAt (print (take i d)) (put_last to None node (take i d)) left (filled to None node)
+at_the_new_end to node d i size left valid lt size_is left_is =
+    let gone = take_local i d lt in
+    let whole : length (print d) ≡ length gone.front + (length (print_node (node_at d i).node) + length gone.back) =
+    ap length gone.is ∙ length-append gone.front (print_node (node_at d i).node ++ gone.back) ∙ ap (λ n. length gone.front + n) (length-append (print_node (node_at d i).node) gone.back) in
+    let rest : length (print (take i d)) ≡ length gone.front + length gone.back = ap length gone.was ∙ length-append gone.front gone.back in
+    let same : left ≡ length (print (take i d)) = omega (arith, size_is, left_is, whole, rest) in
+    subst (λ k. InsertsAt (print (take i d)) (put_last to None node (take i d)) k (filled to None node)) (sym same) (at_the_end to node (take i d) (take_valid i d valid))
+
+pub end_of_text : (to : Destination) (node : Node) (t u : List ℕ) (up : Option ℕ) → up ≡ None → u ≡ t → closed t ≡ t
+    → InsertsAt t (put_last to up node (tree t)) (length u) (filled to (level_at up (tree t)) node)
+end_of_text to node t u up none same shut =
+    let P : Option ℕ → Type 0 = λ up. InsertsAt t (put_last to up node (tree t)) (length u) (filled to (level_at up (tree t)) node) in
+    let Q : List ℕ → Type 0 = λ p. InsertsAt p (put_last to None node (tree t)) (length p) (filled to None node) in
+    let at : InsertsAt t (put_last to None node (tree t)) (length t) (filled to None node) = subst Q (prints t shut) (at_the_end to node (tree t) (tree-is t).valid) in
+    subst P (sym none) (subst (λ k. InsertsAt t (put_last to None node (tree t)) k (filled to None node)) (sym (ap length same)) at)

@@ -1,0 +1,330 @@
+-- The values of an archived entry's properties hold no newline, and its section is one still.
+use Rattle.std.proofs.Common.{◌≡◌, ℕ, zero, suc, ◌+◌, ◌-◌, ◌/◌, ◌<◌, Bool, true, false, eqb, not, ◌&&◌, List, [], ◌∷◌, ◌++◌, length, take, drop, map, get_or, refl, sym, ap, subst, ◌∙◌, arith, inl, inr, Option, None, Some}
+use Rattle.std.specs.Prelude.{◌≢◌, codes, if◌then◌else◌, IsTrue, ◌==◌, filter, is_some}
+use Rattle.std.specs.List.{AllByRecursion, flat_map, join_with_byte, list_all, list_any, onto_first, slice_split}
+use Rattle.std.specs.Option.{IfSome, option_and_then, option_or, unwrap_or}
+use Rattle.std.specs.Str.{bytes_eq}
+use Rattle.std.specs.Str.{str_eq_ignore_ascii_case}
+use Rattle.std.proofs.lemmas.Bool.{cases_Bool, false≢true}
+use Rattle.std.proofs.lemmas.List.{take-append-drop}
+use Rattle.std.proofs.lemmas.Slice.Eq.{bytes_eq-Decides}
+use Rattle.org_disk.specs.Names.{IsDiskName, archive_suffix, base_name, is_archive_name, is_file_name, is_name_byte, is_org_name, journal_name}
+use Rattle.org_splice.specs.Blanks.{is_blank, is_solid, is_trailing, behind, end_of, front, trimmed}
+use Rattle.org_splice.specs.Lines.{IsLine}
+use Rattle.org_splice.proofs.Ends.{both}
+use Rattle.org_stamp.specs.Calendar.{CivilMinute, weekday_of}
+use Rattle.org_stamp.specs.Stamp.{clock_text, date_text, day_name, two_digits}
+use Rattle.org_outline.specs.States.{Keywords}
+use Rattle.org_outline.specs.Tree.{Document, IsPlain, IsValid, Placed, no_node, node_at, nodes}
+use Rattle.org_outline.specs.Moves.{IsNode}
+use Rattle.org_outline.specs.Numbers.{ancestors_of}
+use Rattle.org_outline.specs.Parts.{after_keyword, after_priority, are_tags, content_of, keyword_of, parts_of, priority_of, tags_of}
+use Rattle.org_outline.specs.Paths.{title_of}
+use Rattle.org_outline.proofs.Sections.{nodes-valid}
+use Rattle.org_meta.specs.Sections.{NodeProperty, SectionParts, drawer_size, is_end, is_name_run, is_property_name, joined, planning_size, property, property_line, property_of, put, split, value_before_end, value_if_named, value_named}
+use Rattle.org_meta.proofs.AllLines.{AllByRecursion-append, AllByRecursion-take, AllByRecursion-drop}
+use Rattle.org_meta.proofs.Keeping.{keeps_put}
+use Rattle.org_meta.proofs.Reading.{line_said}
+use Rattle.org_meta.proofs.Resplit.{split_put}
+use Rattle.org_move.specs.Archive.{archive_properties, archived_section, category_of, named, put_each, time_text, unless_none, without_org}
+use Rattle.org_move.specs.Inherited.{first_ones, inherited_tags, is_colon, last_value, nearest, nonempty, nonempty_only, own_value, tag_list, tags_above, titles_above}
+use Rattle.org_move.proofs.Own.{plain_lines}
+use Rattle.org_move.proofs.Puts.{tested_line}
+
+-- ---- parts of lines
+
+-- a line without a newline, by name
+record Flat (l : List ℕ) : Type 0 where
+  flat : IsLine l
+
+-- the test computes
+abbrev NoNewline : List ℕ → Type 0
+NoNewline l = list_all (λ b. not (eqb b 10)) l ≡ true
+
+tested : (l : List ℕ) → NoNewline l → Flat l
+tested l e = record { flat = tested_line l e }
+
+empty_line : Flat []
+empty_line = record { flat = tt }
+
+abbrev Not10 : ℕ → Type 0
+Not10 b = b ≢ 10
+
+both_lines : (a b : List ℕ) → Flat a → Flat b → Flat (a ++ b)
+both_lines a b p q = record { flat = AllByRecursion-append Not10 a b p.flat q.flat }
+
+first_line : (n : ℕ) (l : List ℕ) → Flat l → Flat (take n l)
+first_line n l p = record { flat = AllByRecursion-take Not10 n l p.flat }
+
+last_line : (n : ℕ) (l : List ℕ) → Flat l → Flat (drop n l)
+last_line n l p = record { flat = AllByRecursion-drop Not10 n l p.flat }
+
+either_line : (b : Bool) (x y : List ℕ) → Flat x → Flat y → Flat (if b then x else y)
+either_line true x y p q = p
+either_line false x y p q = q
+
+trimmed_line : (l : List ℕ) → Flat l → Flat (trimmed l)
+trimmed_line l p = first_line _ (behind is_blank l) (last_line _ l p)
+
+-- ---- the time
+
+two_line : (n : ℕ) → Flat (two_digits n)
+two_line n = record { flat = (λ e. omega (arith, e), (λ e. omega (arith, e), tt)) }
+
+day_line : (w : ℕ) → Flat (day_name w)
+day_line w =
+    either_line (w == 0) (codes "Mon") _ (tested (codes "Mon") refl)
+    (either_line (w == 1) (codes "Tue") _ (tested (codes "Tue") refl)
+    (either_line (w == 2) (codes "Wed") _ (tested (codes "Wed") refl)
+    (either_line (w == 3) (codes "Thu") _ (tested (codes "Thu") refl)
+    (either_line (w == 4) (codes "Fri") _ (tested (codes "Fri") refl)
+    (either_line (w == 5) (codes "Sat") (codes "Sun") (tested (codes "Sat") refl) (tested (codes "Sun") refl))))))
+
+with_first_byte : (b : ℕ) (l : List ℕ) → eqb b 10 ≡ false → Flat l → Flat (b ∷ l)
+with_first_byte b l other p = record { flat = (λ e. let same : eqb b 10 ≡ true = rw e refl in absurd (false≢true (sym other ∙ same)), p.flat) }
+
+time_line : (now : CivilMinute) → Flat (time_text now)
+time_line now =
+    let d = now.day in
+    let date : Flat (date_text d) =
+    both_lines (two_digits (d.year / 100) ++ two_digits d.year) _ (both_lines (two_digits (d.year / 100)) (two_digits d.year) (two_line _) (two_line _))
+    (with_first_byte 45 _ refl (both_lines (two_digits d.month) _ (two_line _) (with_first_byte 45 _ refl (two_line _)))) in
+    let clock : Flat (clock_text now.minute) = both_lines (two_digits (now.minute / 60)) _ (two_line _) (with_first_byte 58 _ refl (two_line _)) in
+    both_lines (date_text d) _ date (with_first_byte 32 _ refl (both_lines (day_name (weekday_of d)) _ (day_line (weekday_of d)) (with_first_byte 32 _ refl clock)))
+
+-- ---- the name
+
+name_bytes : (l : List ℕ) → list_all is_name_byte l ≡ true → Flat l
+name_bytes [] all = empty_line
+name_bytes (b ∷ l) all =
+    let parts = both (is_name_byte b) (list_all is_name_byte l) all in
+    record { flat = (λ e. let none : is_name_byte b ≡ false = rw e refl in absurd (false≢true (sym none ∙ parts.0)), (name_bytes l parts.1).flat) }
+
+org_line : (l : List ℕ) → is_org_name l ≡ true → Flat l
+org_line l good = name_bytes l (both _ (list_all is_name_byte l) good).1
+
+suffixed : (l : List ℕ) → is_archive_name l ≡ true → is_org_name (base_name l) ≡ true → Flat l
+suffixed l archive good =
+    let base : is_org_name (take (length l - length archive_suffix) l) ≡ true = rw archive at good in
+    let tail : archive_suffix ≡ drop (length l - length archive_suffix) l = (bytes_eq-Decides archive_suffix _).0 archive in
+    let last : Flat (drop (length l - length archive_suffix) l) = subst Flat tail (tested archive_suffix refl) in
+    subst Flat (take-append-drop (length l - length archive_suffix) l) (both_lines _ _ (org_line _ base) last)
+
+file_line : (l : List ℕ) → is_file_name l ≡ true → Flat l
+file_line l good =
+    elim (cases_Bool (is_archive_name l)) [
+      | inl archive ↦ suffixed l archive good
+      | inr own ↦ org_line l (let base : is_org_name l ≡ true = rw own at good in base)
+    ]
+
+pub name_line : (l : List ℕ) → IsDiskName l → IsLine l
+name_line l (inl good) = (file_line l good).flat
+name_line l (inr journal) = subst IsLine (sym journal) (tested_line journal_name refl)
+
+-- ---- parts of a heading line
+
+title_line : (states : Keywords) (rest : List ℕ) → Flat rest → Flat (title_of states rest)
+title_line states rest p =
+    let content = content_of rest in
+    let behind_keyword : Flat (after_keyword states content) = last_line _ _ (last_line _ content (trimmed_line rest p)) in
+    let left : Flat (after_priority (after_keyword states content)) = last_line _ (after_keyword states content) behind_keyword in
+    first_line _ _ (last_line _ _ (first_line _ (after_priority (after_keyword states content)) left))
+
+tags_line : (states : Keywords) (rest : List ℕ) → Flat rest → Flat (parts_of states rest).tags
+tags_line states rest p =
+    let content = content_of rest in
+    either_line (are_tags (end_of is_solid content)) (end_of is_solid content) [] (last_line _ content (trimmed_line rest p)) empty_line
+
+keyword_line : (states : Keywords) (rest : List ℕ) → Flat rest → Flat (parts_of states rest).keyword
+keyword_line states rest p =
+    let content = content_of rest in
+    either_line _ (front is_solid content) [] (first_line _ content (trimmed_line rest p)) empty_line
+
+-- ---- the nodes of a document
+
+get_all : {X : Type 0} (P : X → Type 0) (xs : List X) (i : ℕ) (x : X) → AllByRecursion P xs → P x → P (get_or xs i x)
+get_all P [] i x all other = other
+get_all P (y ∷ ys) zero x all other = all.0
+get_all P (y ∷ ys) (suc i) x all other = get_all P ys i x all.1 other
+
+-- the own lines of a node
+abbrev OwnLines : Placed → Type 0
+OwnLines p = Flat p.node.rest × AllByRecursion Flat p.node.section
+
+all_flat : (ls : List (List ℕ)) → AllByRecursion IsLine ls → AllByRecursion Flat ls
+all_flat [] all = tt
+all_flat (l ∷ ls) all = (record { flat = all.0 }, all_flat ls all.1)
+
+nodes_lines : (ps : List Placed) → AllByRecursion (λ (p : Placed). IsNode p.node) ps → AllByRecursion OwnLines ps
+nodes_lines [] all = tt
+nodes_lines (p ∷ ps) all = ((record { flat = all.0.heading.rest }, all_flat p.node.section (plain_lines p.node.section all.0.heading.section)), nodes_lines ps all.1)
+
+own_lines_are : (d : Document) → IsValid d → (i : ℕ) → OwnLines (node_at d i)
+own_lines_are d valid i = get_all OwnLines (nodes d) i no_node (nodes_lines (nodes d) (nodes-valid _ d.forest valid.forest)) (empty_line, tt)
+
+map_all : (P : List ℕ → Type 0) (f : ℕ → List ℕ) (is : List ℕ) → ((i : ℕ) → P (f i)) → AllByRecursion P (map f is)
+map_all P f [] all = tt
+map_all P f (i ∷ is) all = (all i, map_all P f is all)
+
+-- ---- values of properties
+
+property_value : (l : List ℕ) (b : Bool) (p : NodeProperty) → Flat p.value → IfSome (if b then Some p else None) (λ p. Flat p.value)
+property_value l true p is = is
+property_value l false p is = tt
+
+property_line_value : (l : List ℕ) → Flat l → IfSome (property_of l) (λ p. Flat p.value)
+property_line_value l is = property_value l (is_name_run (front is_solid (trimmed l))) _ (last_line _ _ (last_line _ (trimmed l) (trimmed_line l is)))
+
+named_here : (b : Bool) (value : List ℕ) → Flat value → IfSome (if b then Some value else None) Flat
+named_here true value is = is
+named_here false value is = tt
+
+named_value : (name : List ℕ) (o : Option NodeProperty) → IfSome o (λ p. Flat p.value) → IfSome (value_if_named name o) Flat
+named_value name None is = tt
+named_value name (Some p) is = named_here (str_eq_ignore_ascii_case p.name name) p.value is
+
+either_value : (b c : Bool) (x y : Option (List ℕ)) → IfSome x Flat → IfSome y Flat → IfSome (if b then None else (if c then x else y)) Flat
+either_value true c x y p q = tt
+either_value false true x y p q = p
+either_value false false x y p q = q
+
+value_lines : (name : List ℕ) (ls : List (List ℕ)) → AllByRecursion Flat ls → IfSome (value_before_end name ls) Flat
+value_lines name [] all = tt
+value_lines name (l ∷ ls) all =
+    either_value (is_end l) (is_some (value_named name l)) (value_named name l) (value_before_end name ls)
+    (named_value name (property_of l) (property_line_value l all.0)) (value_lines name ls all.1)
+
+nonempty_line : (o : Option (List ℕ)) → IfSome o Flat → IfSome (option_and_then nonempty o) Flat
+nonempty_line None is = tt
+nonempty_line (Some []) is = tt
+nonempty_line (Some (b ∷ bs)) is = is
+
+own_value_line : (name : List ℕ) (d : Document) (i : ℕ) → IsValid d → IfSome (own_value name d i) Flat
+own_value_line name d i valid =
+    let ls : List (List ℕ) = (node_at d i).node.section in
+    let below : List (List ℕ) = drop (planning_size ls) ls in
+    let all : AllByRecursion Flat below = AllByRecursion-drop Flat (planning_size ls) ls (own_lines_are d valid i).1 in
+    nonempty_line (property name (split ls)) (value_lines name (drop 1 (take (drawer_size below) below)) (AllByRecursion-drop Flat 1 (take (drawer_size below) below) (AllByRecursion-take Flat (drawer_size below) below all)))
+
+or_line : (a b : Option (List ℕ)) → IfSome a Flat → IfSome b Flat → IfSome (option_or a b) Flat
+or_line None b p q = q
+or_line (Some a) b p q = p
+
+last_value_line : (name : List ℕ) (d : Document) (is : List ℕ) → IsValid d → IfSome (last_value name d is) Flat
+last_value_line name d [] valid = tt
+last_value_line name d (i ∷ is) valid = or_line (last_value name d is) (own_value name d i) (last_value_line name d is valid) (own_value_line name d i valid)
+
+unwrap_line : (o : Option (List ℕ)) (x : List ℕ) → IfSome o Flat → Flat x → Flat (unwrap_or o x)
+unwrap_line None x p q = q
+unwrap_line (Some y) x p q = p
+
+category_line : (name : List ℕ) (d : Document) (i : ℕ) → Flat name → IsValid d → Flat (category_of name d i)
+category_line name d i line valid =
+    unwrap_line (nearest (codes "CATEGORY") d i) (without_org name) (last_value_line (codes "CATEGORY") d (ancestors_of d i ++ i ∷ []) valid) (either_line _ _ _ (first_line _ name line) line)
+
+-- ---- titles and tags
+
+join_line : (b : ℕ) (xs : List (List ℕ)) → eqb b 10 ≡ false → AllByRecursion Flat xs → Flat (join_with_byte b xs)
+join_line b [] other all = empty_line
+join_line b (x ∷ []) other all = all.0
+join_line b (x ∷ y ∷ xs) other all = both_lines x (b ∷ join_with_byte b (y ∷ xs)) all.0 (with_first_byte b _ other (join_line b (y ∷ xs) other all.1))
+
+onto_lines : (b : ℕ) (xs : List (List ℕ)) → b ≢ 10 → AllByRecursion Flat xs → AllByRecursion Flat (onto_first b xs)
+onto_lines b [] other all = (record { flat = (other, tt) }, tt)
+onto_lines b (x ∷ xs) other all = (record { flat = (other, all.0.flat) }, all.1)
+
+either_lines : (b : Bool) (xs ys : List (List ℕ)) → AllByRecursion Flat xs → AllByRecursion Flat ys → AllByRecursion Flat (if b then xs else ys)
+either_lines true xs ys p q = p
+either_lines false xs ys p q = q
+
+split_line : (l : List ℕ) → Flat l → AllByRecursion Flat (slice_split is_colon l)
+split_line [] p = (empty_line, tt)
+split_line (b ∷ l) p =
+    let more = split_line l (record { flat = p.flat.1 }) in
+    either_lines (is_colon b) ([] ∷ slice_split is_colon l) (onto_first b (slice_split is_colon l)) (empty_line, more) (onto_lines b (slice_split is_colon l) p.flat.0 more)
+
+some_lines : (xs : List (List ℕ)) → AllByRecursion Flat xs → AllByRecursion Flat (nonempty_only xs)
+some_lines [] all = tt
+some_lines (x ∷ xs) all = either_lines (not (length x == 0)) (x ∷ nonempty_only xs) (nonempty_only xs) (all.0, some_lines xs all.1) (some_lines xs all.1)
+
+lists_lines : (xs : List (List ℕ)) → AllByRecursion Flat xs → AllByRecursion Flat (flat_map tag_list xs)
+lists_lines [] all = tt
+lists_lines (x ∷ xs) all = AllByRecursion-append Flat (tag_list x) (flat_map tag_list xs) (some_lines (slice_split is_colon x) (split_line x all.0)) (lists_lines xs all.1)
+
+first_lines : (seen xs : List (List ℕ)) → AllByRecursion Flat xs → AllByRecursion Flat (first_ones seen xs)
+first_lines seen [] all = tt
+first_lines seen (x ∷ xs) all =
+    either_lines (list_any (λ y. bytes_eq y x) seen) (first_ones seen xs) (x ∷ first_ones (seen ++ x ∷ []) xs) (first_lines seen xs all.1) (all.0, first_lines (seen ++ x ∷ []) xs all.1)
+
+titles_lines : (states : Keywords) (d : Document) (i : ℕ) → IsValid d → AllByRecursion Flat (titles_above states d i)
+titles_lines states d i valid = map_all Flat (λ up. title_of states (node_at d up).node.rest) (ancestors_of d i) (λ up. title_line states (node_at d up).node.rest (own_lines_are d valid up).0)
+
+inherited_lines : (states : Keywords) (d : Document) (i : ℕ) → IsValid d → AllByRecursion Flat (inherited_tags states d i)
+inherited_lines states d i valid =
+    first_lines [] (flat_map tag_list (tags_above states d i))
+    (lists_lines (tags_above states d i) (map_all Flat (λ up. (parts_of states (node_at d up).node.rest).tags) (ancestors_of d i) (λ up. tags_line states (node_at d up).node.rest (own_lines_are d valid up).0)))
+
+-- ---- the properties
+
+-- a property that can be put, and whose line is no heading
+abbrev pub IsPut : NodeProperty → Type 0
+IsPut p = (is_property_name p.name ≡ true) × IsPlain (property_line p.name p.value)
+
+either_plain : (b : Bool) (x y : List ℕ) → IsPlain x → IsPlain y → IsPlain (if b then x else y)
+either_plain true x y p q = p
+either_plain false x y p q = q
+
+can_put : (name value : List ℕ) → is_property_name name ≡ true → Flat name → Flat value → IsPut (named name value)
+can_put name value good p q = (
+  good,
+  either_plain (length value == 0) (58 ∷ (name ++ 58 ∷ [])) (58 ∷ (name ++ (58 ∷ 32 ∷ value)))
+      ((with_first_byte 58 _ refl (both_lines name (58 ∷ []) p (with_first_byte 58 [] refl empty_line))).flat, refl)
+      ((with_first_byte 58 _ refl (both_lines name (58 ∷ 32 ∷ value) p (with_first_byte 58 _ refl (with_first_byte 32 value refl q)))).flat, refl),
+)
+
+unless_put : {X : Type 0} (xs : List X) (p : NodeProperty) → IsPut p → AllByRecursion IsPut (unless_none xs p)
+unless_put [] p is = tt
+unless_put (x ∷ xs) p is = (is, tt)
+
+pub all_put : (states : Keywords) (name : List ℕ) (now : CivilMinute) (d : Document) (i : ℕ) → IsLine name → IsValid d → AllByRecursion IsPut (archive_properties states name now d i)
+all_put states name now d i is valid =
+    let line : Flat name = record { flat = is } in
+    let titles = titles_above states d i in
+    let tags = inherited_tags states d i in
+    let keyword = (parts_of states (node_at d i).node.rest).keyword in
+    let rest : Flat (node_at d i).node.rest = (own_lines_are d valid i).0 in (
+      can_put (codes "ARCHIVE_TIME") _ refl (tested (codes "ARCHIVE_TIME") refl) (time_line now),
+      (
+        can_put (codes "ARCHIVE_FILE") name refl (tested (codes "ARCHIVE_FILE") refl) line,
+        AllByRecursion-append IsPut (unless_none titles (named (codes "ARCHIVE_OLPATH") (join_with_byte 47 titles))) _
+            (unless_put titles _ (can_put (codes "ARCHIVE_OLPATH") _ refl (tested (codes "ARCHIVE_OLPATH") refl) (join_line 47 titles refl (titles_lines states d i valid)))) (
+              can_put (codes "ARCHIVE_CATEGORY") _ refl (tested (codes "ARCHIVE_CATEGORY") refl) (category_line name d i line valid),
+              AllByRecursion-append IsPut (unless_none keyword (named (codes "ARCHIVE_TODO") keyword)) _
+                  (unless_put keyword _ (can_put (codes "ARCHIVE_TODO") keyword refl (tested (codes "ARCHIVE_TODO") refl) (keyword_line states (node_at d i).node.rest rest)))
+                  (unless_put tags _ (can_put (codes "ARCHIVE_ITAGS") _ refl (tested (codes "ARCHIVE_ITAGS") refl) (join_line 32 tags refl (inherited_lines states d i valid)))),
+            ),
+      ),
+    )
+
+-- ---- the section
+
+mark_plain : IsPlain (codes ":PROPERTIES:")
+mark_plain = (tested_line (codes ":PROPERTIES:") refl, refl)
+
+end_plain : IsPlain (codes ":END:")
+end_plain = (tested_line (codes ":END:") refl, refl)
+
+put_plain : (p : NodeProperty) (ls : List (List ℕ)) → IsPut p → AllByRecursion IsPlain ls → AllByRecursion IsPlain (joined (put p.name p.value (split ls)))
+put_plain p ls is all = keeps_put IsPlain p.name (property_line p.name p.value) is.1 mark_plain end_plain ls all
+
+put_again : (p : NodeProperty) (ls : List (List ℕ)) → IsPut p → split (joined (put p.name p.value (split ls))) ≡ put p.name p.value (split ls)
+put_again p ls is = let said = line_said p.name p.value is.0 in split_put p.name (property_line p.name p.value) ls said.0 said.1
+
+pub each_plain : (ps : List NodeProperty) (ls : List (List ℕ)) → AllByRecursion IsPut ps → AllByRecursion IsPlain (joined (split ls)) → AllByRecursion IsPlain ls → AllByRecursion IsPlain (joined (put_each ps (split ls)))
+each_plain [] ls good whole all = whole
+each_plain (p ∷ ps) ls good whole all =
+    let new : List (List ℕ) = joined (put p.name p.value (split ls)) in
+    let plain : AllByRecursion IsPlain new = put_plain p ls good.0 all in
+    let again = put_again p ls good.0 in
+    subst (λ parts. AllByRecursion IsPlain (joined (put_each ps parts))) again
+    (each_plain ps new good.1 (subst (λ parts. AllByRecursion IsPlain (joined parts)) (sym again) plain) plain)

@@ -1,0 +1,94 @@
+//! The lines of an archived subtree.
+ghost use Rattle.std.specs.Prelude.{◌≡◌, ◌<◌, ◌+◌, ◌^◌, ◌++◌, ◌∷◌, [], IfOk};
+ghost use Rattle.std.specs.Option.{ForSome};
+ghost use Rattle.org_splice.specs.Lines.{closed, lines_of};
+ghost use Rattle.org_outline.specs.Moves.{IsPrinted};
+ghost use Rattle.org_outline.specs.Text.{heading_line};
+ghost use Rattle.org_outline.specs.Tree.{node_at, node_count, print_node, tree};
+ghost use Rattle.org_move.specs.Archive.{archived, filled};
+
+use crate::destination::Location;
+use crate::properties::archived_section;
+use org_disk::FileName;
+use org_outline::{Node, Outline, shift};
+use org_stamp::Moment;
+use std::alloc::{AllocError, Global};
+
+/// The lines of a subtree with others in the place of its root's section.
+fn with_section(
+    alloc: Global,
+    outline: &Outline<'_>,
+    node: Node,
+    section: &[u8],
+) -> Result<Vec<u8>, AllocError>
+    requires node { node < node_count (tree outline.now.text) }
+    requires closed { closed section.now ≡ section.now }
+    ensures { let own = (node_at (tree outline.now.text) node).node in
+        IfOk result (λ made. made.items
+        ≡ print_node (record own { section = lines_of section.now })) }
+{
+    let subtree = outline.subtree(node);
+    let old = outline.section(node);
+    let text = outline.text();
+    let mut made = Vec::from_slice(alloc, &text[subtree.start..old.start])?;
+    made.extend_from_slice(section)?;
+    made.extend_from_slice(&text[old.end..subtree.end])?;
+    Ok(made)
+}
+
+/// The lines of a subtree whose root has the properties of an archived entry of the file with this name.
+pub(crate) fn archived_subtree(
+    alloc: Global,
+    outline: &Outline<'_>,
+    node: Node,
+    name: &FileName,
+    now: Moment,
+) -> Result<Vec<u8>, AllocError>
+    requires { node < node_count (tree outline.now.text) }
+    ensures printed { IfOk result (λ made. IsPrinted made.items) }
+    ensures root { IfOk result (λ made. (node_at (tree made.items) 0).node
+        ≡ archived outline.now.states name.now now (tree outline.now.text) node) }
+{
+    let file = name.as_str().as_bytes();
+    let section = archived_section(alloc, outline, node, file, now)?;
+    with_section(alloc, outline, node, &section)
+}
+
+/// The line of the heading of a place.
+fn heading_line(alloc: Global, to: &Location) -> Result<Vec<u8>, AllocError>
+    ensures { IfOk result
+        (λ line. line.items ≡ heading_line to.now.level (32 ∷ to.now.title) ++ 10 ∷ []) }
+{
+    let mut line = Vec::new(alloc);
+    for _ in 0..to.level() {
+        line.push(b'*')?;
+    }
+    line.push(b' ')?;
+    line.extend_from_slice(to.title())?;
+    line.push(b'\n')?;
+    Ok(line)
+}
+
+/// What goes in: the subtree, below a heading of a level, or below the heading of the place, which is made.
+pub(crate) fn filled(
+    alloc: Global,
+    subtree: &[u8],
+    to: &Location,
+    above: Option<usize>,
+) -> Result<Vec<u8>, AllocError>
+    requires node { IsPrinted subtree.now }
+    requires high { ForSome above (λ level. level + 1 < 2 ^ 63) }
+    ensures { IfOk result (λ made. made.items
+        ≡ print_node (filled to.now above (node_at (tree subtree.now) 0).node)) }
+{
+    if let Some(level) = above {
+        return shift(alloc, subtree, level + 1);
+    }
+    if to.level() == 0 {
+        return shift(alloc, subtree, 1);
+    }
+    let mut made = heading_line(alloc, to)?;
+    let below = shift(alloc, subtree, to.level() + 1)?;
+    made.extend_from_slice(&below)?;
+    Ok(made)
+}
