@@ -16,3 +16,4 @@ pub mod Keeping
 pub mod Trims
 pub mod Reading
 pub mod Replanned
+pub mod Computed

@@ -7,7 +7,6 @@ use Rattle.std.proofs.lemmas.Slice.Eq.{bytes_eq-Decides}
 use Rattle.org_splice.specs.Blanks.{is_blank, is_trailing, front, behind}
 use Rattle.org_splice.proofs.Ends.{front_behind}
 use Rattle.org_stamp.specs.Parts.{◌>>=◌}
-use Rattle.org_stamp.specs.Stamp.{StampValue}
 use Rattle.org_stamp.specs.Front.{stamp_at}
 use Rattle.org_meta.specs.declared.entry.Word.{Word}
 use Rattle.org_meta.specs.declared.entry.Word.TheVariants.{Closed, Deadline, Scheduled}

@@ -2,11 +2,12 @@
 use Rattle.std.specs.Prelude.{◌≡◌, ℕ, zero, suc, nat_le, nat_eq, Bool, true, false, not, ◌&&◌, if◌then◌else◌, MatchBool, MatchResult, Option, None, Some, Result, Ok, Err, List, [], ◌∷◌, ◌++◌, codes, count_by, length, take, drop}
 use Rattle.std.specs.List.{starts_with, list_all, list_any}
 use Rattle.std.specs.Option.{option_map_or}
+use Rattle.std.specs.Result.{result_map_both}
 use Rattle.org_stamp.specs.Calendar.{CivilMinute}
 use Rattle.org_stamp.specs.Parts.{◌>>=◌}
 use Rattle.org_stamp.specs.Stamp.{StampValue, repeats, stamp_text}
 use Rattle.org_stamp.specs.Front.{stamp_at}
-use Rattle.org_stamp.specs.Repeat.{IsRepeated}
+use Rattle.org_stamp.specs.Repeat.{IsRepeated, repeated}
 use Rattle.org_stamp.specs.declared.fault.RepeatFault.{RepeatFault}
 use Rattle.org_stamp.specs.declared.fault.RepeatFault.TheVariants.{BadRepeat as TheBadRepeat, DateRange as TheDateRange}
 use Rattle.org_meta.specs.declared.entry.Word.{Word}
@@ -176,3 +177,19 @@ AreRepeated [] now r = r ≡ Ok []
 AreRepeated (e ∷ es) now r =
     (first : Result (List ℕ) PlanningFault) × IsRepeatedEntry e now first
     × MatchResult first (λ text. (more : Result (List ℕ) PlanningFault) × AreRepeated es now more × (r ≡ behind_text text more)) (λ fault. r ≡ Err fault)
+
+-- ---- the same, computed
+
+abbrev pub repeated_entry : CivilMinute → PlanningEntry → Result (List ℕ) PlanningFault
+repeated_entry now e =
+    if is_closed e then Ok []
+    else (if is_repeating e then result_map_both (entry_with e) fault_of (repeated e.stamp now) else Ok (entry_text e))
+
+abbrev pub behind_first : Result (List ℕ) PlanningFault → Result (List ℕ) PlanningFault → Result (List ℕ) PlanningFault
+behind_first (Ok text) more = behind_text text more
+behind_first (Err fault) more = Err fault
+
+-- the texts of all, or the first fault
+abbrev pub repeated_entries : CivilMinute → List PlanningEntry → Result (List ℕ) PlanningFault
+repeated_entries now [] = Ok []
+repeated_entries now (e ∷ es) = behind_first (repeated_entry now e) (repeated_entries now es)

@@ -1,10 +1,11 @@
 //! What holds of the definitions, for all values: each law is the contract of a function with
 //! nothing to do.
-ghost use Rattle.std.specs.Prelude.{◌≡◌, ◌++◌, ◌∷◌, [], ℕ, Bool, List, Some, Ok, true, codes, IsTrue};
+ghost use Rattle.std.specs.Prelude.{◌≡◌, ◌++◌, ◌∷◌, [], ℕ, Bool, List, Result, Some, Ok, true, codes, IsTrue};
 ghost use Rattle.org_splice.specs.Blanks.{trimmed};
 ghost use Rattle.org_stamp.specs.Calendar.{CivilMinute};
 ghost use Rattle.org_meta.specs.Sections.{SectionParts, split, joined, is_planning, is_property_name, property, property_line, put};
-ghost use Rattle.org_meta.specs.Planning.{PlanningLine, planning_of, entries_text, has_repeater, AreRepeated};
+ghost use Rattle.org_meta.specs.Planning.{PlanningEntry, PlanningLine, planning_of, entries_text, has_repeater, AreRepeated, repeated_entries};
+ghost use Rattle.org_meta.specs.declared.fault.PlanningFault.{PlanningFault};
 ghost use Rattle.org_meta.specs.Replans.{repeated_line};
 ghost use Rattle.org_meta.specs.Notes.{note_line, with_note};
 ghost use Rattle.org_meta.specs.Clocking.{clock_line, opened};
@@ -48,6 +49,13 @@ pub fn fronts_are_split()
     ensures drawer { (lines : List (List ℕ))
         → split ((split lines).planning ++ (split lines).drawer)
         ≡ record (split lines) { rest = [] } }
+{}
+
+/// The next repetition of a planning line's entries can be computed.
+pub fn repeats_compute()
+    ensures { (entries : List PlanningEntry) (now : CivilMinute)
+        (r : Result (List ℕ) PlanningFault) → AreRepeated entries now r
+        → repeated_entries now entries ≡ r }
 {}
 
 /// A planning line whose entries were repeated is a planning line, so by `edited_parts` the section

@@ -11,7 +11,7 @@ use Rattle.org_capture.specs.declared.target.Target.{Target}
 use Rattle.org_capture.specs.declared.target.Target.TheVariants.{Top, Head, Path, Date}
 use Rattle.org_stamp.specs.Calendar.{CivilMinute, at_minute, civil_day}
 use Rattle.org_store.specs.declared.command.Command.{Command}
-use Rattle.org_store.specs.declared.command.Command.TheVariants.{Capture, Refile, Show, Settle}
+use Rattle.org_store.specs.declared.command.Command.TheVariants.{Capture, Refile, Todo, Show, Settle}
 
 -- what a letter behind a backslash stands for: `\n` a newline, `\t` a tab, `\\` a backslash, `\s` a slash
 abbrev pub escape : ℕ → Option ℕ
@@ -132,10 +132,19 @@ refile_of file path to_file to_path place =
     Refile f p g q l)
     (place_of place)) (path_of to_path)) (file_of to_file)) (path_of path)) (file_of file)
 
+-- `todo` FILE PATH STATE MOMENT
+unfoldable pub todo_of : List ℕ → List ℕ → List ℕ → List ℕ → Option Command
+todo_of file path state moment =
+    option_and_then (λ f. option_and_then (λ p. option_and_then (λ s. option_map (λ m.
+    Todo f p s m)
+    (moment_of moment)) (unescaped state)) (path_of path)) (file_of file)
+
 -- a line of these fields; any other word or number of fields is no command
 abbrev pub command_of_fields : List (List ℕ) → Option Command
 command_of_fields (word ∷ []) = if bytes_eq word (codes "settle") then Some Settle else None
 command_of_fields (word ∷ file ∷ []) = if bytes_eq word (codes "show") then show_of file else None
+command_of_fields (word ∷ file ∷ path ∷ state ∷ moment ∷ []) =
+    if bytes_eq word (codes "todo") then todo_of file path state moment else None
 command_of_fields (word ∷ file ∷ path ∷ to_file ∷ to_path ∷ place ∷ []) =
     if bytes_eq word (codes "refile") then refile_of file path to_file to_path place else None
 command_of_fields (word ∷ file ∷ target ∷ place ∷ moment ∷ template ∷ initial ∷ []) =

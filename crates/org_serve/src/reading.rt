@@ -1,6 +1,6 @@
 //! Command lines.
 ghost use Rattle.std.specs.Prelude.{map};
-ghost use Rattle.org_serve.specs.Grammar.{show_of, capture_of, refile_of, command_of, command_of_fields};
+ghost use Rattle.org_serve.specs.Grammar.{show_of, capture_of, refile_of, todo_of, command_of, command_of_fields};
 ghost use Rattle.org_serve.specs.Gives.{Gives};
 
 use crate::fault::LineFault;
@@ -36,6 +36,13 @@ fn command(alloc: Global, fields: &[&[u8]]) -> Result<Command, LineFault>
         [word, name] => {
             if is(word, "show") {
                 show(alloc, name)
+            } else {
+                Err(LineFault::BadLine)
+            }
+        }
+        [word, name, titles, state, when] => {
+            if is(word, "todo") {
+                todo(alloc, name, titles, state, when)
             } else {
                 Err(LineFault::BadLine)
             }
@@ -116,5 +123,27 @@ fn refile(
         to_file,
         to_path,
         place,
+    })
+}
+
+#[tactic(auto, unfolding(crate::specs::Grammar::todo_of))]
+fn todo(
+    alloc: Global,
+    name: &[u8],
+    titles: &[u8],
+    state: &[u8],
+    when: &[u8],
+) -> Result<Command, LineFault>
+    ensures { Gives result (todo_of name.now titles.now state.now when.now) }
+{
+    let file = file(alloc, name)?;
+    let path = path(alloc, titles)?;
+    let state = text(alloc, state)?;
+    let moment = moment(when).ok_or(LineFault::BadLine)?;
+    Ok(Command::Todo {
+        file,
+        path,
+        state,
+        moment,
     })
 }

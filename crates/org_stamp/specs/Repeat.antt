@@ -1,5 +1,5 @@
 -- Repeated timestamps (Org manual, "Repeated tasks").
-use Rattle.std.specs.Prelude.{◌≡◌, ℕ, ◌+◌, ◌*◌, ◌/◌, ◌%◌, ◌<◌, ◌≤◌, ◌==◌, nat_le, nat_lt, ℤ, pos, ◌+ℤ◌, Bool, true, false, not, ◌&&◌, if◌then◌else◌, MatchBool, ◌<ℤ◌, Option, None, Some, Result, Ok, Err}
+use Rattle.std.specs.Prelude.{◌≡◌, ℕ, ◌+◌, ◌*◌, ◌/◌, ◌%◌, ◌^◌, ◌<◌, ◌≤◌, ◌==◌, zero, suc, nat_le, nat_lt, int_lt, ℤ, pos, ◌+ℤ◌, Bool, true, false, not, ◌&&◌, if◌then◌else◌, MatchBool, ◌<ℤ◌, Option, None, Some, Result, Ok, Err}
 use Rattle.org_stamp.specs.Calendar.{CivilDay, CivilMinute, day_number, minutes_of, days_after, months_after}
 use Rattle.org_stamp.specs.declared.kind.Times.{Times}
 use Rattle.org_stamp.specs.declared.kind.Unit.{Unit}
@@ -64,8 +64,46 @@ RepeatsAs (Some p) s now r =
     (MatchBool (is_hour p.interval.unit && not (has_one_time s.time)) (r ≡ Err BadRepeat) (RepeatsBy p.mark p.interval s now r))
 
 -- the timestamp at the next repetition, or the fault
+abbrev pub IsNext : StampValue → CivilMinute → Result StampValue RepeatFault → Type 0
+IsNext s now r = RepeatsAs (first_repeater s.cookies) s now r
+
+-- ---- the same, computed
+
+abbrev pub is_later_by : Option Times → StampValue → CivilMinute → Bool
+is_later_by None s now = int_lt (day_number now.day) (day_number s.day)
+is_later_by (Some t) s now = int_lt (minutes_of now) (minutes_of (start_of s))
+
+abbrev pub is_later : StampValue → CivilMinute → Bool
+is_later s now = is_later_by s.time s now
+
+-- the first number from k on of which f is true; the one behind the n that are tried, where it is true of none of them
+unfoldable pub first_from : (ℕ → Bool) → ℕ → ℕ → ℕ
+first_from f zero k = k
+first_from f (suc n) k = if f k then k else first_from f n (k + 1)
+
+-- more than there are hours in the years of timestamps
+abbrev pub most_times : ℕ
+most_times = 2 ^ 32
+
+abbrev pub repeated_by : Mark → Interval → StampValue → CivilMinute → Result StampValue RepeatFault
+repeated_by Cumulate i s now = in_range (shifted s i 1)
+repeated_by CatchUp i s now = in_range (shifted s i (first_from (λ k. is_later (shifted s i k) now) most_times 1))
+repeated_by Restart i s now = in_range (shifted (restarted s i.unit now) i 1)
+
+abbrev pub repeated_as : Option Repeater → StampValue → CivilMinute → Result StampValue RepeatFault
+repeated_as None s now = Ok s
+repeated_as (Some p) s now =
+    if p.interval.value == 0 then Ok s
+    else (if is_hour p.interval.unit && not (has_one_time s.time) then Err BadRepeat else repeated_by p.mark p.interval s now)
+
+-- the timestamp at the next repetition, or the fault
+abbrev pub repeated : StampValue → CivilMinute → Result StampValue RepeatFault
+repeated s now = repeated_as (first_repeater s.cookies) s now
+
 abbrev pub IsRepeated : StampValue → CivilMinute → Result StampValue RepeatFault → Type 0
-IsRepeated s now r = RepeatsAs (first_repeater s.cookies) s now r
+IsRepeated s now r = r ≡ repeated s now
+
+-- ---- days and times apart
 
 -- with that day and time, unless there is no day
 abbrev pub dated : StampValue → Option CivilDay → Option Times → Result StampValue RepeatFault

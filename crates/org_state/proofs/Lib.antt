@@ -7,3 +7,4 @@ pub mod Switching
 pub mod Both
 pub mod One
 pub mod Rows
+pub mod Computed

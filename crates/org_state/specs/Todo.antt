@@ -13,7 +13,7 @@ use Rattle.org_meta.specs.declared.fault.PlanningFault.{PlanningFault}
 use Rattle.org_meta.specs.declared.fault.PlanningFault.TheVariants as planning
 use Rattle.org_meta.specs.Moments.{moment_text}
 use Rattle.org_meta.specs.Notes.{note_line, with_note}
-use Rattle.org_meta.specs.Planning.{PlanningLine, planning_of, has_repeater, AreRepeated, clear_closed, set_closed}
+use Rattle.org_meta.specs.Planning.{PlanningLine, planning_of, has_repeater, AreRepeated, repeated_entries, clear_closed, set_closed}
 use Rattle.org_meta.specs.Replans.{repeated_line}
 use Rattle.org_meta.specs.Sections.{SectionParts, split, joined, put}
 use Rattle.org_state.specs.declared.fault.StateFault.{StateFault}
@@ -114,3 +114,27 @@ IsTodoAt states state now d (Ok (Some i)) r =
 -- the document with the heading at a path in another state; none where nothing changes
 abbrev pub IsTodo : Keywords → List (List ℕ) → List ℕ → CivilMinute → Document → Result (Option Document) StateFault → Type 0
 IsTodo states path state now d r = IsTodoAt states state now d (heading_to_change states path state d) r
+
+-- ---- the same, computed
+
+abbrev pub turned_done : Keywords → List ℕ → CivilMinute → Own → Option PlanningLine → Result Own StateFault
+turned_done states state now own None = changed states state own (set_closed now (split own.section))
+turned_done states state now own (Some p) =
+    changed states (first_active states) own (result_map_both (repeated_parts state (keyword_in states own.rest) now p (split own.section)) (λ fault. fault) (repeated_entries now p.entries))
+
+abbrev pub turned : Bool → Bool → Keywords → List ℕ → CivilMinute → Own → Result Own StateFault
+turned true false states state now own = changed states state own (clear_closed (split own.section))
+turned false true states state now own = turned_done states state now own (repeating (split own.section).planning)
+turned was is states state now own = Ok (with_lines states state own own.section)
+
+abbrev pub in_state : Keywords → List ℕ → CivilMinute → Own → Result Own StateFault
+in_state states state now own = turned (is_done states (keyword_in states own.rest)) (is_done states state) states state now own
+
+abbrev pub todo_at : Keywords → List ℕ → CivilMinute → Document → Result (Option ℕ) StateFault → Result (Option Document) StateFault
+todo_at states state now d (Err fault) = Err fault
+todo_at states state now d (Ok None) = Ok None
+todo_at states state now d (Ok (Some i)) = result_map_both (λ own. Some (with_own_at i d own)) (λ fault. fault) (in_state states state now (own_at d i))
+
+-- the document with the heading at a path in another state; none where nothing changes
+abbrev pub todo : Keywords → List (List ℕ) → List ℕ → CivilMinute → Document → Result (Option Document) StateFault
+todo states path state now d = todo_at states state now d (heading_to_change states path state d)

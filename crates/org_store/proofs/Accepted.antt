@@ -13,15 +13,17 @@ use Rattle.org_capture.specs.declared.target.Target.{Target}
 use Rattle.org_capture.specs.Capture.{captured}
 use Rattle.org_move.specs.declared.fault.MoveFault.{MoveFault}
 use Rattle.org_move.specs.Refile.{refile_across, refile_within}
+use Rattle.org_state.specs.declared.fault.StateFault.{StateFault}
+use Rattle.org_state.specs.Todo.{todo as in_state}
 use Rattle.org_store.specs.declared.command.Command.{Command}
-use Rattle.org_store.specs.declared.command.Command.TheVariants.{Capture, Refile, Show, Settle}
+use Rattle.org_store.specs.declared.command.Command.TheVariants.{Capture, Refile, Todo, Show, Settle}
 use Rattle.org_store.specs.declared.command.Refusal.TheVariants.{TooLarge}
 use Rattle.org_store.specs.Capture.{new_entry}
 use Rattle.org_store.specs.Files.{has_large}
 use Rattle.org_store.specs.InOrder.{text_at, with_all}
 use Rattle.org_store.specs.Refile.{text_within, texts_across}
 use Rattle.org_store.specs.Session.{Session}
-use Rattle.org_store.specs.Outcome.{Accepts, Refuses, changed, with_document, with_entry, capture, refile, with_moved, show, outcome}
+use Rattle.org_store.specs.Outcome.{Accepts, Refuses, changed, with_document, with_entry, capture, refile, with_moved, with_state, todo, show, outcome}
 
 -- texts of which none is past the limit
 abbrev pub AreWithin : List (List ℕ × List ℕ) → Type 0
@@ -76,6 +78,15 @@ refile_puts s name path to_file to place (Some text) (Some target) files accepts
   | inr f ↦ moved_puts s (texts_across name to_file) (refile_across s.states path (tree text) s.states to (tree target) place) files (rw f at accepts)
 ]
 
+state_puts : (s : Session) (name : List ℕ) (said : Result (Option Document) StateFault) (files : List (List ℕ)) → with_state s name said ≡ Accepts files → Puts s files
+state_puts s name (Err why) files accepts = absurd (cc)
+state_puts s name (Ok None) files accepts = changed_puts s [] files accepts
+state_puts s name (Ok (Some new)) files accepts = changed_puts s ((name, print new) ∷ []) files accepts
+
+todo_puts : (s : Session) (name : List ℕ) (path : List (List ℕ)) (state : List ℕ) (moment : CivilMinute) (old : Option (List ℕ)) (files : List (List ℕ)) → todo s name path state moment old ≡ Accepts files → Puts s files
+todo_puts s name path state moment None files accepts = absurd (cc)
+todo_puts s name path state moment (Some text) files accepts = state_puts s name (in_state s.states path state moment (tree text)) files accepts
+
 shows_none : (old : Option (List ℕ)) (files : List (List ℕ)) → show old ≡ Accepts files → ⊥
 shows_none None files accepts = absurd (cc)
 shows_none (Some text) files accepts = absurd (cc)
@@ -85,5 +96,6 @@ accepted_puts s (Capture file target place moment template initial) files accept
     capture_puts s file target place moment template initial (text_at s.names s.files file) files accepts
 accepted_puts s (Refile file path to_file to_path place) files accepts =
     refile_puts s file path to_file to_path place (text_at s.names s.files file) (text_at s.names s.files to_file) files accepts
+accepted_puts s (Todo file path state moment) files accepts = todo_puts s file path state moment (text_at s.names s.files file) files accepts
 accepted_puts s (Show file) files accepts = absurd (shows_none (text_at s.names s.files file) files accepts)
 accepted_puts s Settle files accepts = absurd (cc)

@@ -14,7 +14,7 @@ use Rattle.org_store.specs.Files.{has_large}
 use Rattle.org_store.specs.InOrder.{texts_of, with_all, with_texts}
 use Rattle.org_store.specs.Session.{Session, Holds}
 use Rattle.org_store.specs.Step.{fills}
-use Rattle.org_store.specs.Outcome.{Outcome, Accepts, Shows, AsksToSettle, Refuses, changed}
+use Rattle.org_store.specs.Outcome.{Outcome, Accepts, Shows, AsksToSettle, Refuses, changed, counted}
 use Rattle.org_store.specs.Counts.{SameCounts}
 use Rattle.org_store.specs.Left.{IsLeftFailing, IsLeftBy}
 use Rattle.org_store.specs.Keeping.{IsLeftKeeping, KeepsCounts}
@@ -78,18 +78,11 @@ pub match_err : {A E : Type 0} (P : Type 0) (Q : E → Type 0) (result : Result 
 match_err P Q result e is m = subst (λ r. MatchResult r (λ _. P) Q) is m
 
 -- texts that are put, and what is refused of them
-pub accepts_small : (s : Session) (changes : List (List ℕ × List ℕ)) → has_large changes ≡ false → (s.accepted == 2 ^ 64 - 1) ≡ false → changed s changes ≡ Accepts (with_all s.names s.files changes)
-accepts_small s changes small countable = rw (small, countable) refl
+pub counts_small : (s : Session) (changes : List (List ℕ × List ℕ)) → has_large changes ≡ false → changed s changes ≡ counted s (with_all s.names s.files changes)
+counts_small s changes small = rw small refl
 
 pub refuses_large : (s : Session) (changes : List (List ℕ × List ℕ)) → has_large changes ≡ true → changed s changes ≡ Refuses TooLarge
 refuses_large s changes large = rw large refl
-
-pub refuses_full : (s : Session) (changes : List (List ℕ × List ℕ)) → (s.accepted == 2 ^ 64 - 1) ≡ true → changed s changes ≡ Refuses TooLarge
-refuses_full s changes full = go (has_large changes) (s.accepted == 2 ^ 64 - 1) full
-  where
-    go : (long many : Bool) → many ≡ true → (if long then Refuses TooLarge else if many then Refuses TooLarge else Accepts (with_all s.names s.files changes)) ≡ Refuses TooLarge
-    go true many is = refl
-    go false many is = rw is refl
 
 pub same_fault : (fault other : RunFault) → ◌≡◌ {A = Result (Unit {0}) RunFault} (Err fault) (Err other) → ◌≡◌ {A = Result Reply RunFault} (Err fault) (Err other)
 same_fault fault other same = let one : fault ≡ other = cc in ap (λ (f : RunFault). Err f) one

@@ -10,6 +10,7 @@ pub mod Planned
 pub mod Plans
 pub mod Captures
 pub mod Refiles
+pub mod Todos
 pub mod Sessions
 pub mod Accepted
 pub mod Follows

@@ -1,5 +1,5 @@
 -- The texts that a plan makes, in the order of a store's names.
-use Rattle.std.proofs.Common.{◌≡◌, ◌≢◌, inl, inr, ℕ, ◌-◌, ◌^◌, ◌==◌, true, false, List, [], ◌∷◌, Option, Some, None, refl, sym, ◌∙◌, ap, if◌then◌else◌}
+use Rattle.std.proofs.Common.{◌≡◌, ◌≢◌, inl, inr, ℕ, true, false, List, [], ◌∷◌, Option, Some, None, refl, sym, ◌∙◌, ap, if◌then◌else◌}
 use Rattle.std.specs.Str.{bytes_eq}
 use Rattle.std.proofs.lemmas.Bool.{false≢true}
 use Rattle.org_disk.proofs.Names.{name_cases, same_name}
@@ -13,11 +13,11 @@ use Rattle.org_outline.specs.States.{Keywords}
 use Rattle.org_store.specs.declared.tally.Tally.{Tally}
 use Rattle.org_store.specs.Files.{AreReady, IsPlanFor, OpenFiles, files_of, has_large, new_texts, texts_in}
 use Rattle.org_store.specs.InOrder.{is_name, texts_of, with_all}
-use Rattle.org_store.specs.Outcome.{Accepts, changed}
+use Rattle.org_store.specs.Outcome.{changed, counted}
 use Rattle.org_store.specs.Session.{session_over}
 use Rattle.org_store.proofs.Held.{plan_held, plan_other}
 use Rattle.org_store.proofs.InOrder.{texts_same, texts_with}
-use Rattle.org_store.proofs.Keeping.{accepts_small}
+use Rattle.org_store.proofs.Keeping.{counts_small}
 
 -- one file with a text of a set
 abbrev with_one : TextSet → List ℕ → Image → Image
@@ -60,10 +60,10 @@ planned_texts plan held files names is ready =
     (λ name there. bytes_some (files name) (text_of (planned plan held.now) name) (plan_held plan held.now is name there))
     (λ name out. ap (bytes_or (files name)) ((plan_other plan held.now name out).0 ∙ ready.others name out))
 
--- a plan that is put is accepted with its texts
-pub accepted_texts : {D : Type 0} (texts : D → Image) (states : Keywords) (old mid : OpenFiles D) (tally : Tally) (plan : Plan) → mid.disk ≡ old.disk → mid.names ≡ old.names → mid.held.now ≡ planned plan old.held.now
-    → IsPlanFor old.names old.held plan → has_large (new_texts plan old.held.now) ≡ false → (tally.accepted == 2 ^ 64 - 1) ≡ false
-    → changed (session_over texts states old tally) (new_texts plan old.held.now) ≡ Accepts (texts_of (held_over mid.held.now (texts mid.disk)) mid.names)
-accepted_texts texts states old mid tally plan disk names now is small countable =
-    accepts_small (session_over texts states old tally) (new_texts plan old.held.now) small countable
-    ∙ ap (λ (ts : List (List ℕ)). Accepts ts) (sym (planned_texts plan old.held (texts old.disk) old.names is.is is.ready) ∙ rw (now, disk, names) refl)
+-- a plan that is put counts with its texts
+pub counted_texts : {D : Type 0} (texts : D → Image) (states : Keywords) (old mid : OpenFiles D) (tally : Tally) (plan : Plan) → mid.disk ≡ old.disk → mid.names ≡ old.names → mid.held.now ≡ planned plan old.held.now
+    → IsPlanFor old.names old.held plan → has_large (new_texts plan old.held.now) ≡ false
+    → changed (session_over texts states old tally) (new_texts plan old.held.now) ≡ counted (session_over texts states old tally) (texts_of (held_over mid.held.now (texts mid.disk)) mid.names)
+counted_texts texts states old mid tally plan disk names now is small =
+    counts_small (session_over texts states old tally) (new_texts plan old.held.now) small
+    ∙ ap (counted (session_over texts states old tally)) (sym (planned_texts plan old.held (texts old.disk) old.names is.is is.ready) ∙ rw (now, disk, names) refl)

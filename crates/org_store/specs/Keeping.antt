@@ -1,5 +1,5 @@
 -- How a command is planned on the texts of a store's files, and how it is accepted.
-use Rattle.std.specs.Prelude.{◌≡◌, ◌⊎◌, ◌↔◌, ℕ, ◌+◌, List, Result, Ok, Err, IsErrOf, IsTrue, if◌then◌else◌}
+use Rattle.std.specs.Prelude.{◌≡◌, ◌⊎◌, ◌↔◌, ℕ, ◌+◌, List, [], Option, None, Some, Result, Ok, Err, IsErrOf, IsTrue, if◌then◌else◌}
 use Rattle.org_disk.specs.Disk.{FileState}
 use Rattle.org_journal.specs.Standing.{Image, contents}
 use Rattle.org_fileset.specs.declared.fault.SetFault.{SetFault}
@@ -10,12 +10,14 @@ use Rattle.org_capture.specs.declared.fault.CaptureFault.{CaptureFault}
 use Rattle.org_capture.specs.declared.fault.CaptureFault.TheVariants as capture
 use Rattle.org_move.specs.declared.fault.MoveFault.{MoveFault}
 use Rattle.org_move.specs.declared.fault.MoveFault.TheVariants as move
+use Rattle.org_state.specs.declared.fault.StateFault.{StateFault}
+use Rattle.org_state.specs.declared.fault.StateFault.TheVariants as state
 use Rattle.org_store.specs.declared.command.Reply.{Reply}
 use Rattle.org_store.specs.declared.command.RunFault.{RunFault}
 use Rattle.org_store.specs.declared.command.RunFault.TheVariants.{Refused, OutOfMemory, Device, Broken}
 use Rattle.org_store.specs.Files.{new_texts}
 use Rattle.org_store.specs.Session.{Session, Kept, Holds}
-use Rattle.org_store.specs.Outcome.{Outcome, changed, refusal_of, refusal_of_move}
+use Rattle.org_store.specs.Outcome.{Outcome, changed, refusal_of, refusal_of_move, refusal_of_state}
 use Rattle.org_store.specs.Step.{Does, done, failed_in_read, torn_in, fills}
 use Rattle.org_store.specs.Left.{IsLeftBy}
 use Rattle.org_store.specs.Counts.{Counts, SameCounts}
@@ -26,6 +28,12 @@ use Rattle.org_store.specs.Runs.{LeavesDisk}
 abbrev pub Plans : Session → Outcome → Result Plan RunFault → Holding → Session → Type 0
 Plans old outcome (Ok plan) held new = (outcome ≡ changed old (new_texts plan held.now)) × (new ≡ old)
 Plans old outcome (Err fault) held new = Does old outcome (Err fault) new
+
+-- the same of a command that may change nothing: then there is no plan
+abbrev pub PlansOrStays : Session → Outcome → Result (Option Plan) RunFault → Holding → Session → Type 0
+PlansOrStays old outcome (Ok (Some plan)) held new = Plans old outcome (Ok plan) held new
+PlansOrStays old outcome (Ok None) held new = (outcome ≡ changed old []) × (new ≡ old)
+PlansOrStays old outcome (Err fault) held new = Plans old outcome (Err fault) held new
 
 -- a call that reads files where they aren't held got this answer
 abbrev pub Reads : {A : Type 0} → Session → Result A RunFault → Session → Type 0
@@ -92,3 +100,14 @@ fault_of_move move.InsideItself = Refused (refusal_of_move move.InsideItself)
 fault_of_move move.AlreadyArchive = Refused (refusal_of_move move.AlreadyArchive)
 fault_of_move move.BadLocation = Refused (refusal_of_move move.BadLocation)
 fault_of_move move.NoSuchFile = Refused (refusal_of_move move.NoSuchFile)
+
+-- the fault of a command whose heading doesn't get another state
+abbrev pub fault_of_state : StateFault → RunFault
+fault_of_state state.OutOfMemory = OutOfMemory
+fault_of_state state.NotFound = Refused (refusal_of_state state.NotFound)
+fault_of_state state.NotUnique = Refused (refusal_of_state state.NotUnique)
+fault_of_state state.UnknownState = Refused (refusal_of_state state.UnknownState)
+fault_of_state state.OddPlanning = Refused (refusal_of_state state.OddPlanning)
+fault_of_state state.BadRepeat = Refused (refusal_of_state state.BadRepeat)
+fault_of_state state.DateRange = Refused (refusal_of_state state.DateRange)
+fault_of_state state.ClockBackwards = Refused (refusal_of_state state.ClockBackwards)

@@ -4,6 +4,7 @@ pub mod Files
 pub mod Session
 pub mod Capture
 pub mod Refile
+pub mod Todo
 pub mod Outcome
 pub mod Step
 pub mod Left

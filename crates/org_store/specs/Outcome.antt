@@ -11,10 +11,13 @@ use Rattle.org_capture.specs.Capture.{captured}
 use Rattle.org_move.specs.declared.fault.MoveFault.{MoveFault}
 use Rattle.org_move.specs.declared.fault.MoveFault.TheVariants as move
 use Rattle.org_move.specs.Refile.{refile_across, refile_within}
+use Rattle.org_state.specs.declared.fault.StateFault.{StateFault}
+use Rattle.org_state.specs.declared.fault.StateFault.TheVariants as state
+use Rattle.org_state.specs.Todo.{todo as in_state}
 use Rattle.org_store.specs.declared.command.Command.{Command}
-use Rattle.org_store.specs.declared.command.Command.TheVariants.{Capture, Refile, Show, Settle}
+use Rattle.org_store.specs.declared.command.Command.TheVariants.{Capture, Refile, Todo, Show, Settle}
 use Rattle.org_store.specs.declared.command.Refusal.{Refusal}
-use Rattle.org_store.specs.declared.command.Refusal.TheVariants.{NoSuchFile, BadTemplate, BadEntry, NotFound, NotUnique, InsideItself, AlreadyArchive, BadLocation, TooLarge}
+use Rattle.org_store.specs.declared.command.Refusal.TheVariants.{NoSuchFile, BadTemplate, BadEntry, NotFound, NotUnique, InsideItself, AlreadyArchive, UnknownState, OddPlanning, BadRepeat, DateRange, ClockBackwards, BadLocation, TooLarge}
 use Rattle.org_store.specs.Capture.{new_entry}
 use Rattle.org_store.specs.Files.{has_large}
 use Rattle.org_store.specs.InOrder.{text_at, with_all}
@@ -31,12 +34,13 @@ pub data Outcome : Type 0 where
   -- to be accepted, with these texts of all files after it
   Accepts : List (List ℕ) → Outcome
 
--- new texts for files, unless one is past the limit or the accepted commands are as many as can be counted
+-- one more command with these texts after it, unless the accepted commands are as many as can be counted
+abbrev pub counted : Session → List (List ℕ) → Outcome
+counted s files = if s.accepted == 2 ^ 64 - 1 then Refuses TooLarge else Accepts files
+
+-- new texts for files, unless one is past the limit
 abbrev pub changed : Session → List (List ℕ × List ℕ) → Outcome
-changed s changes =
-    if has_large changes then Refuses TooLarge
-    else if s.accepted == 2 ^ 64 - 1 then Refuses TooLarge
-    else Accepts (with_all s.names s.files changes)
+changed s changes = if has_large changes then Refuses TooLarge else counted s (with_all s.names s.files changes)
 
 -- why a capture is refused; no definition answers want of memory
 abbrev pub refusal_of : CaptureFault → Refusal
@@ -88,6 +92,29 @@ refile s file path to_file to place (Some text) (Some target) =
     if bytes_eq file to_file then with_moved s (text_within file) (refile_within s.states path to place (tree text))
     else with_moved s (texts_across file to_file) (refile_across s.states path (tree text) s.states to (tree target) place)
 
+-- why a state isn't changed; no definition answers want of memory
+abbrev pub refusal_of_state : StateFault → Refusal
+refusal_of_state state.NotFound = NotFound
+refusal_of_state state.NotUnique = NotUnique
+refusal_of_state state.UnknownState = UnknownState
+refusal_of_state state.OddPlanning = OddPlanning
+refusal_of_state state.BadRepeat = BadRepeat
+refusal_of_state state.DateRange = DateRange
+refusal_of_state state.ClockBackwards = ClockBackwards
+refusal_of_state state.OutOfMemory = TooLarge
+
+-- the file with the document that another state makes of it; where there is none, nothing changes
+abbrev pub with_state : Session → List ℕ → Result (Option Document) StateFault → Outcome
+with_state s file (Ok (Some new)) = changed s ((file, print new) ∷ [])
+with_state s file (Ok None) = changed s []
+with_state s file (Err fault) = Refuses (refusal_of_state fault)
+
+-- A change of a state in a file that has this text: it is refused for its file first, then for its path, then for its
+-- state, then for the heading's planning.
+abbrev pub todo : Session → List ℕ → List (List ℕ) → List ℕ → CivilMinute → Option (List ℕ) → Outcome
+todo s file path state moment None = Refuses NoSuchFile
+todo s file path state moment (Some text) = with_state s file (in_state s.states path state moment (tree text))
+
 abbrev pub show : Option (List ℕ) → Outcome
 show None = Refuses NoSuchFile
 show (Some text) = Shows text
@@ -97,6 +124,7 @@ outcome s (Capture file target place moment template initial) =
     capture s file target place moment template initial (text_at s.names s.files file)
 outcome s (Refile file path to_file to_path place) =
     refile s file path to_file to_path place (text_at s.names s.files file) (text_at s.names s.files to_file)
+outcome s (Todo file path state moment) = todo s file path state moment (text_at s.names s.files file)
 outcome s (Show file) = show (text_at s.names s.files file)
 outcome s Settle = AsksToSettle
 
@@ -104,5 +132,6 @@ outcome s Settle = AsksToSettle
 abbrev pub IsChange : Command → Type 0
 IsChange (Capture file target place moment template initial) = Unit {0}
 IsChange (Refile file path to_file to_path place) = Unit {0}
+IsChange (Todo file path state moment) = Unit {0}
 IsChange (Show file) = ⊥
 IsChange Settle = ⊥

@@ -1,5 +1,6 @@
 //! How a change is made: planned on held texts, and accepted.
-ghost use Rattle.std.specs.Prelude.{◌≡◌, ◌≤◌, ◌<◌, ◌+◌, ◌^◌, ◌↔◌, IfOk, IsErrOf, IsOk, IsTrue, OnErr, OnOk, false};
+ghost use Rattle.std.specs.Prelude.{◌≡◌, ◌≤◌, ◌<◌, ◌+◌, ◌^◌, ◌↔◌, [], IfOk, IsErrOf, IsOk, IsTrue, OnErr, OnOk, false};
+ghost use Rattle.std.specs.Option.{ForSome};
 ghost use Rattle.org_disk.specs.Accounts.{Accounts, Looks};
 ghost use Rattle.org_journal.specs.Standing.{contents};
 ghost use Rattle.org_outline.specs.States.{Keywords};
@@ -7,14 +8,15 @@ ghost use Rattle.org_texts.specs.Texts.{held_over};
 ghost use Rattle.org_store.specs.declared.tally.Tally.{Tally as Counted};
 ghost use Rattle.org_store.specs.Files.{AreSmallToWrite, IsPlanFor, new_texts};
 ghost use Rattle.org_store.specs.InOrder.{texts_of};
-ghost use Rattle.org_store.specs.Keeping.{Acts, IsLeftKeeping, Keeps, KeepsCounts, Plans};
-ghost use Rattle.org_store.specs.Outcome.{IsChange, changed, outcome};
+ghost use Rattle.org_store.specs.Keeping.{Acts, IsLeftKeeping, Keeps, KeepsCounts, PlansOrStays};
+ghost use Rattle.org_store.specs.Outcome.{IsChange, changed, counted, outcome};
 ghost use Rattle.org_store.specs.Runs.{LeavesDisk};
 ghost use Rattle.org_store.specs.Session.{kept_over, session_over};
 
 use crate::command::{Command, Refusal, Reply, RunFault};
 use crate::commands::capture::plan_capture;
 use crate::commands::refile::plan_refile;
+use crate::commands::todo::plan_todo;
 use crate::files::Files;
 use crate::tally::Tally;
 use org_disk::Disk;
@@ -73,6 +75,30 @@ fn keep_or_settle<D: Disk>(files: &mut Files<D>, tally: &mut Tally) -> Result<()
     }
 }
 
+/// Counts one more command, which made the texts what they are, unless the accepted commands are as many as can be
+/// counted. Where it is refused, or there is no memory, all of its edits are taken back.
+fn count<D: Disk>(files: &mut Files<D>, tally: &mut Tally) -> Result<Reply, RunFault>
+    requires unbroken { files.old.broken ≡ false }
+    requires small { AreSmallToWrite files.old.held.now }
+    requires counted { tally.old.acknowledged ≤ tally.old.accepted }
+    ensures acts { (states : Keywords)
+        → Acts D.files D.moment D.left_since D.honest (kept_over D.files states files.old tally.old)
+        (counted (kept_over D.files states files.old tally.old).session
+        (texts_of (held_over files.old.held.now (contents (D.files files.old.disk)))
+        files.old.names)) result (kept_over D.files states files.new tally.new) }
+    ensures begun { files.new.held.now ≡ files.new.held.before }
+    ensures counted { tally.new.acknowledged ≤ tally.new.accepted }
+    ensures accounts { Accounts D.steady D.honest D.failures files.old.disk files.new.disk
+        (IsErrOf result RunFault.Device) }
+{
+    if tally.accepted == u64::MAX {
+        files.undo();
+        return Err(RunFault::Refused(Refusal::TooLarge));
+    }
+    keep_or_settle(files, tally)?;
+    Ok(Reply::Done(tally.accepted))
+}
+
 /// Accepts one more command, which makes these edits. Where it is refused, or there is no memory, all of its edits are
 /// taken back.
 fn accept<D: Disk>(files: &mut Files<D>, tally: &mut Tally, plan: &Plan) -> Result<Reply, RunFault>
@@ -90,23 +116,36 @@ fn accept<D: Disk>(files: &mut Files<D>, tally: &mut Tally, plan: &Plan) -> Resu
         (IsErrOf result RunFault.Device) }
 {
     files.put(plan)?;
-    if tally.accepted == u64::MAX {
-        files.undo();
-        return Err(RunFault::Refused(Refusal::TooLarge));
-    }
-    keep_or_settle(files, tally)?;
-    Ok(Reply::Done(tally.accepted))
+    count(files, tally)
+}
+
+/// Accepts one more command, which changes nothing: what was done for it to the texts is taken back.
+fn accept_unchanged<D: Disk>(files: &mut Files<D>, tally: &mut Tally) -> Result<Reply, RunFault>
+    requires unbroken { files.old.broken ≡ false }
+    requires counted { tally.old.acknowledged ≤ tally.old.accepted }
+    ensures acts { (states : Keywords)
+        → Acts D.files D.moment D.left_since D.honest (kept_over D.files states files.old tally.old)
+        (changed (kept_over D.files states files.old tally.old).session []) result
+        (kept_over D.files states files.new tally.new) }
+    ensures begun { files.new.held.now ≡ files.new.held.before }
+    ensures counted { tally.new.acknowledged ≤ tally.new.accepted }
+    ensures accounts { Accounts D.steady D.honest D.failures files.old.disk files.new.disk
+        (IsErrOf result RunFault.Device) }
+{
+    files.undo();
+    count(files, tally)
 }
 
 /// What a command that changes files is to change: its files are read where they aren't held, and made ready. Nothing is
-/// edited.
-fn plan<D: Disk>(files: &mut Files<D>, states: &States, command: &Command) -> Result<Plan, RunFault>
+/// edited. There is no plan where nothing changes.
+fn plan<D: Disk>(files: &mut Files<D>, states: &States, command: &Command) -> Result<Option<Plan>, RunFault>
     requires change { IsChange command.now }
     requires unbroken { files.old.broken ≡ false }
     requires begun { files.old.held.now ≡ files.old.held.before }
-    ensures plan { IfOk result (λ plan. IsPlanFor files.new.names files.new.held plan) }
+    ensures plan { IfOk result (λ plan. ForSome plan
+        (λ plan. IsPlanFor files.new.names files.new.held plan)) }
     ensures plans { (tally : Counted) → D.honest files.new.disk
-        → Plans (kept_over D.files states.now files.old tally).session
+        → PlansOrStays (kept_over D.files states.now files.old tally).session
         (outcome (kept_over D.files states.now files.old tally).session command.now) result
         files.new.held (kept_over D.files states.now files.new tally).session }
     ensures looks { D.honest files.new.disk
@@ -124,16 +163,28 @@ fn plan<D: Disk>(files: &mut Files<D>, states: &States, command: &Command) -> Re
             moment,
             template,
             initial,
-        } => plan_capture(
-            files, states, file, target, *place, *moment, template, initial,
-        ),
+        } => {
+            let plan = plan_capture(
+                files, states, file, target, *place, *moment, template, initial,
+            )?;
+            Ok(Some(plan))
+        }
         Command::Refile {
             file,
             path,
             to_file,
             to_path,
             place,
-        } => plan_refile(files, states, file, path, to_file, to_path, *place),
+        } => {
+            let plan = plan_refile(files, states, file, path, to_file, to_path, *place)?;
+            Ok(Some(plan))
+        }
+        Command::Todo {
+            file,
+            path,
+            state,
+            moment,
+        } => plan_todo(files, states, file, path, state, *moment),
         Command::Show { .. } | Command::Settle => unreachable!(),
     }
 }
@@ -159,7 +210,8 @@ pub(crate) fn change<D: Disk>(
         (IsErrOf result RunFault.Device) }
 {
     match plan(files, states, command) {
-        Ok(plan) => accept(files, tally, &plan),
+        Ok(Some(plan)) => accept(files, tally, &plan),
+        Ok(None) => accept_unchanged(files, tally),
         Err(fault) => {
             files.undo();
             Err(fault)

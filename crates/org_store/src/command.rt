@@ -10,6 +10,7 @@ use org_move::MoveFault;
 use org_outline::{Place, Titles};
 use org_splice::Bytes;
 use org_stamp::Moment;
+use org_state::StateFault;
 use std::alloc::AllocError;
 
 /// What a store is asked to do.
@@ -44,6 +45,18 @@ pub enum Command {
         to_path: Titles,
         /// Where it goes among the children of that heading.
         place: Place,
+    },
+    /// Puts a heading into another TODO state (Org manual, "Basic TODO functionality", "Closing items", "Repeated tasks").
+    /// Where it has that state already, all bytes stay.
+    Todo {
+        /// The file of the heading.
+        file: FileName,
+        /// Its path there.
+        path: Titles,
+        /// The state, one of the store's, or no byte for none.
+        state: Bytes,
+        /// The moment of the change.
+        moment: Moment,
     },
     /// Answers the text of a file.
     Show {
@@ -82,6 +95,16 @@ pub enum Refusal {
     InsideItself,
     /// The file is an archive file already.
     AlreadyArchive,
+    /// The state is none of the store's.
+    UnknownState,
+    /// The planning line of the heading isn't well formed.
+    OddPlanning,
+    /// A repeater of hours on a timestamp without a time, or with a range.
+    BadRepeat,
+    /// A repeated date is past the year 9999.
+    DateRange,
+    /// The moment is before the start of the clock that is to be closed.
+    ClockBackwards,
     /// The location of an entry's archive can't be read, or its heading can't be made.
     BadLocation,
     /// A file would grow past its limit, or the accepted commands are as many as can be counted.
@@ -101,6 +124,11 @@ impl Refusal {
             Refusal::NotUnique => 5,
             Refusal::InsideItself => 6,
             Refusal::AlreadyArchive => 7,
+            Refusal::UnknownState => 8,
+            Refusal::OddPlanning => 9,
+            Refusal::BadRepeat => 10,
+            Refusal::DateRange => 11,
+            Refusal::ClockBackwards => 13,
             Refusal::BadLocation => 15,
             Refusal::TooLarge => 14,
         }
@@ -118,6 +146,11 @@ impl Refusal {
             Refusal::NotUnique => "NotUnique",
             Refusal::InsideItself => "InsideItself",
             Refusal::AlreadyArchive => "AlreadyArchive",
+            Refusal::UnknownState => "UnknownState",
+            Refusal::OddPlanning => "OddPlanning",
+            Refusal::BadRepeat => "BadRepeat",
+            Refusal::DateRange => "DateRange",
+            Refusal::ClockBackwards => "ClockBackwards",
             Refusal::BadLocation => "BadLocation",
             Refusal::TooLarge => "TooLarge",
         }
@@ -175,6 +208,25 @@ impl From<MoveFault> for RunFault {
             MoveFault::BadLocation => RunFault::Refused(Refusal::BadLocation),
             MoveFault::NoSuchFile => RunFault::Refused(Refusal::NoSuchFile),
             MoveFault::OutOfMemory => RunFault::OutOfMemory,
+        }
+    }
+}
+
+impl From<StateFault> for RunFault {
+    ghost use Rattle.org_store.specs.Keeping.{fault_of_state};
+
+    ghost from_gives = { λ fault e. e ≡ fault_of_state fault };
+
+    fn from(fault: StateFault) -> Self {
+        match fault {
+            StateFault::NotFound => RunFault::Refused(Refusal::NotFound),
+            StateFault::NotUnique => RunFault::Refused(Refusal::NotUnique),
+            StateFault::UnknownState => RunFault::Refused(Refusal::UnknownState),
+            StateFault::OddPlanning => RunFault::Refused(Refusal::OddPlanning),
+            StateFault::BadRepeat => RunFault::Refused(Refusal::BadRepeat),
+            StateFault::DateRange => RunFault::Refused(Refusal::DateRange),
+            StateFault::ClockBackwards => RunFault::Refused(Refusal::ClockBackwards),
+            StateFault::OutOfMemory => RunFault::OutOfMemory,
         }
     }
 }

@@ -1,4 +1,6 @@
 //! The commands, each with what it is to change or to answer.
 pub(crate) mod capture;
+mod outline;
 pub(crate) mod refile;
 pub(crate) mod show;
+pub(crate) mod todo;

@@ -224,6 +224,7 @@ impl<D: Disk> Files<D> {
         ensures broken { self.new.broken ≡ self.old.broken }
         ensures now { self.new.held.now ≡ self.old.held.before }
         ensures before { self.new.held.before ≡ self.old.held.before }
+        ensures small { AreSmallToWrite self.new.held.now }
     {
         self.texts.undo();
     }

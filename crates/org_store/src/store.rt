@@ -212,7 +212,7 @@ impl<D: Disk> Store<D> {
                 Ok(Reply::Safe(self.tally.acknowledged))
             }
             Command::Show { file } => show(&mut self.files, file),
-            Command::Capture { .. } | Command::Refile { .. } => {
+            Command::Capture { .. } | Command::Refile { .. } | Command::Todo { .. } => {
                 change(&mut self.files, &self.states, &mut self.tally, command)
             }
         }

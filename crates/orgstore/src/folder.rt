@@ -25,8 +25,8 @@ const TURNS: u64 = 4_294_967_295;
 ///
 /// `S` says what the folder held at first; no code reads it, and what is promised holds for every `S`. What the calls
 /// of the operating system did to the files, and what they answered, is noted in a record, which stands in proofs alone
-/// and is empty at first, where the files are those of `S`. That each answer in it was right up to the end (`is_right`) is the premise of what is said of
-/// files and of stops.
+/// and is empty at first, where the files are those of `S`. That each answer in it was right up to the end (`is_right`)
+/// is the premise of what is said of files and of stops.
 ///
 /// Where the input was read to its end, what was written is the transcript of its lines; where a read failed, that of the
 /// complete lines before it. If the folder was fit at first, and each image of it stood for files, each image that a stop

@@ -14,10 +14,11 @@ ghost use Rattle.org_store.specs.Refile.{MakesDocument, MakesDocuments};
 ghost use Rattle.org_store.specs.Session.{kept_over};
 
 use crate::command::{Refusal, RunFault};
+use crate::commands::outline::outline_of;
 use crate::files::Files;
 use org_disk::{Disk, FileName};
 use org_move::{MoveFault, refile_across, refile_within};
-use org_outline::{Outline, Place, States, Titles};
+use org_outline::{Place, States, Titles};
 use org_splice::Edit;
 use org_texts::{FileEdits, Held, Plan};
 use std::alloc::{AllocError, Global};
@@ -33,17 +34,6 @@ fn edits_of<const N: usize>(
     let file = file.clone()?;
     let edits = Vec::from_array(alloc, edits)?;
     Ok(FileEdits { file, edits })
-}
-
-/// The outline of a text that is ready. Takes no memory.
-fn outline_of<'a>(held: &'a Held, states: &'a States) -> Outline<'a>
-    requires { held.now.ready ≡ true }
-    ensures { (result.text ≡ held.now.text.bytes) × (result.states ≡ states.now) }
-{
-    let Some(heads) = held.heads() else {
-        unreachable!();
-    };
-    Outline::over(held.bytes(), heads, states)
 }
 
 /// The edits of a file, whose text is ready, that move a subtree within it.

@@ -1,23 +1,41 @@
-use Rattle.std.proofs.Common.{◌≡◌, ◌∙◌, Err, refl, sym, ap, subst, rules}
+use Rattle.std.proofs.Common.{◌≡◌, ◌∙◌, [], Option, Result, Ok, Err, refl, sym, ap, subst, rules}
 use Rattle.org_disk.specs.Accounts.{Looks}
+use Rattle.org_texts.specs.declared.plan.Plan.{Plan}
+use Rattle.org_store.specs.declared.command.RunFault.{RunFault}
 use Rattle.org_store.specs.Files.{new_texts}
+use Rattle.org_store.specs.Keeping.{PlansOrStays}
 use Rattle.org_store.specs.Outcome.{changed, outcome}
 use Rattle.org_store.specs.Session.{Kept, kept_over}
 use Rattle.org_store.specs.Step.{Does}
 use Rattle.org_store.proofs.Acting.{acts_after, acts_quiet, kept_same}
 use Rattle.org_store.proofs.changing.change.Goals as goal
 
-pub returns-in-Ok-clause-acts : goal.returns-in-Ok-clause-acts
-returns-in-Ok-clause-acts g c =
+pub accept-requires-clause-plan : goal.accept-requires-clause-plan
+accept-requires-clause-plan g c = c.in-Ok-Some.ensures.plan c.in-Ok-Some.plan c.in-Ok-Some.field-0-is
+
+pub returns-in-Ok-Some-clause-acts : goal.returns-in-Ok-Some-clause-acts
+returns-in-Ok-Some-clause-acts g c =
     let d = g.D.Disk in
     let old = kept_over d.files c.args.states.now c.args.files.now c.args.tally.now in
     let mid = kept_over d.files c.args.states.now c.plan.new.files c.args.tally.now in
     let new = kept_over d.files c.args.states.now c.accept.new.files c.accept.new.tally in
     acts_after d.files d.moment d.left_since d.honest old (λ honest image left. g.met.D.Disk.only_now old.disk image honest left) refl mid new
-    (outcome old.session c.args.command.now) (changed mid.session (new_texts c.in-Ok.plan c.plan.new.files.held.now)) c.accept.result
+    (outcome old.session c.args.command.now) (changed mid.session (new_texts c.in-Ok-Some.plan c.plan.new.files.held.now)) c.accept.result
     c.accept.ensures.accounts.was_honest c.plan.ensures.accounts.was_honest
-    (λ honest. let plans = c.in-Ok.ensures.plans c.args.tally.now honest in (plans.0 ∙ ap (λ s. changed s (new_texts c.in-Ok.plan c.plan.new.files.held.now)) (sym plans.1), plans.1))
+    (λ honest. let plans = subst (λ (r : Result (Option Plan) RunFault). PlansOrStays old.session (outcome old.session c.args.command.now) r c.plan.new.files.held mid.session) (c.in-Ok-Some.is ∙ ap (λ (o : Option Plan). Ok o) c.in-Ok-Some.field-0-is) (c.plan.ensures.plans c.args.tally.now honest) in (plans.0 ∙ ap (λ s. changed s (new_texts c.in-Ok-Some.plan c.plan.new.files.held.now)) (sym plans.1), plans.1))
     c.plan.ensures.looks (record { accepted = refl; acknowledged = refl; group = refl }) (c.accept.ensures.acts c.args.states.now)
+
+pub returns-in-Ok-None-clause-acts : goal.returns-in-Ok-None-clause-acts
+returns-in-Ok-None-clause-acts g c =
+    let d = g.D.Disk in
+    let old = kept_over d.files c.args.states.now c.args.files.now c.args.tally.now in
+    let mid = kept_over d.files c.args.states.now c.plan.new.files c.args.tally.now in
+    let new = kept_over d.files c.args.states.now c.accept_unchanged.new.files c.accept_unchanged.new.tally in
+    acts_after d.files d.moment d.left_since d.honest old (λ honest image left. g.met.D.Disk.only_now old.disk image honest left) refl mid new
+    (outcome old.session c.args.command.now) (changed mid.session []) c.accept_unchanged.result
+    c.accept_unchanged.ensures.accounts.was_honest c.plan.ensures.accounts.was_honest
+    (λ honest. let plans = subst (λ (r : Result (Option Plan) RunFault). PlansOrStays old.session (outcome old.session c.args.command.now) r c.plan.new.files.held mid.session) (c.in-Ok-None.is ∙ ap (λ (o : Option Plan). Ok o) c.in-Ok-None.field-0-is) (c.plan.ensures.plans c.args.tally.now honest) in (plans.0 ∙ ap (λ s. changed s []) (sym plans.1), plans.1))
+    c.plan.ensures.looks (record { accepted = refl; acknowledged = refl; group = refl }) (c.accept_unchanged.ensures.acts c.args.states.now)
 
 pub returns-in-Err-clause-acts : goal.returns-in-Err-clause-acts
 returns-in-Err-clause-acts g c =

@@ -1,0 +1,106 @@
+-- Changes of states: what their planner finds is what the outcome says.
+use Rattle.std.proofs.Common.{◌≡◌, ◌≢◌, ℕ, true, false, List, [], ◌∷◌, Option, Some, None, Result, Ok, Err, Vec, refl, sym, ◌∙◌, ap, subst}
+use Rattle.std.specs.Global.{Global}
+use Rattle.std.specs.Option.{ForSome}
+use Rattle.org_splice.specs.declared.edit.Edit.{Edit}
+use Rattle.org_splice.specs.Edits.{AreEdits}
+use Rattle.org_splice.specs.Lines.{closed}
+use Rattle.org_splice.specs.Texts.{EditedText}
+use Rattle.org_outline.specs.States.{Keywords}
+use Rattle.org_outline.specs.Tree.{Document, print, tree}
+use Rattle.org_outline.proofs.Trees.{tree-closed}
+use Rattle.org_stamp.specs.Calendar.{CivilMinute}
+use Rattle.org_texts.specs.declared.plan.Plan.{Plan}
+use Rattle.org_texts.specs.Texts.{Holding, text_of}
+use Rattle.org_state.specs.declared.fault.StateFault.{StateFault}
+use Rattle.org_state.specs.declared.fault.StateFault.TheVariants as fault
+use Rattle.org_state.specs.Answers.{AnswersTodo, Makes}
+use Rattle.org_state.specs.Todo.{IsTodo, todo as in_state}
+use Rattle.org_state.proofs.Computed.{todo_computed}
+use Rattle.org_store.specs.Files.{AreReady, IsPlanFor}
+use Rattle.org_store.specs.InOrder.{is_name}
+use Rattle.org_store.specs.Keeping.{PlansOrStays, fault_of_state}
+use Rattle.org_store.specs.Outcome.{Outcome, Refuses, changed, refusal_of_state, todo, with_state}
+use Rattle.org_store.specs.Session.{Session}
+use Rattle.org_store.specs.Step.{Does}
+use Rattle.org_store.specs.Todo.{PlansState}
+use Rattle.org_store.proofs.Plans.{one_text, plan_of_one}
+
+-- ---- the edits
+
+module _ (states : Keywords) (path : List (List ℕ)) (state : List ℕ) (now : CivilMinute) (text : List ℕ) where
+  -- no edits, for this reason
+  pub state_refused : (file : List ℕ) (result : Result (Option Plan) StateFault) (why : StateFault) → result ≡ Err why → AnswersTodo states path state now text (Err why) → PlansState file text (in_state states path state now (tree text)) result
+  state_refused file result why is answers = subst (PlansState file text (in_state states path state now (tree text))) (sym is) (go why answers)
+    where
+      told : (w : StateFault) → IsTodo states path state now (tree text) (Err w) → in_state states path state now (tree text) ≡ Err w
+      told w is = todo_computed states path state now (tree text) (Err w) is
+
+      go : (w : StateFault) → AnswersTodo states path state now text (Err w) → PlansState file text (in_state states path state now (tree text)) (Err w)
+      go fault.OutOfMemory answers = tt
+      go fault.NotFound answers = told fault.NotFound answers
+      go fault.NotUnique answers = told fault.NotUnique answers
+      go fault.UnknownState answers = told fault.UnknownState answers
+      go fault.OddPlanning answers = told fault.OddPlanning answers
+      go fault.BadRepeat answers = told fault.BadRepeat answers
+      go fault.DateRange answers = told fault.DateRange answers
+      go fault.ClockBackwards answers = told fault.ClockBackwards answers
+
+  -- edits that change nothing
+  pub state_stays : (edits : Vec Edit Global) → edits.items ≡ [] → AnswersTodo states path state now text (Ok edits) → in_state states path state now (tree text) ≡ Ok None
+  state_stays edits none (new, is, makes) = go new is makes
+    where
+      go : (o : Option Document) → IsTodo states path state now (tree text) (Ok o) → Makes o text edits.items → in_state states path state now (tree text) ≡ Ok None
+      go None is makes = todo_computed states path state now (tree text) (Ok None) is
+      go (Some d) is makes = absurd (makes.0 none)
+
+  -- .. and edits that make a document
+  pub state_made : (edits : Vec Edit Global) → edits.items ≢ [] → AnswersTodo states path state now text (Ok edits) → (d : Document) × (in_state states path state now (tree text) ≡ Ok (Some d)) × AreEdits edits.items text (print d)
+  state_made edits some (new, is, makes) = go new is makes
+    where
+      go : (o : Option Document) → IsTodo states path state now (tree text) (Ok o) → Makes o text edits.items → (d : Document) × (in_state states path state now (tree text) ≡ Ok (Some d)) × AreEdits edits.items text (print d)
+      go None is makes = absurd (some makes)
+      go (Some d) is makes = (d, todo_computed states path state now (tree text) (Ok (Some d)) is, makes.1)
+
+-- ---- the outcome
+
+-- what is to be done with the text, which the planner sees closed
+pub todo_is : (s : Session) (file : List ℕ) (path : List (List ℕ)) (state : List ℕ) (moment : CivilMinute) (text seen : List ℕ) → seen ≡ closed text
+    → todo s file path state moment (Some text) ≡ with_state s file (in_state s.states path state moment (tree seen))
+todo_is s file path state moment text seen shut = ap (λ (d : Document). with_state s file (in_state s.states path state moment d)) (sym (ap tree shut ∙ tree-closed text))
+
+-- what is refused
+pub todo_refused : (s : Session) (file : List ℕ) (path : List (List ℕ)) (state : List ℕ) (moment : CivilMinute) (text seen : List ℕ) (result : Result (Option Plan) StateFault) (why : StateFault) → s.broken ≡ false → seen ≡ closed text
+    → result ≡ Err why → PlansState file seen (in_state s.states path state moment (tree seen)) result → Does s (todo s file path state moment (Some text)) (Err (fault_of_state why)) s
+todo_refused s file path state moment text seen result why unbroken shut was plans = go why (subst (PlansState file seen said) was plans)
+  where
+    said : Result (Option Document) StateFault
+    said = in_state s.states path state moment (tree seen)
+
+    refuses : (w : StateFault) → said ≡ Err w → todo s file path state moment (Some text) ≡ Refuses (refusal_of_state w)
+    refuses w is = todo_is s file path state moment text seen shut ∙ ap (with_state s file) is
+
+    go : (w : StateFault) → PlansState file seen said (Err w) → Does s (todo s file path state moment (Some text)) (Err (fault_of_state w)) s
+    go fault.OutOfMemory plans = (unbroken, refl)
+    go fault.NotFound plans = (unbroken, refuses fault.NotFound plans, refl)
+    go fault.NotUnique plans = (unbroken, refuses fault.NotUnique plans, refl)
+    go fault.UnknownState plans = (unbroken, refuses fault.UnknownState plans, refl)
+    go fault.OddPlanning plans = (unbroken, refuses fault.OddPlanning plans, refl)
+    go fault.BadRepeat plans = (unbroken, refuses fault.BadRepeat plans, refl)
+    go fault.DateRange plans = (unbroken, refuses fault.DateRange plans, refl)
+    go fault.ClockBackwards plans = (unbroken, refuses fault.ClockBackwards plans, refl)
+
+-- ---- the plan
+
+pub state_fits : (names : List (List ℕ)) (held : Holding) (file : List ℕ) (seen : EditedText) (said : Result (Option Document) StateFault) (o : Option Plan) → PlansState file seen.bytes said (Ok o) → text_of held.now file ≡ Some seen
+    → is_name names file ≡ true → AreReady (file ∷ []) held → ForSome o (λ plan. IsPlanFor names held plan)
+state_fits names held file seen said None plans at named ready = λ plan is. absurd (cc)
+state_fits names held file seen said (Some one) (new, is, makes) at named ready = λ plan is.
+    let same : one ≡ plan = cc in
+    subst (λ (p : Plan). IsPlanFor names held p) same (plan_of_one one names held file seen (print new) makes.0 makes.1 at makes.2 named ready)
+
+pub state_planned : (s new : Session) (held : Holding) (file : List ℕ) (seen : EditedText) (said : Result (Option Document) StateFault) (told : Outcome) (o : Option Plan) → told ≡ with_state s file said → PlansState file seen.bytes said (Ok o)
+    → text_of held.now file ≡ Some seen → new ≡ s → PlansOrStays s told (Ok o) held new
+state_planned s new held file seen said told None is plans at same = (is ∙ ap (with_state s file) plans, same)
+state_planned s new held file seen said told (Some plan) is (d, made, makes) at same =
+    (is ∙ ap (with_state s file) made ∙ ap (changed s) (sym (one_text plan held file seen (print d) makes.0 makes.1 at makes.2)), same)

@@ -1,0 +1,86 @@
+//! Headings put into other TODO states.
+ghost use Rattle.std.specs.Prelude.{◌≡◌, ◌↔◌, IfOk, IsErrOf, IsTrue, false, true};
+ghost use Rattle.std.specs.Option.{ForSome};
+ghost use Rattle.org_disk.specs.Accounts.{Accounts, Looks};
+ghost use Rattle.org_outline.specs.Tree.{tree};
+ghost use Rattle.org_state.specs.Todo.{todo};
+ghost use Rattle.org_store.specs.declared.tally.Tally.{Tally};
+ghost use Rattle.org_store.specs.Files.{IsPlanFor};
+ghost use Rattle.org_store.specs.InOrder.{text_at};
+ghost use Rattle.org_store.specs.Keeping.{PlansOrStays};
+ghost use Rattle.org_store.specs.Outcome.{todo as outcome};
+ghost use Rattle.org_store.specs.Session.{kept_over};
+ghost use Rattle.org_store.specs.Todo.{PlansState};
+
+use crate::command::{Refusal, RunFault};
+use crate::commands::outline::outline_of;
+use crate::files::Files;
+use org_disk::{Disk, FileName};
+use org_outline::{States, Titles};
+use org_splice::Bytes;
+use org_stamp::Moment;
+use org_state::{StateFault, todo};
+use org_texts::{FileEdits, Held, Plan};
+use std::alloc::Global;
+
+/// The edits of a file, whose text is ready, that put one of its headings into another state; none where nothing changes.
+fn plan_state(
+    alloc: Global,
+    states: &States,
+    held: &Held,
+    file: &FileName,
+    path: &Titles,
+    state: &Bytes,
+    moment: Moment,
+) -> Result<Option<Plan>, StateFault>
+    requires ready { held.now.ready ≡ true }
+    ensures { PlansState file.now held.now.text.bytes
+        (todo states.now path.now state.now moment (tree held.now.text.bytes)) result }
+{
+    let outline = outline_of(held, states);
+    let edits = todo(alloc, &outline, path.as_slice(), state.as_slice(), moment)?;
+    if edits.is_empty() {
+        return Ok(None);
+    }
+    let file = file.clone()?;
+    Ok(Some(Plan {
+        first: FileEdits { file, edits },
+        second: None,
+    }))
+}
+
+/// What a change of a state is to change; no plan where nothing changes. It is refused for its file first, then for its
+/// path, then for its state, then for the heading's planning.
+pub(crate) fn plan_todo<D: Disk>(
+    files: &mut Files<D>,
+    states: &States,
+    file: &FileName,
+    path: &Titles,
+    state: &Bytes,
+    moment: Moment,
+) -> Result<Option<Plan>, RunFault>
+    requires unbroken { files.old.broken ≡ false }
+    requires begun { files.old.held.now ≡ files.old.held.before }
+    ensures plan { IfOk result (λ plan. ForSome plan
+        (λ plan. IsPlanFor files.new.names files.new.held plan)) }
+    ensures plans { (tally : Tally) → D.honest files.new.disk
+        → let session = (kept_over D.files states.now files.old tally).session in
+        PlansOrStays session (outcome session file.now path.now state.now moment
+        (text_at session.names session.files file.now)) result
+        files.new.held (kept_over D.files states.now files.new tally).session }
+    ensures looks { D.honest files.new.disk
+        → Looks D.files D.moment D.left_since files.old.disk files.new.disk }
+    ensures works { IsErrOf result RunFault.Broken → ⊥ }
+    ensures breaks { IsErrOf result RunFault.Device ↔ IsTrue files.new.broken }
+    ensures accounts { Accounts D.steady D.honest D.failures files.old.disk files.new.disk
+        (IsErrOf result RunFault.Device) }
+{
+    if !files.has(file) {
+        return Err(RunFault::Refused(Refusal::NoSuchFile));
+    }
+    files.ready(file)?;
+    let Some(held) = files.get(file) else {
+        unreachable!();
+    };
+    Ok(plan_state(files.alloc(), states, held, file, path, state, moment)?)
+}
