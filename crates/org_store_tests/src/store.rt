@@ -7,6 +7,7 @@ mod failures;
 mod groups;
 mod limits;
 mod refiles;
+mod states;
 mod stops;
 
 use org_capture::Target;

@@ -21,7 +21,7 @@ type Row = (
     Result<(&'static str, &'static str), Refusal>,
 );
 
-fn titles(alloc: Global, path: &[&str]) -> Result<Titles, AllocError> {
+pub fn titles(alloc: Global, path: &[&str]) -> Result<Titles, AllocError> {
     let mut titles = Vec::new(alloc);
     for title in path {
         titles.push(Vec::from_slice(alloc, title.as_bytes())?)?;
