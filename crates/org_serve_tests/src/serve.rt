@@ -10,6 +10,7 @@ mod large_moves;
 mod lines;
 mod moves;
 mod pipes;
+mod states;
 mod stops;
 
 use org_disk::MemoryDisk;

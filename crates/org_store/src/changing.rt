@@ -138,7 +138,11 @@ fn accept_unchanged<D: Disk>(files: &mut Files<D>, tally: &mut Tally) -> Result<
 
 /// What a command that changes files is to change: its files are read where they aren't held, and made ready. Nothing is
 /// edited. There is no plan where nothing changes.
-fn plan<D: Disk>(files: &mut Files<D>, states: &States, command: &Command) -> Result<Option<Plan>, RunFault>
+fn plan<D: Disk>(
+    files: &mut Files<D>,
+    states: &States,
+    command: &Command,
+) -> Result<Option<Plan>, RunFault>
     requires change { IsChange command.now }
     requires unbroken { files.old.broken ≡ false }
     requires begun { files.old.held.now ≡ files.old.held.before }

@@ -13,12 +13,12 @@ use std::test::Fail;
 
 // Lines that are settled as one: what a.org and b.org hold before them, and what shows of both answer before and after.
 #[derive(Clone, Copy)]
-struct Step {
-    a: &'static [u8],
-    b: &'static [u8],
-    lines: &'static [u8],
-    before: &'static [u8],
-    after: &'static [u8],
+pub struct Step {
+    pub a: &'static [u8],
+    pub b: &'static [u8],
+    pub lines: &'static [u8],
+    pub before: &'static [u8],
+    pub after: &'static [u8],
 }
 
 // The last line of the target has no newline.
@@ -170,7 +170,11 @@ fn is_done_at_last(alloc: Global, group: u32, step: &Step) -> Result<bool, Fail>
     is_done(alloc, disk, step)
 }
 
-fn stop_at_every_call(rt: &(impl Abort + AllocGlobal), group: u32, step: &Step) -> Result<(), Fail>
+pub fn stop_at_every_call(
+    rt: &(impl Abort + AllocGlobal),
+    group: u32,
+    step: &Step,
+) -> Result<(), Fail>
     requires { IsGroup group }
 {
     let all = calls(rt.alloc(), disk_of(rt.alloc(), step)?, group, step.lines)?;
@@ -261,7 +265,7 @@ fn fail_at(
 }
 
 // Each call fails in turn; so many are made behind the opening.
-fn fail_at_every_call(
+pub fn fail_at_every_call(
     rt: &(impl Abort + AllocGlobal),
     step: &Step,
     wanted: u64,

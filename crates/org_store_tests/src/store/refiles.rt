@@ -381,6 +381,15 @@ fn journal_of(alloc: Global, store: Store<MemoryDisk>) -> Result<Vec<u8>, Fail> 
 fn a_record_has_the_source_first(rt: HostRuntime) {
     let mut store = store_over(&rt, rt.alloc(), b"* A\n** B\n", b"* T");
     let source = ("a.org", &["A", "B"] as &[&str]);
-    let _ = must(&rt, refiled(rt.alloc(), &mut store, source, ("b.org", &["T"]), Place::Last));
+    let _ = must(
+        &rt,
+        refiled(
+            rt.alloc(),
+            &mut store,
+            source,
+            ("b.org", &["T"]),
+            Place::Last,
+        ),
+    );
     assert!(rt; must(&rt, journal_of(rt.alloc(), store)).as_slice() == SOURCE_FIRST.as_slice());
 }
