@@ -43,12 +43,23 @@ fn changed(
     state: &str,
     now: Moment,
 ) -> Result<Option<Vec<u8>>, StateFault> {
+    let states = States::new(rt.alloc(), &["TODO", "NEXT"], &["DONE", "GONE"]);
+    changed_in(rt, &states.expect(rt, "states"), text, path, state, now)
+}
+
+/// The same in a store of these states.
+fn changed_in(
+    rt: &(impl Abort + AllocGlobal),
+    states: &States,
+    text: &[u8],
+    path: &[&str],
+    state: &str,
+    now: Moment,
+) -> Result<Option<Vec<u8>>, StateFault> {
     let alloc = rt.alloc();
-    let states = States::new(alloc, &["TODO", "NEXT"], &["DONE", "GONE"]);
-    let states = states.expect(rt, "states");
     assert!(rt; is_closed(text));
     let path = titles(alloc, path)?;
-    let outline = Outline::read(alloc, text, &states)?;
+    let outline = Outline::read(alloc, text, states)?;
     let edits = todo(alloc, &outline, path.as_slice(), state.as_bytes(), now)?;
     if edits.is_empty() {
         return Ok(None);
@@ -299,4 +310,64 @@ fn faults_in_their_order(rt: HostRuntime) -> Result<(), Fail> {
         NOW,
         &[("* A\n", "TODO", Err(StateFault::NotFound))],
     )
+}
+
+/// A state of 24 letters, which is the longest, among 32, which is the most.
+const LONGEST: &str = "ABCDEFGHIJKLMNOPQRSTUVWX";
+
+const ACTIVE: [&str; 31] = [
+    LONGEST, "S1", "S2", "S3", "S4", "S5", "S6", "S7", "S8", "S9", "S10", "S11", "S12", "S13",
+    "S14", "S15", "S16", "S17", "S18", "S19", "S20", "S21", "S22", "S23", "S24", "S25", "S26",
+    "S27", "S28", "S29", "S30",
+];
+
+const MANY: [(&str, &str, &str); 4] = [
+    ("* A\n", LONGEST, "* ABCDEFGHIJKLMNOPQRSTUVWX A\n"),
+    ("* ABCDEFGHIJKLMNOPQRSTUVWX A\n", "S30", "* S30 A\n"),
+    (
+        "* S30 A\n",
+        "LAST",
+        "* LAST A\nCLOSED: [2026-07-01 Wed 10:00]\n",
+    ),
+    (
+        "* LAST A\nCLOSED: [2026-07-01 Wed 10:00]\n",
+        LONGEST,
+        "* ABCDEFGHIJKLMNOPQRSTUVWX A\n",
+    ),
+];
+
+#[test]
+fn states_up_to_the_most(rt: HostRuntime) -> Result<(), Fail> {
+    let states = States::new(rt.alloc(), &ACTIVE, &["LAST"]).expect(&rt, "states");
+    let now = Moment::new(2026, 7, 1, 10, 0).ok_or("no such moment")?;
+    for (text, state, expected) in &MANY {
+        let after = changed_in(&rt, &states, text.as_bytes(), &["A"], state, now)?;
+        assert!(rt;
+            after.is_some_and(|after| after.as_slice() == expected.as_bytes()),
+            "{text}"
+        );
+    }
+    Ok(())
+}
+
+/// A heading, TODO, with a section of so many lines.
+fn long_section(alloc: Global, lines: usize) -> Result<Vec<u8>, AllocError> {
+    let mut text = Vec::from_slice(alloc, b"* TODO A\n")?;
+    for _ in 0..lines {
+        text.extend_from_slice(b"x\n")?;
+    }
+    Ok(text)
+}
+
+#[test]
+fn a_section_of_a_million_lines(rt: HostRuntime) -> Result<(), Fail> {
+    let front: &[u8] = b"* DONE A\nCLOSED: [2026-07-01 Wed 10:00]\n";
+    let text = long_section(rt.alloc(), 1_000_000)?;
+    let now = Moment::new(2026, 7, 1, 10, 0).ok_or("no such moment")?;
+    let after = changed(&rt, &text, &["A"], "DONE", now)?;
+    let after = after.ok_or("nothing changed")?;
+    assert!(rt;
+        after.as_slice().strip_prefix(front) == text.as_slice().strip_prefix(b"* TODO A\n")
+    );
+    Ok(())
 }

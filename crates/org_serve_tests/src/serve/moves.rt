@@ -291,3 +291,14 @@ fn each_call_of_a_refile_across_files_fails(rt: HostRuntime) -> Result<(), Fail>
 fn each_call_of_a_refile_within_a_file_fails(rt: HostRuntime) -> Result<(), Fail> {
     fail_at_every_call(&rt, &WITHIN, 11)
 }
+
+// The made headings and the entry are one insertion.
+#[test]
+fn each_call_of_a_capture_below_a_new_head_fails(rt: HostRuntime) -> Result<(), Fail> {
+    fail_at_every_call(&rt, &TO_A_HEAD, 11)
+}
+
+#[test]
+fn each_call_of_a_capture_to_a_new_day_fails(rt: HostRuntime) -> Result<(), Fail> {
+    fail_at_every_call(&rt, &TO_A_DAY, 11)
+}
