@@ -21,13 +21,13 @@ use Rattle.org_move.proofs.Made.{prints}
 use Rattle.org_move.proofs.Putting.{level_at}
 
 pub archive_made : (states : Keywords) (name : List ℕ) (path : List (List ℕ)) (now : CivilMinute) (t : List ℕ) (there : Keywords) (to : Destination) (u : List ℕ) (r : Result ℕ PathFault) (s : Result (Option ℕ) PathFault)
-    (i : ℕ) (up : Option ℕ) (at : ℕ) (bytes : List ℕ) (out : Edit)
+    (i : ℕ) (up : Option ℕ) (at : ℕ) (bytes : List ℕ) (out goes_in : Edit)
     → closed t ≡ t → closed u ≡ u → r ≡ find_path states (tree t) path → r ≡ Ok i → s ≡ target_heading there to (tree u) → s ≡ Ok up → i < node_count (tree t)
     → ((node : Node) → InsertsAt u (put_last to up node (tree u)) at (filled to (level_at up (tree u)) node))
-    → out ≡ removal i (tree t) → bytes ≡ print_node (filled to (level_at up (tree u)) (archived states name now (tree t) i))
+    → out ≡ removal i (tree t) → goes_in ≡ record { at = at; removed = 0; bytes = bytes } → bytes ≡ print_node (filled to (level_at up (tree u)) (archived states name now (tree t) i))
     → (new : Moved) × (archive_across states name path now (tree t) there to (tree u) ≡ Ok new)
-    × (AreEdits (out ∷ []) t (print new.source) × AreEdits ((record { at = at; removed = 0; bytes = bytes }) ∷ []) u (print new.target))
-archive_made states name path now t there to u r s i up at bytes out shut shut_target r_is found s_is found_up lt goes out_is bytes_is =
+    × (AreEdits (out ∷ []) t (print new.source) × AreEdits (goes_in ∷ []) u (print new.target))
+archive_made states name path now t there to u r s i up at bytes out goes_in shut shut_target r_is found s_is found_up lt goes out_is goes_in_is bytes_is =
     let d : Document = tree t in
     let e : Document = tree u in
     let root : Node = archived states name now d i in
@@ -44,6 +44,6 @@ archive_made states name path now t there to u r s i up at bytes out shut shut_t
       rw (first, second) refl,
       (
         rw out_is (subst (λ t. AreEdits (removal i d ∷ []) t (print new.source)) (prints t shut) left),
-        rw bytes_is (subst (λ u. AreEdits (insertion at node ∷ []) u (print new.target)) whole gained),
+        rw (goes_in_is, bytes_is) (subst (λ u. AreEdits (insertion at node ∷ []) u (print new.target)) whole gained),
       ),
     )

@@ -1,11 +1,25 @@
-//! What the edits of an archived subtree are made of.
-ghost use Rattle.std.specs.Prelude.{◌≡◌, ◌+◌, ◌<◌, ◌^◌};
+//! Archived subtrees.
+ghost use Rattle.std.specs.Prelude.{◌≡◌, [], ◌∷◌, ◌+◌, ◌<◌, ◌^◌};
 ghost use Rattle.std.specs.Option.{ForSome, option_map};
+ghost use Rattle.org_splice.specs.Edits.{AreEdits};
 ghost use Rattle.org_splice.specs.Lines.{closed};
-ghost use Rattle.org_outline.specs.Tree.{node_at, node_count, tree};
+ghost use Rattle.org_outline.specs.Paths.{titles_of};
+ghost use Rattle.org_outline.specs.Moves.{InsertsAt};
+ghost use Rattle.org_outline.specs.Tree.{Node as NodeOf, node_at, node_count, print, tree};
+ghost use Rattle.org_move.specs.Answers.{Gives};
+ghost use Rattle.org_move.specs.Archive.{archive_across, filled, put_last};
+ghost use Rattle.org_move.specs.Location.{Destination};
 
-use org_outline::{Node, Outline};
+use crate::MoveFault;
+use crate::destination::Location;
+use crate::refile::without;
+use crate::subtree::{archived_subtree, filled};
+use crate::target::target_heading;
+use org_disk::FileName;
+use org_outline::{Node, Outline, Place};
 use org_splice::{Bytes, Edit};
+use org_stamp::Moment;
+use std::alloc::Global;
 
 /// The level of a heading.
 fn level_of(outline: &Outline<'_>, node: Node) -> usize
@@ -20,16 +34,24 @@ fn level_of(outline: &Outline<'_>, node: Node) -> usize
     level
 }
 
-/// The level of a heading, if there is one.
-fn level_if(outline: &Outline<'_>, up: Option<Node>) -> Option<usize>
+/// The byte at which a subtree goes in last below a heading, and the level of that heading; with none, the end of the
+/// text.
+fn last_below(outline: &Outline<'_>, up: Option<Node>) -> (usize, Option<usize>)
     requires { ForSome up (λ up. up < node_count (tree outline.now.text)) }
-    ensures value { result
+    ensures place { let d = tree outline.now.text in (to : Destination) (node : NodeOf)
+        → InsertsAt outline.now.text (put_last to up node d) result.0
+        (filled to (option_map (λ i. (node_at d i).node.level) up) node) }
+    ensures level { result.1
         ≡ option_map (λ i. (node_at (tree outline.now.text) i).node.level) up }
-    ensures room { ForSome result (λ level. level + 1 < 2 ^ 63) }
+    ensures closed { closed outline.now.text ≡ outline.now.text }
+    ensures room { ForSome result.1 (λ level. level + 1 < 2 ^ 63) }
 {
     match up {
-        Some(up) => Some(level_of(outline, up)),
-        None => None,
+        Some(up) => {
+            let level = level_of(outline, up);
+            (outline.place(Some(up), Place::Last), Some(level))
+        }
+        None => (outline.text().len(), None),
     }
 }
 
@@ -42,4 +64,37 @@ fn insertion(at: usize, bytes: Vec<u8>) -> Edit
         removed: 0,
         bytes: Bytes::new(bytes),
     }
+}
+
+/// The edits of two texts by which the subtree at `path` of the source, the text of the file with this name, is archived
+/// in the target, the text of the location's file (Org manual, "Moving a tree to an archive file"): the first one takes
+/// it out of the source, and the second one puts it into the target, last below the location's heading, which is made
+/// at the end where it isn't there, or last at the top level. Its root gets the properties ARCHIVE_TIME, ARCHIVE_FILE,
+/// ARCHIVE_OLPATH, ARCHIVE_CATEGORY, ARCHIVE_TODO and ARCHIVE_ITAGS.
+///
+/// # Errors
+/// In this order: `NotFound` or `NotUnique` of `path`, `NotUnique` of the location's heading, and `OutOfMemory`.
+pub fn archive(
+    alloc: Global,
+    source: &Outline<'_>,
+    target: &Outline<'_>,
+    name: &FileName,
+    path: &[Vec<u8>],
+    now: Moment,
+    to: &Location,
+) -> Result<(Edit, Edit), MoveFault>
+    ensures { let from = tree source.now.text in
+        let into = tree target.now.text in
+        Gives (archive_across source.now.states name.now (titles_of path.now) now from
+        target.now.states to.now into)
+        (λ new edits. AreEdits (edits.0 ∷ []) source.now.text (print new.source)
+        × AreEdits (edits.1 ∷ []) target.now.text (print new.target)) result }
+{
+    let node = source.find(path)?;
+    let up = target_heading(target, to)?;
+    let (at, above) = last_below(target, up);
+    let subtree = archived_subtree(alloc, source, node, name, now)?;
+    let lines = filled(alloc, &subtree, to, above)?;
+    let goes_in = insertion(at, lines);
+    Ok((without(alloc, source, node), goes_in))
 }

@@ -16,6 +16,7 @@ mod refile;
 mod subtree;
 mod target;
 
+pub use archiving::archive;
 pub use destination::Location;
 pub use fault::MoveFault;
 pub use locating::location;

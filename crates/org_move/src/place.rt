@@ -1,26 +1,11 @@
-//! Where an archived subtree goes in.
+//! Whether the place of an archived subtree is apart from it.
 ghost use Rattle.std.specs.Prelude.{◌≡◌, ◌<◌};
-ghost use Rattle.std.specs.Option.{ForSome, option_map};
-ghost use Rattle.org_outline.specs.Moves.{InsertsAt};
-ghost use Rattle.org_outline.specs.Tree.{Node as NodeOf, node_at, node_count, tree};
-ghost use Rattle.org_move.specs.Archive.{filled, if_apart, put_last};
-ghost use Rattle.org_move.specs.Location.{Destination};
+ghost use Rattle.std.specs.Option.{ForSome};
+ghost use Rattle.org_outline.specs.Tree.{node_count, tree};
+ghost use Rattle.org_move.specs.Archive.{if_apart};
 
 use crate::MoveFault;
-use org_outline::{Node, Outline, Place};
-
-/// The byte at which a subtree goes in last below a heading; with none, at the end of the text.
-pub(crate) fn place_last(outline: &Outline<'_>, up: Option<Node>) -> usize
-    requires { ForSome up (λ node. node < node_count (tree outline.now.text)) }
-    ensures { let d = tree outline.now.text in (to : Destination) (node : NodeOf)
-        → InsertsAt outline.now.text (put_last to up node d) result
-        (filled to (option_map (λ i. (node_at d i).node.level) up) node) }
-{
-    match up {
-        Some(up) => outline.place(Some(up), Place::Last),
-        None => outline.text().len(),
-    }
-}
+use org_outline::{Node, Outline};
 
 /// Fails where the heading at the place lies in the entry, or above it.
 pub(crate) fn check_apart(

@@ -23,9 +23,10 @@ fn with_section(
 ) -> Result<Vec<u8>, AllocError>
     requires node { node < node_count (tree outline.now.text) }
     requires closed { closed section.now ≡ section.now }
-    ensures { let own = (node_at (tree outline.now.text) node).node in
+    ensures value { let own = (node_at (tree outline.now.text) node).node in
         IfOk result (λ made. made.items
         ≡ print_node (record own { section = lines_of section.now })) }
+    ensures closed { IfOk result (λ made. closed outline.now.text ≡ outline.now.text) }
 {
     let subtree = outline.subtree(node);
     let old = outline.section(node);
@@ -48,6 +49,7 @@ pub(crate) fn archived_subtree(
     ensures printed { IfOk result (λ made. IsPrinted made.items) }
     ensures root { IfOk result (λ made. (node_at (tree made.items) 0).node
         ≡ archived outline.now.states name.now now (tree outline.now.text) node) }
+    ensures closed { IfOk result (λ made. closed outline.now.text ≡ outline.now.text) }
 {
     let file = name.as_str().as_bytes();
     let section = archived_section(alloc, outline, node, file, now)?;

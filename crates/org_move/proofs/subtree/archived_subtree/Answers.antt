@@ -18,7 +18,7 @@ returns-clause-printed c =
     let t = c.args.outline.now.text in
     let lines = ap lines_of c.deref.ensures.value ∙ c.in_ok-section.ensures.lines
     ∙ ap (λ name. archived_section states name c.args.now (tree t) c.args.node) (c.as_bytes-file.ensures.value ∙ c.as_str.ensures.value) in
-    if_ok c.with_section.result (λ made. made.items ≡ print_node (record (node_at (tree t) c.args.node).node { section = lines_of c.deref.result.now })) (λ made. IsPrinted made.items) c.with_section.ensures
+    if_ok c.with_section.result (λ made. made.items ≡ print_node (record (node_at (tree t) c.args.node).node { section = lines_of c.deref.result.now })) (λ made. IsPrinted made.items) c.with_section.ensures.value
     (λ made is. archived_printed states c.args.name.now c.args.now t c.args.node made.items c.as_str.ensures.valid c.requires (archived_lines states c.args.name.now c.args.now (tree t) c.args.node c.deref.result.now made.items is lines))
 
 pub returns-clause-root : goal.returns-clause-root
@@ -28,5 +28,5 @@ returns-clause-root c =
     let lines = ap lines_of c.deref.ensures.value ∙ c.in_ok-section.ensures.lines
     ∙ ap (λ name. archived_section states name c.args.now (tree t) c.args.node) (c.as_bytes-file.ensures.value ∙ c.as_str.ensures.value) in
     if_ok c.with_section.result (λ made. made.items ≡ print_node (record (node_at (tree t) c.args.node).node { section = lines_of c.deref.result.now }))
-    (λ made. (node_at (tree made.items) 0).node ≡ archived states c.args.name.now c.args.now (tree t) c.args.node) c.with_section.ensures
+    (λ made. (node_at (tree made.items) 0).node ≡ archived states c.args.name.now c.args.now (tree t) c.args.node) c.with_section.ensures.value
     (λ made is. archived_root states c.args.name.now c.args.now t c.args.node made.items c.as_str.ensures.valid c.requires (archived_lines states c.args.name.now c.args.now (tree t) c.args.node c.deref.result.now made.items is lines))
