@@ -1,11 +1,13 @@
 -- A heading that neither lies in an entry nor above it.
 use Rattle.std.proofs.Common.{◌≡◌, ℕ, Bool, true, false, Option, Some, None, Ok, Err, refl, ap, subst, ◌∙◌, sym}
-use Rattle.std.specs.Prelude.{IsTrue, ◌↔◌, Result}
+use Rattle.std.specs.Prelude.{IsTrue, ◌↔◌, Result, if◌then◌else◌}
 use Rattle.org_outline.specs.Tree.{Document}
 use Rattle.org_outline.specs.Numbers.{LiesIn}
 use Rattle.org_move.specs.declared.fault.MoveFault.{MoveFault}
 use Rattle.org_move.specs.declared.fault.MoveFault.TheVariants.{AlreadyArchive, InsideItself}
+use Rattle.org_move.specs.Answers.{Gives}
 use Rattle.org_move.specs.Archive.{if_apart}
+use Rattle.org_move.specs.Refile.{is_inside}
 use Rattle.org_move.proofs.Made.{inside_is}
 
 pub apart_inside : {A : Type 0} (d : Document) (i p : ℕ) (b : Bool) (x : A) → (IsTrue b ↔ LiesIn d i p) → b ≡ true → Err InsideItself ≡ if_apart d i (Some p) x
@@ -16,3 +18,44 @@ apart_below d i p a b x lies is above has = rw (inside_is d i p a lies ∙ is, i
 
 pub apart_is : {A : Type 0} (d : Document) (i p : ℕ) (a b : Bool) (x : A) → (IsTrue a ↔ LiesIn d i p) → a ≡ false → (IsTrue b ↔ LiesIn d p i) → b ≡ false → Ok x ≡ if_apart d i (Some p) x
 apart_is d i p a b x lies is above has = rw (inside_is d i p a lies ∙ is, inside_is d p i b above ∙ has) refl
+
+-- by the two tests: whether the heading lies in the entry, and whether it lies above it
+abbrev tested : {A : Type 0} → Bool → Bool → A → Result A MoveFault
+tested inside below x = if inside then Err InsideItself else (if below then Err AlreadyArchive else Ok x)
+
+tested_same : {A : Type 0} (inside below : Bool) (x y : A) → Ok y ≡ tested inside below x → x ≡ y
+tested_same true below x y is = absurd cc
+tested_same false true x y is = absurd cc
+tested_same false false x y is = cc
+
+tested_too : {A B : Type 0} (inside below : Bool) (x y : A) (new : B) → Ok y ≡ tested inside below x → tested inside below new ≡ Ok new
+tested_too true below x y new is = absurd cc
+tested_too false true x y new is = absurd cc
+tested_too false false x y new is = refl
+
+tested_fails : {A B C : Type 0} (inside below : Bool) (x : A) (new : B) (defined : Result B MoveFault) (Fits : B → C → Type 0) (fault : MoveFault)
+    → defined ≡ tested inside below new → Err fault ≡ tested inside below x → Gives {A = C} defined Fits (Err fault)
+tested_fails {A} {B} {C} true below x new defined Fits fault is fails =
+    let same : InsideItself ≡ fault = cc in
+    subst (λ (fault : MoveFault). Gives {A = C} defined Fits (Err fault)) same is
+tested_fails {A} {B} {C} false true x new defined Fits fault is fails =
+    let same : AlreadyArchive ≡ fault = cc in
+    subst (λ (fault : MoveFault). Gives {A = C} defined Fits (Err fault)) same is
+tested_fails false false x new defined Fits fault is fails = absurd cc
+
+-- what was handed on is what was asked about
+pub apart_same : {A : Type 0} (d : Document) (i : ℕ) (up : Option ℕ) (x y : A) → Ok y ≡ if_apart d i up x → x ≡ y
+apart_same d i None x y is = cc
+apart_same d i (Some p) x y is = tested_same (is_inside d i p) (is_inside d p i) x y is
+
+-- and another value is made there, too
+pub apart_too : {A B : Type 0} (d : Document) (i : ℕ) (up : Option ℕ) (x y : A) (new : B) → Ok y ≡ if_apart d i up x → if_apart d i up new ≡ Ok new
+apart_too d i None x y new is = refl
+apart_too d i (Some p) x y new is = tested_too (is_inside d i p) (is_inside d p i) x y new is
+
+-- the fault is that of what is defined
+pub apart_fails : {A B C : Type 0} (d : Document) (i : ℕ) (up : Option ℕ) (x : A) (new : B) (defined : Result B MoveFault) (Fits : B → C → Type 0) (fault : MoveFault)
+    → defined ≡ if_apart d i up new → Err fault ≡ if_apart d i up x → Gives {A = C} defined Fits (Err fault)
+apart_fails d i None x new defined Fits fault is fails = absurd cc
+apart_fails {A} {B} {C} d i (Some p) x new defined Fits fault is fails =
+    tested_fails {C = C} (is_inside d i p) (is_inside d p i) x new defined Fits fault is fails

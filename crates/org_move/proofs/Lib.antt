@@ -21,3 +21,4 @@ pub mod Archived
 pub mod Putting
 pub mod Apart
 pub mod Across
+pub mod Within

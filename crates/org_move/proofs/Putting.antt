@@ -8,7 +8,9 @@ use Rattle.org_outline.specs.declared.moves.Place.TheVariants.{Last}
 use Rattle.org_outline.specs.Tree.{Document, IsValid, Node, node_at, node_count, print, print_node, tree}
 use Rattle.org_outline.specs.Moves.{InsertsAt, append_heading, insert, shift_node, take}
 use Rattle.org_outline.proofs.Changes.{take_local, take_valid}
-use Rattle.org_outline.specs.Numbers.{heading_over}
+use Rattle.org_outline.specs.Numbers.{heading_over, parent_without, size_of}
+use Rattle.org_outline.specs.Outline.{IsSubtree}
+use Rattle.org_splice.specs.declared.Span.{Span}
 use Rattle.org_splice.specs.Lines.{closed}
 use Rattle.org_outline.proofs.Trees.{tree-is}
 use Rattle.org_outline.proofs.Making.{made_end}
@@ -38,15 +40,19 @@ abbrev pub level_at : Option ℕ → Document → Option ℕ
 level_at up d = option_map (λ i. (node_at d i).node.level) up
 
 -- once a subtree is taken out, as the code counts
-pub at_the_new_end : (to : Destination) (node : Node) (d : Document) (i size left : ℕ) → IsValid d → i < node_count d → size ≡ length (print d) → left ≡ size - length (print_node (node_at d i).node)
-    → InsertsAt (print (take i d)) (put_last to None node (take i d)) left (filled to None node)
-at_the_new_end to node d i size left valid lt size_is left_is =
+pub at_the_new_end : (to : Destination) (node : Node) (t u : List ℕ) (i : ℕ) (up : Option ℕ) (s : Span) → up ≡ None → u ≡ t → closed t ≡ t → i < node_count (tree t) → IsSubtree t (node_at (tree t) i) s
+    → InsertsAt (print (take i (tree t))) (put_last to (parent_without i (size_of (tree t) i) up) node (take i (tree t))) (s.start + (length u - s.end)) (filled to (level_at up (tree t)) node)
+at_the_new_end to node t u i up s none same shut lt sub =
+    let d : Document = tree t in
     let gone = take_local i d lt in
-    let whole : length (print d) ≡ length gone.front + (length (print_node (node_at d i).node) + length gone.back) =
-    ap length gone.is ∙ length-append gone.front (print_node (node_at d i).node ++ gone.back) ∙ ap (λ n. length gone.front + n) (length-append (print_node (node_at d i).node) gone.back) in
+    let whole : length u ≡ length gone.front + (length (print_node (node_at d i).node) + length gone.back) =
+    ap length (same ∙ sym (prints t shut)) ∙ ap length gone.is ∙ length-append gone.front (print_node (node_at d i).node ++ gone.back)
+    ∙ ap (λ n. length gone.front + n) (length-append (print_node (node_at d i).node) gone.back) in
     let rest : length (print (take i d)) ≡ length gone.front + length gone.back = ap length gone.was ∙ length-append gone.front gone.back in
-    let same : left ≡ length (print (take i d)) = omega (arith, size_is, left_is, whole, rest) in
-    subst (λ k. InsertsAt (print (take i d)) (put_last to None node (take i d)) k (filled to None node)) (sym same) (at_the_end to node (take i d) (take_valid i d valid))
+    let here : s.start + (length u - s.end) ≡ length (print (take i d)) = omega (arith, sub.start, sub.end, gone.at, whole, rest) in
+    let P : Option ℕ → Type 0 = λ up. InsertsAt (print (take i d)) (put_last to (parent_without i (size_of d i) up) node (take i d)) (s.start + (length u - s.end)) (filled to (level_at up d) node) in
+    let at : InsertsAt (print (take i d)) (put_last to None node (take i d)) (length (print (take i d))) (filled to None node) = at_the_end to node (take i d) (take_valid i d (tree-is t).valid) in
+    subst P (sym none) (subst (λ k. InsertsAt (print (take i d)) (put_last to None node (take i d)) k (filled to None node)) (sym here) at)
 
 pub end_of_text : (to : Destination) (node : Node) (t u : List ℕ) (up : Option ℕ) → up ≡ None → u ≡ t → closed t ≡ t
     → InsertsAt t (put_last to up node (tree t)) (length u) (filled to (level_at up (tree t)) node)

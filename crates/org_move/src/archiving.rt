@@ -4,14 +4,16 @@ ghost use Rattle.std.specs.Option.{ForSome, option_map};
 ghost use Rattle.org_splice.specs.Edits.{AreEdits};
 ghost use Rattle.org_splice.specs.Lines.{closed};
 ghost use Rattle.org_outline.specs.Paths.{titles_of};
-ghost use Rattle.org_outline.specs.Moves.{InsertsAt};
+ghost use Rattle.org_outline.specs.Moves.{InsertsAt, take};
+ghost use Rattle.org_outline.specs.Numbers.{LiesIn, parent_without, size_of};
 ghost use Rattle.org_outline.specs.Tree.{Node as NodeOf, node_at, node_count, print, tree};
 ghost use Rattle.org_move.specs.Answers.{Gives};
-ghost use Rattle.org_move.specs.Archive.{archive_across, filled, put_last};
+ghost use Rattle.org_move.specs.Archive.{archive_across, archive_within, filled, put_last};
 ghost use Rattle.org_move.specs.Location.{Destination};
 
 use crate::MoveFault;
 use crate::destination::Location;
+use crate::place::apart;
 use crate::refile::without;
 use crate::subtree::{archived_subtree, filled};
 use crate::target::target_heading;
@@ -52,6 +54,38 @@ fn last_below(outline: &Outline<'_>, up: Option<Node>) -> (usize, Option<usize>)
             (outline.place(Some(up), Place::Last), Some(level))
         }
         None => (outline.text().len(), None),
+    }
+}
+
+/// The same once a subtree is taken out, in the text that is left.
+fn last_below_without(
+    outline: &Outline<'_>,
+    taken: Node,
+    up: Option<Node>,
+) -> (usize, Option<usize>)
+    requires taken { taken < node_count (tree outline.now.text) }
+    requires up { ForSome up (λ up. up < node_count (tree outline.now.text)) }
+    requires outside { ForSome up (λ up. LiesIn (tree outline.now.text) taken up → ⊥) }
+    ensures place { let d = tree outline.now.text in let left = take taken d in
+        let there = parent_without taken (size_of d taken) up in (to : Destination) (node : NodeOf)
+        → InsertsAt (print left) (put_last to there node left) result.0
+        (filled to (option_map (λ i. (node_at d i).node.level) up) node) }
+    ensures level { result.1
+        ≡ option_map (λ i. (node_at (tree outline.now.text) i).node.level) up }
+    ensures closed { closed outline.now.text ≡ outline.now.text }
+    ensures room { ForSome result.1 (λ level. level + 1 < 2 ^ 63) }
+{
+    match up {
+        Some(up) => {
+            let level = level_of(outline, up);
+            let at = outline.place_without(taken, Some(up), Place::Last);
+            (at, Some(level))
+        }
+        None => {
+            let span = outline.subtree(taken);
+            let behind = outline.text().len() - span.end;
+            (span.start + behind, None)
+        }
     }
 }
 
@@ -97,4 +131,35 @@ pub fn archive(
     let lines = filled(alloc, &subtree, to, above)?;
     let goes_in = insertion(at, lines);
     Ok((without(alloc, source, node), goes_in))
+}
+
+/// The edits, to be made in this order, by which the subtree at `path` of the text of the file with this name is
+/// archived in the same text (Org manual, "Moving a tree to an archive file"): the first one takes it out, and the
+/// second one puts it in, at a byte of the text that the first one leaves, last below the location's heading, which is
+/// made at the end where it isn't there, or last at the top level. Its root gets the properties of an archived entry, as
+/// by `archive`.
+///
+/// # Errors
+/// In this order: `NotFound` or `NotUnique` of `path`, `NotUnique` of the location's heading, `InsideItself` where that
+/// heading lies in the subtree, `AlreadyArchive` where the subtree lies below it, and `OutOfMemory`.
+pub fn archive_within(
+    alloc: Global,
+    outline: &Outline<'_>,
+    name: &FileName,
+    path: &[Vec<u8>],
+    now: Moment,
+    to: &Location,
+) -> Result<[Edit; 2], MoveFault>
+    ensures { let states = outline.now.states in
+        let document = tree outline.now.text in
+        Gives (archive_within states name.now (titles_of path.now) now to.now document)
+        (λ new edits. AreEdits edits outline.now.text (print new)) result }
+{
+    let node = outline.find(path)?;
+    let up = apart(outline, node, target_heading(outline, to)?)?;
+    let (at, above) = last_below_without(outline, node, up);
+    let subtree = archived_subtree(alloc, outline, node, name, now)?;
+    let lines = filled(alloc, &subtree, to, above)?;
+    let goes_in = insertion(at, lines);
+    Ok([without(alloc, outline, node), goes_in])
 }

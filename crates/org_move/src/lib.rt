@@ -16,7 +16,7 @@ mod refile;
 mod subtree;
 mod target;
 
-pub use archiving::archive;
+pub use archiving::{archive, archive_within};
 pub use destination::Location;
 pub use fault::MoveFault;
 pub use locating::location;
