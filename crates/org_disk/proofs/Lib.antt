@@ -3,6 +3,7 @@ pub mod Moments
 pub mod Names
 pub mod Laid
 pub mod Back
+pub mod Ranges
 mod Calls
 mod ImageSoFar
 mod Outcomes

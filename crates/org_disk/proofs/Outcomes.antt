@@ -2,6 +2,7 @@
 use Rattle.std.proofs.Common.{◌≡◌, ◌⊎◌, inl, inr, ℕ, ◌+◌, ◌-◌, ◌<◌, ◌≤◌, ◌++◌, max, List, length, get_or, take, drop, sym, ◌∙◌, ap, arith, length-append, length-drop, length-take}
 use Rattle.std.proofs.lemmas.List.{get_or-drop, get_or-take, get_or_append_left, get_or-append_right}
 use Rattle.org_disk.specs.Disk.{FileState, IsImage, laid, write}
+use Rattle.org_disk.proofs.Ranges.{outside_range}
 
 -- laid bytes change nothing outside their range of what was there
 pub laid_beside : (from : ℕ) (bytes text : List ℕ) (i : ℕ) → i < length text → (i < from) ⊎ (from + length bytes ≤ i) → get_or (laid from bytes text) i 0 ≡ get_or text i 0
@@ -29,7 +30,9 @@ module _ (from : ℕ) (bytes : List ℕ) (file : FileState) (left : List ℕ) (o
   write_none = record {
     no_shorter = image.no_shorter;
     no_longer = omega (arith, image.no_longer);
-    fixed = λ i fixed. image.fixed i (fixed.0, fixed.1.1) ∙ sym (laid_beside from bytes file.content i (omega (arith, fixed.0, own.no_shorter)) fixed.1.0);
+    fixed = λ i fixed.
+        let apart = outside_range from bytes file.written i fixed.1 in
+        image.fixed i (fixed.0, apart.1) ∙ sym (laid_beside from bytes file.content i (omega (arith, fixed.0, own.no_shorter)) apart.0);
   }
 
   -- no more bytes went out than were written
@@ -39,8 +42,10 @@ module _ (from : ℕ) (bytes : List ℕ) (file : FileState) (left : List ℕ) (o
       record {
         no_shorter = omega (arith, image.no_shorter, long.0);
         no_longer = omega (arith, image.no_longer, long.1, short);
-        fixed = λ i fixed. laid_beside from piece left i (omega (arith, fixed.0, image.no_shorter)) (nearer i fixed.1.0)
-            ∙ image.fixed i (fixed.0, fixed.1.1) ∙ sym (laid_beside from bytes file.content i (omega (arith, fixed.0, own.no_shorter)) fixed.1.0);
+        fixed = λ i fixed.
+            let apart = outside_range from bytes file.written i fixed.1 in
+            laid_beside from piece left i (omega (arith, fixed.0, image.no_shorter)) (nearer i apart.0)
+            ∙ image.fixed i (fixed.0, apart.1) ∙ sym (laid_beside from bytes file.content i (omega (arith, fixed.0, own.no_shorter)) apart.0);
       }
     where
       nearer : (i : ℕ) → (i < from) ⊎ (from + length bytes ≤ i) → (i < from) ⊎ (from + length piece ≤ i)

@@ -56,7 +56,7 @@ pub trait Disk {
 
     /// Writes bytes over a file from `from` on, which is at most its length; the file grows where they reach past its
     /// end. Until the next sync a stop may leave any bytes in that range, and any length from the least to the greatest
-    /// that the file had since the last sync.
+    /// that the file had since the last sync. A write of no bytes changes nothing (`laws::no_bytes_change_nothing`).
     fn write_at(&mut self, name: &FileName, from: u64, bytes: &[u8]) -> Result<(), DiskFault>
         requires within { honest self.old → from ≤ length (files self.old name.now).content }
         requires fits { honest self.old → from + length bytes.now < 2 ^ 64 }

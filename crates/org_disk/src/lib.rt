@@ -4,11 +4,13 @@
 //! or within the call, may leave of it. `MemoryDisk` meets it, and can be told to fail or to stop; `Fuse` fails from
 //! some call on. What every call over a disk says is said once, in `specs/Accounts`. Lemmas for callers are public in
 //! `proofs/`: `Moments` (one run after another), `Accounting` (their accounts), `Images` and `Back` (what a call
-//! leaves), `Laid` (bytes laid over a text), `Names`.
+//! leaves), `Laid` (bytes laid over a text), `Ranges` (what was written), `Names`. `laws` has what follows for all
+//! values.
 #![tactic(auto)]
 
 mod disk;
 mod fuse;
+pub mod laws;
 mod memory;
 mod name;
 

@@ -14,3 +14,4 @@ mod Recorded
 pub mod Recovering
 mod Committing
 mod Kept
+pub mod Stopped

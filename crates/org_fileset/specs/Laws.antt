@@ -1,14 +1,16 @@
 -- The words of the laws.
 use Rattle.std.specs.Prelude.{◌≡◌, ◌≢◌, ◌⊎◌, ℕ, List, Result}
-use Rattle.org_disk.specs.Disk.{FileState, AreLeftBy, Changes}
+use Rattle.org_disk.specs.Disk.{FileState, IsStable, AreImages, AreLeftBy, Changes}
 use Rattle.org_disk.specs.Names.{journal_name}
 use Rattle.org_disk.specs.declared.disk.DiskFault.{DiskFault}
 use Rattle.org_splice.specs.Texts.{EditedText}
 use Rattle.org_journal.specs.declared.record.Entry.{Entry}
 use Rattle.org_journal.specs.declared.record.Version.TheVariants.{Two}
 use Rattle.org_journal.specs.Record.{IsWellFormed}
-use Rattle.org_journal.specs.Standing.{Image, StandsFor, IsArmed}
+use Rattle.org_journal.specs.Standing.{Image, SameFiles, StandsFor, IsArmed, IsFit, contents}
 use Rattle.org_fileset.specs.Entries.{changed}
+use Rattle.org_fileset.specs.Recovery.{EachStands}
+use Rattle.org_fileset.specs.Replay.{IsAtRest}
 
 -- The journal stands open on the disk with this record, and whatever a stop leaves stands for these texts.
 pub record IsArmedFor (entries : List Entry) (texts : Image) (files : List ℕ → FileState) : Type 0 where
@@ -26,3 +28,18 @@ pub record KeepsTexts (effect : FileState → FileState) (name : List ℕ) (entr
 -- each of the files by itself is as it was, or as the changes make it
 abbrev pub IsEachOldOrNew : List (List ℕ × EditedText) → Image → Image → Type 0
 IsEachOldOrNew changes files texts = (name : List ℕ) → name ≢ journal_name → (texts name ≡ files name) ⊎ (texts name ≡ changed changes files name)
+
+-- Each file is on the disk. So a disk is found after a stop: it holds one image of what it was.
+abbrev pub AllStable : (List ℕ → FileState) → Type 0
+AllStable files = (name : List ℕ) → IsStable (files name)
+
+-- Fit to be opened, and whatever a stop leaves of it has P.
+pub record IsFound (P : Image → Type 0) (files : List ℕ → FileState) : Type 0 where
+  pub fit : IsFit files
+  pub each_stands : EachStands files
+  pub each : (image : Image) → AreImages files image → P image
+
+-- these files, all at rest
+pub record AreAtRest (texts : Image) (files : List ℕ → FileState) : Type 0 where
+  pub rest : IsAtRest files
+  pub texts : SameFiles (contents files) texts

@@ -6,10 +6,11 @@ ghost use Rattle.org_splice.specs.Patches.{AreWellFormed, Fit, LayTo, IsPartlyLa
 ghost use Rattle.org_splice.specs.Texts.{EditedText};
 ghost use Rattle.org_journal.specs.declared.record.Entry.{Entry};
 ghost use Rattle.org_journal.specs.declared.record.Patch.{Patch};
-ghost use Rattle.org_journal.specs.Standing.{Image, stands, contents};
+ghost use Rattle.org_journal.specs.Standing.{Image, StandsFor, stands, contents};
 ghost use Rattle.org_fileset.specs.Entries.{changed};
-ghost use Rattle.org_fileset.specs.Replay.{IsBeforeOrAfter};
-ghost use Rattle.org_fileset.specs.Laws.{IsArmedFor, KeepsTexts, IsEachOldOrNew};
+ghost use Rattle.org_fileset.specs.Recovery.{IsReopened, StandsAsBefore};
+ghost use Rattle.org_fileset.specs.Replay.{IsAtRest, IsBeforeOrAfter};
+ghost use Rattle.org_fileset.specs.Laws.{AllStable, AreAtRest, IsArmedFor, IsFound, KeepsTexts, IsEachOldOrNew};
 
 /// Laying twice is laying once: patches that fit a text fit what they make of it, and make the same of that again.
 pub fn laid_twice_as_once()
@@ -48,4 +49,31 @@ pub fn each_file_old_or_new()
     ensures { (changes : List (List ℕ × EditedText)) (files image : Image)
         → IsBeforeOrAfter files (changed changes files) image
         → IsSomeAnd (stands image) (IsEachOldOrNew changes files) }
+{}
+
+/// From stopped to opened again. A disk that is found after a stop holds one image, and all of it is on the disk. It is
+/// fit; and where that image stands for files, so does whatever a stop leaves of it from then on. So `FileSet::open`
+/// promises of it that each image since stands for what the first stop left (`again`), however often the opening is
+/// stopped and begun anew, and that an opening that is done leaves these files at rest (`opened`).
+pub fn stopped_disk_opens_again()
+    // whatever image it is, as long as it stands for files
+    ensures image { (texts : Image) (files : List ℕ → FileState) → AllStable files
+        → StandsFor texts (contents files) → IsFound (StandsFor texts) files }
+    // one image of a disk at rest: it is at rest
+    ensures rest { (old files : List ℕ → FileState) → IsAtRest old → AllStable files
+        → AreImages old (contents files)
+        → AreAtRest (contents old) files × IsFound (StandsFor (contents old)) files }
+    // what a stop at any moment of a commit left (`Commits`)
+    ensures commit { (before after : Image) (files : List ℕ → FileState) → AllStable files
+        → IsBeforeOrAfter before after (contents files)
+        → IsFound (IsBeforeOrAfter before after) files }
+    // what a stop at any moment of an opening left (`Reopens`)
+    ensures opening { (old files : List ℕ → FileState) → AllStable files
+        → StandsAsBefore old (contents files) → IsFound (StandsAsBefore old) files }
+    // what a stop within the opening of such a disk leaves stands for the same files
+    ensures again { (texts image : Image) (files : List ℕ → FileState) → AllStable files
+        → StandsFor texts (contents files) → StandsAsBefore files image → StandsFor texts image }
+    // and where it is done, they are all there
+    ensures opened { (texts : Image) (old new : List ℕ → FileState) → AllStable old
+        → StandsFor texts (contents old) → IsReopened old new → AreAtRest texts new }
 {}

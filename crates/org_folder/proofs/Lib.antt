@@ -1,2 +1,3 @@
 mod Names
 mod Told
+mod Absent

@@ -3,6 +3,7 @@ use Rattle.std.proofs.Common.{◌≡◌, ◌≢◌, ℕ, ◌≤◌, List, [], �
 use Rattle.org_disk.specs.Disk.{FileState, IsImage, AreImages, AreLeftBy, IsLeftBy, Passes, stable, write, cut, sync}
 use Rattle.org_disk.specs.declared.disk.DiskFault.{DiskFault}
 use Rattle.org_disk.proofs.Moments.{Image, passes_none, passes_as}
+use Rattle.org_disk.proofs.Ranges.{nothing_written}
 use Rattle.org_folder.specs.Calls.{Event, World, files, changed, reading, AreRight, LeftSince, Looks, Does}
 use Rattle.org_folder.specs.Calls.Event.{Absent, Length, Read, Write, Cut, Sync}
 use Rattle.std.specs.List.{AllWithin, HoldsAt}
@@ -104,12 +105,6 @@ does_write world called name from bytes old mid new result right same before is 
     subst (λ n. Does world (write from bytes) n old new result) same (subst (λ calls. Does world (write from bytes) called calls new result) before
     (subst (λ calls. Does world (write from bytes) called mid calls result) (sym is) (write_told world called from bytes mid result (subst (AreRight world) is right))))
 
--- a write of no bytes
-pub does_write_nothing : (world : World) (name : List ℕ) (from : ℕ) (bytes : List ℕ) (old new : List Event) (done : Unit {0}) → length bytes ≡ 0 → AreRight world new
-    → new ≡ Write name from [] true ∷ old → Does world (write from bytes) name old new (Ok done)
-does_write_nothing world name from [] old new done empty right is = does_write world name name from [] old old new (Ok done) right refl refl is
-does_write_nothing world name from (byte ∷ bytes) old new done empty right is = absurd (omega (arith, empty))
-
 pub does_cut : (world : World) (called name : List ℕ) (to : ℕ) (old mid new : List Event) (result : Answer) → AreRight world new → called ≡ name → mid ≡ old
     → new ≡ Cut called to (is_ok result) ∷ mid → Does world (cut to) name old new result
 does_cut world called name to old mid new result right same before is =
@@ -141,6 +136,19 @@ does_nothing world effect name old new (Err fault) failed right looks = record {
   };
   time = looks_left world effect name old new looks;
 }
+
+-- a write of no bytes makes no call
+pub does_write_nothing : (world : World) (name : List ℕ) (from : ℕ) (bytes : List ℕ) (calls : List Event) (done : Unit {0}) → length bytes ≡ 0 → AreRight world calls
+    → from ≤ length (files world calls name).content → Does world (write from bytes) name calls calls (Ok done)
+does_write_nothing world name from [] calls done empty right within = record {
+  changes = record {
+    ok = sym (nothing_written from (files world calls name) within (own_image world calls right name));
+    err = tt;
+    others = λ other apart. refl;
+  };
+  time = passes_none (length calls) (LeftSince world calls) (AreLeftBy (write from []) name (files world calls));
+}
+does_write_nothing world name from (byte ∷ bytes) calls done empty right within = absurd (omega (arith, empty))
 
 -- a place within a file that was opened under the name
 pub within_called : (world : World) (called name : List ℕ) (n : ℕ) (old mid : List Event) → called ≡ name → mid ≡ old → n ≤ length (files world old name).content

@@ -1,5 +1,5 @@
 -- The calls on the files of a folder: a record of what was asked and answered, and the files that it stands for.
-use Rattle.std.specs.Prelude.{◌≡◌, ◌⊎◌, ◌≤◌, ℕ, Bool, true, false, List, [], ◌∷◌, length, take, drop, if◌then◌else◌, Result, ⊤}
+use Rattle.std.specs.Prelude.{◌≡◌, ◌≢◌, ◌⊎◌, ◌≤◌, ℕ, Bool, true, false, List, [], ◌∷◌, length, take, drop, if◌then◌else◌, Result, ⊤}
 use Rattle.std.specs.Str.{bytes_eq}
 use Rattle.org_disk.specs.Disk.{FileState, IsImage, AreImages, AreLeftBy, Changes, Passes, stable, write, cut, sync}
 use Rattle.org_disk.specs.declared.disk.DiskFault.{DiskFault}
@@ -63,6 +63,16 @@ IsRight world (Sync name false) earlier = IsImage (files world earlier name) (wo
 abbrev pub AreRight : World → List Event → Type 0
 AreRight world [] = (name : List ℕ) → IsImage (world.start name) (world.start name).content
 AreRight world (event ∷ earlier) = IsRight world event earlier × AreRight world earlier
+
+-- no write, cut or sync among these calls is on the file of this name
+abbrev pub IsLeftAlone : List ℕ → List Event → Type 0
+IsLeftAlone name [] = ⊤
+IsLeftAlone name (Absent other ∷ earlier) = IsLeftAlone name earlier
+IsLeftAlone name (Length other n ∷ earlier) = IsLeftAlone name earlier
+IsLeftAlone name (Read other from bytes ∷ earlier) = IsLeftAlone name earlier
+IsLeftAlone name (Write other from bytes ok ∷ earlier) = (other ≢ name) × IsLeftAlone name earlier
+IsLeftAlone name (Cut other n ok ∷ earlier) = (other ≢ name) × IsLeftAlone name earlier
+IsLeftAlone name (Sync other ok ∷ earlier) = (other ≢ name) × IsLeftAlone name earlier
 
 -- what a stop since the call of this number might have left
 abbrev pub LeftSince : World → List Event → ℕ → (List ℕ → List ℕ) → Type 0

@@ -1,5 +1,5 @@
 //! The calls of a system on the files of a folder.
-ghost use Rattle.std.specs.Prelude.{◌≡◌, ◌≤◌, List, [], ◌∷◌, length, is_ok, true, IsTrue, IfOk, IfSome, IfNone, OnOk, OnErr};
+ghost use Rattle.std.specs.Prelude.{◌≡◌, ◌≤◌, List, ◌∷◌, length, is_ok, IsTrue, IfOk, IfSome, IfNone, OnOk, OnErr};
 ghost use Rattle.org_folder.specs.Calls.{files, AreRight, Event, World};
 ghost use Rattle.org_folder.specs.Calls.Event.{Absent, Cut, Length, Read, Sync, Write};
 
@@ -89,10 +89,6 @@ pub trait Calls {
             from ≤ length (files world (history self.old) opened.now.name).content }
         ensures { history self.new ≡ Write opened.now.name from bytes.now (is_ok result) ∷ history
             self.old };
-
-    /// A write of no bytes, which needs no file and no call of the system.
-    fn write_nothing(&mut self, name: &FileName, from: u64)
-        ensures { history self.new ≡ Write name.now from [] true ∷ history self.old };
 
     /// Takes away the bytes of a file from `to` on, which is at most its length.
     fn cut(&mut self, opened: &Opened<Self::File>, to: u64) -> Result<(), DiskFault>

@@ -58,7 +58,7 @@ where
         }
     }
 
-    // A write of no bytes makes no file.
+    // A write of no bytes makes no file and no call, and changes nothing.
     pub fn write(&mut self, name: &FileName, from: u64, bytes: &[u8]) -> Result<(), DiskFault>
         requires { AreRight C.world (C.history self.old.calls) →
             from ≤ length (files C.world (C.history self.old.calls) name.now).content }
@@ -69,7 +69,6 @@ where
             → AreRight C.world (C.history self.old.calls) }
     {
         if bytes.is_empty() {
-            self.calls.write_nothing(name, from);
             return Ok(());
         }
         let at = self.find_or_make(name)?;

@@ -11,6 +11,7 @@
 mod calls;
 mod disk;
 mod folder;
+pub mod laws;
 mod list;
 mod record;
 mod start;

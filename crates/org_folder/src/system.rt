@@ -1,6 +1,5 @@
 //! The calls of the operating system. Each method makes the call that the trait names, again where a signal interrupts
-//! it, and what it takes to reach the file, and then notes what the trait's clauses say. `write_nothing` alone makes no
-//! call.
+//! it, and what it takes to reach the file, and then notes what the trait's clauses say.
 ghost use Rattle.std.specs.Prelude.{◌≡◌, [], ◌∷◌, IfOk};
 ghost use Rattle.org_folder.specs.Note.{event_of};
 
@@ -147,10 +146,6 @@ where
         let answer = answered(opened.file.write_all_at(bytes, from));
         self.note(Call::Write(from, answer.is_ok()), &opened.name, bytes);
         answer
-    }
-
-    fn write_nothing(&mut self, name: &FileName, from: u64) {
-        self.note(Call::Write(from, true), name, &[]);
     }
 
     fn cut(&mut self, opened: &Opened<R::File>, to: u64) -> Result<(), DiskFault> {

@@ -7,8 +7,7 @@ use Rattle.org_folder.proofs.folder.Folder.write.Goals as goal
 pub returns-then-is_empty-clause-effect : goal.returns-then-is_empty-clause-effect
 returns-then-is_empty-clause-effect g c = λ right.
     let empty : length c.args.bytes.now ≡ 0 = search rules in
-    does_write_nothing g.C.Calls.world c.args.name.now c.args.from c.args.bytes.now (g.C.Calls.history c.args.self.now.calls) (g.C.Calls.history c.write_nothing.new.self) tt empty
-    right c.write_nothing.ensures
+    does_write_nothing g.C.Calls.world c.args.name.now c.args.from c.args.bytes.now (g.C.Calls.history c.args.self.now.calls) tt empty right (c.requires right)
 
 pub returns-in_err-at-clause-effect : goal.returns-in_err-at-clause-effect
 returns-in_err-at-clause-effect g c = λ right.

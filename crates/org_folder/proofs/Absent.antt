@@ -1,0 +1,27 @@
+-- A file on which no call was made that changes it.
+use Rattle.std.proofs.Common.{◌≡◌, ℕ, List, [], ◌∷◌, true, false, refl, sym, ◌∙◌}
+use Rattle.org_disk.specs.Disk.{stable, write, cut, sync}
+use Rattle.org_folder.specs.Calls.{Event, World, files, reading, IsLeftAlone, IsRight}
+use Rattle.org_folder.specs.Calls.Event.{Absent, Length, Read, Write, Cut, Sync}
+use Rattle.org_folder.specs.CallsLaws.{changed_other}
+
+still_as_first : (world : World) (calls : List Event) (name : List ℕ) → IsLeftAlone name calls → files world calls name ≡ world.start name
+still_as_first world [] name alone = refl
+still_as_first world (Absent other ∷ earlier) name alone = still_as_first world earlier name alone
+still_as_first world (Length other n ∷ earlier) name alone = still_as_first world earlier name alone
+still_as_first world (Read other from bytes ∷ earlier) name alone = still_as_first world earlier name alone
+still_as_first world (Write other from bytes true ∷ earlier) name alone =
+    changed_other other (write from bytes) (files world earlier) name (λ same. alone.0 (sym same)) ∙ still_as_first world earlier name alone.1
+still_as_first world (Write other from bytes false ∷ earlier) name alone =
+    changed_other other (λ file. reading (world.left (Write other from bytes false ∷ earlier)) (write from bytes file)) (files world earlier) name (λ same. alone.0 (sym same)) ∙ still_as_first world earlier name alone.1
+still_as_first world (Cut other n true ∷ earlier) name alone =
+    changed_other other (cut n) (files world earlier) name (λ same. alone.0 (sym same)) ∙ still_as_first world earlier name alone.1
+still_as_first world (Cut other n false ∷ earlier) name alone =
+    changed_other other (λ file. reading (world.left (Cut other n false ∷ earlier)) (cut n file)) (files world earlier) name (λ same. alone.0 (sym same)) ∙ still_as_first world earlier name alone.1
+still_as_first world (Sync other true ∷ earlier) name alone =
+    changed_other other sync (files world earlier) name (λ same. alone.0 (sym same)) ∙ still_as_first world earlier name alone.1
+still_as_first world (Sync other false ∷ earlier) name alone =
+    changed_other other (reading (world.left (Sync other false ∷ earlier))) (files world earlier) name (λ same. alone.0 (sym same)) ∙ still_as_first world earlier name alone.1
+
+pub absent_right : (world : World) (calls : List Event) (name : List ℕ) → world.start name ≡ stable [] → IsLeftAlone name calls → IsRight world (Absent name) calls
+absent_right world calls name empty alone = still_as_first world calls name alone ∙ empty
