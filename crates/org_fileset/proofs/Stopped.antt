@@ -1,13 +1,13 @@
 -- A disk that is found after a stop, and an opening of it.
-use Rattle.std.proofs.Common.{◌≡◌, ◌≢◌, inl, inr, ⊎_elim, ℕ, List, length, Option, Some, None, refl, sym, ◌∙◌, ap, subst, arith, is_some, IsTrue}
+use Rattle.std.proofs.Common.{◌≡◌, ◌≢◌, inl, ⊎_elim, ℕ, List, length, Option, Some, None, refl, sym, ◌∙◌, ap, subst, arith, is_some, IsTrue}
 use Rattle.std.specs.Prelude.{IsSomeAnd, slice_index}
-use Rattle.org_disk.specs.Disk.{FileState, IsOutside, IsStable, AreImages}
+use Rattle.org_disk.specs.Disk.{FileState, AreImages}
 use Rattle.org_disk.specs.Names.{journal_name}
 use Rattle.org_disk.proofs.Images.{only_image}
 use Rattle.org_journal.specs.Gate.{HasClosedGate}
-use Rattle.org_journal.specs.Standing.{Image, SameFiles, StandsFor, IsFit, stands, contents}
+use Rattle.org_journal.specs.Standing.{Image, SameFiles, StandsFor, stands, contents}
 use Rattle.org_fileset.specs.Laws.{AllStable, IsFound, AreAtRest}
-use Rattle.org_fileset.specs.Recovery.{EachStands, StandsAsBefore, IsReopened}
+use Rattle.org_fileset.specs.Recovery.{StandsAsBefore, IsReopened}
 use Rattle.org_fileset.specs.Replay.{IsAtRest, IsBeforeOrAfter}
 use Rattle.org_fileset.proofs.Commits.{at_rest_stands}
 use Rattle.org_fileset.proofs.Stands.{stands_as}
@@ -18,28 +18,28 @@ one_image files all image left j name = sym (only_image (all name) (image name) 
 
 -- what stands for something
 some_stands : (o : Option Image) (P : Image → Type 0) → IsSomeAnd o P → IsTrue (is_some o)
-some_stands (Some found) P is = refl
+some_stands (Some stood) P is = refl
 some_stands None P is = absurd is
 
 -- an image stands for files in one way
 same_stood : (o : Option Image) (one other : Image) → IsSomeAnd o (λ found. SameFiles found one) → IsSomeAnd o (λ found. SameFiles found other) → SameFiles one other
-same_stood (Some found) one other is also name not = sym (is name not) ∙ also name not
+same_stood (Some stood) one other is also = λ name not. sym (is name not) ∙ also name not
 same_stood None one other is also = absurd is
 
-found : (files : List ℕ → FileState) (P : Image → Type 0) → AllStable files → IsTrue (is_some (stands (contents files))) → P (contents files) → IsFound P files
-found files P all stand has = record {
+is_found : (files : List ℕ → FileState) (P : Image → Type 0) → AllStable files → IsTrue (is_some (stands (contents files))) → P (contents files) → IsFound P files
+is_found files P all stand has = record {
   fit = inl (λ name not. all name);
   each_stands = λ image left. subst (λ (i : Image). IsTrue (is_some (stands i))) (one_image files all image left) stand;
   each = λ image left. subst P (one_image files all image left) has;
 }
 
 pub found_image : (texts : Image) (files : List ℕ → FileState) → AllStable files → StandsFor texts (contents files) → IsFound (StandsFor texts) files
-found_image texts files all stand = found files (StandsFor texts) all (some_stands (stands (contents files)) (λ (i : Image). SameFiles i texts) stand) stand
+found_image texts files all stand = is_found files (StandsFor texts) all (some_stands (stands (contents files)) (λ (i : Image). SameFiles i texts) stand) stand
 
 pub found_at_rest : (old files : List ℕ → FileState) → IsAtRest old → AllStable files → AreImages old (contents files)
     → AreAtRest (contents old) files × IsFound (StandsFor (contents old)) files
 found_at_rest old files rest all left =
-    (record { rest = record { gate = gate; stable = all }; texts = λ name not. same name }, found_image (contents old) files all (at_rest_stands old rest (contents files) left))
+    (record { rest = record { gate = gate; stable = all }; same = λ name not. same name }, found_image (contents old) files all (at_rest_stands old rest (contents files) left))
   where
     same : (name : List ℕ) → contents files name ≡ contents old name
     same name = only_image (rest.stable name) (contents files name) (left name)
@@ -55,11 +55,11 @@ found_at_rest old files rest all left =
     }
 
 pub found_commit : (before after : Image) (files : List ℕ → FileState) → AllStable files → IsBeforeOrAfter before after (contents files) → IsFound (IsBeforeOrAfter before after) files
-found_commit before after files all left = found files (IsBeforeOrAfter before after) all
+found_commit before after files all left = is_found files (IsBeforeOrAfter before after) all
     (⊎_elim (λ is. some_stands (stands (contents files)) (λ (i : Image). SameFiles i before) is) (λ is. some_stands (stands (contents files)) (λ (i : Image). SameFiles i after) is) left) left
 
 pub found_opening : (old files : List ℕ → FileState) → AllStable files → StandsAsBefore old (contents files) → IsFound (StandsAsBefore old) files
-found_opening old files all left = found files (StandsAsBefore old) all (some_stands (stands (contents files)) (λ (i : Image). SameFiles i left.texts) left.stands_now) left
+found_opening old files all left = is_found files (StandsAsBefore old) all (some_stands (stands (contents files)) (λ (i : Image). SameFiles i left.texts) left.stands_now) left
 
 pub opened_anew : (texts image : Image) (files : List ℕ → FileState) → AllStable files → StandsFor texts (contents files) → StandsAsBefore files image → StandsFor texts image
 opened_anew texts image files all stand left =
@@ -67,10 +67,10 @@ opened_anew texts image files all stand left =
     stands_as left.texts texts image (same_stood (stands (contents files)) left.texts texts stood stand) left.stands_now
 
 made_of : (o : Option Image) (now texts : Image) → IsSomeAnd o (SameFiles now) → IsSomeAnd o (λ found. SameFiles found texts) → SameFiles now texts
-made_of (Some found) now texts made is name not = made name not ∙ is name not
+made_of (Some stood) now texts made is = λ name not. made name not ∙ is name not
 made_of None now texts made is = absurd made
 
 pub opened_whole : (texts : Image) (old new : List ℕ → FileState) → AllStable old → StandsFor texts (contents old) → IsReopened old new → AreAtRest texts new
 opened_whole texts old new all stand opened =
     let is = found_image texts old all stand in
-    record { rest = opened.rest is.fit is.each_stands; texts = made_of (stands (contents old)) (contents new) texts opened.stood stand }
+    record { rest = opened.rest is.fit is.each_stands; same = made_of (stands (contents old)) (contents new) texts opened.stood stand }

@@ -42,4 +42,4 @@ pub record IsFound (P : Image → Type 0) (files : List ℕ → FileState) : Typ
 -- these files, all at rest
 pub record AreAtRest (texts : Image) (files : List ℕ → FileState) : Type 0 where
   pub rest : IsAtRest files
-  pub texts : SameFiles (contents files) texts
+  pub same : SameFiles (contents files) texts

@@ -2,10 +2,12 @@
 ghost use Rattle.std.specs.Prelude.{ℕ, List, ◌≡◌, ◌∷◌, ◌++◌};
 ghost use Rattle.std.specs.Prelude.{All, Some, Result, IsFalse};
 ghost use Rattle.org_journal.specs.Standing.{Image};
+ghost use Rattle.org_fileset.specs.Names.{AreFew};
 ghost use Rattle.org_store.specs.declared.command.Command.{Command};
 ghost use Rattle.org_store.specs.declared.command.Reply.{Reply};
 ghost use Rattle.org_store.specs.declared.command.RunFault.{RunFault};
 ghost use Rattle.org_store.specs.OnePlace.{HaveSameNodes, HasNodesOf, HasNodesOfOne, IsSessionOf};
+ghost use Rattle.org_store.specs.Reopening.{IsOpenable};
 ghost use Rattle.org_store.specs.Runs.{IsBetween, IsLeftOf};
 ghost use Rattle.org_store.specs.Session.{Session};
 ghost use Rattle.org_store.specs.Step.{Step};
@@ -44,6 +46,15 @@ pub fn safe_tells_acknowledged()
         (answer : Result Reply RunFault) (a : ℕ) → Step old command answer new
         → told_safe answer old.acknowledged new.acknowledged ≡ Some a
         → (new.acknowledged ≡ a) × IsFalse new.broken }
+{}
+
+/// Every image of a store's disk opens again while lines are served (`any_moment` of `serve`), with the names that the
+/// store was opened with: what that says is told by `every_image_opens` of org_store's laws.
+pub fn every_image_opens()
+    ensures { (given : List (List ℕ)) (old new : Session) (others image : Image)
+        (lines : List (List ℕ)) (out : List ℕ) → AreFew given → IsSessionOf given old
+        → IsLeftOf old others (λ mid. Reaches old lines out mid × IsBetween old new mid) image
+        → IsOpenable given image }
 {}
 
 /// Each node in one place, in what a stop leaves while lines are served (`any_moment` of `serve`, and of `serve_disk` behind

@@ -18,4 +18,5 @@ pub mod Sortings
 pub mod Runs
 pub mod Reopening
 pub mod NodeCounts
+pub mod Calls
 pub mod OnePlace

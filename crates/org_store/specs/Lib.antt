@@ -10,6 +10,7 @@ pub mod Step
 pub mod Left
 pub mod Counts
 pub mod Runs
+pub mod Calls
 pub mod Keeping
 pub mod Opening
 pub mod Reopening

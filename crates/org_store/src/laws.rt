@@ -4,7 +4,7 @@ ghost use Rattle.std.specs.List.{All, IsDistinct};
 ghost use Rattle.std.specs.Str.{bytes_eq};
 ghost use Rattle.org_disk.specs.Disk.{HasRisen};
 ghost use Rattle.org_disk.specs.Accounts.{LeavesOver};
-ghost use Rattle.org_journal.specs.Standing.{Image, contents};
+ghost use Rattle.org_journal.specs.Standing.{Image, IsFit, contents};
 ghost use Rattle.org_disk.specs.Names.{IsOrgFile};
 ghost use Rattle.org_fileset.specs.Names.{with_archives, AreSorted, AreFew, first_large};
 ghost use Rattle.org_fileset.specs.Opening.{IsReason};
@@ -18,6 +18,7 @@ ghost use Rattle.org_store.specs.declared.command.Command.TheVariants.{Refile};
 ghost use Rattle.org_store.specs.declared.command.Reply.{Reply};
 ghost use Rattle.org_store.specs.declared.command.Reply.TheVariants.{Done};
 ghost use Rattle.org_store.specs.declared.command.RunFault.{RunFault};
+ghost use Rattle.org_store.specs.Calls.{Call, CallsOver, ReachesBy};
 ghost use Rattle.org_store.specs.Left.{IsLeft};
 ghost use Rattle.org_store.specs.OnePlace.{HaveSameNodes, HasNodesOf, HasNodesOfOne, IsSessionOf, OnlyRefiles};
 ghost use Rattle.org_store.specs.Outcome.{Accepts, outcome};
@@ -75,6 +76,32 @@ pub fn stops_leave_a_prefix<D: Disk>()
     ensures broken { (old new : Kept D) (commands : List Command)
         (answers : List (Result Reply RunFault)) → IsTrue old.session.broken
         → RunsAllOver D.files D.moment D.left_since old commands answers new → new ≡ old }
+{}
+
+/// The same of a run of all calls that change a store: commands, settlings and new sizes of the group. A stop leaves the
+/// files as they were after the commands that were acknowledged when it began, or after some of its calls, from the first
+/// on. The disk is fit to be opened then, and at rest where the store isn't broken; and each image opens again.
+pub fn calls_leave_a_prefix<D: Disk>()
+    ensures any_moment { (old new : Kept D) (calls : List Call) → D.honest old.disk
+        → IsAtRest (D.files old.disk) → IsOnDisk old.session (contents (D.files old.disk))
+        → IsFalse old.session.broken → CallsOver D.files D.moment D.left_since old calls new
+        → LeavesOver D.moment D.left_since old.disk new.disk
+        (IsLeftOf old.session (contents (D.files old.disk))
+        (λ mid. ReachesBy old.session calls mid × IsBetween old.session new.session mid)) }
+    // A broken store leaves its disk as it is.
+    ensures broken { (old new : Kept D) (calls : List Call) → IsTrue old.session.broken
+        → CallsOver D.files D.moment D.left_since old calls new → new.disk ≡ old.disk }
+    ensures fit { (old new : Kept D) (calls : List Call) → IsAtRest (D.files old.disk)
+        → CallsOver D.files D.moment D.left_since old calls new → IsFit (D.files new.disk) }
+    ensures rest { (old new : Kept D) (calls : List Call) → IsFalse new.session.broken
+        → IsAtRest (D.files old.disk)
+        → CallsOver D.files D.moment D.left_since old calls new → IsAtRest (D.files new.disk) }
+    // what a stop leaves of such a run is opened again, as in `every_image_opens`
+    ensures opens { (given : List (List ℕ)) (old new : Session) (others image : Image)
+        (calls : List Call) → AreFew given → AreSorted (with_archives given) old.names
+        → AreSmall old.names old.settled → AreSmall old.names old.files
+        → IsLeftOf old others (λ mid. ReachesBy old calls mid × IsBetween old new mid) image
+        → IsOpenable given image }
 {}
 
 /// Each node in one place. Where a run of commands began as for `stops_leave_a_prefix`, each node is in what a stop leaves
