@@ -71,14 +71,14 @@ index_of (y ∷ ys) zero x is = (omega arith, cc)
 index_of (y ∷ ys) (suc i) x is = let more = index_of ys i x is in (omega (arith, more.0), more.1)
 
 -- a file's new text changes a count by what the text itself has more or less
-counts_add : (rest : List ℕ) (section : List (List ℕ)) (texts : List (List ℕ)) (i : ℕ) (old new : List ℕ) → slice_get texts i ≡ Some old
+pub counts_add : (rest : List ℕ) (section : List (List ℕ)) (texts : List (List ℕ)) (i : ℕ) (old new : List ℕ) → slice_get texts i ≡ Some old
     → count_over rest section (slice_set texts i new) + count_in rest section (tree old) ≡ count_over rest section texts + count_in rest section (tree new)
 counts_add rest section texts i old new is =
     let here = index_of texts i old is in
     let count : List ℕ → ℕ = λ t. count_in rest section (tree t) in
     omega (arith, sum_by-set count texts i new old here.0, ap count here.1)
 
-other_stays : {X : Type 0} (xs : List X) (i j : ℕ) (x : X) → i ≢ j → slice_get (slice_set xs i x) j ≡ slice_get xs j
+pub other_stays : {X : Type 0} (xs : List X) (i j : ℕ) (x : X) → i ≢ j → slice_get (slice_set xs i x) j ≡ slice_get xs j
 other_stays [] i j x apart = refl
 other_stays (y ∷ ys) zero zero x apart = absurd (apart refl)
 other_stays (y ∷ ys) zero (suc j) x apart = refl
@@ -86,7 +86,7 @@ other_stays (y ∷ ys) (suc i) zero x apart = refl
 other_stays (y ∷ ys) (suc i) (suc j) x apart = other_stays ys i j x (λ same. apart (ap suc same))
 
 -- the tree of a valid document's print counts as the document
-counts_again : (rest : List ℕ) (section : List (List ℕ)) (d : Document) → IsValid d → count_in rest section (tree (print d)) ≡ count_in rest section d
+pub counts_again : (rest : List ℕ) (section : List (List ℕ)) (d : Document) → IsValid d → count_in rest section (tree (print d)) ≡ count_in rest section d
 counts_again rest section d valid = ap (count_in rest section) (tree-print d valid)
 
 pub file_counts : (states : Keywords) (path to : List (List ℕ)) (place : Place) (texts : List (List ℕ)) (i : ℕ) (text : List ℕ) (new : Document)

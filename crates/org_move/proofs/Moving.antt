@@ -35,7 +35,7 @@ pub record Across (place : Place) (source target : Document) (new : Moved) : Typ
   pub target_is : insert (Some parent) place (node_at source node).node target ≡ new.target
 
 -- what was found, where something was made of it
-found_of : {A : Type 0} (r : Result ℕ PathFault) (make : ℕ → Result A MoveFault) (x : A) → with_found r make ≡ Ok x → (i : ℕ) × (r ≡ Ok i) × (make i ≡ Ok x)
+pub found_of : {A : Type 0} (r : Result ℕ PathFault) (make : ℕ → Result A MoveFault) (x : A) → with_found r make ≡ Ok x → (i : ℕ) × (r ≡ Ok i) × (make i ≡ Ok x)
 found_of (Ok i) make x is = (i, refl, is)
 found_of (Err fault) make x is = absurd cc
 

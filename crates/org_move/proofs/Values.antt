@@ -1,33 +1,40 @@
--- The values of an archived entry's properties hold no newline, and its section is one still.
-use Rattle.std.proofs.Common.{◌≡◌, ℕ, zero, suc, ◌+◌, ◌-◌, ◌/◌, ◌<◌, Bool, true, false, eqb, not, ◌&&◌, List, [], ◌∷◌, ◌++◌, length, take, drop, map, get_or, refl, sym, ap, subst, ◌∙◌, arith, inl, inr, Option, None, Some}
-use Rattle.std.specs.Prelude.{◌≢◌, codes, if◌then◌else◌, IsTrue, ◌==◌, filter, is_some}
-use Rattle.std.specs.List.{AllByRecursion, flat_map, join_with_byte, list_all, list_any, onto_first, slice_split}
-use Rattle.std.specs.Option.{IfSome, option_and_then, option_or, unwrap_or}
-use Rattle.std.specs.Str.{bytes_eq}
+-- The values of an archived entry's properties hold no newline, nor does the title of its place, and its section is one still.
+use Rattle.std.proofs.Common.{◌≡◌, ℕ, zero, suc, ◌+◌, ◌-◌, ◌/◌, ◌<◌, Bool, true, false, eqb, not, ◌&&◌, List, [], ◌∷◌, ◌++◌, length, take, drop, map, get_or, refl, sym, ap, subst, ◌∙◌, arith, inl, inr, Option, None, Some, Ok, Err}
+use Rattle.std.specs.Prelude.{◌≢◌, codes, if◌then◌else◌, IsTrue, ◌==◌, filter, is_some, Result}
+use Rattle.std.specs.List.{AllByRecursion, find, flat_map, join_with_byte, list_all, list_any, onto_first, slice_split}
+use Rattle.std.specs.Option.{IfSome, option_and_then, option_map, option_or, unwrap_or}
+use Rattle.std.specs.Str.{bytes_eq, is_utf8}
 use Rattle.std.specs.Str.{str_eq_ignore_ascii_case}
 use Rattle.std.proofs.lemmas.Bool.{cases_Bool, false≢true}
 use Rattle.std.proofs.lemmas.List.{take-append-drop}
 use Rattle.std.proofs.lemmas.Slice.Eq.{bytes_eq-Decides}
 use Rattle.org_disk.specs.Names.{IsDiskName, archive_suffix, base_name, is_archive_name, is_file_name, is_name_byte, is_org_name, journal_name}
 use Rattle.org_splice.specs.Blanks.{is_blank, is_solid, is_trailing, behind, end_of, front, trimmed}
-use Rattle.org_splice.specs.Lines.{IsLine}
+use Rattle.org_splice.specs.Lines.{IsLine, lines_of}
 use Rattle.org_splice.proofs.Ends.{both}
+use Rattle.org_splice.proofs.Lines.{lines_of-lines}
 use Rattle.org_stamp.specs.Calendar.{CivilMinute, weekday_of}
 use Rattle.org_stamp.specs.Stamp.{clock_text, date_text, day_name, two_digits}
 use Rattle.org_outline.specs.States.{Keywords}
-use Rattle.org_outline.specs.Tree.{Document, IsPlain, IsValid, Placed, no_node, node_at, nodes}
+use Rattle.org_outline.specs.Text.{level_of}
+use Rattle.org_outline.specs.Tree.{Document, IsPlain, IsValid, Placed, no_node, node_at, nodes, tree}
 use Rattle.org_outline.specs.Moves.{IsNode}
 use Rattle.org_outline.specs.Numbers.{ancestors_of}
 use Rattle.org_outline.specs.Parts.{after_keyword, after_priority, are_tags, content_of, keyword_of, parts_of, priority_of, tags_of}
-use Rattle.org_outline.specs.Paths.{title_of}
+use Rattle.org_outline.specs.Paths.{find_path, title_of}
 use Rattle.org_outline.proofs.Sections.{nodes-valid}
+use Rattle.org_outline.proofs.Trees.{tree-is}
 use Rattle.org_meta.specs.Sections.{NodeProperty, SectionParts, drawer_size, is_end, is_name_run, is_property_name, joined, planning_size, property, property_line, property_of, put, split, value_before_end, value_if_named, value_named}
 use Rattle.org_meta.proofs.AllLines.{AllByRecursion-append, AllByRecursion-take, AllByRecursion-drop}
 use Rattle.org_meta.proofs.Keeping.{keeps_put}
 use Rattle.org_meta.proofs.Reading.{line_said}
 use Rattle.org_meta.proofs.Resplit.{split_put}
+use Rattle.org_move.specs.declared.fault.MoveFault.{MoveFault}
+use Rattle.org_move.specs.declared.fault.MoveFault.TheVariants.{AlreadyArchive, NoSuchFile}
 use Rattle.org_move.specs.Archive.{archive_properties, archived_section, category_of, named, put_each, time_text, unless_none, without_org}
 use Rattle.org_move.specs.Inherited.{first_ones, inherited_tags, is_colon, last_value, nearest, nonempty, nonempty_only, own_value, tag_list, tags_above, titles_above}
+use Rattle.org_move.specs.Location.{Destination, Halves, Heading, and_file, file_named, halves_of, heading_of, is_archive_line, is_title_alone, location, location_of, titled_line, value_behind, value_for, value_of_lines, with_byte}
+use Rattle.org_move.proofs.Moving.{found_of}
 use Rattle.org_move.proofs.Own.{plain_lines}
 use Rattle.org_move.proofs.Puts.{tested_line}
 
@@ -328,3 +335,84 @@ each_plain (p ∷ ps) ls good whole all =
     let again = put_again p ls good.0 in
     subst (λ parts. AllByRecursion IsPlain (joined (put_each ps parts))) again
     (each_plain ps new good.1 (subst (λ parts. AllByRecursion IsPlain (joined parts)) (sym again) plain) plain)
+
+-- ---- the place of an archived entry
+
+nonempty_alone : (l : List ℕ) → Flat l → IfSome (nonempty l) Flat
+nonempty_alone [] line = tt
+nonempty_alone (b ∷ bs) line = line
+
+found_line : (test : List ℕ → Bool) (ls : List (List ℕ)) → AllByRecursion Flat ls → IfSome (option_and_then (λ l. nonempty (value_behind l)) (find test ls)) Flat
+found_line test [] all = tt
+found_line test (l ∷ ls) all =
+    elim (cases_Bool (test l)) [
+      | inl e ↦ rw e (nonempty_alone (value_behind l) (trimmed_line _ (last_line 10 (behind is_blank l) (last_line _ l all.0))))
+      | inr e ↦ rw e (found_line test ls all.1)
+    ]
+
+value_line : (text : List ℕ) (i : ℕ) → Flat (value_for text i)
+value_line text i =
+    let d : Document = tree text in
+    unwrap_line (option_or (nearest (codes "ARCHIVE") d i) (value_of_lines (lines_of text))) (codes "%s_archive::")
+    (or_line (nearest (codes "ARCHIVE") d i) (value_of_lines (lines_of text)) (last_value_line (codes "ARCHIVE") d (ancestors_of d i ++ i ∷ []) (tree-is text).valid)
+      (found_line is_archive_line (lines_of text) (all_flat (lines_of text) (lines_of-lines text)))) (tested (codes "%s_archive::") refl)
+
+behind_first : (b : ℕ) (l : List ℕ) → Flat (b ∷ l) → Flat l
+behind_first b l line = record { flat = line.flat.1 }
+
+with_byte_line : (b : ℕ) (o : Option Halves) → IfSome o (λ h. Flat h.heading) → IfSome (option_map (with_byte b) o) (λ h. Flat h.heading)
+with_byte_line b None line = tt
+with_byte_line b (Some h) line = line
+
+either_halves : (b : Bool) (h : Halves) (o : Option Halves) → Flat h.heading → IfSome o (λ h. Flat h.heading) → IfSome (if b then Some h else o) (λ h. Flat h.heading)
+either_halves true h o p q = p
+either_halves false h o p q = q
+
+halves_line : (value : List ℕ) → Flat value → IfSome (halves_of value) (λ h. Flat h.heading)
+halves_line [] line = tt
+halves_line (b ∷ []) line = tt
+halves_line (b ∷ c ∷ bs) line =
+    let more : Flat (c ∷ bs) = behind_first b (c ∷ bs) line in
+    either_halves (b == 58 && c == 58) (record { file = []; heading = bs }) (option_map (with_byte b) (halves_of (c ∷ bs))) (behind_first c bs more) (with_byte_line b (halves_of (c ∷ bs)) (halves_line (c ∷ bs) more))
+
+alone_line : (b : Bool) (h : Heading) → Flat h.title → IfSome (if b then Some h else None) (λ h. Flat h.title)
+alone_line true h line = line
+alone_line false h line = tt
+
+at_level_line : (states : Keywords) (l : List ℕ) (level : Option ℕ) → Flat l → IfSome (option_and_then (titled_line states l) level) (λ h. Flat h.title)
+at_level_line states l None line = tt
+at_level_line states l (Some level) line = alone_line (is_title_alone (parts_of states (drop level l))) _ (title_line states (drop level l) (last_line level l line))
+
+heading_line : (states : Keywords) (l : List ℕ) → Flat l → IfSome (heading_of states l) (λ h. Flat h.title)
+heading_line states [] line = empty_line
+heading_line states (b ∷ bs) line = at_level_line states (b ∷ bs) (level_of (b ∷ bs)) line
+
+with_heading_line : (file : List ℕ) (o : Option Heading) → IfSome o (λ h. Flat h.title)
+    → IfSome (option_map (λ (heading : Heading). let to : Destination = record { file = file; level = heading.level; title = heading.title } in to) o) (λ to. Flat to.title)
+with_heading_line file None line = tt
+with_heading_line file (Some heading) line = line
+
+of_halves_line : (states : Keywords) (name : List ℕ) (o : Option Halves) → IfSome o (λ h. Flat h.heading)
+    → IfSome (option_and_then (λ (halves : Halves). option_map (λ (heading : Heading). let to : Destination = record { file = file_named name halves.file; level = heading.level; title = heading.title } in to) (heading_of states halves.heading)) o) (λ to. Flat to.title)
+of_halves_line states name None line = tt
+of_halves_line states name (Some halves) line = with_heading_line (file_named name halves.file) (heading_of states halves.heading) (heading_line states halves.heading line)
+
+with_file_is : (b : Bool) (place to : Destination) → ◌≡◌ {A = Result Destination MoveFault} (if b then Ok place else Err NoSuchFile) (Ok to) → place ≡ to
+with_file_is true place to is = cc
+with_file_is false place to is = absurd cc
+
+and_file_line : (o : Option Destination) (to : Destination) → IfSome o (λ to. Flat to.title) → and_file o ≡ Ok to → Flat to.title
+and_file_line None to line is = absurd cc
+and_file_line (Some place) to line is =
+    subst (λ (to : Destination). Flat to.title) (with_file_is (is_utf8 place.file && is_file_name place.file) place to is) line
+
+not_archive : (b : Bool) (r : Result Destination MoveFault) (to : Destination) → ◌≡◌ {A = Result Destination MoveFault} (if b then Err AlreadyArchive else r) (Ok to) → r ≡ Ok to
+not_archive true r to is = absurd cc
+not_archive false r to is = is
+
+pub place_line : (states : Keywords) (name : List ℕ) (path : List (List ℕ)) (text : List ℕ) (to : Destination) → location states name path text ≡ Ok to → IsLine to.title
+place_line states name path text to is =
+    let first = found_of (find_path states (tree text) path) _ to is in
+    let o : Option Destination = location_of states name (value_for text first.0) in
+    (and_file_line o to (of_halves_line states name (halves_of (value_for text first.0)) (halves_line (value_for text first.0) (value_line text first.0)))
+      (not_archive (is_archive_name name) (and_file o) to first.2)).flat

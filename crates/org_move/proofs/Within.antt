@@ -22,7 +22,7 @@ use Rattle.org_move.proofs.Made.{prints}
 use Rattle.org_move.proofs.Putting.{level_at}
 
 -- the document, where the heading has the number `up` before the subtree is taken out
-abbrev left_with : Keywords → List ℕ → CivilMinute → Destination → Document → ℕ → Option ℕ → Document
+abbrev pub left_with : Keywords → List ℕ → CivilMinute → Destination → Document → ℕ → Option ℕ → Document
 left_with states name now to d i up = put_last to (parent_without i (size_of d i) up) (archived states name now d i) (take i d)
 
 -- what is defined, once both headings are found
