@@ -5,6 +5,7 @@ use Rattle.std.specs.Str.{bytes_eq}
 use Rattle.std.proofs.lemmas.Bool.{cases_Bool}
 use Rattle.std.proofs.lemmas.Bool.Decides.{nat_tests}
 use Rattle.org_outline.specs.declared.moves.Place.{Place}
+use Rattle.org_outline.specs.declared.paths.PathFault.{PathFault}
 use Rattle.org_outline.specs.Tree.{Document, Node, print, tree}
 use Rattle.org_stamp.specs.Calendar.{CivilMinute}
 use Rattle.org_fileset.specs.Names.{limit}
@@ -14,16 +15,17 @@ use Rattle.org_capture.specs.Capture.{captured}
 use Rattle.org_move.specs.declared.fault.MoveFault.{MoveFault}
 use Rattle.org_move.specs.Refile.{refile_across, refile_within}
 use Rattle.org_state.specs.declared.fault.StateFault.{StateFault}
+use Rattle.org_state.specs.Clock.{clocked_at}
 use Rattle.org_state.specs.Todo.{todo as in_state}
 use Rattle.org_store.specs.declared.command.Command.{Command}
-use Rattle.org_store.specs.declared.command.Command.TheVariants.{Capture, Refile, Todo, Show, Settle}
+use Rattle.org_store.specs.declared.command.Command.TheVariants.{Capture, Refile, Todo, Time, Show, Settle}
 use Rattle.org_store.specs.declared.command.Refusal.TheVariants.{TooLarge}
 use Rattle.org_store.specs.Capture.{new_entry}
 use Rattle.org_store.specs.Files.{has_large}
 use Rattle.org_store.specs.InOrder.{text_at, with_all}
 use Rattle.org_store.specs.Refile.{text_within, texts_across}
 use Rattle.org_store.specs.Session.{Session}
-use Rattle.org_store.specs.Outcome.{Accepts, Refuses, changed, with_document, with_entry, capture, refile, with_moved, with_state, todo, show, outcome}
+use Rattle.org_store.specs.Outcome.{Accepts, Refuses, changed, with_document, with_entry, capture, refile, with_moved, with_minutes, with_state, time, todo, show, outcome}
 
 -- texts of which none is past the limit
 abbrev pub AreWithin : List (List ℕ × List ℕ) → Type 0
@@ -91,11 +93,20 @@ shows_none : (old : Option (List ℕ)) (files : List (List ℕ)) → show old �
 shows_none None files accepts = absurd (cc)
 shows_none (Some text) files accepts = absurd (cc)
 
+minutes_none : (said : Result ℕ PathFault) (files : List (List ℕ)) → with_minutes said ≡ Accepts files → ⊥
+minutes_none (Ok minutes) files accepts = absurd (cc)
+minutes_none (Err why) files accepts = absurd (cc)
+
+time_none : (s : Session) (path : List (List ℕ)) (old : Option (List ℕ)) (files : List (List ℕ)) → time s path old ≡ Accepts files → ⊥
+time_none s path None files accepts = absurd (cc)
+time_none s path (Some text) files accepts = minutes_none (clocked_at s.states path (tree text)) files accepts
+
 pub accepted_puts : (s : Session) (command : Command) (files : List (List ℕ)) → outcome s command ≡ Accepts files → Puts s files
 accepted_puts s (Capture file target place moment template initial) files accepts =
     capture_puts s file target place moment template initial (text_at s.names s.files file) files accepts
 accepted_puts s (Refile file path to_file to_path place) files accepts =
     refile_puts s file path to_file to_path place (text_at s.names s.files file) (text_at s.names s.files to_file) files accepts
 accepted_puts s (Todo file path state moment) files accepts = todo_puts s file path state moment (text_at s.names s.files file) files accepts
+accepted_puts s (Time file path) files accepts = absurd (time_none s path (text_at s.names s.files file) files accepts)
 accepted_puts s (Show file) files accepts = absurd (shows_none (text_at s.names s.files file) files accepts)
 accepted_puts s Settle files accepts = absurd (cc)

@@ -11,7 +11,7 @@ use Rattle.org_texts.specs.Texts.{Holding}
 use Rattle.org_store.specs.declared.command.Refusal.{Refusal}
 use Rattle.org_store.specs.declared.command.Refusal.TheVariants.{NoSuchFile, BadTemplate, BadEntry, NotFound, NotUnique, InsideItself, AlreadyArchive, UnknownState, OddPlanning, BadRepeat, DateRange, ClockBackwards, BadLocation, TooLarge}
 use Rattle.org_store.specs.declared.command.Reply.{Reply}
-use Rattle.org_store.specs.declared.command.Reply.TheVariants.{Done, Safe, Text}
+use Rattle.org_store.specs.declared.command.Reply.TheVariants.{Done, Safe, Text, Time}
 use Rattle.org_store.specs.declared.command.RunFault.{RunFault}
 use Rattle.org_store.specs.declared.command.RunFault.TheVariants.{Refused, OutOfMemory, Device, Broken}
 use Rattle.org_store.specs.declared.tally.Tally.{Tally}
@@ -33,6 +33,7 @@ abbrev pub IsQuiet : Result Reply RunFault → Type 0
 IsQuiet (Ok (Done n)) = ⊥
 IsQuiet (Ok (Safe n)) = ⊥
 IsQuiet (Ok (Text text)) = Unit {0}
+IsQuiet (Ok (Time minutes)) = Unit {0}
 IsQuiet (Err fault) = Unit {0}
 
 -- files that stay as they are, but for what is edited
@@ -45,6 +46,7 @@ quiet_counts : (old new : Session) → SameCounts old new → (answer : Result R
 quiet_counts old new same (Ok (Done n)) quiet = absurd quiet
 quiet_counts old new same (Ok (Safe n)) quiet = absurd quiet
 quiet_counts old new same (Ok (Text text)) quiet = same
+quiet_counts old new same (Ok (Time minutes)) quiet = same
 quiet_counts old new same (Err (Refused why)) quiet = same
 quiet_counts old new same (Err OutOfMemory) quiet = same
 quiet_counts old new same (Err Device) quiet = (inl same.accepted, same.acknowledged, same.group)
@@ -57,6 +59,7 @@ counts_from : (old mid new : Session) → SameCounts old mid → (answer : Resul
 counts_from old mid new same (Ok (Done n)) counts = rw (same.accepted, same.acknowledged, same.group) at counts
 counts_from old mid new same (Ok (Safe n)) counts = rw (same.accepted, same.group) at counts
 counts_from old mid new same (Ok (Text text)) counts = still old mid new same counts
+counts_from old mid new same (Ok (Time minutes)) counts = still old mid new same counts
 counts_from old mid new same (Err (Refused why)) counts = still old mid new same counts
 counts_from old mid new same (Err OutOfMemory) counts = still old mid new same counts
 counts_from old mid new same (Err Device) counts = rw (same.accepted, same.acknowledged, same.group) at counts

@@ -3,11 +3,11 @@ use Rattle.std.proofs.Common.{◌≡◌, inl, inr, ⊎_elim, ℕ, ◌+◌, ◌<�
 use Rattle.std.proofs.lemmas.Bool.{cases_Bool}
 use Rattle.org_store.specs.declared.command.Command.{Command}
 use Rattle.org_store.specs.declared.command.Reply.{Reply}
-use Rattle.org_store.specs.declared.command.Reply.TheVariants.{Done, Safe, Text}
+use Rattle.org_store.specs.declared.command.Reply.TheVariants.{Done, Safe, Text, Time}
 use Rattle.org_store.specs.declared.command.RunFault.{RunFault}
 use Rattle.org_store.specs.declared.command.RunFault.TheVariants.{Refused, OutOfMemory, Device, Broken}
 use Rattle.org_store.specs.Session.{Session}
-use Rattle.org_store.specs.Outcome.{Outcome, Accepts, Shows, AsksToSettle, Refuses, outcome}
+use Rattle.org_store.specs.Outcome.{Outcome, Accepts, Shows, Tells, AsksToSettle, Refuses, outcome}
 use Rattle.org_store.specs.Step.{fills, done, settled, Does, Step, Run, IsReply}
 
 same_done : (old new other : Session) (files more : List (List ℕ)) → Accepts files ≡ Accepts more → new ≡ done old files → other ≡ done old more → new ≡ other
@@ -23,6 +23,10 @@ does_one old new other outcome (Ok (Text s)) (Ok (Text t)) a b x y =
     let shown : Shows s ≡ Shows t = sym x.1 ∙ y.1 in
     let same : s ≡ t = cc in
     (ap (λ (k : List ℕ). Ok (Text k)) same, x.2 ∙ sym y.2)
+does_one old new other outcome (Ok (Time n)) (Ok (Time m)) a b x y =
+    let told : Tells n ≡ Tells m = sym x.1 ∙ y.1 in
+    let same : n ≡ m = cc in
+    (ap (λ (k : ℕ). Ok (Time k)) same, x.2 ∙ sym y.2)
 does_one old new other outcome (Err (Refused why)) (Err (Refused how)) a b x y =
     let refused : Refuses why ≡ Refuses how = sym x.1 ∙ y.1 in
     let same : why ≡ how = cc in
@@ -43,6 +47,17 @@ does_one old new other outcome (Ok (Safe n)) (Err Broken) a b x y = absurd b
 does_one old new other outcome (Ok (Done n)) (Ok (Safe m)) a b x y = let apart : Accepts x.1.0 ≡ AsksToSettle = sym x.1.1 ∙ y.1 in absurd (cc)
 does_one old new other outcome (Ok (Text s)) (Ok (Safe m)) a b x y = let apart : Shows s ≡ AsksToSettle = sym x.1 ∙ y.1 in absurd (cc)
 does_one old new other outcome (Err (Refused why)) (Ok (Safe m)) a b x y = let apart : Refuses why ≡ AsksToSettle = sym x.1 ∙ y.1 in absurd (cc)
+does_one old new other outcome (Ok (Time n)) (Ok (Done m)) a b x y = let apart : Tells n ≡ Accepts y.1.0 = sym x.1 ∙ y.1.1 in absurd (cc)
+does_one old new other outcome (Ok (Time n)) (Ok (Text t)) a b x y = let apart : Tells n ≡ Shows t = sym x.1 ∙ y.1 in absurd (cc)
+does_one old new other outcome (Ok (Time n)) (Ok (Safe m)) a b x y = let apart : Tells n ≡ AsksToSettle = sym x.1 ∙ y.1 in absurd (cc)
+does_one old new other outcome (Ok (Time n)) (Err (Refused how)) a b x y = let apart : Tells n ≡ Refuses how = sym x.1 ∙ y.1 in absurd (cc)
+does_one old new other outcome (Ok (Done n)) (Ok (Time m)) a b x y = let apart : Accepts x.1.0 ≡ Tells m = sym x.1.1 ∙ y.1 in absurd (cc)
+does_one old new other outcome (Ok (Text s)) (Ok (Time m)) a b x y = let apart : Shows s ≡ Tells m = sym x.1 ∙ y.1 in absurd (cc)
+does_one old new other outcome (Ok (Safe n)) (Ok (Time m)) a b x y = let apart : AsksToSettle ≡ Tells m = sym x.1 ∙ y.1 in absurd (cc)
+does_one old new other outcome (Err (Refused why)) (Ok (Time m)) a b x y = let apart : Refuses why ≡ Tells m = sym x.1 ∙ y.1 in absurd (cc)
+does_one old new other outcome (Ok (Time n)) (Err OutOfMemory) a b x y = absurd b
+does_one old new other outcome (Ok (Time n)) (Err Device) a b x y = absurd b
+does_one old new other outcome (Ok (Time n)) (Err Broken) a b x y = absurd b
 does_one old new other outcome (Err OutOfMemory) second a b x y = absurd a
 does_one old new other outcome (Err Device) second a b x y = absurd a
 does_one old new other outcome (Err Broken) second a b x y = absurd a
@@ -89,6 +104,7 @@ done_setting s files =
 pub step_setting : (old new : Session) (command : Command) (answer : Result Reply RunFault) → Step old command answer new → SameSetting old new
 step_setting old new command (Ok (Done n)) step = same_setting old new (done old step.1.0) step.1.3 (done_setting old step.1.0)
 step_setting old new command (Ok (Text bytes)) step = same_setting old new old step.2 (refl, refl, refl)
+step_setting old new command (Ok (Time minutes)) step = same_setting old new old step.2 (refl, refl, refl)
 step_setting old new command (Ok (Safe n)) step = same_setting old new (settled old) step.3 (refl, refl, refl)
 step_setting old new command (Err (Refused why)) step = same_setting old new old step.2 (refl, refl, refl)
 step_setting old new command (Err OutOfMemory) step = same_setting old new old step.1 (refl, refl, refl)

@@ -24,7 +24,7 @@ use Rattle.org_splice.proofs.Lines.{closed_twice}
 use Rattle.org_texts.proofs.Heads.{closed_text-bytes, is_closed-closed}
 use Rattle.org_texts.proofs.Looking.{change_this, change_other, held_over-held, not_equal, the_value}
 use Rattle.org_texts.proofs.Standing.{StandOver-closed, StandOver-edits, StandOver-held}
-use Rattle.org_store.specs.Files.{AreReady, AreSmallToWrite, AreTextsOf, IsSound, files_of, has_large, new_texts, second_file, texts_in}
+use Rattle.org_store.specs.Files.{AreReady, AreSmallToWrite, AreTextsOf, IsSound, KeepsHeld, files_of, has_large, new_texts, second_file, texts_in}
 use Rattle.org_store.specs.InOrder.{is_name}
 
 -- ---- names
@@ -88,6 +88,20 @@ held_this own bytes set none = lookup_new set.texts own (settled bytes) none
 some_not_none : {X : Type 0} (o : Option X) → o ≡ None → IsSome o → ⊥
 some_not_none None none some = absurd (cc)
 some_not_none (Some x) none some = absurd (cc)
+
+-- what was held before is held as it was
+pub keeps_held : (own bytes : List ℕ) (old new : Holding) → text_of old.before own ≡ None → new.before ≡ with_text own bytes old.before → KeepsHeld old new
+keeps_held own bytes old new none before name some =
+    let apart : own ≢ name = λ same. some_not_none (text_of old.before name) (subst (λ (n : List ℕ). text_of old.before n ≡ None) same none) some in
+    ap (λ (s : TextSet). text_of s name) before ∙ held_other own bytes old.before name apart
+
+pub keeps_same : (old mid new : Holding) → KeepsHeld old mid → new.before ≡ mid.before → KeepsHeld old new
+keeps_same old mid new keeps same name some = ap (λ (s : TextSet). text_of s name) same ∙ keeps name some
+
+pub keeps_then : (old mid new : Holding) → KeepsHeld old mid → KeepsHeld mid new → KeepsHeld old new
+keeps_then old mid new first second name some =
+    let was = first name some in
+    second name (subst (λ (o : Option EditedText). IsSome o) (sym was) some) ∙ was
 
 pub ready_held : (own bytes : List ℕ) (names : List (List ℕ)) (old new : Holding) → text_of old.now own ≡ None → text_of old.before own ≡ None
     → new.now ≡ with_text own bytes old.now → new.before ≡ with_text own bytes old.before → new.ready ≡ old.ready ++ (own, false) ∷ [] → AreReady names old → AreReady names new

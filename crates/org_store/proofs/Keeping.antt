@@ -1,12 +1,12 @@
 -- What the calls of a store do to its session, and what a stop may leave.
-use Rattle.std.proofs.Common.{◌≡◌, inl, inr, ⊎_elim, ℕ, ◌+◌, ◌-◌, ◌^◌, ◌==◌, Bool, true, false, List, Result, Ok, Err, refl, sym, ◌∙◌, ap, subst, if◌then◌else◌}
+use Rattle.std.proofs.Common.{◌≡◌, inl, inr, ⊎_elim, ℕ, ◌+◌, true, false, List, Result, Ok, Err, refl, sym, ◌∙◌, ap, subst, if◌then◌else◌}
 use Rattle.std.specs.Prelude.{MatchResult}
 use Rattle.org_disk.specs.Disk.{FileState, AreImages}
 use Rattle.org_journal.specs.Standing.{Image, SameFiles, contents}
 use Rattle.org_fileset.specs.Replay.{IsAtRest}
 use Rattle.org_fileset.proofs.Commits.{at_rest_stands}
 use Rattle.org_store.specs.declared.command.Reply.{Reply}
-use Rattle.org_store.specs.declared.command.Reply.TheVariants.{Done, Safe, Text}
+use Rattle.org_store.specs.declared.command.Reply.TheVariants.{Done, Safe, Text, Time}
 use Rattle.org_store.specs.declared.command.RunFault.{RunFault}
 use Rattle.org_store.specs.declared.command.RunFault.TheVariants.{Refused, OutOfMemory, Device, Broken}
 use Rattle.org_store.specs.declared.command.Refusal.TheVariants.{TooLarge}
@@ -14,7 +14,7 @@ use Rattle.org_store.specs.Files.{has_large}
 use Rattle.org_store.specs.InOrder.{texts_of, with_all, with_texts}
 use Rattle.org_store.specs.Session.{Session, Holds}
 use Rattle.org_store.specs.Step.{fills}
-use Rattle.org_store.specs.Outcome.{Outcome, Accepts, Shows, AsksToSettle, Refuses, changed, counted}
+use Rattle.org_store.specs.Outcome.{Outcome, Accepts, Shows, Tells, AsksToSettle, Refuses, changed, counted}
 use Rattle.org_store.specs.Counts.{SameCounts}
 use Rattle.org_store.specs.Left.{IsLeftFailing, IsLeftBy}
 use Rattle.org_store.specs.Keeping.{IsLeftKeeping, KeepsCounts}
@@ -38,6 +38,7 @@ failing_quiet : (s : Session) (others : Image) (outcome : Outcome) (accepted : �
 failing_quiet s others (Accepts files) accepted image holds = inl holds
 failing_quiet s others AsksToSettle accepted image holds = inl holds
 failing_quiet s others (Shows text) accepted image holds = holds
+failing_quiet s others (Tells minutes) accepted image holds = holds
 failing_quiet s others (Refuses why) accepted image holds = holds
 
 pub left_quiet : (s : Session) (others : Image) (outcome : Outcome) (answer : Result Reply RunFault) (accepted : ℕ) (image : Image) → Holds s others s.settled image
@@ -45,6 +46,7 @@ pub left_quiet : (s : Session) (others : Image) (outcome : Outcome) (answer : Re
 left_quiet s others outcome (Ok (Done n)) accepted image holds = inl holds
 left_quiet s others outcome (Ok (Safe n)) accepted image holds = inl holds
 left_quiet s others outcome (Ok (Text text)) accepted image holds = holds
+left_quiet s others outcome (Ok (Time minutes)) accepted image holds = holds
 left_quiet s others outcome (Err (Refused why)) accepted image holds = holds
 left_quiet s others outcome (Err OutOfMemory) accepted image holds = holds
 left_quiet s others outcome (Err Device) accepted image holds = failing_quiet s others outcome accepted image holds

@@ -11,6 +11,8 @@ pub mod Plans
 pub mod Captures
 pub mod Refiles
 pub mod Todos
+pub mod Running
+pub mod Times
 pub mod Sessions
 pub mod Accepted
 pub mod Follows

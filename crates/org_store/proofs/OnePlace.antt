@@ -17,7 +17,7 @@ use Rattle.org_journal.specs.Standing.{Image, SameFiles, stands}
 use Rattle.org_move.specs.Counts.{count_over}
 use Rattle.org_store.specs.declared.command.Command.{Command}
 use Rattle.org_store.specs.declared.command.Reply.{Reply}
-use Rattle.org_store.specs.declared.command.Reply.TheVariants.{Done, Safe, Text}
+use Rattle.org_store.specs.declared.command.Reply.TheVariants.{Done, Safe, Text, Time}
 use Rattle.org_store.specs.declared.command.RunFault.{RunFault}
 use Rattle.org_store.specs.declared.command.RunFault.TheVariants.{Refused, OutOfMemory, Device, Broken}
 use Rattle.org_store.specs.InOrder.{is_name, text_at, texts_of, with_texts}
@@ -127,6 +127,7 @@ goes_keeps : (old new : Session) (command : Command) (answer : Result Reply RunF
     → GoesOn old (outcome old command) answer new → HaveSameNodes new.files old.files
 goes_keeps old new command (Ok (Done n)) apart small is on = done_keeps old new command on.1.0 apart small (is tt) on.1.1 on.1.3
 goes_keeps old new command (Ok (Text text)) apart small is on = as_before old new on.2
+goes_keeps old new command (Ok (Time minutes)) apart small is on = as_before old new on.2
 goes_keeps old new command (Ok (Safe n)) apart small is on = same_nodes new.files old.files (ap (λ (s : Session). s.files) on.3)
 goes_keeps old new command (Err (Refused why)) apart small is on = as_before old new on.2
 goes_keeps old new command (Err OutOfMemory) apart small is on = as_before old new on.1
@@ -175,6 +176,7 @@ keeps_step : (old new : Session) (command : Command) (answer : Result Reply RunF
 keeps_step old new command (Ok (Done n)) apart small is whole step =
     (goes_small old new command (Ok (Done n)) small step, keeps_done old new command step.1.0 apart small (is tt) step.1.1 step.1.3)
 keeps_step old new command (Ok (Text text)) apart small is whole step = (goes_small old new command (Ok (Text text)) small step, keeps_none old new step.2)
+keeps_step old new command (Ok (Time minutes)) apart small is whole step = (goes_small old new command (Ok (Time minutes)) small step, keeps_none old new step.2)
 keeps_step old new command (Ok (Safe n)) apart small is whole step = (
   goes_small old new command (Ok (Safe n)) small step,
   let goes : new ≡ settled old = step.3 in
@@ -195,6 +197,7 @@ broken_stays old new (command ∷ commands) (answer ∷ answers) fell run = brok
     one : (answer : Result Reply RunFault) → Step old command answer run.0 → run.0.broken ≡ true
     one (Ok (Done n)) step = absurd (false≢true (sym step.0 ∙ fell))
     one (Ok (Text text)) step = absurd (false≢true (sym step.0 ∙ fell))
+    one (Ok (Time minutes)) step = absurd (false≢true (sym step.0 ∙ fell))
     one (Ok (Safe n)) step = absurd (false≢true (sym step.0 ∙ fell))
     one (Err (Refused why)) step = absurd (false≢true (sym step.0 ∙ fell))
     one (Err OutOfMemory) step = absurd (false≢true (sym step.0 ∙ fell))

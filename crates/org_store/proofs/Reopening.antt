@@ -16,12 +16,12 @@ use Rattle.org_fileset.proofs.Elements.{no_member, cons_cases, cons_here, cons_l
 use Rattle.org_fileset.proofs.Sorted.{all_sorted, archives_apart, archives_grow}
 use Rattle.org_store.specs.declared.command.Command.{Command}
 use Rattle.org_store.specs.declared.command.Reply.{Reply}
-use Rattle.org_store.specs.declared.command.Reply.TheVariants.{Done, Safe, Text}
+use Rattle.org_store.specs.declared.command.Reply.TheVariants.{Done, Safe, Text, Time}
 use Rattle.org_store.specs.declared.command.RunFault.{RunFault}
 use Rattle.org_store.specs.declared.command.RunFault.TheVariants as run
 use Rattle.org_store.specs.InOrder.{texts_of, with_all, with_text, with_texts}
 use Rattle.org_store.specs.Session.{Session, Holds}
-use Rattle.org_store.specs.Outcome.{Outcome, Accepts, Shows, AsksToSettle, Refuses, outcome}
+use Rattle.org_store.specs.Outcome.{Outcome, Accepts, Shows, Tells, AsksToSettle, Refuses, outcome}
 use Rattle.org_store.specs.Step.{fills, done, settled}
 use Rattle.org_store.specs.Left.{to_settle, IsEither, IsLeftFailing, IsLeftBy, IsLeft}
 use Rattle.org_store.specs.Runs.{GoesOn, Reaches, IsBetween, IsLeftOf}
@@ -184,6 +184,7 @@ small_settled s others (Accepts files) image are accepted holds = (files, accept
     go false there = absurd there
 small_settled s others AsksToSettle image are accepted holds = (s.files, are, holds)
 small_settled s others (Shows text) image are accepted holds = absurd holds
+small_settled s others (Tells minutes) image are accepted holds = absurd holds
 small_settled s others (Refuses why) image are accepted holds = absurd holds
 
 small_either : (s : Session) (others : Image) (outcome : Outcome) (image : Image) → AreSmall s.names s.settled → AreSmall s.names s.files
@@ -195,6 +196,7 @@ small_failing : (s : Session) (others : Image) (outcome : Outcome) (accepted : �
 small_failing s others (Accepts files) accepted image before are small left = ⊎_elim (λ holds. (s.settled, before, holds)) (λ now. (files, small files refl, now.2)) left
 small_failing s others AsksToSettle accepted image before are small left = ⊎_elim (λ holds. (s.settled, before, holds)) (λ now. (s.files, are, now)) left
 small_failing s others (Shows text) accepted image before are small left = (s.settled, before, left)
+small_failing s others (Tells minutes) accepted image before are small left = (s.settled, before, left)
 small_failing s others (Refuses why) accepted image before are small left = (s.settled, before, left)
 
 small_left : (s : Session) (others : Image) (outcome : Outcome) (answer : Result Reply RunFault) (accepted : ℕ) (image : Image) → AreSmall s.names s.settled → AreSmall s.names s.files
@@ -203,6 +205,7 @@ small_left s others outcome (Ok (Done n)) accepted image before are small left =
 small_left s others outcome (Ok (Safe n)) accepted image before are small left = small_either s others outcome image before are small left
 small_left s others outcome (Err run.Device) accepted image before are small left = small_failing s others outcome accepted image before are small left
 small_left s others outcome (Ok (Text text)) accepted image before are small left = (s.settled, before, left)
+small_left s others outcome (Ok (Time minutes)) accepted image before are small left = (s.settled, before, left)
 small_left s others outcome (Err (run.Refused why)) accepted image before are small left = (s.settled, before, left)
 small_left s others outcome (Err run.OutOfMemory) accepted image before are small left = (s.settled, before, left)
 small_left s others outcome (Err run.Broken) accepted image before are small left = (s.settled, before, left)
@@ -231,6 +234,7 @@ done_small old new files are is = subst (StaysSmall old) (sym is) (go (fills old
 pub goes_small : (old new : Session) (command : Command) (answer : Result Reply RunFault) → AreSmall old.names old.files → GoesOn old (outcome old command) answer new → StaysSmall old new
 goes_small old new command (Ok (Done n)) are on = done_small old new on.1.0 (accepted_small old command on.1.0 are on.1.1) on.1.3
 goes_small old new command (Ok (Text text)) are on = stays_same old new are on.2
+goes_small old new command (Ok (Time minutes)) are on = stays_same old new are on.2
 goes_small old new command (Ok (Safe n)) are on = let is : new ≡ settled old = on.3 in subst (StaysSmall old) (sym is) (refl, are)
 goes_small old new command (Err (run.Refused why)) are on = stays_same old new are on.2
 goes_small old new command (Err run.OutOfMemory) are on = stays_same old new are on.1

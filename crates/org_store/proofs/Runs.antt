@@ -11,12 +11,12 @@ use Rattle.org_fileset.proofs.Commits.{at_rest_stands}
 use Rattle.org_fileset.proofs.Stands.{stands_as}
 use Rattle.org_store.specs.declared.command.Command.{Command}
 use Rattle.org_store.specs.declared.command.Reply.{Reply}
-use Rattle.org_store.specs.declared.command.Reply.TheVariants.{Done, Safe, Text}
+use Rattle.org_store.specs.declared.command.Reply.TheVariants.{Done, Safe, Text, Time}
 use Rattle.org_store.specs.declared.command.RunFault.{RunFault}
 use Rattle.org_store.specs.declared.command.RunFault.TheVariants.{Refused, OutOfMemory, Device, Broken}
 use Rattle.org_store.specs.InOrder.{text_at, with_all, with_text, with_texts}
 use Rattle.org_store.specs.Session.{Session, Kept, Holds}
-use Rattle.org_store.specs.Outcome.{Outcome, Accepts, Shows, AsksToSettle, Refuses, outcome}
+use Rattle.org_store.specs.Outcome.{Outcome, Accepts, Shows, Tells, AsksToSettle, Refuses, outcome}
 use Rattle.org_store.specs.Step.{Does, Step, Settles, fills, done, settled}
 use Rattle.org_store.specs.Left.{IsLeftBy, IsLeftFailing, IsLeftSettling, IsEither, to_settle}
 use Rattle.org_store.proofs.Accepted.{accepted_puts}
@@ -107,6 +107,7 @@ onwards_same old new same = subst (λ s. Onwards old s) (sym same) (onward_none 
 onward : (old new : Session) (command : Command) (answer : Result Reply RunFault) → old.broken ≡ false → (IsErrOf answer Device → ⊥) → Step old command answer new → Onwards old new
 onward old new command (Ok (Done n)) unbroken fine step = subst (λ s. Onwards old s) (sym step.1.3) (onward_done old step.1.0 (accepts old command step.1.0 step.1.1))
 onward old new command (Ok (Text bytes)) unbroken fine step = onwards_same old new step.2
+onward old new command (Ok (Time minutes)) unbroken fine step = onwards_same old new step.2
 onward old new command (Ok (Safe n)) unbroken fine step =
     subst (λ s. Onwards old s) (sym step.3) (record { names = refl; broken = refl; settled = inr (λ name. refl); texts = λ name. refl }, inr refl)
 onward old new command (Err (Refused why)) unbroken fine step = onwards_same old new step.2
@@ -118,6 +119,7 @@ onward old new command (Err Broken) unbroken fine step = absurd (false≢true (s
 counts_rise : (old new : Session) (command : Command) (answer : Result Reply RunFault) → Step old command answer new → old.accepted ≤ new.accepted
 counts_rise old new command (Ok (Done n)) step = subst (λ s. old.accepted ≤ s.accepted) (sym step.1.3) (omega (arith, done_accepted old step.1.0))
 counts_rise old new command (Ok (Text bytes)) step = subst (λ s. old.accepted ≤ s.accepted) (sym step.2) (omega arith)
+counts_rise old new command (Ok (Time minutes)) step = subst (λ s. old.accepted ≤ s.accepted) (sym step.2) (omega arith)
 counts_rise old new command (Ok (Safe n)) step = subst (λ s. old.accepted ≤ s.accepted) (sym step.3) (omega arith)
 counts_rise old new command (Err (Refused why)) step = subst (λ s. old.accepted ≤ s.accepted) (sym step.2) (omega arith)
 counts_rise old new command (Err OutOfMemory) step = subst (λ s. old.accepted ≤ s.accepted) (sym step.1) (omega arith)
@@ -153,6 +155,7 @@ either_of old others outcome image IsReached self accepted left = ⊎_elim (λ b
     ]
     some AsksToSettle accepted now = inr (old, self, now)
     some (Shows text) accepted now = absurd now
+    some (Tells minutes) accepted now = absurd now
     some (Refuses why) accepted now = absurd now
 
 failing_of : (old : Session) (others : Image) (outcome : Outcome) (accepted : ℕ) (image : Image) (IsReached : Session → Type 0) → IsReached old
@@ -164,6 +167,7 @@ failing_of old others (Accepts files) accepted image IsReached self torn left = 
     left
 failing_of old others AsksToSettle accepted image IsReached self torn left = ⊎_elim (λ before. inl before) (λ now. inr (old, self, now)) left
 failing_of old others (Shows text) accepted image IsReached self torn left = inl left
+failing_of old others (Tells minutes) accepted image IsReached self torn left = inl left
 failing_of old others (Refuses why) accepted image IsReached self torn left = inl left
 
 left_of : (old mid : Session) (others : Image) (outcome : Outcome) (answer : Result Reply RunFault) (image : Image) (IsReached : Session → Type 0) → Does old outcome answer mid → IsReached old
@@ -181,6 +185,7 @@ left_of old mid others outcome (Ok (Safe n)) image IsReached does self here torn
 left_of old mid others outcome (Err Device) image IsReached does self here torn left =
     failing_of old others outcome mid.accepted image IsReached self (λ files accepts full counted. torn files refl accepts full counted) left
 left_of old mid others outcome (Ok (Text bytes)) image IsReached does self here torn left = inl left
+left_of old mid others outcome (Ok (Time minutes)) image IsReached does self here torn left = inl left
 left_of old mid others outcome (Err (Refused why)) image IsReached does self here torn left = inl left
 left_of old mid others outcome (Err OutOfMemory) image IsReached does self here torn left = inl left
 left_of old mid others outcome (Err Broken) image IsReached does self here torn left = inl left
@@ -248,6 +253,7 @@ device_or_not (Err Broken) = inr (λ (e : ◌≡◌ {A = Result Reply RunFault} 
 answers_broken : (old new : Session) (command : Command) (answer : Result Reply RunFault) → Step old command answer new → old.broken ≡ true → IsErrOf answer Broken
 answers_broken old new command (Ok (Done n)) step fell = absurd (false≢true (sym step.0 ∙ fell))
 answers_broken old new command (Ok (Text bytes)) step fell = absurd (false≢true (sym step.0 ∙ fell))
+answers_broken old new command (Ok (Time minutes)) step fell = absurd (false≢true (sym step.0 ∙ fell))
 answers_broken old new command (Ok (Safe n)) step fell = absurd (false≢true (sym step.0 ∙ fell))
 answers_broken old new command (Err (Refused why)) step fell = absurd (false≢true (sym step.0 ∙ fell))
 answers_broken old new command (Err OutOfMemory) step fell = absurd (false≢true (sym step.0 ∙ fell))

@@ -1,7 +1,7 @@
 -- What a call of a store does to its counts, whatever the disk does.
 use Rattle.std.specs.Prelude.{◌≡◌, ◌⊎◌, ◌+◌, Result, Ok, Err, if◌then◌else◌, is_ok}
 use Rattle.org_store.specs.declared.command.Reply.{Reply}
-use Rattle.org_store.specs.declared.command.Reply.TheVariants.{Done, Safe, Text}
+use Rattle.org_store.specs.declared.command.Reply.TheVariants.{Done, Safe, Text, Time}
 use Rattle.org_store.specs.declared.command.RunFault.{RunFault}
 use Rattle.org_store.specs.declared.command.RunFault.TheVariants.{Refused, OutOfMemory, Device, Broken}
 use Rattle.org_store.specs.Session.{Session}
@@ -16,6 +16,7 @@ pub record SameCounts (old new : Session) : Type 0 where
 abbrev pub Counts : Session → Result Reply RunFault → Session → Type 0
 Counts old (Ok (Done n)) new = (n ≡ old.accepted + 1) × (new.accepted ≡ n) × (new.acknowledged ≡ (if fills old then n else old.acknowledged)) × (new.group ≡ old.group)
 Counts old (Ok (Text bytes)) new = SameCounts old new
+Counts old (Ok (Time minutes)) new = SameCounts old new
 Counts old (Ok (Safe n)) new = (n ≡ old.accepted) × (new.accepted ≡ n) × (new.acknowledged ≡ n) × (new.group ≡ old.group)
 Counts old (Err (Refused why)) new = SameCounts old new
 Counts old (Err OutOfMemory) new = SameCounts old new

@@ -4,6 +4,7 @@ use Rattle.org_disk.specs.Disk.{FileState}
 use Rattle.org_journal.specs.Standing.{Image, contents}
 use Rattle.org_fileset.specs.declared.fault.SetFault.{SetFault}
 use Rattle.org_fileset.specs.declared.fault.SetFault.TheVariants as set
+use Rattle.org_outline.specs.declared.paths.PathFault.{PathFault}
 use Rattle.org_texts.specs.declared.plan.Plan.{Plan}
 use Rattle.org_texts.specs.Texts.{Holding}
 use Rattle.org_capture.specs.declared.fault.CaptureFault.{CaptureFault}
@@ -17,7 +18,7 @@ use Rattle.org_store.specs.declared.command.RunFault.{RunFault}
 use Rattle.org_store.specs.declared.command.RunFault.TheVariants.{Refused, OutOfMemory, Device, Broken}
 use Rattle.org_store.specs.Files.{new_texts}
 use Rattle.org_store.specs.Session.{Session, Kept, Holds}
-use Rattle.org_store.specs.Outcome.{Outcome, changed, refusal_of, refusal_of_move, refusal_of_state}
+use Rattle.org_store.specs.Outcome.{Outcome, changed, refusal_of, refusal_of_move, refusal_of_path, refusal_of_state}
 use Rattle.org_store.specs.Step.{Does, done, failed_in_read, torn_in, fills}
 use Rattle.org_store.specs.Left.{IsLeftBy}
 use Rattle.org_store.specs.Counts.{Counts, SameCounts}
@@ -111,3 +112,7 @@ fault_of_state state.OddPlanning = Refused (refusal_of_state state.OddPlanning)
 fault_of_state state.BadRepeat = Refused (refusal_of_state state.BadRepeat)
 fault_of_state state.DateRange = Refused (refusal_of_state state.DateRange)
 fault_of_state state.ClockBackwards = Refused (refusal_of_state state.ClockBackwards)
+
+-- the fault of a command that finds no heading at a path
+abbrev pub fault_of_path : PathFault → RunFault
+fault_of_path fault = Refused (refusal_of_path fault)

@@ -4,11 +4,11 @@ use Rattle.std.specs.Prelude.{◌≡◌, ◌⊎◌, ℕ, ◌+◌, List, Option, 
 use Rattle.org_journal.specs.Standing.{Image}
 use Rattle.org_store.specs.declared.command.Command.{Command}
 use Rattle.org_store.specs.declared.command.Reply.{Reply}
-use Rattle.org_store.specs.declared.command.Reply.TheVariants.{Done, Safe, Text}
+use Rattle.org_store.specs.declared.command.Reply.TheVariants.{Done, Safe, Text, Time}
 use Rattle.org_store.specs.declared.command.RunFault.{RunFault}
 use Rattle.org_store.specs.declared.command.RunFault.TheVariants.{Refused, OutOfMemory, Device, Broken}
 use Rattle.org_store.specs.Session.{Session, Holds}
-use Rattle.org_store.specs.Outcome.{Outcome, Accepts, Shows, AsksToSettle, Refuses, outcome}
+use Rattle.org_store.specs.Outcome.{Outcome, Accepts, Shows, Tells, AsksToSettle, Refuses, outcome}
 use Rattle.org_store.specs.Step.{fills}
 
 -- the texts that are put on the disk where the outcome asks for a settling or fills the group
@@ -16,6 +16,7 @@ abbrev pub to_settle : Session → Outcome → Option (List (List ℕ))
 to_settle s (Accepts files) = if fills s then Some files else None
 to_settle s AsksToSettle = Some s.files
 to_settle s (Shows text) = None
+to_settle s (Tells minutes) = None
 to_settle s (Refuses why) = None
 
 -- what was settled before, or what the outcome settles
@@ -29,6 +30,7 @@ IsLeftFailing old others (Accepts files) accepted image =
     Holds old others old.settled image ⊎ ((accepted ≡ old.accepted + 1) × IsTrue (fills old) × Holds old others files image)
 IsLeftFailing old others AsksToSettle accepted image = Holds old others old.settled image ⊎ Holds old others old.files image
 IsLeftFailing old others (Shows text) accepted image = Holds old others old.settled image
+IsLeftFailing old others (Tells minutes) accepted image = Holds old others old.settled image
 IsLeftFailing old others (Refuses why) accepted image = Holds old others old.settled image
 
 -- what a stop leaves while a command runs that is to do this and gets this answer, and so many are accepted when it ends;
@@ -38,6 +40,7 @@ IsLeftBy old others outcome (Ok (Done n)) accepted image = IsEither old others o
 IsLeftBy old others outcome (Ok (Safe n)) accepted image = IsEither old others outcome image
 IsLeftBy old others outcome (Err Device) accepted image = IsLeftFailing old others outcome accepted image
 IsLeftBy old others outcome (Ok (Text text)) accepted image = Holds old others old.settled image
+IsLeftBy old others outcome (Ok (Time minutes)) accepted image = Holds old others old.settled image
 IsLeftBy old others outcome (Err (Refused why)) accepted image = Holds old others old.settled image
 IsLeftBy old others outcome (Err OutOfMemory) accepted image = Holds old others old.settled image
 IsLeftBy old others outcome (Err Broken) accepted image = Holds old others old.settled image

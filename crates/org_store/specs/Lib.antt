@@ -5,6 +5,7 @@ pub mod Session
 pub mod Capture
 pub mod Refile
 pub mod Todo
+pub mod Clocks
 pub mod Outcome
 pub mod Step
 pub mod Left

@@ -9,7 +9,7 @@ use Rattle.org_move.specs.Counts.{count_over}
 use Rattle.org_store.specs.declared.command.Command.{Command}
 use Rattle.org_store.specs.declared.command.Command.TheVariants.{Refile}
 use Rattle.org_store.specs.declared.command.Reply.{Reply}
-use Rattle.org_store.specs.declared.command.Reply.TheVariants.{Done, Safe, Text}
+use Rattle.org_store.specs.declared.command.Reply.TheVariants.{Done, Safe, Text, Time}
 use Rattle.org_store.specs.declared.command.RunFault.{RunFault}
 use Rattle.org_store.specs.declared.command.RunFault.TheVariants.{Refused, OutOfMemory, Device, Broken}
 use Rattle.org_store.specs.InOrder.{texts_of}
@@ -44,6 +44,7 @@ IsRefile command =
 abbrev pub MayBeAccepted : Result Reply RunFault → Type 0
 MayBeAccepted (Ok (Done n)) = Unit {0}
 MayBeAccepted (Ok (Text text)) = ⊥
+MayBeAccepted (Ok (Time minutes)) = ⊥
 MayBeAccepted (Ok (Safe n)) = ⊥
 MayBeAccepted (Err (Refused why)) = ⊥
 MayBeAccepted (Err OutOfMemory) = ⊥

@@ -2,6 +2,8 @@
 use Rattle.std.specs.Str.{bytes_eq}
 use Rattle.std.specs.Prelude.{ℕ, ◌-◌, ◌^◌, ◌==◌, List, [], ◌∷◌, Option, Some, None, Result, Ok, Err, if◌then◌else◌}
 use Rattle.org_outline.specs.declared.moves.Place.{Place}
+use Rattle.org_outline.specs.declared.paths.PathFault.{PathFault}
+use Rattle.org_outline.specs.declared.paths.PathFault.TheVariants as path_fault
 use Rattle.org_outline.specs.Tree.{Document, Node, print, tree}
 use Rattle.org_stamp.specs.Calendar.{CivilMinute}
 use Rattle.org_capture.specs.declared.fault.CaptureFault.{CaptureFault}
@@ -13,9 +15,10 @@ use Rattle.org_move.specs.declared.fault.MoveFault.TheVariants as move
 use Rattle.org_move.specs.Refile.{refile_across, refile_within}
 use Rattle.org_state.specs.declared.fault.StateFault.{StateFault}
 use Rattle.org_state.specs.declared.fault.StateFault.TheVariants as state
+use Rattle.org_state.specs.Clock.{clocked_at}
 use Rattle.org_state.specs.Todo.{todo as in_state}
 use Rattle.org_store.specs.declared.command.Command.{Command}
-use Rattle.org_store.specs.declared.command.Command.TheVariants.{Capture, Refile, Todo, Show, Settle}
+use Rattle.org_store.specs.declared.command.Command.TheVariants.{Capture, Refile, Todo, Time, Show, Settle}
 use Rattle.org_store.specs.declared.command.Refusal.{Refusal}
 use Rattle.org_store.specs.declared.command.Refusal.TheVariants.{NoSuchFile, BadTemplate, BadEntry, NotFound, NotUnique, InsideItself, AlreadyArchive, UnknownState, OddPlanning, BadRepeat, DateRange, ClockBackwards, BadLocation, TooLarge}
 use Rattle.org_store.specs.Capture.{new_entry}
@@ -29,6 +32,8 @@ pub data Outcome : Type 0 where
   Refuses : Refusal → Outcome
   -- to answer this text
   Shows : List ℕ → Outcome
+  -- to answer this time, in minutes
+  Tells : ℕ → Outcome
   -- to settle what was accepted
   AsksToSettle : Outcome
   -- to be accepted, with these texts of all files after it
@@ -115,6 +120,21 @@ abbrev pub todo : Session → List ℕ → List (List ℕ) → List ℕ → Civi
 todo s file path state moment None = Refuses NoSuchFile
 todo s file path state moment (Some text) = with_state s file (in_state s.states path state moment (tree text))
 
+-- why no heading is at a path
+abbrev pub refusal_of_path : PathFault → Refusal
+refusal_of_path path_fault.NotFound = NotFound
+refusal_of_path path_fault.NotUnique = NotUnique
+
+abbrev pub with_minutes : Result ℕ PathFault → Outcome
+with_minutes (Ok minutes) = Tells minutes
+with_minutes (Err fault) = Refuses (refusal_of_path fault)
+
+-- The time clocked at a heading, and below it, of a file that has this text: it is refused for its file first, then for
+-- its path.
+abbrev pub time : Session → List (List ℕ) → Option (List ℕ) → Outcome
+time s path None = Refuses NoSuchFile
+time s path (Some text) = with_minutes (clocked_at s.states path (tree text))
+
 abbrev pub show : Option (List ℕ) → Outcome
 show None = Refuses NoSuchFile
 show (Some text) = Shows text
@@ -125,6 +145,7 @@ outcome s (Capture file target place moment template initial) =
 outcome s (Refile file path to_file to_path place) =
     refile s file path to_file to_path place (text_at s.names s.files file) (text_at s.names s.files to_file)
 outcome s (Todo file path state moment) = todo s file path state moment (text_at s.names s.files file)
+outcome s (Time file path) = time s path (text_at s.names s.files file)
 outcome s (Show file) = show (text_at s.names s.files file)
 outcome s Settle = AsksToSettle
 
@@ -133,5 +154,6 @@ abbrev pub IsChange : Command → Type 0
 IsChange (Capture file target place moment template initial) = Unit {0}
 IsChange (Refile file path to_file to_path place) = Unit {0}
 IsChange (Todo file path state moment) = Unit {0}
+IsChange (Time file path) = ⊥
 IsChange (Show file) = ⊥
 IsChange Settle = ⊥

@@ -2,11 +2,11 @@
 use Rattle.std.specs.Prelude.{◌≡◌, ◌⊎◌, ℕ, ◌+◌, ◌-◌, Bool, true, false, List, [], ◌∷◌, Result, Ok, Err, if◌then◌else◌, nat_le, IsTrue}
 use Rattle.org_store.specs.declared.command.Command.{Command}
 use Rattle.org_store.specs.declared.command.Reply.{Reply}
-use Rattle.org_store.specs.declared.command.Reply.TheVariants.{Done, Safe, Text}
+use Rattle.org_store.specs.declared.command.Reply.TheVariants.{Done, Safe, Text, Time}
 use Rattle.org_store.specs.declared.command.RunFault.{RunFault}
 use Rattle.org_store.specs.declared.command.RunFault.TheVariants.{Refused, OutOfMemory, Device, Broken}
 use Rattle.org_store.specs.Session.{Session}
-use Rattle.org_store.specs.Outcome.{Outcome, Accepts, Shows, AsksToSettle, Refuses, outcome}
+use Rattle.org_store.specs.Outcome.{Outcome, Accepts, Shows, Tells, AsksToSettle, Refuses, outcome}
 
 -- with one more accepted command, the group is full
 abbrev pub fills : Session → Bool
@@ -49,6 +49,7 @@ abbrev pub Does : Session → Outcome → Result Reply RunFault → Session → 
 Does old outcome (Ok (Done n)) new =
     (old.broken ≡ false) × ((files : List (List ℕ)) × (outcome ≡ Accepts files) × (n ≡ old.accepted + 1) × (new ≡ done old files))
 Does old outcome (Ok (Text bytes)) new = (old.broken ≡ false) × (outcome ≡ Shows bytes) × (new ≡ old)
+Does old outcome (Ok (Time minutes)) new = (old.broken ≡ false) × (outcome ≡ Tells minutes) × (new ≡ old)
 Does old outcome (Ok (Safe n)) new = (old.broken ≡ false) × (outcome ≡ AsksToSettle) × (n ≡ old.accepted) × (new ≡ settled old)
 Does old outcome (Err (Refused why)) new = (old.broken ≡ false) × (outcome ≡ Refuses why) × (new ≡ old)
 Does old outcome (Err OutOfMemory) new = (old.broken ≡ false) × (new ≡ old)

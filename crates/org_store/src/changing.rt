@@ -189,7 +189,7 @@ fn plan<D: Disk>(
             state,
             moment,
         } => plan_todo(files, states, file, path, state, *moment),
-        Command::Show { .. } | Command::Settle => unreachable!(),
+        Command::Time { .. } | Command::Show { .. } | Command::Settle => unreachable!(),
     }
 }
 

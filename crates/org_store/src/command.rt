@@ -7,7 +7,7 @@ use org_capture::{CaptureFault, Target};
 use org_disk::FileName;
 use org_fileset::SetFault;
 use org_move::MoveFault;
-use org_outline::{Place, Titles};
+use org_outline::{PathFault, Place, Titles};
 use org_splice::Bytes;
 use org_stamp::Moment;
 use org_state::StateFault;
@@ -58,6 +58,13 @@ pub enum Command {
         /// The moment of the change.
         moment: Moment,
     },
+    /// Answers the time clocked at a heading and below it (Org manual, "The clock table").
+    Time {
+        /// The file of the heading.
+        file: FileName,
+        /// Its path there.
+        path: Titles,
+    },
     /// Answers the text of a file.
     Show {
         /// The file whose text is asked for.
@@ -76,6 +83,8 @@ pub enum Reply {
     Safe(u64),
     /// The text of a file, byte for byte.
     Text(Bytes),
+    /// This many minutes were clocked.
+    Time(u64),
 }
 
 /// Why a command is refused. It then changed nothing.
@@ -227,6 +236,19 @@ impl From<StateFault> for RunFault {
             StateFault::DateRange => RunFault::Refused(Refusal::DateRange),
             StateFault::ClockBackwards => RunFault::Refused(Refusal::ClockBackwards),
             StateFault::OutOfMemory => RunFault::OutOfMemory,
+        }
+    }
+}
+
+impl From<PathFault> for RunFault {
+    ghost use Rattle.org_store.specs.Keeping.{fault_of_path};
+
+    ghost from_gives = { λ fault e. e ≡ fault_of_path fault };
+
+    fn from(fault: PathFault) -> Self {
+        match fault {
+            PathFault::NotFound => RunFault::Refused(Refusal::NotFound),
+            PathFault::NotUnique => RunFault::Refused(Refusal::NotUnique),
         }
     }
 }

@@ -2,5 +2,7 @@
 pub(crate) mod capture;
 mod outline;
 pub(crate) mod refile;
+pub(crate) mod running;
 pub(crate) mod show;
+pub(crate) mod time;
 pub(crate) mod todo;

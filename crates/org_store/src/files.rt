@@ -1,5 +1,5 @@
 //! The files of a store, with what is held of their texts.
-ghost use Rattle.std.specs.Prelude.{◌≡◌, ◌⊎◌, ◌↔◌, ◌∷◌, [], List, ℕ, None, nat_lt, length, true, false, IfOk, IfErr, OnOk, OnErr, IsErrOf, IsSome, IsTrue};
+ghost use Rattle.std.specs.Prelude.{◌≡◌, ◌⊎◌, ◌↔◌, ◌<◌, ◌∷◌, [], List, ℕ, None, Some, nat_lt, length, slice_get, true, false, IfOk, IfErr, OnOk, OnErr, IsErrOf, IsSome, IsTrue};
 ghost use Rattle.std.specs.List.{All};
 ghost use Rattle.std.specs.Map.{lookup};
 ghost use Rattle.std.specs.Option.{ForSome, option_map};
@@ -15,7 +15,7 @@ ghost use Rattle.org_fileset.specs.Names.{limit};
 ghost use Rattle.org_outline.specs.States.{Keywords};
 ghost use Rattle.org_texts.specs.Texts.{bytes_or, held_over, nothing_held, text_of};
 ghost use Rattle.org_store.specs.declared.tally.Tally.{Tally};
-ghost use Rattle.org_store.specs.Files.{AreReady, AreSmallToWrite, CommitsTexts, IsPlanFor, PutsPlan, files_of, has_large, texts_in};
+ghost use Rattle.org_store.specs.Files.{AreReady, AreSmallToWrite, CommitsTexts, IsPlanFor, KeepsHeld, PutsPlan, files_of, has_large, texts_in};
 ghost use Rattle.org_store.specs.InOrder.{is_name, texts_of};
 ghost use Rattle.org_store.specs.Keeping.{Reads};
 ghost use Rattle.org_store.specs.Session.{kept_over};
@@ -100,6 +100,21 @@ impl<D: Disk> Files<D> {
         self.set.names().contains(name)
     }
 
+    /// How many files there are: those of the given names, and their archive files.
+    pub(crate) fn count(&self) -> usize
+        ensures { result ≡ length self.now.names }
+    {
+        self.set.names().len()
+    }
+
+    /// The name of the file of this number, in byte order of the names.
+    pub(crate) fn name(&self, index: usize) -> Result<FileName, AllocError>
+        requires { index < length self.now.names }
+        ensures { IfOk result (λ name. slice_get self.now.names index ≡ Some name) }
+    {
+        self.set.names()[index].clone()
+    }
+
     /// Whether a call of the disk has failed since the files were opened.
     pub(crate) fn is_broken(&self) -> bool
         ensures { result ≡ self.now.broken }
@@ -145,6 +160,7 @@ impl<D: Disk> Files<D> {
             → self.new.held.now ≡ self.new.held.before }
         ensures ready { (names : List (List ℕ)) → AreReady names self.old.held
             → AreReady names self.new.held }
+        ensures keeps { KeepsHeld self.old.held self.new.held }
         ensures looks { D.honest self.new.disk → Looks D.files D.moment D.left_since
             self.old.disk self.new.disk }
         ensures names { self.new.names ≡ self.old.names }
@@ -183,6 +199,7 @@ impl<D: Disk> Files<D> {
         requires unbroken { self.old.broken ≡ false }
         ensures ready { OnOk result ((names : List (List ℕ)) → AreReady names self.old.held
             → AreReady (name.now ∷ names) self.new.held) }
+        ensures keeps { KeepsHeld self.old.held self.new.held }
         ensures reads { (states : Keywords) (tally : Tally) → D.honest self.new.disk
             → Reads (kept_over D.files states self.old tally).session result
             (kept_over D.files states self.new tally).session }

@@ -20,6 +20,7 @@ ghost use Rattle.org_store.specs.Counts.{Counts, SettledCounts};
 use crate::changing::change;
 use crate::command::{Command, Reply, RunFault};
 use crate::commands::show::show;
+use crate::commands::time::time;
 use crate::files::Files;
 use crate::tally::Tally;
 use org_disk::{Disk, FileName};
@@ -211,6 +212,7 @@ impl<D: Disk> Store<D> {
                 self.settle()?;
                 Ok(Reply::Safe(self.tally.acknowledged))
             }
+            Command::Time { file, path } => time(&mut self.files, &self.states, file, path),
             Command::Show { file } => show(&mut self.files, file),
             Command::Capture { .. } | Command::Refile { .. } | Command::Todo { .. } => {
                 change(&mut self.files, &self.states, &mut self.tally, command)

@@ -3,7 +3,7 @@ use Rattle.std.specs.Option.{IsSome}
 use Rattle.org_journal.specs.Standing.{Image, contents}
 use Rattle.org_texts.specs.Texts.{TextSet, text_of}
 use Rattle.org_store.specs.InOrder.{is_name}
-use Rattle.org_store.proofs.Held.{held_this, none_found, over_held, ready_held, sound_held, sound_still}
+use Rattle.org_store.proofs.Held.{held_this, keeps_held, none_found, over_held, ready_held, sound_held, sound_still}
 use Rattle.org_store.proofs.Sessions.{session_still}
 use Rattle.org_store.proofs.files.Files.load.Goals as goal
 
@@ -68,3 +68,13 @@ returns-clause-ready g c names =
     let none : text_of inside.texts.now copy ≡ None = ap (text_of inside.texts.now) cloned ∙ none_found (λ held. held.now.text) c.get.result (text_of inside.texts.now own) missing c.get.ensures.text in
     let none_before : text_of inside.texts.before copy ≡ None = ap (text_of inside.texts.before) cloned ∙ none_found (λ held. held.now.before) c.get.result (text_of inside.texts.before own) missing c.get.ensures.before in
     rw (← c.self.view_is) (ready_held copy c.in_ok-bytes.bytes.items names inside.texts c.hold.new.self none none_before c.in_ok-hold.ensures.now c.in_ok-hold.ensures.before c.in_ok-hold.ensures.ready)
+
+pub returns-clause-keeps : goal.returns-clause-keeps
+returns-clause-keeps g c =
+    let inside = c.self.inside in
+    let own = c.args.name.now in
+    let copy = c.in_ok-clone.field-0 in
+    let cloned : copy ≡ own = search rules in
+    let missing : is_some c.get.result ≡ false = search rules in
+    let none_before : text_of inside.texts.before copy ≡ None = ap (text_of inside.texts.before) cloned ∙ none_found (λ held. held.now.before) c.get.result (text_of inside.texts.before own) missing c.get.ensures.before in
+    rw (← c.self.view_is) (keeps_held copy c.in_ok-bytes.bytes.items inside.texts c.hold.new.self none_before c.in_ok-hold.ensures.before)

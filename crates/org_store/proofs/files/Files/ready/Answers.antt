@@ -4,6 +4,7 @@ use Rattle.org_texts.specs.Texts.{TextSet, held_over}
 use Rattle.org_store.specs.declared.command.RunFault.TheVariants.{OutOfMemory}
 use Rattle.org_store.specs.Keeping.{Reads}
 use Rattle.org_store.specs.Session.{session_over}
+use Rattle.org_store.proofs.Held.{keeps_same}
 use Rattle.org_store.proofs.Sessions.{reads_fault, session_still}
 use Rattle.org_store.proofs.files.Files.ready.Goals as goal
 
@@ -33,3 +34,9 @@ returns-clause-reads g c states tally honest =
     let same = session_still texts states c.load.new.self c.make_ready.new.self tally made.names (ap texts made.disk)
     (λ name. ap (λ (s : TextSet). held_over s (texts c.make_ready.new.self.disk) name) made.before ∙ ap (λ (f : Image). held_over c.load.new.self.held.before f name) (ap texts made.disk)) made.broken in
     same ∙ c.in_ok-load.ensures.reads states tally was
+
+pub returns-in_err-make_ready-clause-keeps : goal.returns-in_err-make_ready-clause-keeps
+returns-in_err-make_ready-clause-keeps g c = keeps_same c.args.self.now.held c.load.new.self.held c.make_ready.new.self.held c.load.ensures.keeps c.make_ready.ensures.before
+
+pub returns-clause-keeps : goal.returns-clause-keeps
+returns-clause-keeps g c = keeps_same c.args.self.now.held c.load.new.self.held c.make_ready.new.self.held c.load.ensures.keeps c.make_ready.ensures.before

@@ -3,7 +3,7 @@ use Rattle.std.proofs.lemmas.Bool.{false≢true}
 use Rattle.org_journal.specs.Standing.{contents}
 use Rattle.org_store.specs.declared.command.RunFault.TheVariants.{Broken}
 use Rattle.org_store.specs.declared.command.Command.{Command}
-use Rattle.org_store.specs.declared.command.Command.TheVariants.{Show}
+use Rattle.org_store.specs.declared.command.Command.TheVariants.{Time, Show}
 use Rattle.org_store.specs.InOrder.{texts_of}
 use Rattle.org_store.specs.Keeping.{Acts}
 use Rattle.org_store.specs.Left.{IsLeft}
@@ -22,6 +22,53 @@ returns-then-is_broken-clause-disk g c = λ honest.
     let own : s.settled ≡ texts_of files s.names = rw (← c.self.view_is) refl in
     leaves_unwritten d.files d.moment d.left_since old (IsLeft s files c.args.command.now (Err Broken) s.accepted) _ (λ image left. g.met.D.Disk.only_now old.disk image honest left) own
     (λ image holds. left_quiet s files (outcome s c.args.command.now) (Err Broken) s.accepted image holds) old refl own
+
+pub returns-in-Time-clause-disk : goal.returns-in-Time-clause-disk
+returns-in-Time-clause-disk g c =
+    let d = g.D.Disk in
+    let inside = c.self.inside in
+    let old = kept_over d.files inside.states inside.files inside.tally in
+    let new = kept_over d.files inside.states c.time.new.files inside.tally in
+    let acts : Acts d.files d.moment d.left_since d.honest old (outcome old.session (Time c.in-Time.file c.in-Time.path)) c.time.result new = c.time.ensures.acts inside.tally in
+    let told = subst (λ (command : Command). Acts d.files d.moment d.left_since d.honest old (outcome old.session command) c.time.result new) (sym c.in-Time.is) acts in
+    rw (← c.self.view_is) told.disk
+
+pub returns-in-Time-clause-step : goal.returns-in-Time-clause-step
+returns-in-Time-clause-step g c =
+    let d = g.D.Disk in
+    let inside = c.self.inside in
+    let old = kept_over d.files inside.states inside.files inside.tally in
+    let new = kept_over d.files inside.states c.time.new.files inside.tally in
+    let acts : Acts d.files d.moment d.left_since d.honest old (outcome old.session (Time c.in-Time.file c.in-Time.path)) c.time.result new = c.time.ensures.acts inside.tally in
+    let told = subst (λ (command : Command). Acts d.files d.moment d.left_since d.honest old (outcome old.session command) c.time.result new) (sym c.in-Time.is) acts in
+    rw (← c.self.view_is) told.does
+
+pub returns-in-Time-clause-counts : goal.returns-in-Time-clause-counts
+returns-in-Time-clause-counts g c =
+    let d = g.D.Disk in
+    let inside = c.self.inside in
+    let old = kept_over d.files inside.states inside.files inside.tally in
+    let new = kept_over d.files inside.states c.time.new.files inside.tally in
+    let acts : Acts d.files d.moment d.left_since d.honest old (outcome old.session (Time c.in-Time.file c.in-Time.path)) c.time.result new = c.time.ensures.acts inside.tally in
+    let told = subst (λ (command : Command). Acts d.files d.moment d.left_since d.honest old (outcome old.session command) c.time.result new) (sym c.in-Time.is) acts in
+    rw (← c.self.view_is) told.counts
+
+pub returns-in-Time-clause-broken : goal.returns-in-Time-clause-broken
+returns-in-Time-clause-broken g c =
+    let inside = c.self.inside in
+    let acts = c.time.ensures.acts inside.tally in
+    let whole : inside.files.broken ≡ false = search rules in
+    rw (← c.self.view_is) (λ broken. absurd (acts.works broken), λ was. absurd (false≢true (sym whole ∙ was)))
+
+pub returns-in-Time-clause-untouched : goal.returns-in-Time-clause-untouched
+returns-in-Time-clause-untouched g c broken = absurd ((c.time.ensures.acts c.self.inside.tally).works broken)
+
+pub returns-in-Time-clause-breaks : goal.returns-in-Time-clause-breaks
+returns-in-Time-clause-breaks g c =
+    let inside = c.self.inside in
+    let acts = c.time.ensures.acts inside.tally in
+    let whole : inside.files.broken ≡ false = search rules in
+    rw (← c.self.view_is) (λ fell. inr (acts.breaks.1 fell), λ either. ⊎_elim (λ was. absurd (false≢true (sym whole ∙ was))) acts.breaks.0 either)
 
 pub returns-in-Show-clause-disk : goal.returns-in-Show-clause-disk
 returns-in-Show-clause-disk g c =

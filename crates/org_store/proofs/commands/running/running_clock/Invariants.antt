@@ -1,0 +1,24 @@
+use Rattle.std.proofs.Common.{◌≡◌, false}
+use Rattle.org_disk.specs.Accounts.{Accounts, Looks}
+use Rattle.org_journal.specs.Standing.{contents}
+use Rattle.org_texts.specs.Texts.{held_over}
+use Rattle.org_store.specs.declared.tally.Tally.{Tally}
+use Rattle.org_store.specs.Files.{KeepsHeld}
+use Rattle.org_store.specs.Session.{session_over}
+use Rattle.org_store.proofs.Running.{first_from}
+use Rattle.org_store.proofs.commands.running.running_clock.Given as goal
+
+-- no clock runs in the files so far, and all is as it was
+abbrev pub invariant-loop-index : goal.invariant-loop-index
+invariant-loop-index g l =
+    let disk = g.D.Disk in
+    record {
+      names : l.files.names ≡ l.fn.files.names;
+      unbroken : l.files.broken ≡ false;
+      begun : l.files.held.now ≡ l.files.held.before;
+      keeps : KeepsHeld l.fn.files.held l.files.held;
+      accounts : Accounts disk.steady disk.honest disk.failures l.fn.files.disk l.files.disk ⊥;
+      looks : disk.honest l.files.disk → Looks disk.files disk.moment disk.left_since l.fn.files.disk l.files.disk;
+      same : (tally : Tally) → disk.honest l.files.disk → session_over (λ d. contents (disk.files d)) l.fn.states l.files tally ≡ session_over (λ d. contents (disk.files d)) l.fn.states l.fn.files tally;
+      passed : disk.honest l.files.disk → let files = held_over l.fn.files.held.before (contents (disk.files l.fn.files.disk)) in first_from files l.fn.files.names l.index ≡ first_from files l.fn.files.names 0;
+    }

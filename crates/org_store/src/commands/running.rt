@@ -1,0 +1,94 @@
+//! The clock that runs over all files.
+ghost use Rattle.std.specs.Prelude.{◌≡◌, ◌↔◌, IfOk, IsErrOf, IsTrue, OnOk, false, true};
+ghost use Rattle.std.specs.Option.{ForSome, option_map};
+ghost use Rattle.org_disk.specs.Accounts.{Accounts, Looks};
+ghost use Rattle.org_store.specs.declared.tally.Tally.{Tally};
+ghost use Rattle.org_store.specs.Clocks.{RunsHeld, RunsIn, running_over};
+ghost use Rattle.org_store.specs.Files.{KeepsHeld};
+ghost use Rattle.org_store.specs.InOrder.{is_name};
+ghost use Rattle.org_store.specs.Keeping.{Reads};
+ghost use Rattle.org_store.specs.Session.{kept_over};
+
+use crate::command::RunFault;
+use crate::commands::outline::outline_of;
+use crate::files::Files;
+use org_disk::{Disk, FileName};
+use org_outline::States;
+use org_state::{Running, running};
+
+/// The clock that runs, and the file that it runs in.
+#[derive(Drop)]
+pub(crate) struct Clock {
+    pub(crate) file: FileName,
+    pub(crate) running: Running,
+}
+
+/// The clock that runs in one of the files. Its text stays as it is.
+fn running_in_file<D: Disk>(
+    files: &mut Files<D>,
+    states: &States,
+    file: &FileName,
+) -> Result<Option<Running>, RunFault>
+    requires name { is_name files.old.names file.now ≡ true }
+    requires unbroken { files.old.broken ≡ false }
+    requires begun { files.old.held.now ≡ files.old.held.before }
+    ensures runs { IfOk result (λ found. RunsIn files.new.held.before file.now found) }
+    ensures reads { (tally : Tally) → D.honest files.new.disk
+        → Reads (kept_over D.files states.now files.old tally).session result
+        (kept_over D.files states.now files.new tally).session }
+    ensures begun { OnOk result (files.new.held.now ≡ files.new.held.before) }
+    ensures keeps { KeepsHeld files.old.held files.new.held }
+    ensures looks { D.honest files.new.disk
+        → Looks D.files D.moment D.left_since files.old.disk files.new.disk }
+    ensures names { files.new.names ≡ files.old.names }
+    ensures works { IsErrOf result RunFault.Broken → ⊥ }
+    ensures breaks { IsErrOf result RunFault.Device ↔ IsTrue files.new.broken }
+    ensures accounts { Accounts D.steady D.honest D.failures files.old.disk files.new.disk
+        (IsErrOf result RunFault.Device) }
+{
+    files.ready(file)?;
+    let Some(held) = files.get(file) else {
+        unreachable!();
+    };
+    let found = running(&outline_of(held, states));
+    files.undo();
+    Ok(found)
+}
+
+/// The clock that runs: the first over the files in byte order of their names. Each file is read where it isn't held, up to
+/// the one where a clock runs; all texts stay as they are.
+pub(crate) fn running_clock<D: Disk>(
+    files: &mut Files<D>,
+    states: &States,
+) -> Result<Option<Clock>, RunFault>
+    requires unbroken { files.old.broken ≡ false }
+    requires begun { files.old.held.now ≡ files.old.held.before }
+    ensures clock { (tally : Tally) → D.honest files.new.disk
+        → let session = (kept_over D.files states.now files.old tally).session in
+        IfOk result (λ found. option_map (λ clock. (clock.file, clock.running)) found
+        ≡ running_over session.names session.files) }
+    ensures reads { (tally : Tally) → D.honest files.new.disk
+        → Reads (kept_over D.files states.now files.old tally).session result
+        (kept_over D.files states.now files.new tally).session }
+    ensures runs { IfOk result (λ found. ForSome found
+        (λ clock. RunsHeld files.new.held clock.file clock.running)) }
+    ensures named { IfOk result (λ found. ForSome found
+        (λ clock. is_name files.new.names clock.file ≡ true)) }
+    ensures begun { OnOk result (files.new.held.now ≡ files.new.held.before) }
+    ensures keeps { KeepsHeld files.old.held files.new.held }
+    ensures looks { D.honest files.new.disk
+        → Looks D.files D.moment D.left_since files.old.disk files.new.disk }
+    ensures names { files.new.names ≡ files.old.names }
+    ensures works { IsErrOf result RunFault.Broken → ⊥ }
+    ensures breaks { IsErrOf result RunFault.Device ↔ IsTrue files.new.broken }
+    ensures accounts { Accounts D.steady D.honest D.failures files.old.disk files.new.disk
+        (IsErrOf result RunFault.Device) }
+{
+    for index in 0..files.count() {
+        let file = files.name(index)?;
+        if let Some(running) = running_in_file(files, states, &file)? {
+            return Ok(Some(Clock { file, running }));
+        }
+    }
+    Ok(None)
+}
