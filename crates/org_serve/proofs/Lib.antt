@@ -14,3 +14,4 @@ pub mod History
 mod OnePlace
 mod Opened
 mod Told
+mod Openable

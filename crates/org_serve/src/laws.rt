@@ -1,8 +1,9 @@
 //! Laws of the definitions, each the contract of a function that does nothing.
 ghost use Rattle.std.specs.Prelude.{ℕ, List, ◌≡◌, ◌∷◌, ◌++◌};
-ghost use Rattle.std.specs.Prelude.{All, Some, Result, IsFalse};
-ghost use Rattle.org_journal.specs.Standing.{Image};
-ghost use Rattle.org_fileset.specs.Names.{AreFew};
+ghost use Rattle.std.specs.Prelude.{All, None, Option, Some, Result, IsFalse};
+ghost use Rattle.org_journal.specs.Standing.{Image, contents};
+ghost use Rattle.org_fileset.specs.Names.{AreFew, first_large};
+ghost use Rattle.org_outline.specs.States.{Keywords};
 ghost use Rattle.org_store.specs.declared.command.Command.{Command};
 ghost use Rattle.org_store.specs.declared.command.Reply.{Reply};
 ghost use Rattle.org_store.specs.declared.command.RunFault.{RunFault};
@@ -12,10 +13,14 @@ ghost use Rattle.org_store.specs.Runs.{IsBetween, IsLeftOf};
 ghost use Rattle.org_store.specs.Session.{Session};
 ghost use Rattle.org_store.specs.Step.{Step};
 ghost use Rattle.org_serve.specs.OnePlace.{OnlyRefiles};
+ghost use Rattle.org_serve.specs.declared.end.ServeEnd.{ServeEnd};
 ghost use Rattle.org_serve.specs.Stops.{Reaches};
+ghost use Rattle.org_serve.specs.Whole.{HoldsServed, ServesOver};
 ghost use Rattle.org_serve.specs.Grammar.{escaped, unescaped, path_of, path_field};
 ghost use Rattle.org_serve.specs.Lines.{cut, joined, HasNoNewline};
 ghost use Rattle.org_serve.specs.Replies.{answer_text, safe_line, told_safe};
+
+use org_disk::Disk;
 
 /// The lines of any bytes, each with its newline, and what stands behind the last newline are those bytes; and no
 /// line holds a newline, nor does the rest.
@@ -48,13 +53,22 @@ pub fn safe_tells_acknowledged()
         → (new.acknowledged ≡ a) × IsFalse new.broken }
 {}
 
-/// Every image of a store's disk opens again while lines are served (`any_moment` of `serve`), with the names that the
-/// store was opened with: what that says is told by `every_image_opens` of org_store's laws.
-pub fn every_image_opens()
-    ensures { (given : List (List ℕ)) (old new : Session) (others image : Image)
+/// Every image of a store's disk opens again while lines are served, with the names that the store was opened with: what
+/// that says is told by `every_image_opens` of org_store's laws.
+pub fn every_image_opens<D: Disk>()
+    // `any_moment` of `serve`
+    ensures served { (given : List (List ℕ)) (old new : Session) (others image : Image)
         (lines : List (List ℕ)) (out : List ℕ) → AreFew given → IsSessionOf given old
         → IsLeftOf old others (λ mid. Reaches old lines out mid × IsBetween old new mid) image
         → IsOpenable given image }
+    // `Lasts` of `serve_disk`, behind the opening; an opened store has no file past the limit (`Store::open`)
+    ensures whole { (states : Keywords) (group : ℕ) (given : List (List ℕ)) (disk now : D)
+        (end : ServeEnd) (left left' written written' : Option (List ℕ))
+        (served : ServesOver D.honest D.files D.moment D.left_since states group given disk now
+        end left left' written written') (least : ℕ) (image : Image) → AreFew given
+        → first_large (contents (D.files served.first.store.disk))
+        served.first.store.session.names ≡ None
+        → HoldsServed served least image → IsOpenable given image }
 {}
 
 /// Each node in one place, in what a stop leaves while lines are served (`any_moment` of `serve`, and of `serve_disk` behind

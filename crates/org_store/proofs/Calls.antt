@@ -1,5 +1,5 @@
 -- Runs of all the calls of a store: a settling goes on as the command to settle does.
-use Rattle.std.proofs.Common.{◌≡◌, ◌⊎◌, inl, inr, ⊎_elim, ℕ, true, false, List, [], ◌∷◌, Result, Ok, Err, refl, sym, ◌∙◌, ap, subst, arith}
+use Rattle.std.proofs.Common.{◌≡◌, inl, inr, ⊎_elim, ℕ, true, false, List, [], ◌∷◌, Result, Ok, Err, refl, sym, ◌∙◌, ap, subst, arith}
 use Rattle.std.specs.Prelude.{IsErrOf}
 use Rattle.std.proofs.lemmas.Bool.{cases_Bool, false≢true}
 use Rattle.org_disk.specs.Disk.{FileState, AreImages, LeavesOnly}
@@ -27,17 +27,15 @@ use Rattle.org_disk.proofs.Moments.{passes_as}
 
 -- A settling, and the command to settle.
 
-reply_of : ℕ → Result (Unit {0}) RunFault → Result Reply RunFault
+abbrev reply_of : ℕ → Result (Unit {0}) RunFault → Result Reply RunFault
 reply_of n (Ok _) = Ok (Safe n)
 reply_of n (Err fault) = Err fault
 
 fault_of_reply : (n : ℕ) (answer : Result (Unit {0}) RunFault) (fault : RunFault) → IsErrOf (reply_of n answer) fault → IsErrOf answer fault
-unfolding reply_of
 fault_of_reply n (Ok _) fault is = absurd (cc)
 fault_of_reply n (Err found) fault is = let same : found ≡ fault = cc in ap (λ (f : RunFault). Err f) same
 
 settle_steps : (old new : Session) (answer : Result (Unit {0}) RunFault) → Settles old answer new → Step old Settle (reply_of old.accepted answer) new
-unfolding reply_of
 settle_steps old new (Ok _) step = (step.0, refl, refl, step.1)
 settle_steps old new (Err (Refused why)) step = absurd step
 settle_steps old new (Err OutOfMemory) step = step
@@ -46,7 +44,6 @@ settle_steps old new (Err Broken) step = step
 
 settle_left : (old : Session) (others : Image) (n accepted : ℕ) (answer : Result (Unit {0}) RunFault) (image : Image) → IsLeftSettling old others answer image
     → IsLeft old others Settle (reply_of n answer) accepted image
-unfolding reply_of
 settle_left old others n accepted (Ok _) image left = left
 settle_left old others n accepted (Err (Refused why)) image left = left
 settle_left old others n accepted (Err OutOfMemory) image left = left
