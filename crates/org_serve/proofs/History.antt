@@ -1,6 +1,6 @@
 -- What a stop leaves of a run that is told in one list of texts.
 use Rattle.std.proofs.Common.{◌≡◌, ◌⊎◌, inl, inr, ⊎_elim, ℕ, zero, suc, ◌+◌, ◌<◌, ◌≤◌, true, false, List, [], ◌∷◌, ◌++◌, length, Option, Some, None, Result, Ok, Err, refl, sym, ap, ◌∙◌, subst, arith}
-use Rattle.std.specs.Prelude.{slice_get, IsSomeAnd, IsErrOf}
+use Rattle.std.specs.Prelude.{slice_get, IsSomeAnd, IsErrOf, if◌then◌else◌, nat_eq}
 use Rattle.std.proofs.lemmas.Bool.{cases_Bool, false≢true}
 use Rattle.std.proofs.lemmas.List.{length-append}
 use Rattle.std.proofs.lemmas.Option.{slice_get_within}
@@ -17,16 +17,18 @@ use Rattle.org_store.specs.declared.command.RunFault.{RunFault}
 use Rattle.org_store.specs.declared.command.RunFault.TheVariants.{Refused, OutOfMemory, Device, Broken}
 use Rattle.org_store.specs.InOrder.{with_texts}
 use Rattle.org_store.specs.Session.{Session, Kept, Holds}
-use Rattle.org_store.specs.Outcome.{Outcome, Accepts, outcome}
+use Rattle.org_store.specs.Outcome.{Outcome, Accepts, Shows, AsksToSettle, Refuses, outcome}
 use Rattle.org_store.specs.Step.{Step, Settles, fills, done, settled}
 use Rattle.org_store.specs.Runs.{IsOnDisk, IsBetween}
 use Rattle.org_store.proofs.Runs.{Course, HaveTexts, course_none, course_run, course_settle, done_accepted, done_files, falls, holds_back, on_disk_after}
 use Rattle.org_serve.specs.declared.fault.LineFault.{LineFault}
-use Rattle.org_serve.specs.Serving.{AnswersReadBy}
-use Rattle.org_serve.specs.Stops.{RunsHonest, RunsLine, HasSettledOver, Runs}
+use Rattle.org_serve.specs.Serving.{AnswersReadBy, AnswersLine}
+use Rattle.org_serve.specs.Stops.{Runs, RunsHonest, RunsLine, HasSettledOver}
 use Rattle.org_serve.specs.declared.end.ServeEnd.{ServeEnd}
-use Rattle.org_serve.specs.History.{Past, Adds, RunsPast, PastLine, HasSettledPast, LeadsBy, HoldsPrefix}
+use Rattle.org_serve.specs.History.{Past, Adds, LeadsBy, HoldsPrefix, RunsPast as ToldRunsPast, PastLine as ToldPast, HasSettledPast as ToldSettledPast}
 use Rattle.org_serve.specs.Transcript.{Answers}
+use Rattle.org_serve.proofs.Honest.{RunsPast, PastLine, HasSettledPast}
+use Rattle.org_serve.proofs.Stops.{answers_by}
 
 abbrev pub Texts : Type 0
 Texts = List (List (List ℕ))
@@ -52,19 +54,40 @@ pub done_broken : (s : Session) (files : List (List ℕ)) → (done s files).bro
 done_broken s files = elim (cases_Bool (fills s)) [ inl t ↦ rw t refl | inr f ↦ rw f refl ]
 
 -- What a command adds to the list.
-adds : (old new : Session) (command : Command) (answer : Result Reply RunFault) (texts : Texts) → Step old command answer new → (more : Texts) × Adds (outcome old command) old.accepted new.accepted texts more
+
+abbrev pub texts_after : Outcome → ℕ → ℕ → Texts → Texts
+texts_after (Accepts files) before now texts = if nat_eq now before then texts else texts ++ files ∷ []
+texts_after (Shows text) before now texts = texts
+texts_after AsksToSettle before now texts = texts
+texts_after (Refuses why) before now texts = texts
+
+adds_one : (told : Outcome) (files : List (List ℕ)) (before now : ℕ) (texts : Texts) → told ≡ Accepts files → now ≡ before + 1 → Adds told before now texts (texts_after told before now texts)
+adds_one told files before now texts accepts risen =
+    let more : nat_eq (before + 1) before ≡ false = grind (arith) in
+    rw (accepts, risen, more) (inr (refl, (files, refl, refl)))
+
+adds_none : (told : Outcome) (before now : ℕ) (texts : Texts) → now ≡ before → Adds told before now texts (texts_after told before now texts)
+adds_none (Accepts files) before now texts same =
+    let is : nat_eq before before ≡ true = grind (arith) in
+    rw (same, is) (inl (refl, refl))
+adds_none (Shows text) before now texts same = inl (same, refl)
+adds_none AsksToSettle before now texts same = inl (same, refl)
+adds_none (Refuses why) before now texts same = inl (same, refl)
+
+adds : (old new : Session) (command : Command) (answer : Result Reply RunFault) (texts : Texts) → Step old command answer new
+    → Adds (outcome old command) old.accepted new.accepted texts (texts_after (outcome old command) old.accepted new.accepted texts)
 adds old new command (Ok (Done n)) texts step =
-    (texts ++ step.1.0 ∷ [], inr (ap (λ (s : Session). s.accepted) step.1.3 ∙ done_accepted old step.1.0, (step.1.0, step.1.1, refl)))
-adds old new command (Ok (Text bytes)) texts step = (texts, inl (ap (λ (s : Session). s.accepted) step.2, refl))
-adds old new command (Ok (Safe n)) texts step = (texts, inl (ap (λ (s : Session). s.accepted) step.3, refl))
-adds old new command (Err (Refused why)) texts step = (texts, inl (ap (λ (s : Session). s.accepted) step.2, refl))
-adds old new command (Err OutOfMemory) texts step = (texts, inl (ap (λ (s : Session). s.accepted) step.1, refl))
-adds old new command (Err Broken) texts step = (texts, inl (ap (λ (s : Session). s.accepted) step.1, refl))
+    adds_one (outcome old command) step.1.0 old.accepted new.accepted texts step.1.1 (ap (λ (s : Session). s.accepted) step.1.3 ∙ done_accepted old step.1.0)
+adds old new command (Ok (Text bytes)) texts step = adds_none (outcome old command) old.accepted new.accepted texts (ap (λ (s : Session). s.accepted) step.2)
+adds old new command (Ok (Safe n)) texts step = adds_none (outcome old command) old.accepted new.accepted texts (ap (λ (s : Session). s.accepted) step.3)
+adds old new command (Err (Refused why)) texts step = adds_none (outcome old command) old.accepted new.accepted texts (ap (λ (s : Session). s.accepted) step.2)
+adds old new command (Err OutOfMemory) texts step = adds_none (outcome old command) old.accepted new.accepted texts (ap (λ (s : Session). s.accepted) step.1)
+adds old new command (Err Broken) texts step = adds_none (outcome old command) old.accepted new.accepted texts (ap (λ (s : Session). s.accepted) step.1)
 adds old new command (Err Device) texts step = elim step.1 [
-  | inl in_read ↦ (texts, inl (ap (λ (s : Session). s.accepted) in_read, refl))
+  | inl in_read ↦ adds_none (outcome old command) old.accepted new.accepted texts (ap (λ (s : Session). s.accepted) in_read)
   | inr torn ↦ elim torn [
-    | inl fell ↦ (texts ++ fell.0 ∷ [], inr (ap (λ (s : Session). s.accepted) fell.5, (fell.0, fell.3, refl)))
-    | inr between ↦ (texts, inl (ap (λ (s : Session). s.accepted) between.3, refl))
+    | inl fell ↦ adds_one (outcome old command) fell.0 old.accepted new.accepted texts fell.3 (ap (λ (s : Session). s.accepted) fell.5)
+    | inr between ↦ adds_none (outcome old command) old.accepted new.accepted texts (ap (λ (s : Session). s.accepted) between.3)
   ]
 ]
 
@@ -163,6 +186,70 @@ same_or_sound old new command (Err OutOfMemory) fine step = inl step.1
 same_or_sound old new command (Err Broken) fine step = inl step.1
 same_or_sound old new command (Err Device) fine step = absurd (fine refl)
 
+-- A run of stores has such a list.
+module _ {D : Type 0} (honest : D → Type 0) (files : D → List ℕ → FileState) (moment : D → ℕ) (left_since : D → ℕ → Image → Type 0) where
+  abbrev LineTold : Past D → List ℕ → List ℕ → Past D → Type 0
+  LineTold = ToldPast honest files moment left_since
+
+  abbrev SettledTold : Past D → Past D → Type 0
+  SettledTold = ToldSettledPast honest files moment left_since
+
+  abbrev ReadsTold : Past D → Result Command LineFault → List ℕ → Past D → Type 0
+  ReadsTold = AnswersReadBy (ToldRunsPast honest files moment left_since) (λ past. past.store.session)
+
+  abbrev ReadsKept : Kept D → Result Command LineFault → List ℕ → Kept D → Type 0
+  ReadsKept = AnswersReadBy (RunsHonest honest files moment left_since) (λ k. k.session)
+
+  lift_read : (old : Past D) (read : Result Command LineFault) (out : List ℕ) (new : Kept D) → ReadsKept old.store read out new → (texts : Texts) × ReadsTold old read out (record { store = new; texts = texts })
+  lift_read old (Err fault) out new ran = (old.texts, (ran.0, ap (λ (k : Kept D). record { store = k; texts = old.texts }) ran.1))
+  lift_read old (Ok command) out new ran = (
+    texts_after (outcome old.store.session command) old.store.session.accepted new.session.accepted old.texts,
+    (
+      ran.0,
+      record { before = ran.1.before; did = λ here. let did = ran.1.did here in (did, adds old.store.session new.session command ran.0 old.texts did.step) },
+      ran.2,
+    ),
+  )
+
+  pub lift_lines : (old : Past D) (lines : List (List ℕ)) (out : List ℕ) (new : Kept D) → Answers (RunsLine honest files moment left_since) old.store lines out new
+      → (texts : Texts) × Answers LineTold old lines out (record { store = new; texts = texts })
+  lift_lines old [] out new a = (old.texts, (a.0, ap (λ (k : Kept D). record { store = k; texts = old.texts }) a.1))
+  lift_lines old (line ∷ lines) out new a =
+      let one = lift_read old a.3.0 a.1 a.0 a.3.2 in
+      let mid : Past D = record { store = a.0; texts = one.0 } in
+      let rest = lift_lines mid lines a.2 new a.5 in
+      (rest.0, (mid, a.1, a.2, (a.3.0, a.3.1, one.1), a.4, rest.1))
+
+  pub lift_end : (mid : Past D) (new : Kept D) → (new ≡ mid.store) ⊎ HasSettledOver honest files moment left_since mid.store new
+      → let last : Past D = record { store = new; texts = mid.texts } in (last ≡ mid) ⊎ SettledTold mid last
+  lift_end mid new ends = ⊎_elim
+      (λ same. inl (ap (λ (k : Kept D). record { store = k; texts = mid.texts }) same))
+      (λ settled. inr (settled.0, record { before = settled.1.before; did = λ here. (settled.1.did here, refl) }))
+      ends
+
+  -- the whole run
+  pub lift_run : (first : Past D) {after : Kept D} {end : ServeEnd} {left left' written written' : Option (List ℕ)}
+      → Runs (RunsLine honest files moment left_since) (HasSettledOver honest files moment left_since) first.store after end left left' written written'
+      → (texts : Texts) × Runs LineTold SettledTold first (record { store = after; texts = texts }) end left left' written written'
+  lift_run first {after} run =
+      let lines = lift_lines first run.ran run.out run.mid run.answered in
+      let mid : Past D = record { store = run.mid; texts = lines.0 } in (
+        lines.0,
+        record {
+          input = run.input;
+          ran = run.ran;
+          others = run.others;
+          out = run.out;
+          mid = mid;
+          read = run.read;
+          lines = run.lines;
+          answered = lines.1;
+          ends = lift_end mid after run.ends;
+          wrote = run.wrote;
+        },
+      )
+
+-- A run over a disk that is honest after each step.
 module _ {D : Type 0} (honest : D → Type 0) (files : D → List ℕ → FileState) (moment : D → ℕ) (left_since : D → ℕ → Image → Type 0) where
   abbrev Line : Past D → List ℕ → List ℕ → Past D → Type 0
   Line = PastLine honest files moment left_since
@@ -173,32 +260,14 @@ module _ {D : Type 0} (honest : D → Type 0) (files : D → List ℕ → FileSt
   abbrev Reads : Past D → Result Command LineFault → List ℕ → Past D → Type 0
   Reads = AnswersReadBy (RunsPast honest files moment left_since) (λ past. past.store.session)
 
-  abbrev ReadsKept : Kept D → Result Command LineFault → List ℕ → Kept D → Type 0
-  ReadsKept = AnswersReadBy (RunsHonest honest files moment left_since) (λ k. k.session)
+  -- what is said of the sessions alone
+  session_of_read : (old : Past D) (read : Result Command LineFault) (out : List ℕ) (new : Past D) → Reads old read out new → AnswersReadBy Step (λ s. s) old.store.session read out new.store.session
+  session_of_read old (Err fault) out new ran = (ran.0, ap (λ (p : Past D). p.store.session) ran.1)
+  session_of_read old (Ok command) out new ran = (ran.0, ran.1.0.0.step, ran.2)
 
-  -- A run of stores has such a list.
-
-  lift_read : (old : Past D) (read : Result Command LineFault) (out : List ℕ) (new : Kept D) → ReadsKept old.store read out new → (texts : Texts) × Reads old read out (record { store = new; texts = texts })
-  lift_read old (Err fault) out new ran = (old.texts, (ran.0, ap (λ (k : Kept D). record { store = k; texts = old.texts }) ran.1))
-  lift_read old (Ok command) out new ran =
-      let added = adds old.store.session new.session command ran.0 old.texts ran.1.0.step in
-      (added.0, (ran.0, (ran.1.0, ran.1.1, added.1), ran.2))
-
-  pub lift_lines : (old : Past D) (lines : List (List ℕ)) (out : List ℕ) (new : Kept D) → Answers (RunsLine honest files moment left_since) old.store lines out new
-      → (texts : Texts) × Answers Line old lines out (record { store = new; texts = texts })
-  lift_lines old [] out new a = (old.texts, (a.0, ap (λ (k : Kept D). record { store = k; texts = old.texts }) a.1))
-  lift_lines old (line ∷ lines) out new a =
-      let one = lift_read old a.3.0 a.1 a.0 a.3.2 in
-      let mid : Past D = record { store = a.0; texts = one.0 } in
-      let rest = lift_lines mid lines a.2 new a.5 in
-      (rest.0, (mid, a.1, a.2, (a.3.0, a.3.1, one.1), a.4, rest.1))
-
-  pub lift_end : (mid : Past D) (new : Kept D) → (new ≡ mid.store) ⊎ HasSettledOver honest files moment left_since mid.store new
-      → let last : Past D = record { store = new; texts = mid.texts } in (last ≡ mid) ⊎ Settled mid last
-  lift_end mid new ends = ⊎_elim
-      (λ same. inl (ap (λ (k : Kept D). record { store = k; texts = mid.texts }) same))
-      (λ settled. inr (settled.0, (settled.1.0, settled.1.1, refl)))
-      ends
+  pub session_of_past : (old : Past D) (lines : List (List ℕ)) (out : List ℕ) (new : Past D) → Answers Line old lines out new → Answers AnswersLine old.store.session lines out new.store.session
+  session_of_past old lines out new a =
+      answers_by (λ (p : Past D). p.store.session) Line AnswersLine (λ old line out new one. (one.0, one.1, session_of_read old one.0 out new one.2)) old lines out new a
 
   -- What holds of each store of a run.
 
@@ -212,7 +281,7 @@ module _ {D : Type 0} (honest : D → Type 0) (files : D → List ℕ → FileSt
 
   lists_read : (old : Past D) (read : Result Command LineFault) (out : List ℕ) (new : Past D) → Reads old read out new → Lists old.store.session old.texts → Lists new.store.session new.texts
   lists_read old (Err fault) out new ran lists = subst (λ (p : Past D). Lists p.store.session p.texts) (sym ran.1) lists
-  lists_read old (Ok command) out new ran lists = lists_step old.store.session new.store.session command ran.0 old.texts new.texts ran.1.0.step ran.1.2 lists
+  lists_read old (Ok command) out new ran lists = lists_step old.store.session new.store.session command ran.0 old.texts new.texts ran.1.0.0.step ran.1.0.1 lists
 
   pub lists_lines : (old new : Past D) (lines : List (List ℕ)) (out : List ℕ) → Answers Line old lines out new → Lists old.store.session old.texts → Lists new.store.session new.texts
   lists_lines old new [] out a lists = subst (λ (p : Past D). Lists p.store.session p.texts) (sym a.1) lists
@@ -221,7 +290,7 @@ module _ {D : Type 0} (honest : D → Type 0) (files : D → List ℕ → FileSt
   pub lists_end : (mid last : Past D) → (last ≡ mid) ⊎ Settled mid last → Lists mid.store.session mid.texts → Lists last.store.session last.texts
   lists_end mid last ends lists = ⊎_elim
       (λ same. subst (λ (p : Past D). Lists p.store.session p.texts) (sym same) lists)
-      (λ settled. subst (Lists last.store.session) (sym settled.1.2) (lists_settling mid.store.session last.store.session settled.0 mid.texts settled.1.0.step lists))
+      (λ settled. subst (Lists last.store.session) (sym settled.1.0.1) (lists_settling mid.store.session last.store.session settled.0 mid.texts settled.1.0.0.step lists))
       ends
 
   begin_read : (old : Past D) (read : Result Command LineFault) (out : List ℕ) (new : Past D) → Reads old read out new → Begin old.texts new.texts
@@ -229,7 +298,7 @@ module _ {D : Type 0} (honest : D → Type 0) (files : D → List ℕ → FileSt
   begin_read old (Ok command) out new ran = ⊎_elim
       (λ none. subst (Begin old.texts) (sym none.1) (λ k files is. is))
       (λ one. subst (Begin old.texts) (sym one.1.2) (begin_append old.texts (one.1.0 ∷ [])))
-      ran.1.2
+      ran.1.0.1
 
   pub begin_lines : (old new : Past D) (lines : List (List ℕ)) (out : List ℕ) → Answers Line old lines out new → Begin old.texts new.texts
   begin_lines old new [] out a = subst (λ (p : Past D). Begin old.texts p.texts) (sym a.1) (λ k files is. is)
@@ -238,7 +307,7 @@ module _ {D : Type 0} (honest : D → Type 0) (files : D → List ℕ → FileSt
   pub begin_end : (mid last : Past D) → (last ≡ mid) ⊎ Settled mid last → Begin mid.texts last.texts
   begin_end mid last ends = ⊎_elim
       (λ same. subst (λ (p : Past D). Begin mid.texts p.texts) (sym same) (λ k files is. is))
-      (λ settled. subst (Begin mid.texts) (sym settled.1.2) (λ k files is. is))
+      (λ settled. subst (Begin mid.texts) (sym settled.1.0.1) (λ k files is. is))
       ends
 
   -- What is reached by lines.
@@ -262,13 +331,13 @@ module _ {D : Type 0} (honest : D → Type 0) (files : D → List ℕ → FileSt
     further command answer ran fine s (inl same) = ⊎_elim
         (λ is. inl (same ∙ is))
         (λ sound. inr (inl (subst (Stands last) (sym same)
-        (ends mid.store.session.accepted mid.store.session.files ((lists_step old.store.session mid.store.session command answer old.texts mid.texts ran.0.step ran.2 lists).files sound)))))
-        (same_or_sound old.store.session mid.store.session command answer fine ran.0.step)
+        (ends mid.store.session.accepted mid.store.session.files ((lists_step old.store.session mid.store.session command answer old.texts mid.texts ran.0.0.step ran.0.1 lists).files sound)))))
+        (same_or_sound old.store.session mid.store.session command answer fine ran.0.0.step)
 
     torn : (command : Command) (answer : Result Reply RunFault) (ran : RunsPast honest files moment left_since old command answer mid) (texts : List (List ℕ)) → IsErrOf answer Device
         → outcome old.store.session command ≡ Accepts texts → Counts last old (done old.store.session texts)
     torn command answer ran texts failed accepted =
-        let fell = falls old.store.session mid.store.session command (subst (λ a. Step old.store.session command a mid.store.session) failed ran.0.step) in
+        let fell = falls old.store.session mid.store.session command (subst (λ a. Step old.store.session command a mid.store.session) failed ran.0.0.step) in
         let same : last.store.session.accepted ≡ mid.store.session.accepted = ap (λ (k : Kept D). k.session.accepted) (course.stays fell) in
         let counted : (done old.store.session texts).accepted ≡ old.store.session.accepted + 1 = done_accepted old.store.session texts in
         ⊎_elim
@@ -279,12 +348,12 @@ module _ {D : Type 0} (honest : D → Type 0) (files : D → List ℕ → FileSt
         let here : slice_get mid.texts (old.store.session.accepted + 1) ≡ Some texts =
         subst (λ l. slice_get l (old.store.session.accepted + 1) ≡ Some texts) (sym list) (subst (λ n. slice_get (old.texts ++ texts ∷ []) n ≡ Some texts) lists.size (at_end old.texts texts)) in
         inr (inl (rw (counted, done_files old.store.session texts) (ends (old.store.session.accepted + 1) texts here))))
-        ran.2
+        ran.0.1
 
     course_read : (read : Result Command LineFault) (out : List ℕ) → Reads old read out mid → Goes old last (Counts last old)
     course_read (Err fault) out ran = subst (λ p. Goes p last (Counts last p)) ran.1 course
     course_read (Ok command) out ran =
-        course_run files moment left_since old.store mid.store last.store command ran.0 (Counts last old) (Counts last mid) ran.1.0 course (inl refl)
+        course_run files moment left_since old.store mid.store last.store command ran.0 (Counts last old) (Counts last mid) ran.1.0.0 course (inl refl)
         (further command ran.0 ran.1) (inl refl) (λ texts failed accepted full. torn command ran.0 ran.1 texts failed accepted)
 
   pub course_past : (old mid last : Past D) (lines : List (List ℕ)) (out : List ℕ) → Answers Line old lines out mid → Goes mid last (Counts last mid) → Begin mid.texts last.texts
@@ -298,7 +367,7 @@ module _ {D : Type 0} (honest : D → Type 0) (files : D → List ℕ → FileSt
   pub course_last : (mid last : Past D) → (last ≡ mid) ⊎ Settled mid last → Goes mid last (Counts last mid)
   course_last mid last ends = ⊎_elim
       (λ same. subst (λ p. Goes mid p (Counts p mid)) (sym same) (course_none files moment left_since mid.store (Counts mid mid) (inl refl)))
-      (λ settled. course_settle files moment left_since mid.store last.store settled.0 (Counts last mid) settled.1.0 (inl refl))
+      (λ settled. course_settle files moment left_since mid.store last.store settled.0 (Counts last mid) settled.1.0.0 (inl refl))
       ends
 
   -- What a stop leaves since a store of a run that wasn't broken.
@@ -338,28 +407,6 @@ module _ {D : Type 0} (honest : D → Type 0) (files : D → List ℕ → FileSt
       left))
       (λ image left. settled_holds image (stands_as (contents (files here.store.disk)) (with_texts here.store.session.names here.store.session.settled (contents (files here.store.disk))) image disk_here
       (at_rest_stands (files here.store.disk) rest_here image (only_now here.store.disk image honestly left))))
-
-  -- the whole run
-  pub lift_run : (first : Past D) {after : Kept D} {end : ServeEnd} {left left' written written' : Option (List ℕ)}
-      → Runs (RunsLine honest files moment left_since) (HasSettledOver honest files moment left_since) first.store after end left left' written written'
-      → (texts : Texts) × Runs Line Settled first (record { store = after; texts = texts }) end left left' written written'
-  lift_run first {after} run =
-      let lines = lift_lines first run.ran run.out run.mid run.answered in
-      let mid : Past D = record { store = run.mid; texts = lines.0 } in (
-        lines.0,
-        record {
-          input = run.input;
-          ran = run.ran;
-          others = run.others;
-          out = run.out;
-          mid = mid;
-          read = run.read;
-          lines = run.lines;
-          answered = lines.1;
-          ends = lift_end mid after run.ends;
-          wrote = run.wrote;
-        },
-      )
 
   -- What a stop leaves since each store on the way of a run, and at its end.
   module _ (only_now : (disk : D) (image : Image) → honest disk → left_since disk (moment disk) image → AreImages (files disk) image)

@@ -9,6 +9,7 @@ pub mod Counting
 pub mod Breaking
 pub mod Escapes
 pub mod Paths
+pub mod Honest
 pub mod Stops
 pub mod History
 mod OnePlace

@@ -1,12 +1,12 @@
 -- A whole run over a disk: an opening, and what is served then.
-use Rattle.std.proofs.Common.{◌≡◌, ◌⊎◌, inl, inr, ℕ, ◌≤◌, Bool, true, false, nat_lt, is_some, List, [], ◌∷◌, Option, Some, None, Result, Ok, Err, refl, sym, ap, ◌∙◌, subst, arith}
+use Rattle.std.proofs.Common.{◌≡◌, ◌⊎◌, inl, inr, ⊎_elim, ℕ, ◌≤◌, Bool, true, false, nat_lt, is_some, List, [], ◌∷◌, Option, Some, None, Result, Ok, Err, refl, sym, ap, ◌∙◌, subst, arith}
 use Rattle.std.specs.Prelude.{IsSomeAnd, slice_get}
 use Rattle.org_disk.specs.Disk.{FileState, AreImages, LeavesOnly}
 use Rattle.org_disk.proofs.Moments.{Image, passes_as, passes_then, leaves_only}
 use Rattle.org_outline.specs.States.{Keywords}
 use Rattle.org_journal.specs.Standing.{SameFiles, StandsFor, IsFit, stands, contents}
 use Rattle.org_fileset.specs.Names.{with_archives, AreSorted}
-use Rattle.org_fileset.specs.Recovery.{EachStands, StandsAsBefore}
+use Rattle.org_fileset.specs.Recovery.{EachStands, IsReopened, StandsAsBefore}
 use Rattle.org_fileset.specs.Replay.{IsAtRest}
 use Rattle.org_store.specs.declared.command.RunFault.{RunFault}
 use Rattle.org_store.specs.declared.command.RunFault.TheVariants as run
@@ -19,11 +19,12 @@ use Rattle.org_store.specs.Step.{Settles}
 use Rattle.org_store.proofs.Keeping.{others_same}
 use Rattle.org_serve.specs.declared.end.ServeEnd.{ServeEnd}
 use Rattle.org_serve.specs.declared.end.ServeEnd.TheVariants.{End, Device, Read, Write}
-use Rattle.org_serve.specs.History.{Past}
+use Rattle.org_serve.specs.History.{Past, LeadsBy}
 use Rattle.org_serve.specs.Serving.{EndsBy, Finishes, end_of}
 use Rattle.org_serve.specs.Stops.{RunsLine, HasSettledOver, Runs}
-use Rattle.org_serve.specs.Whole.{Begins, Serves, ServesOver, HoldsServed, Lasts}
-use Rattle.org_serve.proofs.History.{Lists, lift_run, since, whole_prefix}
+use Rattle.org_serve.specs.Whole.{Begins, Serves, ServesOver, HoldsServed, IsOnTheWay, IsOnTheWayTo, Lasts}
+use Rattle.org_serve.proofs.History.{Lists, lift_run, session_of_past, since, whole_prefix}
+use Rattle.org_serve.proofs.Honest.{HasSettledPast, PastLine, past_last, past_leads, past_lines, past_runs, up_to}
 
 -- one run after another, of which each leaves something else
 leaves_then : {m n k : ℕ} {s u v : ℕ → Image → Type 0} {P Q : Image → Type 0} → LeavesOnly m n s u P → LeavesOnly n k u v Q → LeavesOnly m k s v (λ image. P image ⊎ Q image)
@@ -56,21 +57,24 @@ module _ {D : Type 0} (files : D → List ℕ → FileState) (states : Keywords)
       (begins states group given (contents (files store.disk)) store.session begun.session (ap (λ (k : Kept D). k.session) is) opens sorted)
 
   pub serves : (honest : D → Type 0) (moment : D → ℕ) (left_since : D → ℕ → Image → Type 0) → AreSorted (with_archives given) store.session.names
-      → IsSomeAnd (stands (contents (files disk))) (SameFiles (contents (files store.disk)))
+      → (honest begun.disk → IsReopened (files disk) (files begun.disk))
       → {end : ServeEnd} {left left' written written' : Option (List ℕ)} (after : Kept D) (now : D) → now ≡ after.disk
       → Runs (RunsLine honest files moment left_since) (HasSettledOver honest files moment left_since) begun after end left left' written written'
-      → Serves begun.session end after.session left left' written written'
+      → (honest now → Serves begun.session end after.session left left' written written')
       → ServesOver honest files moment left_since states group given disk now end left left' written written'
-  serves honest moment left_since sorted stood after now closed run told =
+  serves honest moment left_since sorted reopened after now closed run told =
       let first : Past D = record { store = begun; texts = begun.session.files ∷ [] } in
       let past = lift_run honest files moment left_since first run in record {
         first = first;
         last = record { store = after; texts = past.0 };
-        stood = of_disk (λ d. IsSomeAnd (stands (contents (files disk))) (SameFiles (contents (files d)))) stood;
+        reopened = reopened;
         begins = begun_so sorted;
         texts = refl;
         run = past.1;
         closed = closed;
+        so_far = λ here way honestly.
+            session_of_past honest files moment left_since first way.answered way.written here
+            (past_lines honest files moment left_since first way.answered way.written here way.before honestly).0;
         serves = told;
       }
 
@@ -122,65 +126,129 @@ module _ {D : Type 0} {honest : D → Type 0} {files : D → List ℕ → FileSt
   session_is : served.first.store.session ≡ record (opened states served.first.store.session.names (texts_of (contents (files served.first.store.disk)) served.first.store.session.names)) { group = group }
   session_is = served.begins.session
 
-  -- what a stop leaves of a run, where the opening left the disk at rest
-  pub lasts : honest served.first.store.disk → honest now → IsAtRest (files served.first.store.disk)
-      → LeavesOnly (moment disk) (moment served.first.store.disk) (left_since disk) (left_since served.first.store.disk) (StandsAsBefore (files disk)) → Lasts served
-  lasts honest_first honest_now rest opening =
-      let first = served.first in
-      let last = served.last in
-      let honest_last : honest last.store.disk = subst honest served.closed honest_now in
-      let lists : Lists first.store.session first.texts =
-      subst (Lists first.store.session) (sym served.texts) (lists_first states group given (contents (files first.store.disk)) first.store.session served.begins) in
-      let on_disk = on_disk_first states group given (contents (files first.store.disk)) first.store.session served.begins in
-      let of_run = since honest files moment left_since only_now served.run honest_first honest_last rest on_disk lists in
-      let no_command : first.store.session.acknowledged ≡ 0 = ap (λ (s : Session). s.acknowledged) session_is in
-      let sound : first.store.session.broken ≡ false = ap (λ (s : Session). s.broken) session_is in
-      let closes : (P : Image → Type 0) (here : D) → LeavesOnly (moment here) (moment last.store.disk) (left_since here) (left_since last.store.disk) P
-      → LeavesOnly (moment here) (moment now) (left_since here) (left_since now) P =
-      λ P here leaves. subst (λ d. LeavesOnly (moment here) (moment d) (left_since here) (left_since d) P) (sym served.closed) leaves in
-      let at_first = of_run first (inl (record {
-        answered = [];
-        others = served.run.ran;
-        written = [];
-        more = served.run.out;
-        all_lines = refl;
-        all_written = refl;
-        before = (refl, refl);
-        behind = served.run.answered;
-      })) sound in
-      record {
-        any_moment = closes (λ image. StandsAsBefore (files disk) image ⊎ HoldsServed served 0 image) disk
-            (leaves_then opening (subst (λ least. LeavesOnly (moment first.store.disk) (moment last.store.disk) (left_since first.store.disk) (left_since last.store.disk) (HoldsServed served least)) no_command at_first));
-        since = λ here way unbroken. closes (HoldsServed served here.store.session.acknowledged) here.store.disk (of_run here way unbroken);
-        ended = λ well image images.
-            let done = all_settled well in
-            let from_last = of_run last (inr refl) done.0 in
-            let same_images : AreImages (files last.store.disk) image = subst (λ d. AreImages (files d) image) served.closed images in
-            whole_prefix honest files moment left_since only_now served.run honest_first honest_last rest on_disk lists image done.0 done.1
-            (from_last.each image (counts_now last.store.disk (moment last.store.disk) image honest_last (omega arith) same_images));
-      }
-    where
-      apart_read : End ≡ Read → ⊥
-      apart_read same = cc
+  abbrev Line : Past D → List ℕ → List ℕ → Past D → Type 0
+  Line = PastLine honest files moment left_since
 
-      apart_write : End ≡ Write → ⊥
-      apart_write same = cc
+  abbrev Settled : Past D → Past D → Type 0
+  Settled = HasSettledPast honest files moment left_since
 
-      not_less : (a b : ℕ) → nat_lt a b ≡ false → b ≤ a
-      not_less a b not = grind (arith, not)
+  lists : Lists served.first.store.session served.first.texts
+  lists =
+      subst (Lists served.first.store.session) (sym served.texts) (lists_first states group given (contents (files served.first.store.disk)) served.first.store.session served.begins)
 
-      all_settled : end ≡ End → (served.last.store.session.broken ≡ false) × (served.last.store.session.accepted ≤ served.last.store.session.acknowledged)
-      all_settled well =
-          let whole = served.serves.all (λ (read : end ≡ Read). apart_read (sym well ∙ read)) (λ (write : end ≡ Write). apart_write (sym well ∙ write)) in
-          let tells = whole.4 in
-          let finish : Finishes tells.0 End tells.3 served.last.store.session = subst (λ e. Finishes tells.0 e tells.3 served.last.store.session) well tells.6 in
-          ended tells.0.broken (nat_lt tells.0.acknowledged tells.0.accepted) tells.0 tells.3 served.last.store.session finish refl (not_less tells.0.acknowledged tells.0.accepted)
+  on_disk : IsOnDisk served.first.store.session (contents (files served.first.store.disk))
+  on_disk = on_disk_first states group given (contents (files served.first.store.disk)) served.first.store.session served.begins
+
+  -- What a stop leaves of a run up to one store, over a disk that is honest there, where the opening left it at rest.
+  module _ (later : Past D) {stops : ServeEnd} (run : Runs Line Settled served.first later stops left left' written written') (began : honest served.first.store.disk) (honestly : honest later.store.disk)
+      (rest : IsAtRest (files served.first.store.disk)) where
+    since_in : (here : Past D) → LeadsBy Line served.first run.ran run.out run.mid here ⊎ (here ≡ later) → here.store.session.broken ≡ false
+        → LeavesOnly (moment here.store.disk) (moment later.store.disk) (left_since here.store.disk) (left_since later.store.disk) (HoldsServed served later here.store.session.acknowledged)
+    since_in here way sound = since honest files moment left_since only_now run began honestly rest on_disk lists here way sound
+
+    moment_in : LeavesOnly (moment disk) (moment served.first.store.disk) (left_since disk) (left_since served.first.store.disk) (StandsAsBefore (files disk))
+        → LeavesOnly (moment disk) (moment later.store.disk) (left_since disk) (left_since later.store.disk) (λ image. StandsAsBefore (files disk) image ⊎ HoldsServed served later 0 image)
+    moment_in opening =
+        let first = served.first in
+        let no_command : first.store.session.acknowledged ≡ 0 = ap (λ (s : Session). s.acknowledged) session_is in
+        let sound : first.store.session.broken ≡ false = ap (λ (s : Session). s.broken) session_is in
+        let at_first = since_in first (inl (record {
+          answered = [];
+          others = run.ran;
+          written = [];
+          more = run.out;
+          all_lines = refl;
+          all_written = refl;
+          before = (refl, refl);
+          behind = run.answered;
+        })) sound in
+        leaves_then opening (subst (λ least. LeavesOnly (moment first.store.disk) (moment later.store.disk) (left_since first.store.disk) (left_since later.store.disk) (HoldsServed served later least)) no_command at_first)
+
+    whole_in : later.store.session.broken ≡ false → later.store.session.accepted ≤ later.store.session.acknowledged → (image : Image) → AreImages (files later.store.disk) image
+        → Holds served.first.store.session (contents (files served.first.store.disk)) later.store.session.files image
+    whole_in sound all image images =
+        whole_prefix honest files moment left_since only_now run began honestly rest on_disk lists image sound all
+        ((since_in later (inr refl) sound).each image (counts_now later.store.disk (moment later.store.disk) image honestly (omega arith) images))
+
+  apart_read : End ≡ Read → ⊥
+  apart_read same = cc
+
+  apart_write : End ≡ Write → ⊥
+  apart_write same = cc
+
+  not_less : (a b : ℕ) → nat_lt a b ≡ false → b ≤ a
+  not_less a b not = grind (arith, not)
+
+  all_settled : honest now → end ≡ End → (served.last.store.session.broken ≡ false) × (served.last.store.session.accepted ≤ served.last.store.session.acknowledged)
+  all_settled honest_now well =
+      let whole = (served.serves honest_now).all (λ (read : end ≡ Read). apart_read (sym well ∙ read)) (λ (write : end ≡ Write). apart_write (sym well ∙ write)) in
+      let tells = whole.4 in
+      let finish : Finishes tells.0 End tells.3 served.last.store.session = subst (λ e. Finishes tells.0 e tells.3 served.last.store.session) well tells.6 in
+      ended tells.0.broken (nat_lt tells.0.acknowledged tells.0.accepted) tells.0 tells.3 served.last.store.session finish refl (not_less tells.0.acknowledged tells.0.accepted)
+
+  -- What a stop leaves of the whole run.
+  module _ (rest : honest served.first.store.disk → IsAtRest (files served.first.store.disk))
+      (opening : honest served.first.store.disk → LeavesOnly (moment disk) (moment served.first.store.disk) (left_since disk) (left_since served.first.store.disk) (StandsAsBefore (files disk))) where
+    moment_at_last : honest served.last.store.disk
+        → LeavesOnly (moment disk) (moment served.last.store.disk) (left_since disk) (left_since served.last.store.disk) (λ image. StandsAsBefore (files disk) image ⊎ HoldsServed served served.last 0 image)
+    moment_at_last honestly =
+        let whole = past_runs honest files moment left_since served.run honestly in
+        moment_in served.last whole.0 whole.1 honestly (rest whole.1) (opening whole.1)
+
+    moment_at : (later : Past D) → IsOnTheWay served later → honest later.store.disk
+        → LeavesOnly (moment disk) (moment later.store.disk) (left_since disk) (left_since later.store.disk) (λ image. StandsAsBefore (files disk) image ⊎ HoldsServed served later 0 image)
+    moment_at later (inl way) honestly =
+        let whole = past_runs honest files moment left_since (up_to served.run later way) honestly in
+        moment_in later whole.0 whole.1 honestly (rest whole.1) (opening whole.1)
+    moment_at later (inr same) honestly =
+        subst (λ (p : Past D). LeavesOnly (moment disk) (moment p.store.disk) (left_since disk) (left_since p.store.disk) (λ image. StandsAsBefore (files disk) image ⊎ HoldsServed served p 0 image)) (sym same)
+        (moment_at_last (subst (λ (p : Past D). honest p.store.disk) same honestly))
+
+    since_at_last : (here : Past D) → IsOnTheWay served here → honest served.last.store.disk → here.store.session.broken ≡ false
+        → LeavesOnly (moment here.store.disk) (moment served.last.store.disk) (left_since here.store.disk) (left_since served.last.store.disk) (HoldsServed served served.last here.store.session.acknowledged)
+    since_at_last here way honestly sound =
+        let whole = past_runs honest files moment left_since served.run honestly in
+        since_in served.last whole.0 whole.1 honestly (rest whole.1) here
+        (⊎_elim
+        (λ leads. inl (past_leads honest files moment left_since served.first served.run.ran served.run.out served.run.mid here leads
+        (past_last honest files moment left_since served.run.mid served.last served.run.ends honestly)))
+        (λ same. inr same)
+        way)
+        sound
+
+    since_at : (here later : Past D) → IsOnTheWayTo served here later → honest later.store.disk → here.store.session.broken ≡ false
+        → LeavesOnly (moment here.store.disk) (moment later.store.disk) (left_since here.store.disk) (left_since later.store.disk) (HoldsServed served later here.store.session.acknowledged)
+    since_at here later (inl to) honestly sound =
+        let whole = past_runs honest files moment left_since (up_to served.run later to.0) honestly in
+        since_in later whole.0 whole.1 honestly (rest whole.1) here
+        (inl (past_leads honest files moment left_since served.first to.0.answered to.0.written later here to.1 honestly)) sound
+    since_at here later (inr to) honestly sound =
+        subst (λ (p : Past D). LeavesOnly (moment here.store.disk) (moment p.store.disk) (left_since here.store.disk) (left_since p.store.disk) (HoldsServed served p here.store.session.acknowledged)) (sym to.0)
+        (since_at_last here to.1 (subst (λ (p : Past D). honest p.store.disk) to.0 honestly) sound)
+
+    pub lasts : Lasts served
+    lasts = record {
+      any_moment = moment_at;
+      since = since_at;
+      ended = λ honest_now well image images.
+          let honestly : honest served.last.store.disk = subst honest served.closed honest_now in
+          let whole = past_runs honest files moment left_since served.run honestly in
+          let done = all_settled honest_now well in
+          whole_in served.last whole.0 whole.1 honestly (rest whole.1) done.0 done.1 image (subst (λ d. AreImages (files d) image) served.closed images);
+    }
+
+  -- what a stop leaves of it at the end
+  at_end : honest now → Lasts served → LeavesOnly (moment disk) (moment now) (left_since disk) (left_since now) (λ image. StandsAsBefore (files disk) image ⊎ HoldsServed served served.last 0 image)
+  at_end honest_now lasts =
+      subst (λ d. LeavesOnly (moment disk) (moment d) (left_since disk) (left_since d) (λ image. StandsAsBefore (files disk) image ⊎ HoldsServed served served.last 0 image)) (sym served.closed)
+      (lasts.any_moment served.last (inr refl) (subst honest served.closed honest_now))
 
   -- each image of the disk that is left stands for files
   pub left_stands : honest now → Lasts served → EachStands (files now)
   left_stands honest_now lasts =
-      each_stands files moment left_since disk now (λ image. StandsAsBefore (files disk) image ⊎ HoldsServed served 0 image)
-      (λ image left. counts_now now (moment disk) image honest_now lasts.any_moment.passes.later left) lasts.any_moment (λ image left. elim left [
+      let leaves = at_end honest_now lasts in
+      each_stands files moment left_since disk now (λ image. StandsAsBefore (files disk) image ⊎ HoldsServed served served.last 0 image)
+      (λ image left. counts_now now (moment disk) image honest_now leaves.passes.later left) leaves (λ image left. elim left [
         | inl before ↦ (before.texts, before.stands_now)
         | inr holds ↦ some image (slice_get served.last.texts holds.0) holds.2
       ])
@@ -196,16 +264,16 @@ module _ {D : Type 0} (honest : D → Type 0) (files : D → List ℕ → FileSt
     (states : Keywords) (group : ℕ) (given : List (List ℕ)) (disk : D) (store begun : Kept D)
     (is : begun ≡ record store { session = record store.session { group = group } })
     (opens : store.session ≡ opened states store.session.names (texts_of (contents (files store.disk)) store.session.names)) where
-  pub serves_lasting : AreSorted (with_archives given) store.session.names → IsSomeAnd (stands (contents (files disk))) (SameFiles (contents (files store.disk)))
+  pub serves_lasting : AreSorted (with_archives given) store.session.names → (honest begun.disk → IsReopened (files disk) (files begun.disk))
       → {end : ServeEnd} {left left' written written' : Option (List ℕ)} (after : Kept D) (now : D) → now ≡ after.disk
       → Runs (RunsLine honest files moment left_since) (HasSettledOver honest files moment left_since) begun after end left left' written written'
-      → Serves begun.session end after.session left left' written written' → honest begun.disk → honest now
-      → (IsFit (files disk) → EachStands (files disk) → IsAtRest (files begun.disk) × LeavesOnly (moment disk) (moment begun.disk) (left_since disk) (left_since begun.disk) (StandsAsBefore (files disk)))
+      → (honest now → Serves begun.session end after.session left left' written written')
+      → (IsFit (files disk) → EachStands (files disk) → honest begun.disk → LeavesOnly (moment disk) (moment begun.disk) (left_since disk) (left_since begun.disk) (StandsAsBefore (files disk)))
       → (served : ServesOver honest files moment left_since states group given disk now end left left' written written')
       × (IsFit (files disk) → EachStands (files disk) → Lasts served)
   unfolding serves
-  serves_lasting sorted stood after now closed run told honest_first honest_now opening =
-      let served = serves files states group given disk store begun is opens honest moment left_since sorted stood after now closed run told in (
+  serves_lasting sorted reopened after now closed run told opening =
+      let served = serves files states group given disk store begun is opens honest moment left_since sorted reopened after now closed run told in (
         served,
-        λ fit each. let begins = opening fit each in lasts only_now counts_now served honest_first honest_now begins.0 begins.1,
+        λ fit each. lasts only_now counts_now served (λ honestly. (reopened honestly).rest fit each) (λ honestly. opening fit each honestly),
       )

@@ -21,8 +21,9 @@ use Rattle.org_serve.specs.Feeding.{EndsWith}
 use Rattle.org_serve.specs.Lines.{cut}
 use Rattle.org_serve.specs.Replies.{answer_text, settled_text}
 use Rattle.org_serve.specs.Serving.{IsReadAs, AnswersReadBy, AnswersLine, EndsBy, Finishes, HasSettled, end_of}
-use Rattle.org_serve.specs.Stops.{RunsHonest, SettlesHonest, RunsLine, HasSettledOver, FinishesOver, Runs, Reaches, KeepsDisk}
+use Rattle.org_serve.specs.Stops.{Runs, Reaches, KeepsDisk, RunsLine as ToldLine, HasSettledOver as ToldSettled, FinishesOver as ToldFinishes, SettlesHonest as SettlesTold}
 use Rattle.org_serve.specs.Transcript.{Answers, RunsSome}
+use Rattle.org_serve.proofs.Honest.{RunsHonest, SettlesHonest, RunsLine, HasSettledOver, FinishesOver}
 use Rattle.org_serve.proofs.Inputs.{Served}
 use Rattle.org_serve.proofs.Joins.{Appends-append, Appends-none}
 
@@ -75,7 +76,7 @@ runs_some Settles {new = new} written written' some = record {
 
 -- One state for another.
 
-answers_by : {S T : Type 0} (view : S → T) (One : S → List ℕ → List ℕ → S → Type 0) (Other : T → List ℕ → List ℕ → T → Type 0)
+pub answers_by : {S T : Type 0} (view : S → T) (One : S → List ℕ → List ℕ → S → Type 0) (Other : T → List ℕ → List ℕ → T → Type 0)
     → ((old : S) (line out : List ℕ) (new : S) → One old line out new → Other (view old) line out (view new))
     → (old : S) (lines : List (List ℕ)) (out : List ℕ) (new : S) → Answers One old lines out new → Answers Other (view old) lines out (view new)
 answers_by view One Other each old [] out new a = (a.0, ap view a.1)
@@ -126,35 +127,46 @@ module _ {D : Type 0} (honest : D → Type 0) (files : D → List ℕ → FileSt
   session_of_end false true old end out new f = (f.0, f.1.0.step, f.2, f.3)
   session_of_end false false old end out new f = (f.0, f.1, ap (λ (k : Kept D). k.session) f.2)
 
-  settled_or_not : (fell pending : Bool) (old : Kept D) (end : ServeEnd) (out : List ℕ) (new : Kept D) → Ends fell pending old end out new → (new ≡ old) ⊎ Settled old new
-  settled_or_not true pending old end out new f = inl f.2
-  settled_or_not false true old end out new f = inr (f.0, f.1)
-  settled_or_not false false old end out new f = inl f.2
-
   pub session_of_ends : (part : List ℕ) (old : Kept D) (end : ServeEnd) (new : Kept D) (written written' : Option (List ℕ)) → EndsWith (FinishesOver honest files moment left_since) part old end new written written'
       → EndsWith Finishes part old.session end new.session written written'
   session_of_ends part old end new written written' e =
       (e.0, e.1, e.2, session_of_end old.session.broken (nat_lt old.session.acknowledged old.session.accepted) old end e.1 new e.3, e.4)
 
-  settled_at_end : (part : List ℕ) (old : Kept D) (end : ServeEnd) (new : Kept D) (written written' : Option (List ℕ)) → EndsWith (FinishesOver honest files moment left_since) part old end new written written'
-      → (new ≡ old) ⊎ Settled old new
+  -- What is told of the steps.
+
+  abbrev LineTold : Kept D → List ℕ → List ℕ → Kept D → Type 0
+  LineTold = ToldLine honest files moment left_since
+
+  abbrev EndsTold : Bool → Bool → Kept D → ServeEnd → List ℕ → Kept D → Type 0
+  EndsTold = EndsBy (SettlesTold honest files moment left_since) (λ k. k.session)
+
+  abbrev SettledTold : Kept D → Kept D → Type 0
+  SettledTold = ToldSettled honest files moment left_since
+
+  settled_or_not : (fell pending : Bool) (old : Kept D) (end : ServeEnd) (out : List ℕ) (new : Kept D) → EndsTold fell pending old end out new → (new ≡ old) ⊎ SettledTold old new
+  settled_or_not true pending old end out new f = inl f.2
+  settled_or_not false true old end out new f = inr (f.0, f.1)
+  settled_or_not false false old end out new f = inl f.2
+
+  settled_at_end : (part : List ℕ) (old : Kept D) (end : ServeEnd) (new : Kept D) (written written' : Option (List ℕ)) → EndsWith (ToldFinishes honest files moment left_since) part old end new written written'
+      → (new ≡ old) ⊎ SettledTold old new
   settled_at_end part old end new written written' e = settled_or_not old.session.broken (nat_lt old.session.acknowledged old.session.accepted) old end e.1 new e.3
 
   -- the input was read to its end
-  pub runs_finish : {old mid : Kept D} {left left' written among : Option (List ℕ)} {pending : Pending} → (s : Served Line old mid left left' written among pending) (new : Kept D) (end : ServeEnd) (written' : Option (List ℕ))
-      → (end ≢ Write → EndsWith (FinishesOver honest files moment left_since) (cut s.input).rest mid end new among written') → (end ≡ Write → (new ≡ mid) ⊎ Settled mid new)
-      → Runs Line Settled old new end left left' written written'
+  pub runs_finish : {old mid : Kept D} {left left' written among : Option (List ℕ)} {pending : Pending} → (s : Served LineTold old mid left left' written among pending) (new : Kept D) (end : ServeEnd) (written' : Option (List ℕ))
+      → (end ≢ Write → EndsWith (ToldFinishes honest files moment left_since) (cut s.input).rest mid end new among written') → (end ≡ Write → (new ≡ mid) ⊎ SettledTold mid new)
+      → Runs LineTold SettledTold old new end left left' written written'
   runs_finish s new end written' told failed =
-      runs_whole Settled s new end written' (⊎_elim failed (λ not. settled_at_end _ _ _ _ _ _ (told not)) (write_or_not end)) (λ not. let e = told not in (e.0 ++ e.1, e.4))
+      runs_whole SettledTold s new end written' (⊎_elim failed (λ not. settled_at_end _ _ _ _ _ _ (told not)) (write_or_not end)) (λ not. let e = told not in (e.0 ++ e.1, e.4))
 
   -- a settling at the end
   pub finishes_settling : (old : Kept D) (answer : Result (Unit {0}) RunFault) (new : Kept D) (end : ServeEnd) → old.session.broken ≡ false → old.session.acknowledged < old.session.accepted
-      → SettlesHonest honest files moment left_since old answer new → end ≡ end_of answer → FinishesOver honest files moment left_since old end (settled_text answer new.session.acknowledged) new
+      → SettlesTold honest files moment left_since old answer new → end ≡ end_of answer → ToldFinishes honest files moment left_since old end (settled_text answer new.session.acknowledged) new
   finishes_settling old answer new end sound pending over is =
       let less : nat_lt old.session.acknowledged old.session.accepted ≡ true = grind (arith, pending) in
       ends old.session.broken (nat_lt old.session.acknowledged old.session.accepted) sound less
     where
-      ends : (fell some : Bool) → fell ≡ false → some ≡ true → Ends fell some old end (settled_text answer new.session.acknowledged) new
+      ends : (fell some : Bool) → fell ≡ false → some ≡ true → EndsTold fell some old end (settled_text answer new.session.acknowledged) new
       ends false true sound less = (answer, over, is, refl)
       ends true some sound less = absurd (cc)
       ends false false sound less = absurd (cc)

@@ -10,6 +10,7 @@ use Rattle.org_store.specs.Outcome.{Outcome, Accepts, outcome}
 use Rattle.org_store.specs.Runs.{RunsOver, SettlesOver}
 use Rattle.org_store.specs.Session.{Session, Kept, Holds}
 use Rattle.org_serve.specs.Serving.{AnswersLineBy, HasSettledBy}
+use Rattle.org_serve.specs.Stops.{Told}
 use Rattle.org_serve.specs.Transcript.{Answers}
 
 -- A store, and at place k of the list the texts of all its files after the first k accepted commands.
@@ -24,16 +25,17 @@ Adds outcome before now old new =
     ((now ≡ before) × (new ≡ old))
     ⊎ ((now ≡ before + 1) × ((texts : List (List ℕ)) × (outcome ≡ Accepts texts) × (new ≡ old ++ texts ∷ [])))
 
--- a command was run over a disk that is honest after it, and the list has its texts where it is accepted
+-- A command was run over a disk, and the list has its texts where it is accepted; that is told where the disk is honest
+-- after it.
 abbrev pub RunsPast : {D : Type 0} → (D → Type 0) → (D → List ℕ → FileState) → (D → ℕ) → (D → ℕ → Image → Type 0) → Past D → Command → Result Reply RunFault → Past D → Type 0
-RunsPast honest files moment left_since old command answer new =
-    RunsOver files moment left_since old.store command answer new.store × honest new.store.disk
-    × Adds (outcome old.store.session command) old.store.session.accepted new.store.session.accepted old.texts new.texts
+RunsPast {D = D} honest files moment left_since old command answer new =
+    Told (λ (past : Past D). honest past.store.disk) old new (RunsOver files moment left_since old.store command answer new.store
+    × Adds (outcome old.store.session command) old.store.session.accepted new.store.session.accepted old.texts new.texts)
 
 -- a settling, which adds no texts
 abbrev pub SettlesPast : {D : Type 0} → (D → Type 0) → (D → List ℕ → FileState) → (D → ℕ) → (D → ℕ → Image → Type 0) → Past D → Result (Unit {0}) RunFault → Past D → Type 0
-SettlesPast honest files moment left_since old answer new =
-    SettlesOver files moment left_since old.store answer new.store × honest new.store.disk × (new.texts ≡ old.texts)
+SettlesPast {D = D} honest files moment left_since old answer new =
+    Told (λ (past : Past D). honest past.store.disk) old new (SettlesOver files moment left_since old.store answer new.store × (new.texts ≡ old.texts))
 
 -- a line is answered by one call of the store
 abbrev pub PastLine : {D : Type 0} → (D → Type 0) → (D → List ℕ → FileState) → (D → ℕ) → (D → ℕ → Image → Type 0) → Past D → List ℕ → List ℕ → Past D → Type 0

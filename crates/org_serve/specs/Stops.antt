@@ -18,13 +18,19 @@ use Rattle.org_serve.specs.Lines.{cut}
 use Rattle.org_serve.specs.Serving.{AnswersLineBy, FinishesBy, HasSettledBy}
 use Rattle.org_serve.specs.Transcript.{Answers}
 
--- a command was run over a disk that is honest after it
+-- A step from one state to the next, told by the moment: where what is good of a state holds after it, it held before it,
+-- and the step did this.
+pub record Told {S : Type 0} (good : S → Type 0) (old new : S) (Did : Type 0) : Type 0 where
+  pub before : good new → good old
+  pub did : good new → Did
+
+-- a command was run over a disk; it is told where the disk is honest after it
 abbrev pub RunsHonest : {D : Type 0} → (D → Type 0) → (D → List ℕ → FileState) → (D → ℕ) → (D → ℕ → Image → Type 0) → Kept D → Command → Result Reply RunFault → Kept D → Type 0
-RunsHonest honest files moment left_since old command answer new = RunsOver files moment left_since old command answer new × honest new.disk
+RunsHonest {D = D} honest files moment left_since old command answer new = Told (λ (k : Kept D). honest k.disk) old new (RunsOver files moment left_since old command answer new)
 
 -- the same of a settling
 abbrev pub SettlesHonest : {D : Type 0} → (D → Type 0) → (D → List ℕ → FileState) → (D → ℕ) → (D → ℕ → Image → Type 0) → Kept D → Result (Unit {0}) RunFault → Kept D → Type 0
-SettlesHonest honest files moment left_since old answer new = SettlesOver files moment left_since old answer new × honest new.disk
+SettlesHonest {D = D} honest files moment left_since old answer new = Told (λ (k : Kept D). honest k.disk) old new (SettlesOver files moment left_since old answer new)
 
 -- a line is answered by one call of the store
 abbrev pub RunsLine : {D : Type 0} → (D → Type 0) → (D → List ℕ → FileState) → (D → ℕ) → (D → ℕ → Image → Type 0) → Kept D → List ℕ → List ℕ → Kept D → Type 0

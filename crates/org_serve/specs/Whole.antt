@@ -1,14 +1,14 @@
 -- A whole run over a disk: a store is opened, serves the lines of an input, and is given up. `honest`, `files`, `moment`
 -- and `left_since` are what is seen of a disk of the type D.
-use Rattle.std.specs.Prelude.{◌≡◌, ◌≢◌, ◌⊎◌, ℕ, List, [], ◌∷◌, Option, IsSomeAnd, IsFalse, Result, Ok, Err}
+use Rattle.std.specs.Prelude.{◌≡◌, ◌≢◌, ◌⊎◌, ℕ, List, [], ◌∷◌, Option, IsFalse, Result, Ok, Err}
 use Rattle.org_disk.specs.Disk.{FileState, AreImages, HasRisen}
 use Rattle.org_disk.specs.Accounts.{LeavesOver}
 use Rattle.org_outline.specs.States.{Keywords}
-use Rattle.org_journal.specs.Standing.{Image, SameFiles, contents, stands}
+use Rattle.org_journal.specs.Standing.{Image, contents}
 use Rattle.org_fileset.specs.declared.open.OpenFault.{OpenFault}
 use Rattle.org_fileset.specs.declared.open.OpenFault.TheVariants as open_fault
 use Rattle.org_fileset.specs.Names.{with_archives, AreSorted}
-use Rattle.org_fileset.specs.Recovery.{StandsAsBefore}
+use Rattle.org_fileset.specs.Recovery.{IsReopened, StandsAsBefore}
 use Rattle.org_store.specs.InOrder.{texts_of}
 use Rattle.org_store.specs.Opening.{opened}
 use Rattle.org_store.specs.Session.{Session, Holds}
@@ -17,7 +17,7 @@ use Rattle.org_serve.specs.declared.end.ServeEnd.TheVariants.{End, Unsettled, De
 use Rattle.org_serve.specs.History.{Past, PastLine, HasSettledPast, LeadsBy, HoldsPrefix}
 use Rattle.org_serve.specs.Serving.{AnswersLine, Finishes, HasSettled}
 use Rattle.org_serve.specs.Stops.{Runs}
-use Rattle.org_serve.specs.Transcript.{ServesAll, ServesLines, RunsSome, RunsAllAndSettles}
+use Rattle.org_serve.specs.Transcript.{Answers, ServesAll, ServesLines, RunsSome, RunsAllAndSettles}
 
 -- The session of a store that was just opened over these files, with these states, in groups of this size: it has the
 -- given names and those of their archive files.
@@ -32,25 +32,30 @@ pub record Serves (old : Session) (end : ServeEnd) (new : Session) (left left' w
   pub read : end ≡ Read → ServesLines AnswersLine old new left left' written written'
   pub write : end ≡ Write → RunsSome AnswersLine old new left left' ⊎ RunsAllAndSettles AnswersLine HasSettled old new left left'
 
--- A store was opened over the disk `disk`, served to this end, and gave up the disk `now`, which is honest. Between the
--- two stands each store on the way, and the list has the texts of all files as they were opened and after each accepted
--- command.
+-- A store was opened over the disk `disk`, served to this end, and gave up the disk `now`. Between the two stands each store
+-- on the way, and the list has the texts of all files as they were opened and after each accepted command. What is said of
+-- a step is said where the disk is honest after it.
 pub record ServesOver {D : Type 0} (honest : D → Type 0) (files : D → List ℕ → FileState) (moment : D → ℕ) (left_since : D → ℕ → Image → Type 0)
     (states : Keywords) (group : ℕ) (given : List (List ℕ)) (disk now : D) (end : ServeEnd) (left left' written written' : Option (List ℕ)) : Type 0 where
   pub first : Past D
   pub last : Past D
-  pub stood : IsSomeAnd (stands (contents (files disk))) (SameFiles (contents (files first.store.disk)))
+  -- what a stop had cut short was brought to an end; a closed gate's byte was kept
+  pub reopened : honest first.store.disk → IsReopened (files disk) (files first.store.disk)
   pub begins : Begins states group given (contents (files first.store.disk)) first.store.session
   pub texts : first.texts ≡ first.store.session.files ∷ []
   pub run : Runs (PastLine honest files moment left_since) (HasSettledPast honest files moment left_since) first last end left left' written written'
   pub closed : now ≡ last.store.disk
-  pub serves : Serves first.store.session end last.store.session left left' written written'
+  -- the lines that a store on the way had answered, and their replies
+  pub so_far : (here : Past D) → (way : LeadsBy (PastLine honest files moment left_since) first run.ran run.out run.mid here) → honest here.store.disk
+      → Answers AnswersLine first.store.session way.answered way.written here.store.session
+  pub serves : honest now → Serves first.store.session end last.store.session left left' written written'
 
--- the image stands for the files after one prefix of the accepted commands, which has at least so many of them
+-- the image stands for the files after one prefix of the commands that were accepted by then, which has at least so many of
+-- them
 abbrev pub HoldsServed : {D : Type 0} {honest : D → Type 0} {files : D → List ℕ → FileState} {moment : D → ℕ} {left_since : D → ℕ → Image → Type 0}
     {states : Keywords} {group : ℕ} {given : List (List ℕ)} {disk now : D} {end : ServeEnd} {left left' written written' : Option (List ℕ)}
-    → ServesOver honest files moment left_since states group given disk now end left left' written written' → ℕ → Image → Type 0
-HoldsServed {files = files} served = HoldsPrefix served.first.store.session (contents (files served.first.store.disk)) served.last.texts
+    → ServesOver honest files moment left_since states group given disk now end left left' written written' → Past D → ℕ → Image → Type 0
+HoldsServed {files = files} served here = HoldsPrefix served.first.store.session (contents (files served.first.store.disk)) here.texts
 
 -- a store on the way of a run: after some of its lines were answered, from the first on, or at its end
 abbrev pub IsOnTheWay : {D : Type 0} {honest : D → Type 0} {files : D → List ℕ → FileState} {moment : D → ℕ} {left_since : D → ℕ → Image → Type 0}
@@ -59,17 +64,28 @@ abbrev pub IsOnTheWay : {D : Type 0} {honest : D → Type 0} {files : D → List
 IsOnTheWay {honest = honest} {files = files} {moment = moment} {left_since = left_since} served here =
     LeadsBy (PastLine honest files moment left_since) served.first served.run.ran served.run.out served.run.mid here ⊎ (here ≡ served.last)
 
--- What a stop leaves of a run over a disk that was fit.
+-- a store on the way to another one on the way
+abbrev pub IsOnTheWayTo : {D : Type 0} {honest : D → Type 0} {files : D → List ℕ → FileState} {moment : D → ℕ} {left_since : D → ℕ → Image → Type 0}
+    {states : Keywords} {group : ℕ} {given : List (List ℕ)} {disk now : D} {end : ServeEnd} {left left' written written' : Option (List ℕ)}
+    → ServesOver honest files moment left_since states group given disk now end left left' written written' → Past D → Past D → Type 0
+IsOnTheWayTo {honest = honest} {files = files} {moment = moment} {left_since = left_since} served here later =
+    ((way : LeadsBy (PastLine honest files moment left_since) served.first served.run.ran served.run.out served.run.mid later)
+    × LeadsBy (PastLine honest files moment left_since) served.first way.answered way.written later here)
+    ⊎ ((later ≡ served.last) × IsOnTheWay served here)
+
+-- What a stop leaves of a run over a disk that was fit: up to each store on the way over a disk that is honest there, at the
+-- last to the end.
 pub record Lasts {D : Type 0} {honest : D → Type 0} {files : D → List ℕ → FileState} {moment : D → ℕ} {left_since : D → ℕ → Image → Type 0}
     {states : Keywords} {group : ℕ} {given : List (List ℕ)} {disk now : D} {end : ServeEnd} {left left' written written' : Option (List ℕ)}
     (served : ServesOver honest files moment left_since states group given disk now end left left' written written') : Type 0 where
   -- since it began: what the disk stood for, or the files after a prefix of the accepted commands
-  pub any_moment : LeavesOver moment left_since disk now (λ image. StandsAsBefore (files disk) image ⊎ HoldsServed served 0 image)
+  pub any_moment : (later : Past D) → IsOnTheWay served later → honest later.store.disk
+      → LeavesOver moment left_since disk later.store.disk (λ image. StandsAsBefore (files disk) image ⊎ HoldsServed served later 0 image)
   -- since each store on the way that wasn't broken: a prefix that has all commands that were acknowledged there
-  pub since : (here : Past D) → IsOnTheWay served here → IsFalse here.store.session.broken
-      → LeavesOver moment left_since here.store.disk now (HoldsServed served here.store.session.acknowledged)
+  pub since : (here later : Past D) → IsOnTheWayTo served here later → honest later.store.disk → IsFalse here.store.session.broken
+      → LeavesOver moment left_since here.store.disk later.store.disk (HoldsServed served later here.store.session.acknowledged)
   -- at the end, where it ended well: all of them
-  pub ended : end ≡ End → (image : Image) → AreImages (files now) image
+  pub ended : honest now → end ≡ End → (image : Image) → AreImages (files now) image
       → Holds served.first.store.session (contents (files served.first.store.disk)) served.last.store.session.files image
 
 -- The disk failed in a run that ended so: the fault of the opening tells it, or the end. An end with a failed read or

@@ -39,9 +39,10 @@ const PIECE: usize = 4096;
 /// Where the disk is honest at the end, and was at rest under a store that wasn't broken, at every moment since the
 /// call began what a stop leaves stands for the files after the commands that were acknowledged then, or for those
 /// after some of the lines that are run, from the first on; a command in which the disk failed may be the last of them.
-/// The store is changed by calls of `run` and `settle` alone. One that was broken is left as it is; one that wasn't is
-/// broken only where its disk counted a failure, and where it isn't, none was counted. It is broken where this ends with
-/// `Device`, and isn't where it ends with `End` or `Unsettled`.
+/// The store is changed by calls of `run` and `settle` alone. What each of them did is told where the disk is honest after
+/// it (`calls`): a wrong answer takes nothing from what was done before it. A store that was broken is left as it is; one
+/// that wasn't is broken only where its disk counted a failure, and where it isn't, none was counted. It is broken where
+/// this ends with `Device`, and isn't where it ends with `End` or `Unsettled`.
 pub fn serve<D: Disk, R: Source, W: Sink>(
     alloc: Global,
     store: &mut Store<D>,
@@ -68,8 +69,7 @@ pub fn serve<D: Disk, R: Source, W: Sink>(
     ensures write_cause { result ≡ ServeEnd.Write
         → HasRisen (W.failures writer.old) (W.failures writer.new) }
 
-    ensures calls { D.honest store.new.disk
-        → Runs (RunsLine D.honest D.files D.moment D.left_since)
+    ensures calls { Runs (RunsLine D.honest D.files D.moment D.left_since)
         (HasSettledOver D.honest D.files D.moment D.left_since) store.old store.new result
         (R.left reader.old) (R.left reader.new) (W.written writer.old) (W.written writer.new) }
     ensures any_moment { D.honest store.new.disk → IsAtRest (D.files store.old.disk)
@@ -111,8 +111,7 @@ fn feed<D: Disk, W: Sink>(
     piece: &[u8],
     writer: &mut W,
 ) -> Result<(), PipeFault>
-    ensures fed { D.honest store.new.disk → (part : List ℕ) → (cut part).lines ≡ []
-        → Stands pending.old part
+    ensures fed { (part : List ℕ) → (cut part).lines ≡ [] → Stands pending.old part
         → MatchResult result
         (λ _. FeedOk (RunsLine D.honest D.files D.moment D.left_since) store.old (part ++ piece.now)
         store.new (W.written writer.old) (W.written writer.new) pending.new)
@@ -142,7 +141,7 @@ fn answer<D: Disk, W: Sink>(
     last: &[u8],
     writer: &mut W,
 ) -> Result<(), PipeFault>
-    ensures step { D.honest store.new.disk → (part : List ℕ) → Stands pending.old part
+    ensures step { (part : List ℕ) → Stands pending.old part
         → (out : List ℕ) × RunsLine D.honest D.files D.moment D.left_since store.old (part ++
         last.now) out
         store.new
@@ -176,7 +175,7 @@ fn answer_read<D: Disk, W: Sink>(
     read: &Result<Command, LineFault>,
     writer: &mut W,
 ) -> Result<(), PipeFault>
-    ensures step { D.honest store.new.disk → (out : List ℕ)
+    ensures step { (out : List ℕ)
         × AnswersReadBy (RunsHonest D.honest D.files D.moment D.left_since) (λ kept. kept.session)
         store.old
         read.now out store.new
@@ -199,13 +198,13 @@ fn answer_read<D: Disk, W: Sink>(
 
 // Ends serving at the end of the input.
 fn finish<D: Disk, W: Sink>(store: &mut Store<D>, pending: &Pending, writer: &mut W) -> ServeEnd
-    ensures told { D.honest store.new.disk → result ≢ ServeEnd.Write → (part : List ℕ)
+    ensures told { result ≢ ServeEnd.Write → (part : List ℕ)
         → Stands pending.now part
         → EndsWith (FinishesOver D.honest D.files D.moment D.left_since)
         part store.old result store.new
         (W.written writer.old) (W.written writer.new) }
     ensures never { result ≢ ServeEnd.Read }
-    ensures write { D.honest store.new.disk → result ≡ ServeEnd.Write
+    ensures write { result ≡ ServeEnd.Write
         → (store.new ≡ store.old) ⊎ HasSettledOver D.honest D.files D.moment D.left_since store.old
         store.new }
     ensures write_cause { result ≡ ServeEnd.Write
@@ -237,11 +236,11 @@ fn answer_rest<W: Sink>(pending: &Pending, writer: &mut W) -> Result<(), PipeFau
 
 // Settles where accepted commands aren't settled yet.
 fn settle<D: Disk, W: Sink>(store: &mut Store<D>, writer: &mut W) -> ServeEnd
-    ensures told { D.honest store.new.disk → result ≢ ServeEnd.Write → (tail : List ℕ)
+    ensures told { result ≢ ServeEnd.Write → (tail : List ℕ)
         × FinishesOver D.honest D.files D.moment D.left_since store.old result tail store.new
         × Appends (W.written writer.old) (W.written writer.new) tail }
     ensures never { result ≢ ServeEnd.Read }
-    ensures write { D.honest store.new.disk → result ≡ ServeEnd.Write
+    ensures write { result ≡ ServeEnd.Write
         → HasSettledOver D.honest D.files D.moment D.left_since store.old store.new }
     ensures write_cause { result ≡ ServeEnd.Write
         → HasRisen (W.failures writer.old) (W.failures writer.new) }

@@ -42,10 +42,14 @@ pub struct Served<D> {
 /// back. It hands on each store on the way with one list: the texts of all files as they were opened, and after each
 /// accepted command.
 ///
-/// On a disk that is fit, and honest at the end, of which each image stands for files, every image at every moment
-/// since the call began stands for what an image at the start stood for, or for the files after one prefix of the
-/// accepted commands. Every image since a store on the way that wasn't broken stands for a prefix that has all commands
-/// that were acknowledged there: so since a reply `safe a` was answered, for one that has the first a
+/// What is said of a step is said where the disk is honest after it: a wrong answer later takes nothing from it. So are,
+/// up to each store on the way, the replies to the lines so far the model's; and an opening brings to an end what a stop
+/// had cut short, and leaves a journal whose gate is closed as it is.
+///
+/// On a disk that is fit, of which each image stands for files, every image at every moment since the call began, up to a
+/// store on the way, stands for what an image at the start stood for, or for the files after one prefix of the commands
+/// accepted by then. Every image since an earlier store on the way that wasn't broken stands for a prefix that has all
+/// commands that were acknowledged there: so since a reply `safe a` was answered, for one that has the first a
 /// (`laws::safe_tells_acknowledged`). Where it ends with `End`, each image at the end stands for the files after all of
 /// them. The disk is as fit at the end, so that all this may be done again.
 ///
@@ -62,7 +66,7 @@ pub fn serve_disk<D: Disk, R: Source, W: Sink>(
 ) -> Served<D>
     requires names { All IsOrgFile setup.names.items }
     requires group { IsGroup setup.group }
-    ensures served { D.honest result.disk → IfOk result.end (λ end. (served : ServesOver
+    ensures served { IfOk result.end (λ end. (served : ServesOver
         D.honest D.files D.moment D.left_since setup.states setup.group setup.names.items
         disk result.disk end (R.left reader.old) (R.left reader.new) (W.written writer.old)
         (W.written writer.new))

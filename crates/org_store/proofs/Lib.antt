@@ -14,6 +14,7 @@ pub mod Todos
 pub mod Running
 pub mod Times
 pub mod Sessions
+pub mod Settled
 pub mod Accepted
 pub mod Follows
 pub mod Sortings

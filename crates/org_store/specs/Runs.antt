@@ -4,6 +4,7 @@ use Rattle.org_disk.specs.Disk.{FileState, LeavesOnly}
 use Rattle.org_journal.specs.Standing.{Image, SameFiles, IsFit, contents}
 use Rattle.org_fileset.specs.Replay.{IsAtRest}
 use Rattle.org_store.specs.declared.command.Command.{Command}
+use Rattle.org_store.specs.declared.command.Command.TheVariants.{Settle}
 use Rattle.org_store.specs.declared.command.Reply.{Reply}
 use Rattle.org_store.specs.declared.command.RunFault.{RunFault}
 use Rattle.org_store.specs.declared.command.RunFault.TheVariants.{Refused, OutOfMemory, Device, Broken}
@@ -32,12 +33,14 @@ pub record RunsOver {D : Type 0} (files : D → List ℕ → FileState) (moment 
   pub step : Step old.session command answer new.session
   pub disk : LeavesDisk files moment left_since old new (IsLeft old.session (contents (files old.disk)) command answer new.session.accepted) (IsErrOf answer Device)
   pub untouched : IsErrOf answer Broken → new ≡ old
+  pub nothing : command ≡ Settle → old.session.acknowledged ≡ old.session.accepted → new ≡ old
 
 -- The same of settling: the clauses of `Store::settle`.
 pub record SettlesOver {D : Type 0} (files : D → List ℕ → FileState) (moment : D → ℕ) (left_since : D → ℕ → Image → Type 0) (old : Kept D) (answer : Result (Unit {0}) RunFault) (new : Kept D) : Type 0 where
   pub step : Settles old.session answer new.session
   pub disk : LeavesDisk files moment left_since old new (IsLeftSettling old.session (contents (files old.disk)) answer) (IsErrOf answer Device)
   pub untouched : IsErrOf answer Broken → new ≡ old
+  pub nothing : old.session.acknowledged ≡ old.session.accepted → new ≡ old
 
 -- Commands were run over a disk, one after another, and got these answers.
 abbrev pub RunsAllOver : {D : Type 0} → (D → List ℕ → FileState) → (D → ℕ) → (D → ℕ → Image → Type 0) → Kept D → List Command → List (Result Reply RunFault) → Kept D → Type 0

@@ -22,6 +22,10 @@ done s files =
 abbrev pub settled : Session → Session
 settled s = record s { settled = s.files; acknowledged = s.accepted }
 
+-- where all accepted commands are acknowledged, their texts are on the disk
+abbrev pub IsSettled : Session → Type 0
+IsSettled s = s.broken ≡ false → s.acknowledged ≡ s.accepted → s.files ≡ s.settled
+
 -- a call of the disk failed in a read
 abbrev pub failed_in_read : Session → Session
 failed_in_read s = record s { broken = true }

@@ -45,20 +45,24 @@ pub struct Store<D: Disk> {
 impl<D: Disk> Model for Store<D> {
     ghost use Rattle.std.specs.Prelude.{◌≡◌, ◌≤◌};
     ghost use Rattle.org_store.specs.Session.{Kept, kept_over};
+    ghost use Rattle.org_store.specs.Step.{IsSettled};
 
     ghost Value = { Kept D };
 
     ghost view = { λ s. kept_over D.files s.states s.files s.tally };
 
-    // Between commands nothing is edited that isn't kept.
+    // Between commands nothing is edited that isn't kept, and where all commands are acknowledged, their texts are on the
+    // disk.
     ghost invariant = { λ s. (s.tally.acknowledged ≤ s.tally.accepted)
-        × (s.files.held.now ≡ s.files.held.before) };
+        × (s.files.held.now ≡ s.files.held.before)
+        × (D.honest s.files.disk
+        → IsSettled (kept_over D.files s.states s.files s.tally).session) };
 }
 
 impl<D: Disk> Store<D> {
     /// A store over the files of the given names and of their archive files, with nothing accepted and a group of 1. No
     /// name is an archive file's or the journal's; a repeated one counts once. What a stop cut short is brought to an
-    /// end first.
+    /// end first; a journal whose gate is closed stays as it is.
     ///
     /// On a disk that is fit, and honest after the call, of which each image stands for files, every image at every
     /// moment since the call began stands for what an image at the start stood for, whatever is answered; so it may be
@@ -158,7 +162,7 @@ impl<D: Disk> Store<D> {
     /// At every moment since the call began, what a stop leaves stands for the files after the commands that were
     /// acknowledged then, or for those after all that are accepted. `OutOfMemory` leaves files and counts as they were.
     /// `Device` comes only where the disk counted a failure in this call, and breaks the store; `Broken` comes exactly
-    /// where it was broken before.
+    /// where it was broken before. Where no accepted command waits to be acknowledged, it does nothing.
     pub fn settle(&mut self) -> Result<(), RunFault>
         ensures step { D.honest self.new.disk → Settles self.old.session result self.new.session }
         ensures disk { D.honest self.new.disk
@@ -168,6 +172,8 @@ impl<D: Disk> Store<D> {
         ensures counts { SettledCounts self.old.session result self.new.session }
         ensures broken { IsErrOf result RunFault.Broken ↔ IsTrue self.old.session.broken }
         ensures untouched { IsErrOf result RunFault.Broken → self.new ≡ self.old }
+        ensures nothing { self.old.session.acknowledged ≡ self.old.session.accepted
+            → self.new ≡ self.old }
         ensures breaks { IsTrue self.new.session.broken
             ↔ (IsTrue self.old.session.broken ⊎ IsErrOf result RunFault.Device) }
         ensures accounts { Accounts D.steady D.honest D.failures self.old.disk self.new.disk
@@ -175,6 +181,9 @@ impl<D: Disk> Store<D> {
     {
         if self.files.is_broken() {
             return Err(RunFault::Broken);
+        }
+        if self.tally.acknowledged == self.tally.accepted {
+            return Ok(());
         }
         self.files.commit()?;
         self.tally.acknowledged = self.tally.accepted;
@@ -188,7 +197,8 @@ impl<D: Disk> Store<D> {
     ///
     /// `Refused` and `OutOfMemory` leave files and counts as they were; where a settling finds no memory, this command
     /// is undone, and those before it stay pending. `Device` comes only where the disk counted a failure in this call,
-    /// and breaks the store; `Broken` comes exactly where it was broken before.
+    /// and breaks the store; `Broken` comes exactly where it was broken before. `Settle` does nothing where no accepted
+    /// command waits to be acknowledged.
     pub fn run(&mut self, command: &Command) -> Result<Reply, RunFault>
         ensures step { D.honest self.new.disk
             → Step self.old.session command.now result self.new.session }
@@ -199,6 +209,8 @@ impl<D: Disk> Store<D> {
         ensures counts { Counts self.old.session result self.new.session }
         ensures broken { IsErrOf result RunFault.Broken ↔ IsTrue self.old.session.broken }
         ensures untouched { IsErrOf result RunFault.Broken → self.new ≡ self.old }
+        ensures nothing { command.now ≡ Command.Settle
+            → self.old.session.acknowledged ≡ self.old.session.accepted → self.new ≡ self.old }
         ensures breaks { IsTrue self.new.session.broken
             ↔ (IsTrue self.old.session.broken ⊎ IsErrOf result RunFault.Device) }
         ensures accounts { Accounts D.steady D.honest D.failures self.old.disk self.new.disk

@@ -25,14 +25,16 @@ const TURNS: u64 = 4_294_967_295;
 ///
 /// `S` says what the folder held at first; no code reads it, and what is promised holds for every `S`. What the calls
 /// of the operating system did to the files, and what they answered, is noted in a record, which stands in proofs alone
-/// and is empty at first, where the files are those of `S`. That each answer in it was right up to the end (`is_right`)
-/// is the premise of what is said of files and of stops.
+/// and is empty at first, where the files are those of `S`. What is said of a step is said where each answer in the
+/// record was right up to the end of that step (`is_right`): a wrong one later takes nothing from it.
 ///
 /// Where the input was read to its end, what was written is the transcript of its lines; where a read failed, that of the
-/// complete lines before it. If the folder was fit at first, and each image of it stood for files, each image that a stop
-/// might have left, at any moment since this began, stands for what the folder stood for, or for the files after one
-/// prefix of the accepted commands; since a store on the way, for one that has all commands that were acknowledged
-/// there; and after an end with `End` for all of them. The folder is left as one of which all this can be said again.
+/// complete lines before it; and up to each store on the way, that of the lines so far. An opening brings to an end what a
+/// stop had cut short, and leaves a journal whose gate is closed as it is. If the folder was fit at first, and each image of
+/// it stood for files, each image that a stop might have left, at any moment since this began up to a store on the way,
+/// stands for what the folder stood for, or for the files after one prefix of the commands accepted by then; since an
+/// earlier store on the way, for one that has all commands that were acknowledged there; and after an end with `End` for
+/// all of them. The folder is left as one of which all this can be said again.
 ///
 /// An opening is refused for its reason alone. It ends with Read or Write only for a cause: a failed call of the reader
 /// or the writer, or 4,294,967,295 reads; with Device, or an opening that is refused so, only where a call failed.
@@ -48,7 +50,7 @@ where
     requires names { All IsOrgFile setup.names.items }
     requires group { IsGroup setup.group }
     requires unused { (record_of disk ≡ []) × (disk.failures ≡ 0) }
-    ensures served { is_right S.world result.disk → IfOk result.end (λ end. (served : ServesOver
+    ensures served { IfOk result.end (λ end. (served : ServesOver
         (is_right S.world) (files_of S.world) moment_of (left_of S.world) setup.states setup.group
         setup.names.items disk result.disk end (R.left reader.old) (R.left reader.new)
         (W.written writer.old) (W.written writer.new))

@@ -77,7 +77,7 @@ fn setup(rt: &HostRuntime, arguments: &Arguments) -> Result<Setup, Fault>
     ensures cause { IfErr result
         (IsCause (map string_bytes arguments.now.new.items) (states_in arguments.now)) }
 {
-    let mut names = new_names(rt, &arguments.new)?;
+    let mut names = new_names(rt.alloc(), &arguments.new)?;
     let states = states(rt.alloc(), &arguments.todo, &arguments.done)?;
     names.append(&mut org_files(rt, &arguments.folder)?)?;
     Ok(Setup {

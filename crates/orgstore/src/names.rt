@@ -8,30 +8,31 @@ use crate::fault::Fault;
 use org_disk::{FileName, NameFault};
 use org_folder::org_file;
 use org_store::OpenFault;
+use std::alloc::Global;
 
 /// The names given as new ones, each a file name in `.org`. `BadName` tells the first that is none.
-pub fn new_names(rt: &HostRuntime, new: &[String]) -> Result<Vec<FileName>, Fault>
+pub fn new_names(alloc: Global, new: &[String]) -> Result<Vec<FileName>, Fault>
     ensures openable { IfOk result (λ names. All IsOrgFile names.items) }
     ensures names { IfOk result (λ names. names.items ≡ map string_bytes new.now) }
     ensures good { OnOk result (first_bad (map string_bytes new.now) ≡ None) }
     ensures cause { IfErr result (IsCauseOfNames (map string_bytes new.now)) }
 {
-    let mut names = Vec::new(rt.alloc());
+    let mut names = Vec::new(alloc);
     for name in new {
-        names.push(new_name(rt, name)?)?;
+        names.push(new_name(alloc, name)?)?;
     }
     Ok(names)
 }
 
-fn new_name(rt: &HostRuntime, name: &str) -> Result<FileName, Fault>
+fn new_name(alloc: Global, name: &str) -> Result<FileName, Fault>
     ensures openable { IfOk result IsOrgFile }
     ensures name { IfOk result (λ one. one ≡ name.now) }
     ensures good { OnOk result (IsTrue (is_org_file name.now)) }
     ensures cause { IfErr result (IsCauseOfNames (name.now ∷ [])) }
 {
-    match org_file(rt.alloc(), name) {
+    match org_file(alloc, name) {
         Ok(name) => Ok(name),
-        Err(NameFault::BadName) => Err(Fault::BadName(String::from_str(rt.alloc(), name)?)),
+        Err(NameFault::BadName) => Err(Fault::BadName(String::from_str(alloc, name)?)),
         Err(NameFault::OutOfMemory) => Err(Fault::Open(OpenFault::OutOfMemory)),
     }
 }

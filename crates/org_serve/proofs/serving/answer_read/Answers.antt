@@ -4,16 +4,18 @@ use Rattle.org_serve.specs.Replies.{answer_text}
 use Rattle.org_serve.proofs.serving.answer_read.Goals as goal
 
 pub returns-in-Ok-clause-step : goal.returns-in-Ok-clause-step
-returns-in-Ok-clause-step g c = λ honest.
+returns-in-Ok-clause-step g c =
     let e = c.run-answer.ensures in
     let d = g.D.Disk in
-    let over : RunsOver d.files d.moment d.left_since c.args.store.now c.in-Ok.command c.run-answer.result c.run-answer.new.self = record {
+    let new = c.run-answer.new.self in
+    let over : d.honest new.disk → RunsOver d.files d.moment d.left_since c.args.store.now c.in-Ok.command c.run-answer.result new = λ honest. record {
       step = e.step honest;
       disk = e.disk honest;
       untouched = e.untouched;
+      nothing = e.nothing;
     } in
     rw c.in-Ok.is (
-      answer_text c.run-answer.result c.args.store.now.session.acknowledged c.run-answer.new.self.session.acknowledged,
-      (c.run-answer.result, (over, honest), refl),
+      answer_text c.run-answer.result c.args.store.now.session.acknowledged new.session.acknowledged,
+      (c.run-answer.result, record { before = e.accounts.was_honest; did = over }, refl),
       rw (c.acknowledged-before.ensures, c.acknowledged.ensures) at c.write_answer.ensures.ok,
     )

@@ -5,23 +5,23 @@ use Rattle.org_serve.proofs.Feeding.{Fed-step, Fed-err, Fed-end}
 use Rattle.org_serve.proofs.serving.feed.Goals as goal
 
 pub returns-in_err-answer-clause-fed : goal.returns-in_err-answer-clause-fed
-returns-in_err-answer-clause-fed g c = λ honest part free stands.
+returns-in_err-answer-clause-fed g c = λ part free stands.
     let p = err_from_is_err_and c.from_residual.result c.from_residual.ensures.1 in
-    let f = c.loop-line.invariant.0 (c.answer.ensures.accounts.was_honest honest) part free stands in
-    let s = c.in_err-answer.ensures.step honest f.part f.stands in
+    let f = c.loop-line.invariant.0 part free stands in
+    let s = c.in_err-answer.ensures.step f.part f.stands in
     rw p.1 (Fed-err f c.in-Some.line.now c.in-Some.more.now c.in-Some.ensures.whole c.in-Some.ensures.free c.answer.new.store s.0 s.1)
 
 pub loop-line-preserved : goal.loop-line-preserved
 loop-line-preserved g c = (
-  λ honest part free stands.
-      Fed-step (c.loop-line.invariant.0 (c.in_ok-answer.ensures.accounts.was_honest honest) part free stands) c.in-Some.line.now c.in-Some.more.now c.in-Some.ensures.whole c.in-Some.ensures.free
+  λ part free stands.
+      Fed-step (c.loop-line.invariant.0 part free stands) c.in-Some.line.now c.in-Some.more.now c.in-Some.ensures.whole c.in-Some.ensures.free
       c.answer.new.store (g.W.Sink.written c.answer.new.writer) c.answer.new.pending
-      (c.in_ok-answer.ensures.step honest) c.in_ok-answer.ensures.cleared,
+      c.in_ok-answer.ensures.step c.in_ok-answer.ensures.cleared,
   untouched_then c.loop-line.invariant.1 c.in_ok-answer.ensures.untouched,
   breaks_then c.loop-line.invariant.1 c.in_ok-answer.ensures.untouched c.loop-line.invariant.2 c.in_ok-answer.ensures.accounts,
   c.in_ok-answer.ensures.same ∙ c.loop-line.invariant.3,
 )
 
 pub returns-clause-fed : goal.returns-clause-fed
-returns-clause-fed g c = λ honest part free stands.
-    Fed-end (c.loop-line.invariant.0 honest part free stands) c.in_default.ensures.free c.add.new.self c.add.ensures
+returns-clause-fed g c = λ part free stands.
+    Fed-end (c.loop-line.invariant.0 part free stands) c.in_default.ensures.free c.add.new.self c.add.ensures

@@ -11,7 +11,7 @@ use Rattle.org_serve.proofs.serving.feed.Given as goal
 -- the lines so far are answered, and no write has failed
 abbrev pub invariant-loop-line : goal.invariant-loop-line
 invariant-loop-line g l =
-    (g.D.Disk.honest l.store.disk → (part : List ℕ) → (cut part).lines ≡ [] → Stands l.initial.pending part
+    ((part : List ℕ) → (cut part).lines ≡ [] → Stands l.initial.pending part
     → Fed (RunsLine g.D.Disk.honest g.D.Disk.files g.D.Disk.moment g.D.Disk.left_since) l.initial.store (part ++ l.piece) l.rest l.store
     (g.W.Sink.written l.initial.writer) (g.W.Sink.written l.writer) l.pending)
     × (IsTrue l.initial.store.session.broken → l.store ≡ l.initial.store)

@@ -10,7 +10,7 @@ use Rattle.org_serve.proofs.serving.serve.Given as goal
 -- what was read so far is served, with so many reads, and no call of the reader or the writer has failed
 abbrev pub invariant-loop : goal.invariant-loop
 invariant-loop g l =
-    (g.D.Disk.honest l.store.disk → Served (RunsLine g.D.Disk.honest g.D.Disk.files g.D.Disk.moment g.D.Disk.left_since) l.initial.store l.store
+    (Served (RunsLine g.D.Disk.honest g.D.Disk.files g.D.Disk.moment g.D.Disk.left_since) l.initial.store l.store
     (g.R.Source.left l.initial.reader) (g.R.Source.left l.reader) (g.W.Sink.written l.initial.writer) (g.W.Sink.written l.writer) l.pending)
     × (IsTrue l.initial.store.session.broken → l.store ≡ l.initial.store)
     × Accounts g.D.Disk.steady g.D.Disk.honest g.D.Disk.failures l.initial.store.disk l.store.disk (HasBroken l.initial.store.session l.store.session)

@@ -7,20 +7,21 @@ use Rattle.org_serve.proofs.Stops.{finishes_settling}
 use Rattle.org_serve.proofs.serving.settle.Goals as goal
 
 pub returns-in-Ok-clause-told : goal.returns-in-Ok-clause-told
-returns-in-Ok-clause-told g c = λ honest not.
+returns-in-Ok-clause-told g c = λ not.
     let d = g.D.Disk in
     let e = c.settle-answer.ensures in
     let old = c.args.store.now in
     let new = c.settle-answer.new.self in
     let sound : old.session.broken ≡ false = sym c.is_broken.ensures ∙ c.if-is_broken.false in
     let pending : old.session.acknowledged < old.session.accepted = omega (arith, c.acknowledged.ensures, c.accepted.ensures, c.if-acknowledged-accepted.false) in
-    let over : SettlesOver d.files d.moment d.left_since old c.settle-answer.result new = record {
+    let over : d.honest new.disk → SettlesOver d.files d.moment d.left_since old c.settle-answer.result new = λ honest. record {
       step = e.step honest;
       disk = e.disk honest;
       untouched = e.untouched;
+      nothing = e.nothing;
     } in (
       settled_text c.settle-answer.result new.session.acknowledged,
-      finishes_settling d.honest d.files d.moment d.left_since old c.settle-answer.result new c.end_of.result sound pending (over, honest) c.end_of.ensures.value,
+      finishes_settling d.honest d.files d.moment d.left_since old c.settle-answer.result new c.end_of.result sound pending (record { before = e.accounts.was_honest; did = over }) c.end_of.ensures.value,
       rw c.acknowledged-2.ensures at c.in-Ok.ensures.ok,
     )
 

@@ -1,12 +1,12 @@
 use Rattle.org_disk.specs.Accounts.{Accounts, LeavesOver}
 use Rattle.org_fileset.specs.Replay.{IsAtRest}
-use Rattle.org_fileset.specs.Recovery.{StandsAsBefore}
+use Rattle.org_fileset.specs.Recovery.{IsReopened, StandsAsBefore}
 use Rattle.org_serve.proofs.Breaking.{served_accounts}
 use Rattle.org_serve.proofs.Opened.{of_disk, is_sound, serves_lasting, left_stands, each_stands}
 use Rattle.org_serve.proofs.whole.serve_disk.Goals as goal
 
 pub returns-in-Ok-clause-served : goal.returns-in-Ok-clause-served
-returns-in-Ok-clause-served g c = λ honest.
+returns-in-Ok-clause-served g c =
     let d = g.D.Disk in
     let laws = g.met.D.Disk in
     let store = c.in-Ok.store in
@@ -14,16 +14,14 @@ returns-in-Ok-clause-served g c = λ honest.
     let setup = c.args.setup in
     let opens = c.in-Ok.ensures.session in
     let here = of_disk d.files setup.states setup.group setup.names.items c.args.disk store begun c.set_group.ensures opens in
-    let now : d.honest c.serve-end.new.store.disk = rw (← c.close.ensures) honest in
-    let honestly = c.serve-end.ensures.accounts.was_honest now in
-    let reopened = c.in-Ok.ensures.reopens (here (λ k. d.honest k → d.honest store.disk) (λ h. h) honestly) in
+    let reopens = c.in-Ok.ensures.reopens in
     serves_lasting d.honest d.files d.moment d.left_since laws.only_now laws.counts_now setup.states setup.group setup.names.items c.args.disk store begun c.set_group.ensures opens
-    c.in-Ok.ensures.names.1 reopened.done.stood c.serve-end.new.store c.close.result c.close.ensures (c.serve-end.ensures.calls now)
-    (record { all = c.serve-end.ensures.end now; read = c.serve-end.ensures.read now; write = c.serve-end.ensures.write now }) honestly honest
-    (λ fit each. (
-      here (λ k. IsAtRest (d.files k)) (reopened.done.rest fit each),
-      here (λ k. LeavesOver d.moment d.left_since c.args.disk k (StandsAsBefore (d.files c.args.disk))) (reopened.any_moment fit each),
-    ))
+    c.in-Ok.ensures.names.1 (here (λ k. d.honest k → IsReopened (d.files c.args.disk) (d.files k)) (λ honestly. (reopens honestly).done))
+    c.serve-end.new.store c.close.result c.close.ensures c.serve-end.ensures.calls
+    (λ honest.
+    let now : d.honest c.serve-end.new.store.disk = rw (← c.close.ensures) honest in
+    record { all = c.serve-end.ensures.end now; read = c.serve-end.ensures.read now; write = c.serve-end.ensures.write now })
+    (λ fit each. here (λ k. d.honest k → LeavesOver d.moment d.left_since c.args.disk k (StandsAsBefore (d.files c.args.disk))) (λ honestly. (reopens honestly).any_moment fit each))
 
 pub returns-in-Ok-clause-fit : goal.returns-in-Ok-clause-fit
 returns-in-Ok-clause-fit g c = λ honest fit each.
@@ -37,7 +35,7 @@ returns-in-Ok-clause-fit g c = λ honest fit each.
     let now : d.honest c.serve-end.new.store.disk = rw (← c.close.ensures) honest in
     let then = here (λ k. d.honest k → d.honest store.disk) (λ h. h) (c.serve-end.ensures.accounts.was_honest now) in
     let rest = here (λ k. IsAtRest (d.files k)) ((c.in-Ok.ensures.reopens then).done.rest fit each) in
-    let served = returns-in-Ok-clause-served g c honest in
+    let served = returns-in-Ok-clause-served g c in
     (rw c.close.ensures ((c.serve-end.ensures.disk now).fit rest), left_stands laws.only_now laws.counts_now served.0 honest (served.1 fit each))
 
 pub returns-in-Ok-clause-accounts : goal.returns-in-Ok-clause-accounts

@@ -11,6 +11,7 @@ use Rattle.org_store.specs.Outcome.{outcome}
 use Rattle.org_store.specs.Session.{kept_over}
 use Rattle.org_store.proofs.Keeping.{left_quiet}
 use Rattle.org_store.proofs.Leaving.{leaves_unwritten}
+use Rattle.org_store.proofs.Settled.{settled_on}
 use Rattle.org_store.proofs.store.Store.run.Goals as goal
 
 pub returns-then-is_broken-clause-disk : goal.returns-then-is_broken-clause-disk
@@ -79,6 +80,18 @@ returns-in-Show-clause-disk g c =
     let acts : Acts d.files d.moment d.left_since d.honest old (outcome old.session (Show c.in-Show.file)) c.show.result new = c.show.ensures.acts inside.states inside.tally in
     let told = subst (λ (command : Command). Acts d.files d.moment d.left_since d.honest old (outcome old.session command) c.show.result new) (sym c.in-Show.is) acts in
     rw (← c.self.view_is) told.disk
+
+pub invariant_of-self : goal.invariant_of-self
+invariant_of-self g c =
+    let d = g.D.Disk in
+    let inside = c.self.inside in
+    let old = kept_over d.files inside.states inside.files inside.tally in
+    let new = kept_over d.files inside.states c.show.new.files inside.tally in
+    let acts : Acts d.files d.moment d.left_since d.honest old (outcome old.session (Show c.in-Show.file)) c.show.result new = c.show.ensures.acts inside.states inside.tally in (
+      c.self.invariant.0,
+      search rules,
+      λ honest. settled_on old.session new.session (outcome old.session (Show c.in-Show.file)) c.show.result (acts.does honest) c.self.invariant.0 (c.self.invariant.2 (c.show.ensures.accounts.was_honest honest)),
+    )
 
 pub returns-in-Show-clause-step : goal.returns-in-Show-clause-step
 returns-in-Show-clause-step g c =

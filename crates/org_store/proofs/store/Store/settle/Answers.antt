@@ -1,4 +1,4 @@
-use Rattle.std.proofs.Common.{◌≡◌, false, Err, refl, subst, rules}
+use Rattle.std.proofs.Common.{◌≡◌, inl, false, Ok, Err, refl, subst, rules}
 use Rattle.org_journal.specs.Standing.{contents}
 use Rattle.org_store.specs.declared.command.RunFault.TheVariants.{Broken}
 use Rattle.org_disk.specs.Accounts.{LeavesOver}
@@ -18,6 +18,15 @@ returns-then-is_broken-clause-disk g c = λ honest.
     let files = contents (d.files old.disk) in
     let own : s.settled ≡ texts_of files s.names = rw (← c.self.view_is) refl in
     leaves_unwritten d.files d.moment d.left_since old (IsLeftSettling s files (Err Broken)) _ (λ image left. g.met.D.Disk.only_now old.disk image honest left) own (λ image holds. holds) old refl own
+
+pub returns-then-self-clause-disk : goal.returns-then-self-clause-disk
+returns-then-self-clause-disk g c = λ honest.
+    let d = g.D.Disk in
+    let old = c.args.self.now in
+    let s = old.session in
+    let files = contents (d.files old.disk) in
+    let own : s.settled ≡ texts_of files s.names = rw (← c.self.view_is) refl in
+    leaves_unwritten d.files d.moment d.left_since old (IsLeftSettling s files (Ok tt)) _ (λ image left. g.met.D.Disk.only_now old.disk image honest left) own (λ image holds. inl holds) old refl own
 
 pub returns-in_err-commit-clause-step : goal.returns-in_err-commit-clause-step
 returns-in_err-commit-clause-step g c =
