@@ -8,7 +8,7 @@ use Rattle.org_journal.specs.Standing.{Image, contents}
 use Rattle.org_fileset.specs.Names.{AreFew, first_large}
 use Rattle.org_store.specs.declared.command.Command.{Command}
 use Rattle.org_store.specs.declared.command.Reply.{Reply}
-use Rattle.org_store.specs.declared.command.Reply.TheVariants.{Done, Safe, Text}
+use Rattle.org_store.specs.declared.command.Reply.TheVariants.{Done, Safe, Text, Time}
 use Rattle.org_store.specs.declared.command.RunFault.{RunFault}
 use Rattle.org_store.specs.declared.command.RunFault.TheVariants.{Refused, OutOfMemory, Device, Broken}
 use Rattle.org_store.specs.Outcome.{outcome}
@@ -20,10 +20,11 @@ use Rattle.org_store.proofs.Reopening.{accepted_small, goes_small, held_opens, o
 use Rattle.org_store.proofs.Runs.{falls}
 use Rattle.org_serve.specs.declared.end.ServeEnd.{ServeEnd}
 use Rattle.org_serve.specs.declared.fault.LineFault.{LineFault}
-use Rattle.org_serve.specs.History.{Past, Adds, RunsPast, PastLine}
+use Rattle.org_serve.specs.History.{Past, Adds}
 use Rattle.org_serve.specs.Serving.{AnswersReadBy}
 use Rattle.org_serve.specs.Transcript.{Answers}
-use Rattle.org_serve.specs.Whole.{ServesOver, HoldsServed}
+use Rattle.org_serve.specs.Whole.{ServesOver, HoldsServed, IsOnTheWay}
+use Rattle.org_serve.proofs.Honest.{RunsPast, PastLine, past_lines, past_runs}
 
 abbrev Texts : Type 0
 Texts = List (List (List ℕ))
@@ -32,6 +33,7 @@ Texts = List (List (List ℕ))
 broken_stays : (old new : Session) (command : Command) (answer : Result Reply RunFault) → Step old command answer new → old.broken ≡ true → new ≡ old
 broken_stays old new command (Ok (Done n)) step fell = absurd (false≢true (sym step.0 ∙ fell))
 broken_stays old new command (Ok (Text bytes)) step fell = absurd (false≢true (sym step.0 ∙ fell))
+broken_stays old new command (Ok (Time minutes)) step fell = absurd (false≢true (sym step.0 ∙ fell))
 broken_stays old new command (Ok (Safe n)) step fell = absurd (false≢true (sym step.0 ∙ fell))
 broken_stays old new command (Err (Refused why)) step fell = absurd (false≢true (sym step.0 ∙ fell))
 broken_stays old new command (Err OutOfMemory) step fell = absurd (false≢true (sym step.0 ∙ fell))
@@ -88,7 +90,7 @@ module _ (names : List (List ℕ)) where
     small_read : (old : Past D) (read : Result Command LineFault) (out : List ℕ) (new : Past D) → AnswersReadBy (RunsPast honest files moment left_since) (λ past. past.store.session) old read out new
         → SmallSoFar names old.store.session old.texts → SmallSoFar names new.store.session new.texts
     small_read old (Err fault) out new ran small = subst (λ (p : Past D). SmallSoFar names p.store.session p.texts) (sym ran.1) small
-    small_read old (Ok command) out new ran small = small_step old.store.session new.store.session command ran.0 old.texts new.texts ran.1.0.step ran.1.2 small
+    small_read old (Ok command) out new ran small = small_step old.store.session new.store.session command ran.0 old.texts new.texts ran.1.0.0.step ran.1.0.1 small
 
     small_lines : (old new : Past D) (lines : List (List ℕ)) (out : List ℕ) → Answers (PastLine honest files moment left_since) old lines out new
         → SmallSoFar names old.store.session old.texts → SmallSoFar names new.store.session new.texts
@@ -115,15 +117,22 @@ module _ {D : Type 0} {honest : D → Type 0} {files : D → List ℕ → FileSt
         (one_more [] first.files k texts (ap (λ (l : Texts). slice_get l k) (sym served.texts) ∙ is));
   }
 
-  all_small : (k : ℕ) (texts : List (List ℕ)) → slice_get served.last.texts k ≡ Some texts → AreSmall first.names texts
-  all_small k texts is =
-      let mid = small_lines first.names honest files moment left_since served.first served.run.mid served.run.ran served.run.out served.run.answered small_first in
-      mid.each k texts (ap (λ (l : Texts). slice_get l k) (⊎_elim (λ same. ap (λ (p : Past D). p.texts) (sym same)) (λ settled. sym settled.1.2) served.run.ends) ∙ is)
+  -- at a store on the way over a disk that is honest there
+  all_small : (here : Past D) → IsOnTheWay served here → honest here.store.disk → (k : ℕ) (texts : List (List ℕ)) → slice_get here.texts k ≡ Some texts → AreSmall first.names texts
+  all_small here (inl way) honestly k texts is =
+      let told = past_lines honest files moment left_since served.first way.answered way.written here way.before honestly in
+      let small = small_lines first.names honest files moment left_since served.first here way.answered way.written told.0 small_first in
+      small.each k texts is
+  all_small here (inr last) honestly k texts is =
+      let run = (past_runs honest files moment left_since served.run (subst (λ (p : Past D). honest p.store.disk) last honestly)).0 in
+      let small = small_lines first.names honest files moment left_since served.first run.mid run.ran run.out run.answered small_first in
+      let ended : run.mid.texts ≡ served.last.texts = ⊎_elim (λ same. ap (λ (p : Past D). p.texts) (sym same)) (λ settled. sym settled.1.0.1) run.ends in
+      small.each k texts (ap (λ (l : Texts). slice_get l k) (ended ∙ ap (λ (p : Past D). p.texts) (sym last)) ∙ is)
 
-  pub served_opens : (least : ℕ) (image : Image) → AreFew given → HoldsServed served least image → IsOpenable given image
-  served_opens least image few holds = some (slice_get served.last.texts holds.0) refl holds.2
+  pub served_opens : (here : Past D) (least : ℕ) (image : Image) → AreFew given → IsOnTheWay served here → honest here.store.disk → HoldsServed served here least image → IsOpenable given image
+  served_opens here least image few way honestly holds = some (slice_get here.texts holds.0) refl holds.2
     where
-      some : (found : Option (List (List ℕ))) → slice_get served.last.texts holds.0 ≡ found
+      some : (found : Option (List (List ℕ))) → slice_get here.texts holds.0 ≡ found
           → IsSomeAnd found (λ texts. Holds first (contents (files served.first.store.disk)) texts image) → IsOpenable given image
       some None is held = absurd held
-      some (Some texts) is held = held_opens given first (contents (files served.first.store.disk)) image texts few served.begins.names (all_small holds.0 texts is) held
+      some (Some texts) is held = held_opens given first (contents (files served.first.store.disk)) image texts few served.begins.names (all_small here way honestly holds.0 texts is) held

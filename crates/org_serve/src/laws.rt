@@ -15,7 +15,8 @@ ghost use Rattle.org_store.specs.Step.{Step};
 ghost use Rattle.org_serve.specs.OnePlace.{OnlyRefiles};
 ghost use Rattle.org_serve.specs.declared.end.ServeEnd.{ServeEnd};
 ghost use Rattle.org_serve.specs.Stops.{Reaches};
-ghost use Rattle.org_serve.specs.Whole.{HoldsServed, ServesOver};
+ghost use Rattle.org_serve.specs.History.{Past};
+ghost use Rattle.org_serve.specs.Whole.{HoldsServed, IsOnTheWay, ServesOver};
 ghost use Rattle.org_serve.specs.Grammar.{escaped, unescaped, path_of, path_field};
 ghost use Rattle.org_serve.specs.Lines.{cut, joined, HasNoNewline};
 ghost use Rattle.org_serve.specs.Replies.{answer_text, safe_line, told_safe};
@@ -65,10 +66,11 @@ pub fn every_image_opens<D: Disk>()
     ensures whole { (states : Keywords) (group : ℕ) (given : List (List ℕ)) (disk now : D)
         (end : ServeEnd) (left left' written written' : Option (List ℕ))
         (served : ServesOver D.honest D.files D.moment D.left_since states group given disk now
-        end left left' written written') (least : ℕ) (image : Image) → AreFew given
-        → first_large (contents (D.files served.first.store.disk))
-        served.first.store.session.names ≡ None
-        → HoldsServed served least image → IsOpenable given image }
+        end left left' written written') (here : Past D) (least : ℕ) (image : Image)
+        → AreFew given → first_large (contents (D.files served.first.store.disk))
+        served.first.store.session.names ≡ None → IsOnTheWay served here
+        → D.honest here.store.disk → HoldsServed served here least image
+        → IsOpenable given image }
 {}
 
 /// Each node in one place, in what a stop leaves while lines are served (`any_moment` of `serve`, and of `serve_disk` behind
