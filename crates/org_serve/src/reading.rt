@@ -1,6 +1,6 @@
 //! Command lines.
 ghost use Rattle.std.specs.Prelude.{map};
-ghost use Rattle.org_serve.specs.Grammar.{show_of, capture_of, refile_of, todo_of, command_of, command_of_fields};
+ghost use Rattle.org_serve.specs.Grammar.{show_of, capture_of, refile_of, todo_of, archive_of, command_of, command_of_fields};
 ghost use Rattle.org_serve.specs.Gives.{Gives};
 
 use crate::fault::LineFault;
@@ -36,6 +36,13 @@ fn command(alloc: Global, fields: &[&[u8]]) -> Result<Command, LineFault>
         [word, name] => {
             if is(word, "show") {
                 show(alloc, name)
+            } else {
+                Err(LineFault::BadLine)
+            }
+        }
+        [word, name, titles, when] => {
+            if is(word, "archive") {
+                archive(alloc, name, titles, when)
             } else {
                 Err(LineFault::BadLine)
             }
@@ -146,4 +153,14 @@ fn todo(
         state,
         moment,
     })
+}
+
+#[tactic(auto, unfolding(crate::specs::Grammar::archive_of))]
+fn archive(alloc: Global, name: &[u8], titles: &[u8], when: &[u8]) -> Result<Command, LineFault>
+    ensures { Gives result (archive_of name.now titles.now when.now) }
+{
+    let file = file(alloc, name)?;
+    let path = path(alloc, titles)?;
+    let moment = moment(when).ok_or(LineFault::BadLine)?;
+    Ok(Command::Archive { file, path, moment })
 }

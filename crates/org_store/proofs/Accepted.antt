@@ -13,19 +13,21 @@ use Rattle.org_capture.specs.declared.fault.CaptureFault.{CaptureFault}
 use Rattle.org_capture.specs.declared.target.Target.{Target}
 use Rattle.org_capture.specs.Capture.{captured}
 use Rattle.org_move.specs.declared.fault.MoveFault.{MoveFault}
+use Rattle.org_move.specs.Archive.{archive_across, archive_within}
+use Rattle.org_move.specs.Location.{Destination, location}
 use Rattle.org_move.specs.Refile.{refile_across, refile_within}
 use Rattle.org_state.specs.declared.fault.StateFault.{StateFault}
 use Rattle.org_state.specs.Clock.{clocked_at}
 use Rattle.org_state.specs.Todo.{todo as in_state}
 use Rattle.org_store.specs.declared.command.Command.{Command}
-use Rattle.org_store.specs.declared.command.Command.TheVariants.{Capture, Refile, Todo, Time, Show, Settle}
+use Rattle.org_store.specs.declared.command.Command.TheVariants.{Capture, Refile, Todo, Archive, Time, Show, Settle}
 use Rattle.org_store.specs.declared.command.Refusal.TheVariants.{TooLarge}
 use Rattle.org_store.specs.Capture.{new_entry}
 use Rattle.org_store.specs.Files.{has_large}
 use Rattle.org_store.specs.InOrder.{text_at, with_all}
 use Rattle.org_store.specs.Refile.{text_within, texts_across}
 use Rattle.org_store.specs.Session.{Session}
-use Rattle.org_store.specs.Outcome.{Accepts, Refuses, changed, with_document, with_entry, capture, refile, with_moved, with_minutes, with_state, time, todo, show, outcome}
+use Rattle.org_store.specs.Outcome.{Accepts, Refuses, changed, with_document, with_entry, capture, refile, with_moved, with_minutes, with_state, time, todo, archive_to, archive_at, archive, show, outcome}
 
 -- texts of which none is past the limit
 abbrev pub AreWithin : List (List ℕ × List ℕ) → Type 0
@@ -89,6 +91,21 @@ todo_puts : (s : Session) (name : List ℕ) (path : List (List ℕ)) (state : Li
 todo_puts s name path state moment None files accepts = absurd (cc)
 todo_puts s name path state moment (Some text) files accepts = state_puts s name (in_state s.states path state moment (tree text)) files accepts
 
+archive_to_puts : (s : Session) (name : List ℕ) (path : List (List ℕ)) (moment : CivilMinute) (text : List ℕ) (to : Destination) (into : Option (List ℕ)) (files : List (List ℕ)) → archive_to s name path moment text to into ≡ Accepts files → Puts s files
+archive_to_puts s name path moment text to None files accepts = absurd (cc)
+archive_to_puts s name path moment text to (Some target) files accepts = elim (cases_Bool (bytes_eq name to.file)) [
+  | inl t ↦ moved_puts s (text_within name) (archive_within s.states name path moment to (tree text)) files (rw t at accepts)
+  | inr f ↦ moved_puts s (texts_across name to.file) (archive_across s.states name path moment (tree text) s.states to (tree target)) files (rw f at accepts)
+]
+
+archive_at_puts : (s : Session) (name : List ℕ) (path : List (List ℕ)) (moment : CivilMinute) (text : List ℕ) (to : Result Destination MoveFault) (files : List (List ℕ)) → archive_at s name path moment text to ≡ Accepts files → Puts s files
+archive_at_puts s name path moment text (Err why) files accepts = absurd (cc)
+archive_at_puts s name path moment text (Ok to) files accepts = archive_to_puts s name path moment text to (text_at s.names s.files to.file) files accepts
+
+archive_puts : (s : Session) (name : List ℕ) (path : List (List ℕ)) (moment : CivilMinute) (old : Option (List ℕ)) (files : List (List ℕ)) → archive s name path moment old ≡ Accepts files → Puts s files
+archive_puts s name path moment None files accepts = absurd (cc)
+archive_puts s name path moment (Some text) files accepts = archive_at_puts s name path moment text (location s.states name path text) files accepts
+
 shows_none : (old : Option (List ℕ)) (files : List (List ℕ)) → show old ≡ Accepts files → ⊥
 shows_none None files accepts = absurd (cc)
 shows_none (Some text) files accepts = absurd (cc)
@@ -107,6 +124,7 @@ accepted_puts s (Capture file target place moment template initial) files accept
 accepted_puts s (Refile file path to_file to_path place) files accepts =
     refile_puts s file path to_file to_path place (text_at s.names s.files file) (text_at s.names s.files to_file) files accepts
 accepted_puts s (Todo file path state moment) files accepts = todo_puts s file path state moment (text_at s.names s.files file) files accepts
+accepted_puts s (Archive file path moment) files accepts = archive_puts s file path moment (text_at s.names s.files file) files accepts
 accepted_puts s (Time file path) files accepts = absurd (time_none s path (text_at s.names s.files file) files accepts)
 accepted_puts s (Show file) files accepts = absurd (shows_none (text_at s.names s.files file) files accepts)
 accepted_puts s Settle files accepts = absurd (cc)

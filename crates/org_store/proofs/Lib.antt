@@ -10,6 +10,7 @@ pub mod Planned
 pub mod Plans
 pub mod Captures
 pub mod Refiles
+pub mod Archives
 pub mod Todos
 pub mod Running
 pub mod Times

@@ -55,6 +55,11 @@ pub record AreReady (names : List (List ℕ)) (holding : Holding) : Type 0 where
   pub others : (name : List ℕ) → is_name names name ≡ false → text_of holding.now name ≡ text_of holding.before name
   pub waiting : (name : List ℕ) → is_name names name ≡ false → waits holding.now name ≡ true → waits holding.before name ≡ true
 
+-- the text of this name is held, with its headings
+pub record IsReady (name : List ℕ) (holding : Holding) : Type 0 where
+  pub held : IsSome (text_of holding.now name)
+  pub ready : (has : Bool) → lookup (bytes_eq name) holding.ready ≡ Some has → has ≡ true
+
 -- the texts that were held before the command that runs are held as they were
 abbrev pub KeepsHeld : Holding → Holding → Type 0
 KeepsHeld old new = (name : List ℕ) → IsSome (text_of old.before name) → text_of new.before name ≡ text_of old.before name

@@ -12,13 +12,15 @@ use Rattle.org_capture.specs.declared.target.Target.{Target}
 use Rattle.org_capture.specs.Capture.{captured}
 use Rattle.org_move.specs.declared.fault.MoveFault.{MoveFault}
 use Rattle.org_move.specs.declared.fault.MoveFault.TheVariants as move
+use Rattle.org_move.specs.Archive.{archive_across, archive_within}
+use Rattle.org_move.specs.Location.{Destination, location}
 use Rattle.org_move.specs.Refile.{refile_across, refile_within}
 use Rattle.org_state.specs.declared.fault.StateFault.{StateFault}
 use Rattle.org_state.specs.declared.fault.StateFault.TheVariants as state
 use Rattle.org_state.specs.Clock.{clocked_at}
 use Rattle.org_state.specs.Todo.{todo as in_state}
 use Rattle.org_store.specs.declared.command.Command.{Command}
-use Rattle.org_store.specs.declared.command.Command.TheVariants.{Capture, Refile, Todo, Time, Show, Settle}
+use Rattle.org_store.specs.declared.command.Command.TheVariants.{Capture, Refile, Todo, Archive, Time, Show, Settle}
 use Rattle.org_store.specs.declared.command.Refusal.{Refusal}
 use Rattle.org_store.specs.declared.command.Refusal.TheVariants.{NoSuchFile, BadTemplate, BadEntry, NotFound, NotUnique, InsideItself, AlreadyArchive, UnknownState, OddPlanning, BadRepeat, DateRange, ClockBackwards, BadLocation, TooLarge}
 use Rattle.org_store.specs.Capture.{new_entry}
@@ -120,6 +122,24 @@ abbrev pub todo : Session → List ℕ → List (List ℕ) → List ℕ → Civi
 todo s file path state moment None = Refuses NoSuchFile
 todo s file path state moment (Some text) = with_state s file (in_state s.states path state moment (tree text))
 
+-- An archiving to this destination, from a file that has the first text; the destination's file has the second one, if it
+-- is one of the store's. The two are one where their names are.
+abbrev pub archive_to : Session → List ℕ → List (List ℕ) → CivilMinute → List ℕ → Destination → Option (List ℕ) → Outcome
+archive_to s file path moment text to None = Refuses NoSuchFile
+archive_to s file path moment text to (Some target) =
+    if bytes_eq file to.file then with_moved s (text_within file) (archive_within s.states file path moment to (tree text))
+    else with_moved s (texts_across file to.file) (archive_across s.states file path moment (tree text) s.states to (tree target))
+
+abbrev pub archive_at : Session → List ℕ → List (List ℕ) → CivilMinute → List ℕ → Result Destination MoveFault → Outcome
+archive_at s file path moment text (Ok to) = archive_to s file path moment text to (text_at s.names s.files to.file)
+archive_at s file path moment text (Err fault) = Refuses (refusal_of_move fault)
+
+-- An archiving from a file that has this text: it is refused for its file first, then for its path, then where the file
+-- is an archive file, then for its location, then for the location's file and for the heading there.
+abbrev pub archive : Session → List ℕ → List (List ℕ) → CivilMinute → Option (List ℕ) → Outcome
+archive s file path moment None = Refuses NoSuchFile
+archive s file path moment (Some text) = archive_at s file path moment text (location s.states file path text)
+
 -- why no heading is at a path
 abbrev pub refusal_of_path : PathFault → Refusal
 refusal_of_path path_fault.NotFound = NotFound
@@ -145,6 +165,7 @@ outcome s (Capture file target place moment template initial) =
 outcome s (Refile file path to_file to_path place) =
     refile s file path to_file to_path place (text_at s.names s.files file) (text_at s.names s.files to_file)
 outcome s (Todo file path state moment) = todo s file path state moment (text_at s.names s.files file)
+outcome s (Archive file path moment) = archive s file path moment (text_at s.names s.files file)
 outcome s (Time file path) = time s path (text_at s.names s.files file)
 outcome s (Show file) = show (text_at s.names s.files file)
 outcome s Settle = AsksToSettle
@@ -154,6 +175,7 @@ abbrev pub IsChange : Command → Type 0
 IsChange (Capture file target place moment template initial) = Unit {0}
 IsChange (Refile file path to_file to_path place) = Unit {0}
 IsChange (Todo file path state moment) = Unit {0}
+IsChange (Archive file path moment) = Unit {0}
 IsChange (Time file path) = ⊥
 IsChange (Show file) = ⊥
 IsChange Settle = ⊥

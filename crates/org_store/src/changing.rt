@@ -14,6 +14,7 @@ ghost use Rattle.org_store.specs.Runs.{LeavesDisk};
 ghost use Rattle.org_store.specs.Session.{kept_over, session_over};
 
 use crate::command::{Command, Refusal, Reply, RunFault};
+use crate::commands::archive::plan_archive;
 use crate::commands::capture::plan_capture;
 use crate::commands::refile::plan_refile;
 use crate::commands::todo::plan_todo;
@@ -189,6 +190,10 @@ fn plan<D: Disk>(
             state,
             moment,
         } => plan_todo(files, states, file, path, state, *moment),
+        Command::Archive { file, path, moment } => {
+            let plan = plan_archive(files, states, file, path, *moment)?;
+            Ok(Some(plan))
+        }
         Command::Time { .. } | Command::Show { .. } | Command::Settle => unreachable!(),
     }
 }

@@ -58,6 +58,17 @@ pub enum Command {
         /// The moment of the change.
         moment: Moment,
     },
+    /// Moves a subtree to its archive (Org manual, "Moving a tree to an archive file"): to the location that the nearest
+    /// nonempty property ARCHIVE of it or a heading above it names, else the file's first line `#+ARCHIVE:`, else to the
+    /// top level of the file's archive file. Its root gets properties that tell when it was archived, and where it was.
+    Archive {
+        /// The file that the subtree leaves.
+        file: FileName,
+        /// The path of its heading there.
+        path: Titles,
+        /// The moment of the archiving.
+        moment: Moment,
+    },
     /// Answers the time clocked at a heading and below it (Org manual, "The clock table").
     Time {
         /// The file of the heading.
@@ -102,7 +113,7 @@ pub enum Refusal {
     NotUnique,
     /// The heading that a subtree is to go below lies in the subtree.
     InsideItself,
-    /// The file is an archive file already.
+    /// The file is an archive file already, or the entry lies below the heading that it would be archived to.
     AlreadyArchive,
     /// The state is none of the store's.
     UnknownState,

@@ -1,4 +1,5 @@
 //! The commands, each with what it is to change or to answer.
+pub(crate) mod archive;
 pub(crate) mod capture;
 mod outline;
 pub(crate) mod refile;

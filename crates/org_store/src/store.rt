@@ -226,7 +226,10 @@ impl<D: Disk> Store<D> {
             }
             Command::Time { file, path } => time(&mut self.files, &self.states, file, path),
             Command::Show { file } => show(&mut self.files, file),
-            Command::Capture { .. } | Command::Refile { .. } | Command::Todo { .. } => {
+            Command::Capture { .. }
+            | Command::Refile { .. }
+            | Command::Todo { .. }
+            | Command::Archive { .. } => {
                 change(&mut self.files, &self.states, &mut self.tally, command)
             }
         }

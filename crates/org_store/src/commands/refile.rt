@@ -24,7 +24,7 @@ use org_texts::{FileEdits, Held, Plan};
 use std::alloc::{AllocError, Global};
 
 /// These edits of a file.
-fn edits_of<const N: usize>(
+pub(crate) fn edits_of<const N: usize>(
     alloc: Global,
     file: &FileName,
     edits: [Edit; N],

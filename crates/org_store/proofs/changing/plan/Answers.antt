@@ -32,6 +32,18 @@ returns-in_err-plan-in-Refile-clause-plans g c tally honest =
     subst (λ (r : Result (Option Plan) RunFault). PlansOrStays s (outcome s c.args.command.now) r held new) (sym given)
     (subst (λ (r : Result Plan RunFault). Plans s (outcome s c.args.command.now) r held new) c.in_err-plan-in-Refile.was told)
 
+pub returns-in_err-plan-in-Archive-clause-plans : goal.returns-in_err-plan-in-Archive-clause-plans
+returns-in_err-plan-in-Archive-clause-plans g c tally honest =
+    let texts : g.row.D.Denot → Image = λ disk. contents (g.D.Disk.files disk) in
+    let s = session_over texts c.args.states.now c.args.files.now tally in
+    let new = session_over texts c.args.states.now c.plan_archive.new.files tally in
+    let held = c.plan_archive.new.files.held in
+    let fault = c.in_err-plan-in-Archive.field-0.0 in
+    let given : c.from_residual-in_err-plan-in-Archive.result ≡ Err fault = search rules in
+    let told = subst (λ (command : Command). Plans s (outcome s command) c.plan_archive.result held new) (sym c.in-Archive.is) (c.plan_archive.ensures.plans tally honest) in
+    subst (λ (r : Result (Option Plan) RunFault). PlansOrStays s (outcome s c.args.command.now) r held new) (sym given)
+    (subst (λ (r : Result Plan RunFault). Plans s (outcome s c.args.command.now) r held new) c.in_err-plan-in-Archive.was told)
+
 pub returns-in_ok-plan-in-Capture-clause-plans : goal.returns-in_ok-plan-in-Capture-clause-plans
 returns-in_ok-plan-in-Capture-clause-plans g c tally honest =
     let texts : g.row.D.Denot → Image = λ disk. contents (g.D.Disk.files disk) in
@@ -45,6 +57,13 @@ returns-in_ok-plan-in-Refile-clause-plans g c tally honest =
     let s = session_over texts c.args.states.now c.args.files.now tally in
     let new = session_over texts c.args.states.now c.plan_refile.new.files tally in
     subst (λ (command : Command). Plans s (outcome s command) (Ok c.in_ok-plan-in-Refile.plan) c.plan_refile.new.files.held new) (sym c.in-Refile.is) (c.in_ok-plan-in-Refile.ensures.plans tally honest)
+
+pub returns-in_ok-plan-in-Archive-clause-plans : goal.returns-in_ok-plan-in-Archive-clause-plans
+returns-in_ok-plan-in-Archive-clause-plans g c tally honest =
+    let texts : g.row.D.Denot → Image = λ disk. contents (g.D.Disk.files disk) in
+    let s = session_over texts c.args.states.now c.args.files.now tally in
+    let new = session_over texts c.args.states.now c.plan_archive.new.files tally in
+    subst (λ (command : Command). Plans s (outcome s command) (Ok c.in_ok-plan-in-Archive.plan) c.plan_archive.new.files.held new) (sym c.in-Archive.is) (c.in_ok-plan-in-Archive.ensures.plans tally honest)
 
 pub returns-in-Todo-clause-plans : goal.returns-in-Todo-clause-plans
 returns-in-Todo-clause-plans g c tally honest =

@@ -1,0 +1,137 @@
+//! Subtrees moved to their archives.
+ghost use Rattle.std.specs.Prelude.{◌≡◌, ◌↔◌, [], IfOk, IsErrOf, IsTrue, false};
+ghost use Rattle.org_disk.specs.Accounts.{Accounts, Looks};
+ghost use Rattle.org_outline.specs.Tree.{tree};
+ghost use Rattle.org_texts.specs.Texts.{bytes_or, text_of};
+ghost use Rattle.org_move.specs.Answers.{Gives, GivesPlace};
+ghost use Rattle.org_move.specs.Archive.{archive_across, archive_within};
+ghost use Rattle.org_move.specs.Location.{location};
+ghost use Rattle.org_store.specs.declared.tally.Tally.{Tally};
+ghost use Rattle.org_store.specs.Files.{IsPlanFor, IsReady};
+ghost use Rattle.org_store.specs.InOrder.{text_at};
+ghost use Rattle.org_store.specs.Keeping.{Plans};
+ghost use Rattle.org_store.specs.Outcome.{archive as outcome};
+ghost use Rattle.org_store.specs.Refile.{MakesDocument, MakesDocuments};
+ghost use Rattle.org_store.specs.Session.{kept_over};
+
+use crate::command::{Refusal, RunFault};
+use crate::commands::outline::outline_of;
+use crate::commands::refile::edits_of;
+use crate::files::Files;
+use org_disk::{Disk, FileName};
+use org_move::{Location, MoveFault, archive, archive_within, location};
+use org_outline::{Outline, States, Titles};
+use org_stamp::Moment;
+use org_texts::Plan;
+use std::alloc::Global;
+
+/// The outline of one of the files, whose text is ready. Takes no memory.
+fn outline_in<'a, D: Disk>(files: &'a Files<D>, states: &'a States, file: &FileName) -> Outline<'a>
+    requires { IsReady file.now files.now.held }
+    ensures { (result.text ≡ bytes_or [] (text_of files.now.held.now file.now))
+        × (result.states ≡ states.now) }
+{
+    match files.get(file) {
+        Some(held) => outline_of(held, states),
+        None => unreachable!(),
+    }
+}
+
+/// Where a subtree of a file with this outline goes: see `location`.
+fn find_location(
+    alloc: Global,
+    outline: &Outline<'_>,
+    file: &FileName,
+    path: &Titles,
+) -> Result<Location, MoveFault>
+    ensures { GivesPlace (location outline.now.states file.now path.now outline.now.text) result }
+{
+    location(alloc, outline, file, path.as_slice())
+}
+
+/// The edits of a file with this outline that archive a subtree within it.
+fn plan_within(
+    alloc: Global,
+    outline: &Outline<'_>,
+    file: &FileName,
+    path: &Titles,
+    moment: Moment,
+    to: &Location,
+) -> Result<Plan, MoveFault>
+    ensures { let document = tree outline.now.text in
+        Gives (archive_within outline.now.states file.now path.now moment to.now document)
+        (MakesDocument file.now outline.now.text) result }
+{
+    let edits = archive_within(alloc, outline, file, path.as_slice(), moment, to)?;
+    Ok(Plan {
+        first: edits_of(alloc, file, edits)?,
+        second: None,
+    })
+}
+
+/// The edits of two files with these outlines that archive a subtree of the first in the second, the location's file.
+fn plan_across(
+    alloc: Global,
+    source: &Outline<'_>,
+    target: &Outline<'_>,
+    file: &FileName,
+    path: &Titles,
+    moment: Moment,
+    to: &Location,
+) -> Result<Plan, MoveFault>
+    ensures { let from = tree source.now.text in
+        let into = tree target.now.text in
+        Gives (archive_across source.now.states file.now path.now moment from
+        target.now.states to.now into)
+        (MakesDocuments file.now to.now.file source.now.text target.now.text) result }
+{
+    let (goes_out, goes_in) = archive(alloc, source, target, file, path.as_slice(), moment, to)?;
+    Ok(Plan {
+        first: edits_of(alloc, file, [goes_out])?,
+        second: Some(edits_of(alloc, to.file(), [goes_in])?),
+    })
+}
+
+/// What an archiving is to change. It is refused for its file first, then for its path, then where the file is an archive
+/// file, then for its location, then for the location's file and the heading there.
+pub(crate) fn plan_archive<D: Disk>(
+    files: &mut Files<D>,
+    states: &States,
+    file: &FileName,
+    path: &Titles,
+    moment: Moment,
+) -> Result<Plan, RunFault>
+    requires unbroken { files.old.broken ≡ false }
+    requires begun { files.old.held.now ≡ files.old.held.before }
+    ensures plan { IfOk result (λ plan. IsPlanFor files.new.names files.new.held plan) }
+    ensures plans { (tally : Tally) → D.honest files.new.disk
+        → let session = (kept_over D.files states.now files.old tally).session in
+        Plans session (outcome session file.now path.now moment
+        (text_at session.names session.files file.now)) result
+        files.new.held (kept_over D.files states.now files.new tally).session }
+    ensures looks { D.honest files.new.disk
+        → Looks D.files D.moment D.left_since files.old.disk files.new.disk }
+    ensures works { IsErrOf result RunFault.Broken → ⊥ }
+    ensures breaks { IsErrOf result RunFault.Device ↔ IsTrue files.new.broken }
+    ensures accounts { Accounts D.steady D.honest D.failures files.old.disk files.new.disk
+        (IsErrOf result RunFault.Device) }
+{
+    if !files.has(file) {
+        return Err(RunFault::Refused(Refusal::NoSuchFile));
+    }
+    files.ready(file)?;
+    let alloc = files.alloc();
+    let to = find_location(alloc, &outline_in(files, states, file), file, path)?;
+    let to_file = to.file();
+    if file == to_file {
+        let outline = outline_in(files, states, file);
+        return Ok(plan_within(alloc, &outline, file, path, moment, &to)?);
+    }
+    if !files.has(to_file) {
+        return Err(RunFault::Refused(Refusal::NoSuchFile));
+    }
+    files.ready(to_file)?;
+    let source = outline_in(files, states, file);
+    let target = outline_in(files, states, to_file);
+    Ok(plan_across(alloc, &source, &target, file, path, moment, &to)?)
+}
