@@ -11,7 +11,7 @@ use std::test::Fail;
 
 // What a step gives, which has to go well. Where it doesn't the test stops here and lets go of nothing, so a function
 // that owns a disk has no exit for each of its steps, which its proof would have to follow.
-fn must<T>(rt: &impl Abort, given: Result<T, Fail>) -> T {
+pub fn must<T>(rt: &impl Abort, given: Result<T, Fail>) -> T {
     match given {
         Ok(value) => value,
         Err(_) => panic!(rt; "a step of the test failed"),

@@ -3,15 +3,20 @@ mod commits;
 mod edited;
 mod openings;
 
-use org_disk::{FileName, MemoryDisk};
+use crate::disk::must;
+use org_disk::MemoryDisk;
 use org_fileset::{FileSet, OpenFault, OpenRefused};
-use org_fixtures::{NEW, disk_with, org_names};
+use org_fixtures::{NEW, disk_with, file_name, org_names};
 use std::alloc::Global;
+use std::process::Abort;
 use std::test::Fail;
 
 // A disk with a.org, and a journal of these bytes.
-fn with_journal(alloc: Global, journal: &[u8]) -> Result<MemoryDisk, Fail> {
-    disk_with(alloc, &[("orgstore.journal", journal), ("a.org", b"* A\n")])
+fn with_journal(rt: &impl Abort, alloc: Global, journal: &[u8]) -> MemoryDisk {
+    must(
+        rt,
+        disk_with(alloc, &[("orgstore.journal", journal), ("a.org", b"* A\n")]),
+    )
 }
 
 // The bytes with another one at this place.
@@ -23,25 +28,47 @@ fn with_byte(alloc: Global, bytes: &[u8], at: usize, byte: u8) -> Result<Vec<u8>
     Ok(changed)
 }
 
+// The same, where there has to be memory.
+fn with_one(rt: &impl Abort, alloc: Global, bytes: &[u8], at: usize, byte: u8) -> Vec<u8> {
+    must(rt, with_byte(alloc, bytes, at, byte))
+}
+
+// Makes a file hold these bytes.
+fn set_file(alloc: Global, disk: &mut MemoryDisk, name: &str, bytes: &[u8]) -> Result<(), Fail> {
+    disk.set(&file_name(alloc, name)?, bytes)?;
+    Ok(())
+}
+
 // A disk that was stopped while the record was laid: some of the text is there.
-fn stopped(alloc: Global, gate: u8) -> Result<MemoryDisk, Fail> {
-    let mut disk = with_journal(alloc, &with_byte(alloc, &NEW, 0, gate)?)?;
-    disk.set(&FileName::new(alloc, "inbox.org")?, b"* TO")?;
-    Ok(disk)
+fn stopped(rt: &impl Abort, alloc: Global, gate: u8) -> MemoryDisk {
+    let journal = with_one(rt, alloc, &NEW, 0, gate);
+    let mut disk = with_journal(rt, alloc, &journal);
+    must(rt, set_file(alloc, &mut disk, "inbox.org", b"* TO"));
+    disk
+}
+
+// Opens a set over these files.
+fn opened_over(
+    alloc: Global,
+    disk: MemoryDisk,
+    names: &[&str],
+) -> Result<Result<FileSet<MemoryDisk>, OpenRefused<MemoryDisk>>, Fail> {
+    Ok(FileSet::open(alloc, disk, org_names(alloc, names)?))
 }
 
 // Opens a set over inbox.org and a.org.
 fn opened(
+    rt: &impl Abort,
     alloc: Global,
     disk: MemoryDisk,
-) -> Result<Result<FileSet<MemoryDisk>, OpenRefused<MemoryDisk>>, Fail> {
-    Ok(FileSet::open(alloc, disk, org_names(alloc, &["inbox.org", "a.org"])?))
+) -> Result<FileSet<MemoryDisk>, OpenRefused<MemoryDisk>> {
+    must(rt, opened_over(alloc, disk, &["inbox.org", "a.org"]))
 }
 
-fn open(alloc: Global, disk: MemoryDisk) -> Result<FileSet<MemoryDisk>, Fail> {
-    match opened(alloc, disk)? {
-        Ok(set) => Ok(set),
-        Err(_) => Err(Fail::from("not opened")),
+fn open(rt: &impl Abort, alloc: Global, disk: MemoryDisk) -> FileSet<MemoryDisk> {
+    match opened(rt, alloc, disk) {
+        Ok(set) => set,
+        Err(_) => panic!(rt; "not opened"),
     }
 }
 
@@ -53,43 +80,57 @@ struct Held {
     inbox: Vec<u8>,
 }
 
-fn read_all(alloc: Global, set: &mut FileSet<MemoryDisk>) -> Result<Held, Fail> {
-    Ok(Held {
-        journal: set.read(&FileName::journal_name(alloc)?)?,
-        a: set.read(&FileName::new(alloc, "a.org")?)?,
-        inbox: set.read(&FileName::new(alloc, "inbox.org")?)?,
-    })
+fn read(alloc: Global, set: &mut FileSet<MemoryDisk>, name: &str) -> Result<Vec<u8>, Fail> {
+    Ok(set.read(&file_name(alloc, name)?)?)
+}
+
+fn read_all(rt: &impl Abort, alloc: Global, set: &mut FileSet<MemoryDisk>) -> Held {
+    Held {
+        journal: must(rt, read(alloc, set, "orgstore.journal")),
+        a: must(rt, read(alloc, set, "a.org")),
+        inbox: must(rt, read(alloc, set, "inbox.org")),
+    }
 }
 
 fn holds(held: &Held, journal: &[u8], inbox: &[u8]) -> bool {
     held.journal.as_slice() == journal && held.inbox.as_slice() == inbox
 }
 
-// What is read once a set was opened, and the disk then.
-fn read_opened(alloc: Global, disk: MemoryDisk) -> Result<(Held, MemoryDisk), Fail> {
-    let mut set = open(alloc, disk)?;
-    let held = read_all(alloc, &mut set)?;
-    Ok((held, set.close()))
+fn has_texts(held: &Held, a: &[u8], inbox: &[u8]) -> bool {
+    held.a.as_slice() == a && held.inbox.as_slice() == inbox
 }
 
-fn held_in(alloc: Global, disk: MemoryDisk) -> Result<Held, Fail> {
-    let (held, _) = read_opened(alloc, disk)?;
-    Ok(held)
+// What is read once a set was opened, and the disk then.
+fn read_opened(rt: &impl Abort, alloc: Global, disk: MemoryDisk) -> (Held, MemoryDisk) {
+    let mut set = open(rt, alloc, disk);
+    let held = read_all(rt, alloc, &mut set);
+    (held, set.close())
+}
+
+fn held_in(rt: &impl Abort, alloc: Global, disk: MemoryDisk) -> Held {
+    let (held, _) = read_opened(rt, alloc, disk);
+    held
 }
 
 // The disk that an opening leaves, and why it is refused, if it is.
 fn opened_then_closed(
+    rt: &impl Abort,
     alloc: Global,
     disk: MemoryDisk,
-) -> Result<(MemoryDisk, Option<OpenFault>), Fail> {
-    match opened(alloc, disk)? {
-        Ok(set) => Ok((set.close(), None)),
-        Err(refused) => Ok((refused.disk, Some(refused.fault))),
+) -> (MemoryDisk, Option<OpenFault>) {
+    match opened(rt, alloc, disk) {
+        Ok(set) => (set.close(), None),
+        Err(refused) => (refused.disk, Some(refused.fault)),
     }
 }
 
 // The disk that an opening leaves, whatever it answers.
-fn opened_disk(alloc: Global, disk: MemoryDisk) -> Result<MemoryDisk, Fail> {
-    let (disk, _) = opened_then_closed(alloc, disk)?;
-    Ok(disk)
+fn opened_disk(rt: &impl Abort, alloc: Global, disk: MemoryDisk) -> MemoryDisk {
+    let (disk, _) = opened_then_closed(rt, alloc, disk);
+    disk
+}
+
+// A disk that holds what a stop leaves of this one.
+fn image_of(rt: &impl Abort, alloc: Global, disk: &MemoryDisk) -> MemoryDisk {
+    disk.image(alloc).expect(rt, "memory")
 }

@@ -4,11 +4,11 @@
 #[cfg(test)]
 mod archives;
 #[cfg(test)]
-mod capture_rows;
-#[cfg(test)]
 mod captures;
 #[cfg(test)]
 mod clocks;
+#[cfg(test)]
+mod edits;
 #[cfg(test)]
 mod held_texts;
 #[cfg(test)]

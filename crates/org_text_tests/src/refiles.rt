@@ -1,10 +1,13 @@
 // Refiles through the public calls: rows worked by hand from the rules of refiling, and chains of many levels.
+ghost use Rattle.std.specs.Prelude.{◌≡◌};
+ghost use Rattle.org_splice.specs.Lines.{closed};
+
+use crate::edits::{edited, titles};
 use org_move::{MoveFault, refile_across, refile_within};
 use org_outline::{Outline, Place, States, is_closed};
-use org_splice::{Edit, Editing};
+use org_splice::Edit;
 use std::alloc::{AllocError, Global};
 use std::process::Abort;
-use std::test::Fail;
 
 /// A text, the path of a heading, the path of its new parent, and the text after the refile.
 type Within = (
@@ -24,54 +27,21 @@ type Across = (
     Result<(&'static str, &'static str), MoveFault>,
 );
 
-/// The titles of a path.
-fn titles(alloc: Global, path: &[&str]) -> Result<Vec<Vec<u8>>, AllocError> {
-    let mut titles = Vec::new(alloc);
-    for title in path {
-        titles.push(Vec::from_slice(alloc, title.as_bytes())?)?;
-    }
-    Ok(titles)
-}
-
-/// Makes an edit, which has to lie in the text.
-fn make(rt: &impl Abort, text: &mut Editing, edit: &Edit) -> Result<(), AllocError> {
-    let size = text.bytes().len();
-    assert!(rt; edit.at <= size && edit.removed <= size - edit.at);
-    text.apply(edit)
-}
-
-/// The text after an edit of it.
-fn edited(rt: &impl Abort, alloc: Global, text: &[u8], edit: &Edit) -> Result<Vec<u8>, AllocError> {
-    let mut after = Editing::new(Vec::from_slice(alloc, text)?);
-    make(rt, &mut after, edit)?;
-    after.bytes().to_vec(alloc)
-}
-
-/// The edits of a refile within an outline.
-fn moved_within(
-    alloc: Global,
-    outline: &Outline,
-    path: &[&str],
-    to: &[&str],
-    place: Place,
-) -> Result<[Edit; 2], MoveFault> {
-    let path = titles(alloc, path)?;
-    let to = titles(alloc, to)?;
-    refile_within(alloc, outline, path.as_slice(), to.as_slice(), place)
-}
-
 /// The edits of a refile within a text.
 fn edits_within(
-    rt: &(impl Abort + AllocGlobal),
+    alloc: Global,
     states: &States,
     text: &[u8],
     path: &[&str],
     to: &[&str],
     place: Place,
-) -> Result<[Edit; 2], MoveFault> {
-    assert!(rt; is_closed(text));
-    let outline = Outline::read(rt.alloc(), text, states)?;
-    moved_within(rt.alloc(), &outline, path, to, place)
+) -> Result<[Edit; 2], MoveFault>
+    requires { closed text.now ≡ text.now }
+{
+    let path = titles(alloc, path)?;
+    let to = titles(alloc, to)?;
+    let outline = Outline::read(alloc, text, states)?;
+    refile_within(alloc, &outline, path.as_slice(), to.as_slice(), place)
 }
 
 /// The text after a refile within it.
@@ -83,56 +53,53 @@ fn within(
     to: &[&str],
     place: Place,
 ) -> Result<Vec<u8>, MoveFault> {
-    let edits = edits_within(rt, states, text, path, to, place)?;
-    let mut after = Editing::new(Vec::from_slice(rt.alloc(), text)?);
-    make(rt, &mut after, &edits[0])?;
-    make(rt, &mut after, &edits[1])?;
-    Ok(after.bytes().to_vec(rt.alloc())?)
-}
-
-/// The edits of a refile from one outline to another.
-fn moved_across(
-    alloc: Global,
-    outlines: (&Outline, &Outline),
-    path: &[&str],
-    to: &[&str],
-    place: Place,
-) -> Result<(Edit, Edit), MoveFault> {
-    let path = titles(alloc, path)?;
-    let to = titles(alloc, to)?;
-    let (source, target) = outlines;
-    refile_across(alloc, source, target, path.as_slice(), to.as_slice(), place)
+    assert!(rt; is_closed(text));
+    let edits = edits_within(rt.alloc(), states, text, path, to, place)?;
+    let left = edited(rt, rt.alloc(), text, &edits[0]);
+    Ok(edited(rt, rt.alloc(), &left, &edits[1]))
 }
 
 /// The edits of a refile across two texts.
 fn edits_across(
-    rt: &(impl Abort + AllocGlobal),
+    alloc: Global,
     states: &States,
-    texts: [&[u8]; 2],
+    from: &[u8],
+    into: &[u8],
     path: &[&str],
     to: &[&str],
     place: Place,
-) -> Result<(Edit, Edit), MoveFault> {
-    let [from, into] = texts;
-    assert!(rt; is_closed(from) && is_closed(into));
-    let source = Outline::read(rt.alloc(), from, states)?;
-    let target = Outline::read(rt.alloc(), into, states)?;
-    moved_across(rt.alloc(), (&source, &target), path, to, place)
+) -> Result<(Edit, Edit), MoveFault>
+    requires from { closed from.now ≡ from.now }
+    requires into { closed into.now ≡ into.now }
+{
+    let path = titles(alloc, path)?;
+    let to = titles(alloc, to)?;
+    let source = Outline::read(alloc, from, states)?;
+    let target = Outline::read(alloc, into, states)?;
+    refile_across(
+        alloc,
+        &source,
+        &target,
+        path.as_slice(),
+        to.as_slice(),
+        place,
+    )
 }
 
 /// The texts after a refile across them.
 fn across(
     rt: &(impl Abort + AllocGlobal),
     states: &States,
-    texts: [&[u8]; 2],
+    from: &[u8],
+    into: &[u8],
     path: &[&str],
     to: &[&str],
     place: Place,
 ) -> Result<(Vec<u8>, Vec<u8>), MoveFault> {
-    let (taken, put) = edits_across(rt, states, texts, path, to, place)?;
-    let left = edited(rt, rt.alloc(), texts[0], &taken)?;
-    let gained = edited(rt, rt.alloc(), texts[1], &put)?;
-    Ok((left, gained))
+    assert!(rt; is_closed(from) && is_closed(into));
+    let (taken, put) = edits_across(rt.alloc(), states, from, into, path, to, place)?;
+    let left = edited(rt, rt.alloc(), from, &taken);
+    Ok((left, edited(rt, rt.alloc(), into, &put)))
 }
 
 /// Whether a refile within a text made what a row has.
@@ -144,14 +111,17 @@ fn is_within(answer: &Result<Vec<u8>, MoveFault>, expected: &Result<&str, MoveFa
     }
 }
 
+fn states(rt: &(impl Abort + AllocGlobal)) -> States {
+    States::new(rt.alloc(), &["TODO"], &["DONE"]).expect(rt, "states")
+}
+
 /// Asserts what each row's refile within a text makes, or why it is refused.
-fn assert_within(rt: &(impl Abort + AllocGlobal), rows: &[Within]) -> Result<(), Fail> {
-    let states = States::new(rt.alloc(), &["TODO"], &["DONE"])?;
+fn assert_within(rt: &(impl Abort + AllocGlobal), rows: &[Within]) {
+    let states = states(rt);
     for (text, path, to, place, expected) in rows {
         let answer = within(rt, &states, text.as_bytes(), path, to, *place);
         assert!(rt; is_within(&answer, expected), "{text}");
     }
-    Ok(())
 }
 
 /// Whether a refile across two texts made what a row has.
@@ -169,14 +139,20 @@ fn is_across(
 }
 
 /// Asserts what each row's refile across two texts makes, or why it is refused.
-fn assert_across(rt: &(impl Abort + AllocGlobal), rows: &[Across]) -> Result<(), Fail> {
-    let states = States::new(rt.alloc(), &["TODO"], &["DONE"])?;
+fn assert_across(rt: &(impl Abort + AllocGlobal), rows: &[Across]) {
+    let states = states(rt);
     for ([from, into], path, to, place, expected) in rows {
-        let texts = [from.as_bytes(), into.as_bytes()];
-        let answer = across(rt, &states, texts, path, to, *place);
+        let answer = across(
+            rt,
+            &states,
+            from.as_bytes(),
+            into.as_bytes(),
+            path,
+            to,
+            *place,
+        );
         assert!(rt; is_across(&answer, expected), "{from}");
     }
-    Ok(())
 }
 
 const DEEP: &str = "* S\n** B\n**** C\n* T\n** U\n*** V\n";
@@ -214,11 +190,6 @@ const WITH_DESCENDANTS: &[Within] = &[
     ),
 ];
 
-#[test]
-fn moves_with_its_descendants(rt: HostRuntime) -> Result<(), Fail> {
-    assert_within(&rt, WITH_DESCENDANTS)
-}
-
 const CHILDREN: &str = "* T\n** A\n** B\nb\n** C\n* Z\n";
 
 const BELOW_ITS_PARENT: &[Within] = &[
@@ -248,11 +219,6 @@ const BELOW_ITS_PARENT: &[Within] = &[
     ),
 ];
 
-#[test]
-fn below_its_own_parent(rt: HostRuntime) -> Result<(), Fail> {
-    assert_within(&rt, BELOW_ITS_PARENT)
-}
-
 const BESIDE: &str = "pre\n* A\n* B\n*bold*\n* C\n";
 
 const BESIDE_ITS_PARENT: &[Within] = &[
@@ -278,11 +244,6 @@ const BESIDE_ITS_PARENT: &[Within] = &[
         Ok("pre\n* A\n* B\n*bold*\n** C\n"),
     ),
 ];
-
-#[test]
-fn beside_its_new_parent(rt: HostRuntime) -> Result<(), Fail> {
-    assert_within(&rt, BESIDE_ITS_PARENT)
-}
 
 const SKIPPED: &str = "* T\n*** X\n** Y\n* E\n";
 
@@ -317,11 +278,6 @@ const BELOW_SKIPPED_LEVELS: &[Within] = &[
     ),
 ];
 
-#[test]
-fn below_skipped_levels(rt: HostRuntime) -> Result<(), Fail> {
-    assert_within(&rt, BELOW_SKIPPED_LEVELS)
-}
-
 const AS_THEY_ARE: &[Within] = &[
     (
         "* A\r\n** B\r\nb\r\n* T\r\n",
@@ -341,11 +297,6 @@ const AS_THEY_ARE: &[Within] = &[
     ("* \n* T\n", &[""], &["T"], Place::First, Ok("* T\n** \n")),
 ];
 
-#[test]
-fn keeps_the_lines_as_they_are(rt: HostRuntime) -> Result<(), Fail> {
-    assert_within(&rt, AS_THEY_ARE)
-}
-
 const TITLED_TWICE: &str = "* TODO A :x:\n* A\n* T\n";
 
 const NOT_FOUND: Result<&str, MoveFault> = Err(MoveFault::NotFound);
@@ -363,11 +314,6 @@ const REFUSED_PATHS: &[Within] = &[
     (TITLED_TWICE, &["Q"], &["A"], Place::Last, NOT_FOUND),
     (TITLED_TWICE, &["A"], &["Q"], Place::Last, NOT_UNIQUE),
 ];
-
-#[test]
-fn refused_paths(rt: HostRuntime) -> Result<(), Fail> {
-    assert_within(&rt, REFUSED_PATHS)
-}
 
 const NESTED: &str = "* A\n** B\n*** C\n*** C\n* D\n";
 
@@ -403,8 +349,14 @@ const REFUSED_INSIDE: &[Within] = &[
 ];
 
 #[test]
-fn refused_inside_itself(rt: HostRuntime) -> Result<(), Fail> {
-    assert_within(&rt, REFUSED_INSIDE)
+fn within_a_text(rt: HostRuntime) {
+    assert_within(&rt, WITH_DESCENDANTS);
+    assert_within(&rt, BELOW_ITS_PARENT);
+    assert_within(&rt, BESIDE_ITS_PARENT);
+    assert_within(&rt, BELOW_SKIPPED_LEVELS);
+    assert_within(&rt, AS_THEY_ARE);
+    assert_within(&rt, REFUSED_PATHS);
+    assert_within(&rt, REFUSED_INSIDE);
 }
 
 const TWO_TEXTS: &[Across] = &[
@@ -438,11 +390,6 @@ const TWO_TEXTS: &[Across] = &[
     ),
 ];
 
-#[test]
-fn across_two_texts(rt: HostRuntime) -> Result<(), Fail> {
-    assert_across(&rt, TWO_TEXTS)
-}
-
 const EACH_TWICE: [&str; 2] = ["* A\n* A\n* S\n", "* T\n* B\n* B\n"];
 
 const SOURCE_NOT_FOUND: Result<(&str, &str), MoveFault> = Err(MoveFault::NotFound);
@@ -461,8 +408,9 @@ const REFUSED_ACROSS: &[Across] = &[
 ];
 
 #[test]
-fn refused_across(rt: HostRuntime) -> Result<(), Fail> {
-    assert_across(&rt, REFUSED_ACROSS)
+fn across_two_texts(rt: HostRuntime) {
+    assert_across(&rt, TWO_TEXTS);
+    assert_across(&rt, REFUSED_ACROSS);
 }
 
 /// Puts headings at the end, at each level from one to another: each is the child of the one before it.
@@ -503,44 +451,43 @@ fn assert_refiled(
     path: &[&str],
     to: &[&str],
     expected: &[u8],
-) -> Result<(), Fail> {
-    let states = States::new(rt.alloc(), &["TODO"], &["DONE"])?;
-    let after = within(rt, &states, text, path, to, Place::Last)?;
-    assert!(rt; after.as_slice() == expected);
-    Ok(())
+) {
+    let after = within(rt, &states(rt), text, path, to, Place::Last);
+    assert!(rt; after.expect(rt, "no fault").as_slice() == expected);
+}
+
+/// The same chain, where there has to be memory.
+fn chain(
+    rt: &(impl Abort + AllocGlobal),
+    before: &[u8],
+    from: usize,
+    to: usize,
+    behind: &[u8],
+) -> Vec<u8> {
+    around_chain(rt.alloc(), before, from, to, behind).expect(rt, "memory")
 }
 
 #[test]
-fn hundred_levels_down(rt: HostRuntime) -> Result<(), Fail> {
-    let text = around_chain(rt.alloc(), b"", 1, 101, b"* T\n** U\n")?;
-    let after = around_chain(rt.alloc(), b"* N\n* T\n** U\n", 3, 102, b"")?;
-    assert_refiled(
-        &rt,
-        text.as_slice(),
-        &["N", "N"],
-        &["T", "U"],
-        after.as_slice(),
-    )
+fn hundred_levels_down(rt: HostRuntime) {
+    let text = chain(&rt, b"", 1, 101, b"* T\n** U\n");
+    let after = chain(&rt, b"* N\n* T\n** U\n", 3, 102, b"");
+    assert_refiled(&rt, &text, &["N", "N"], &["T", "U"], &after);
 }
 
 #[test]
-fn hundred_levels_up(rt: HostRuntime) -> Result<(), Fail> {
-    let text = around_chain(rt.alloc(), b"* T\n** U\n", 3, 102, b"")?;
-    let after = around_chain(rt.alloc(), b"* T\n** U\n", 2, 101, b"")?;
-    assert_refiled(
-        &rt,
-        text.as_slice(),
-        &["T", "U", "N"],
-        &["T"],
-        after.as_slice(),
-    )
+fn hundred_levels_up(rt: HostRuntime) {
+    let text = chain(&rt, b"* T\n** U\n", 3, 102, b"");
+    let after = chain(&rt, b"* T\n** U\n", 2, 101, b"");
+    assert_refiled(&rt, &text, &["T", "U", "N"], &["T"], &after);
 }
 
+/// A heading at the hundred and first level.
+const DEEPEST: &[u8] =
+    b"***************************************************************************************************** T\nt\n";
+
 #[test]
-fn below_the_hundredth_level(rt: HostRuntime) -> Result<(), Fail> {
-    let text = around_chain(rt.alloc(), b"* T\nt\n", 1, 101, b"")?;
-    let mut after = around_chain(rt.alloc(), b"", 1, 101, b"")?;
-    push_stars(&mut after, 101)?;
-    after.extend_from_slice(b" T\nt\n")?;
-    assert_refiled(&rt, text.as_slice(), &["T"], &["N"; 100], after.as_slice())
+fn below_the_hundredth_level(rt: HostRuntime) {
+    let text = chain(&rt, b"* T\nt\n", 1, 101, b"");
+    let after = chain(&rt, b"", 1, 101, DEEPEST);
+    assert_refiled(&rt, &text, &["T"], &["N"; 100], &after);
 }

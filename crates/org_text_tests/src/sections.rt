@@ -2,16 +2,16 @@
 ghost use Rattle.std.specs.Prelude.{◌≡◌};
 ghost use Rattle.org_splice.specs.Lines.{closed};
 
+use crate::edits::edited;
 use org_meta::{
     ClockFault, PlanningFault, add_note, clear_closed, close_clock, find_open, open_clock,
     property, put_property, repeat_planning, sections, set_closed, total,
 };
 use org_outline::is_closed;
-use org_splice::{Edit, Editing};
+use org_splice::Edit;
 use org_stamp::Moment;
-use std::alloc::{AllocError, Global};
+use std::alloc::Global;
 use std::process::Abort;
-use std::test::Fail;
 
 /// Year, month, day, hour and minute.
 type Time = (u16, u8, u8, u8, u8);
@@ -55,24 +55,11 @@ fn edit_of(alloc: Global, section: &[u8], change: Change) -> Option<Edit>
     }
 }
 
-/// The section after an edit of it.
-fn after(
-    rt: &impl Abort,
-    alloc: Global,
-    section: &[u8],
-    edit: &Edit,
-) -> Result<Vec<u8>, AllocError> {
-    assert!(rt; edit.at <= section.len() && edit.removed <= section.len() - edit.at);
-    let mut text = Editing::new(Vec::from_slice(alloc, section)?);
-    text.apply(edit)?;
-    text.bytes().to_vec(alloc)
-}
-
 /// The section after its edit, if there is one.
-fn edited(rt: &impl Abort, alloc: Global, section: &[u8], change: Change) -> Option<Vec<u8>> {
+fn after(rt: &impl Abort, alloc: Global, section: &[u8], change: Change) -> Option<Vec<u8>> {
     assert!(rt; is_closed(section));
     let edit = edit_of(alloc, section, change)?;
-    after(rt, alloc, section, &edit).ok()
+    Some(edited(rt, alloc, section, &edit))
 }
 
 /// Whether there is a text, of these bytes.
@@ -86,7 +73,7 @@ fn is(text: &Option<Vec<u8>>, expected: &[u8]) -> bool {
 /// Asserts what becomes of each row's section.
 fn assert_edited(rt: &(impl Abort + AllocGlobal), change: Change, rows: &[Row]) {
     for (i, (section, expected)) in rows.iter().enumerate() {
-        let text = edited(rt, rt.alloc(), section, change);
+        let text = after(rt, rt.alloc(), section, change);
         assert!(rt; is(&text, expected), "row {i}");
     }
 }
@@ -166,7 +153,7 @@ const PUTS: [(&[u8], &[u8], &[u8], &[u8]); 5] = [
 #[test]
 fn properties_put(rt: HostRuntime) {
     for (i, (section, name, value, expected)) in PUTS.iter().enumerate() {
-        let text = edited(&rt, rt.alloc(), section, Change::Put(name, value));
+        let text = after(&rt, rt.alloc(), section, Change::Put(name, value));
         assert!(rt; is(&text, expected), "row {i}");
     }
 }
@@ -191,13 +178,12 @@ fn entries_closed(rt: HostRuntime) {
 }
 
 #[test]
-fn odd_planning_is_not_closed(rt: HostRuntime) -> Result<(), Fail> {
-    let now = moment((2026, 7, 1, 10, 0)).ok_or("no such moment")?;
+fn odd_planning_is_not_closed(rt: HostRuntime) {
+    let now = moment((2026, 7, 1, 10, 0)).expect(&rt, "a moment");
     let odd: &[u8] = b"DEADLINE: soon\n";
     assert!(rt; is_closed(odd));
     let fault = set_closed(rt.alloc(), odd, now).err();
     assert!(rt; fault == Some(PlanningFault::OddPlanning));
-    Ok(())
 }
 
 // Sections, and what they are once the entry isn't done any more.
@@ -251,14 +237,13 @@ const UNREPEATABLE: [(&[u8], PlanningFault); 3] = [
 ];
 
 #[test]
-fn plans_refused(rt: HostRuntime) -> Result<(), Fail> {
-    let now = moment((2026, 7, 1, 10, 0)).ok_or("no such moment")?;
+fn plans_refused(rt: HostRuntime) {
+    let now = moment((2026, 7, 1, 10, 0)).expect(&rt, "a moment");
     for (i, (section, expected)) in UNREPEATABLE.iter().enumerate() {
         assert!(rt; is_closed(section));
         let fault = repeat_planning(rt.alloc(), section, now).err();
         assert!(rt; fault == Some(*expected), "row {i}");
     }
-    Ok(())
 }
 
 // A section, and what it is with a note of 2005-10-03 at 09:05.
@@ -316,14 +301,13 @@ fn closing_fault(alloc: Global, section: &[u8], now: Moment) -> Option<ClockFaul
 }
 
 #[test]
-fn clocks_not_closed_before_their_start(rt: HostRuntime) -> Result<(), Fail> {
-    let early = moment((2026, 7, 1, 9, 59)).ok_or("no such moment")?;
+fn clocks_not_closed_before_their_start(rt: HostRuntime) {
+    let early = moment((2026, 7, 1, 9, 59)).expect(&rt, "a moment");
     for (i, (section, _)) in CLOSED.iter().enumerate() {
         assert!(rt; is_closed(section));
         let fault = closing_fault(rt.alloc(), section, early);
         assert!(rt; fault == Some(ClockFault::ClockBackwards), "row {i}");
     }
-    Ok(())
 }
 
 // Sections and the minutes of their closed clock lines: a written duration isn't read, hours go past 99, and what runs

@@ -1,11 +1,14 @@
 // Changes of TODO states through the public call: rows worked by hand from the rules of closing and of repeated tasks.
+ghost use Rattle.std.specs.Prelude.{◌≡◌};
+ghost use Rattle.org_splice.specs.Lines.{closed};
+
+use crate::edits::{edited, titles};
 use org_outline::{Outline, States, is_closed};
-use org_splice::{Edit, Editing};
+use org_splice::Edit;
 use org_stamp::Moment;
 use org_state::{StateFault, todo};
 use std::alloc::{AllocError, Global};
 use std::process::Abort;
-use std::test::Fail;
 
 /// A text, the state that its heading A gets, and the text after that; none where nothing changes.
 type Row = (
@@ -19,82 +22,84 @@ type When = (u16, u8, u8, u8, u8);
 
 const NOW: When = (2026, 7, 1, 10, 0);
 
-/// The titles of a path.
-fn titles(alloc: Global, path: &[&str]) -> Result<Vec<Vec<u8>>, AllocError> {
-    let mut titles = Vec::new(alloc);
-    for title in path {
-        titles.push(Vec::from_slice(alloc, title.as_bytes())?)?;
-    }
-    Ok(titles)
-}
-
-/// Makes an edit, which has to lie in the text.
-fn make(rt: &impl Abort, text: &mut Editing, edit: &Edit) -> Result<(), AllocError> {
-    let size = text.bytes().len();
-    assert!(rt; edit.at <= size && edit.removed <= size - edit.at);
-    text.apply(edit)
-}
-
-/// The text with the heading at a path in another state, if anything changes.
-fn changed(
-    rt: &(impl Abort + AllocGlobal),
-    text: &[u8],
-    path: &[&str],
-    state: &str,
-    now: Moment,
-) -> Result<Option<Vec<u8>>, StateFault> {
-    let states = States::new(rt.alloc(), &["TODO", "NEXT"], &["DONE", "GONE"]);
-    changed_in(rt, &states.expect(rt, "states"), text, path, state, now)
-}
-
-/// The same in a store of these states.
-fn changed_in(
-    rt: &(impl Abort + AllocGlobal),
+/// The edits that give the heading at a path another state.
+fn edits_of(
+    alloc: Global,
     states: &States,
     text: &[u8],
     path: &[&str],
     state: &str,
     now: Moment,
-) -> Result<Option<Vec<u8>>, StateFault> {
-    let alloc = rt.alloc();
-    assert!(rt; is_closed(text));
+) -> Result<Vec<Edit>, StateFault>
+    requires { closed text.now ≡ text.now }
+{
     let path = titles(alloc, path)?;
     let outline = Outline::read(alloc, text, states)?;
-    let edits = todo(alloc, &outline, path.as_slice(), state.as_bytes(), now)?;
+    todo(alloc, &outline, path.as_slice(), state.as_bytes(), now)
+}
+
+/// The text after edits, one after the other.
+fn edited_by(rt: &impl Abort, alloc: Global, text: &[u8], edits: &[Edit]) -> Vec<u8> {
+    let mut after = text.to_vec(alloc).expect(rt, "memory");
+    for edit in edits {
+        after = edited(rt, alloc, &after, edit);
+    }
+    after
+}
+
+/// The text with the heading at a path in another state, if anything changes.
+fn changed(
+    rt: &(impl Abort + AllocGlobal),
+    states: &States,
+    text: &[u8],
+    path: &[&str],
+    state: &str,
+) -> Result<Option<Vec<u8>>, StateFault> {
+    changed_at(rt, states, text, path, state, NOW)
+}
+
+/// The same at another moment.
+fn changed_at(
+    rt: &(impl Abort + AllocGlobal),
+    states: &States,
+    text: &[u8],
+    path: &[&str],
+    state: &str,
+    (year, month, day, hour, minute): When,
+) -> Result<Option<Vec<u8>>, StateFault> {
+    assert!(rt; is_closed(text));
+    let now = Moment::new(year, month, day, hour, minute).expect(rt, "a moment");
+    let edits = edits_of(rt.alloc(), states, text, path, state, now)?;
     if edits.is_empty() {
         return Ok(None);
     }
-    let mut after = Editing::new(Vec::from_slice(alloc, text)?);
-    for edit in edits.iter() {
-        make(rt, &mut after, edit)?;
+    Ok(Some(edited_by(rt, rt.alloc(), text, edits.as_slice())))
+}
+
+/// Whether an answer is what a row has.
+fn is(
+    answer: &Result<Option<Vec<u8>>, StateFault>,
+    expected: &Result<Option<&str>, StateFault>,
+) -> bool {
+    match (answer, expected) {
+        (Ok(Some(after)), Ok(Some(expected))) => after.as_slice() == expected.as_bytes(),
+        (Ok(None), Ok(None)) => true,
+        (Err(fault), Err(expected)) => fault == expected,
+        _ => false,
     }
-    Ok(Some(after.bytes().to_vec(alloc)?))
 }
 
 /// Asserts what each row's change makes, or why it is refused.
-fn assert_rows(
-    rt: &(impl Abort + AllocGlobal),
-    path: &[&str],
-    when: When,
-    rows: &[Row],
-) -> Result<(), Fail> {
-    let (year, month, day, hour, minute) = when;
-    let now = Moment::new(year, month, day, hour, minute).ok_or("no such moment")?;
+fn assert_rows(rt: &(impl Abort + AllocGlobal), path: &[&str], when: When, rows: &[Row]) {
+    let states = States::new(rt.alloc(), &["TODO", "NEXT"], &["DONE", "GONE"]).expect(rt, "states");
     for (text, state, expected) in rows {
-        match (changed(rt, text.as_bytes(), path, state, now), expected) {
-            (Ok(Some(after)), Ok(Some(expected))) => {
-                assert!(rt; after.as_slice() == expected.as_bytes(), "{text}");
-            }
-            (Ok(None), Ok(None)) => {}
-            (Err(fault), Err(expected)) => assert!(rt; fault == *expected, "{text}"),
-            _ => assert!(rt; false, "{text}"),
-        }
+        let answer = changed_at(rt, &states, text.as_bytes(), path, state, when);
+        assert!(rt; is(&answer, expected), "{text}");
     }
-    Ok(())
 }
 
 #[test]
-fn keywords_alone(rt: HostRuntime) -> Result<(), Fail> {
+fn keywords_alone(rt: HostRuntime) {
     assert_rows(
         &rt,
         &["A"],
@@ -116,11 +121,11 @@ fn keywords_alone(rt: HostRuntime) -> Result<(), Fail> {
                 Ok(Some("* TODO A\nCLOSED: [2026-07-01 Wed 10:00]\n** B\n")),
             ),
         ],
-    )
+    );
 }
 
 #[test]
-fn ends_of_lines_stay(rt: HostRuntime) -> Result<(), Fail> {
+fn ends_of_lines_stay(rt: HostRuntime) {
     assert_rows(
         &rt,
         &[""],
@@ -130,11 +135,11 @@ fn ends_of_lines_stay(rt: HostRuntime) -> Result<(), Fail> {
             ("* TODO\r\n", "", Ok(Some("* \r\n"))),
             ("* TODO\n", "", Ok(Some("* \n"))),
         ],
-    )
+    );
 }
 
 #[test]
-fn the_present_state_changes_nothing(rt: HostRuntime) -> Result<(), Fail> {
+fn the_present_state_changes_nothing(rt: HostRuntime) {
     assert_rows(
         &rt,
         &["A"],
@@ -144,21 +149,21 @@ fn the_present_state_changes_nothing(rt: HostRuntime) -> Result<(), Fail> {
             ("* TODO A\n", "TODO", Ok(None)),
             ("* DONE A\nDEADLINE: soon\n", "DONE", Ok(None)),
         ],
-    )
+    );
 }
 
 #[test]
-fn the_rest_may_read_as_a_state(rt: HostRuntime) -> Result<(), Fail> {
+fn the_rest_may_read_as_a_state(rt: HostRuntime) {
     assert_rows(
         &rt,
         &["TODO A"],
         NOW,
         &[("* TODO TODO A\n", "", Ok(Some("* TODO A\n")))],
-    )
+    );
 }
 
 #[test]
-fn closes_and_opens(rt: HostRuntime) -> Result<(), Fail> {
+fn closes_and_opens(rt: HostRuntime) {
     assert_rows(
         &rt,
         &["A"],
@@ -207,11 +212,11 @@ fn closes_and_opens(rt: HostRuntime) -> Result<(), Fail> {
                 )),
             ),
         ],
-    )
+    );
 }
 
 #[test]
-fn repeats(rt: HostRuntime) -> Result<(), Fail> {
+fn repeats(rt: HostRuntime) {
     assert_rows(
         &rt,
         &["Pay"],
@@ -223,7 +228,7 @@ fn repeats(rt: HostRuntime) -> Result<(), Fail> {
                 "* TODO Pay\nDEADLINE: <2005-11-01 Tue +1m>\n:PROPERTIES:\n:LAST_REPEAT: [2005-10-03 Mon 09:05]\n:END:\n- State \"DONE\"       from \"TODO\"       [2005-10-03 Mon 09:05]\n",
             )),
         )],
-    )?;
+    );
     let repeated =
         "* TODO A\nSCHEDULED: <2026-07-02 Thu +1d> DEADLINE: <2026-07-03 Fri>\n:PROPERTIES:\n:LAST_REPEAT: [2026-07-01 Wed 10:00]\n:END:\n- State \"DONE\"       from \"TODO\"       [2026-07-01 Wed 10:00]\n";
     assert_rows(
@@ -257,11 +262,11 @@ fn repeats(rt: HostRuntime) -> Result<(), Fail> {
                 )),
             ),
         ],
-    )
+    );
 }
 
 #[test]
-fn faults_in_their_order(rt: HostRuntime) -> Result<(), Fail> {
+fn faults_in_their_order(rt: HostRuntime) {
     assert_rows(
         &rt,
         &["A"],
@@ -303,13 +308,13 @@ fn faults_in_their_order(rt: HostRuntime) -> Result<(), Fail> {
                 Err(StateFault::DateRange),
             ),
         ],
-    )?;
+    );
     assert_rows(
         &rt,
         &[],
         NOW,
         &[("* A\n", "TODO", Err(StateFault::NotFound))],
-    )
+    );
 }
 
 /// A state of 24 letters, which is the longest, among 32, which is the most.
@@ -337,17 +342,12 @@ const MANY: [(&str, &str, &str); 4] = [
 ];
 
 #[test]
-fn states_up_to_the_most(rt: HostRuntime) -> Result<(), Fail> {
+fn states_up_to_the_most(rt: HostRuntime) {
     let states = States::new(rt.alloc(), &ACTIVE, &["LAST"]).expect(&rt, "states");
-    let now = Moment::new(2026, 7, 1, 10, 0).ok_or("no such moment")?;
     for (text, state, expected) in &MANY {
-        let after = changed_in(&rt, &states, text.as_bytes(), &["A"], state, now)?;
-        assert!(rt;
-            after.is_some_and(|after| after.as_slice() == expected.as_bytes()),
-            "{text}"
-        );
+        let after = changed(&rt, &states, text.as_bytes(), &["A"], state);
+        assert!(rt; is(&after, &Ok(Some(*expected))), "{text}");
     }
-    Ok(())
 }
 
 /// A heading, TODO, with a section of so many lines.
@@ -360,14 +360,13 @@ fn long_section(alloc: Global, lines: usize) -> Result<Vec<u8>, AllocError> {
 }
 
 #[test]
-fn a_section_of_a_million_lines(rt: HostRuntime) -> Result<(), Fail> {
+fn a_section_of_a_million_lines(rt: HostRuntime) {
     let front: &[u8] = b"* DONE A\nCLOSED: [2026-07-01 Wed 10:00]\n";
-    let text = long_section(rt.alloc(), 1_000_000)?;
-    let now = Moment::new(2026, 7, 1, 10, 0).ok_or("no such moment")?;
-    let after = changed(&rt, &text, &["A"], "DONE", now)?;
-    let after = after.ok_or("nothing changed")?;
+    let states = States::new(rt.alloc(), &["TODO"], &["DONE"]).expect(&rt, "states");
+    let text = long_section(rt.alloc(), 1_000_000).expect(&rt, "memory");
+    let after = changed(&rt, &states, &text, &["A"], "DONE").expect(&rt, "no fault");
+    let after = after.expect(&rt, "a change");
     assert!(rt;
         after.as_slice().strip_prefix(front) == text.as_slice().strip_prefix(b"* TODO A\n")
     );
-    Ok(())
 }

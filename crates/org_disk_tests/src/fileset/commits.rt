@@ -5,7 +5,11 @@ ghost use Rattle.org_journal.specs.Standing.{contents};
 ghost use Rattle.org_fileset.specs.Set.{AreCommittable};
 
 use super::edited::Edited;
-use super::{held_in, holds, open, opened, opened_disk, read_opened, with_byte, with_journal};
+use super::{
+    has_texts, held_in, holds, image_of, open, opened, opened_disk, read_opened, with_journal,
+    with_one,
+};
+use crate::disk::must;
 use org_disk::{MemoryDisk, Outcome};
 use org_fileset::{FileSet, LIMIT, SetFault};
 use org_fixtures::{NEW, OLD, OUTCOMES, TEXT};
@@ -87,90 +91,85 @@ fn commit(
 
 // Opens a set and commits these edits: what that answers, and the disk then.
 fn change(
+    rt: &impl Abort,
     alloc: Global,
     disk: MemoryDisk,
     edits: &[Edit],
-) -> Result<(MemoryDisk, Result<(), SetFault>), Fail> {
-    match opened(alloc, disk)? {
+) -> (MemoryDisk, Result<(), SetFault>) {
+    match opened(rt, alloc, disk) {
         Ok(set) => {
             let mut set = set;
-            let answer = commit(alloc, &mut set, edits)?;
-            Ok((set.close(), answer))
+            let answer = must(rt, commit(alloc, &mut set, edits));
+            (set.close(), answer)
         }
-        Err(refused) => Ok((refused.disk, Err(SetFault::Device))),
+        Err(refused) => (refused.disk, Err(SetFault::Device)),
     }
 }
 
 // The disk that a commit of these edits leaves.
-fn changed(alloc: Global, disk: MemoryDisk, edits: &[Edit]) -> Result<MemoryDisk, Fail> {
-    let (disk, answer) = change(alloc, disk, edits)?;
-    answer?;
-    Ok(disk)
+fn changed(rt: &impl Abort, alloc: Global, disk: MemoryDisk, edits: &[Edit]) -> MemoryDisk {
+    let (disk, answer) = change(rt, alloc, disk, edits);
+    assert!(rt; answer.is_ok());
+    disk
 }
 
 const BOTH: [Edit; 2] = [RENAME, CAPTURE];
 
 // How many calls an opening and a commit of these edits make.
-fn calls_with(alloc: Global, edits: &[Edit]) -> Result<u64, Fail> {
-    let disk = changed(alloc, with_journal(alloc, b"")?, edits)?;
-    Ok(disk.calls())
+fn calls_with(rt: &impl Abort, alloc: Global, edits: &[Edit]) -> u64 {
+    changed(rt, alloc, with_journal(rt, alloc, b""), edits).calls()
 }
 
-// How many calls an opening and the reading of the two files make.
-fn calls_before_commit(alloc: Global, disk: MemoryDisk) -> Result<u64, Fail> {
-    let (_, disk) = read_opened(alloc, disk)?;
+// How many calls an opening and the reading of the two files make, over a journal of these bytes.
+fn calls_before_commit(rt: &impl Abort, alloc: Global, journal: &[u8]) -> u64 {
+    let (_, disk) = read_opened(rt, alloc, with_journal(rt, alloc, journal));
     // the journal was read too
-    Ok(disk.calls().saturating_sub(2))
+    disk.calls().saturating_sub(2)
 }
 
 // Whether both files have their new texts; that one of them has it is a failure.
-fn are_changed(alloc: Global, disk: MemoryDisk) -> Result<bool, Fail> {
-    let held = held_in(alloc, disk)?;
-    let texts = (held.a.as_slice(), held.inbox.as_slice());
-    if texts == (b"* Better\n".as_slice(), TEXT.as_slice()) {
-        Ok(true)
-    } else if texts == (b"* A\n".as_slice(), b"".as_slice()) {
-        Ok(false)
-    } else {
-        Err(Fail::from("one file is old and one is new"))
-    }
+fn are_changed(rt: &impl Abort, alloc: Global, disk: MemoryDisk) -> bool {
+    let held = held_in(rt, alloc, disk);
+    let are_new = has_texts(&held, b"* Better\n", &TEXT);
+    assert!(rt;
+        are_new || has_texts(&held, b"* A\n", b""),
+        "one file is old and one is new"
+    );
+    are_new
 }
 
 #[test]
-fn a_commit_leaves_its_record(rt: HostRuntime) -> Result<(), Fail> {
+fn a_commit_leaves_its_record(rt: HostRuntime) {
     let alloc = rt.alloc();
-    let journal = with_byte(alloc, &NEW, 0, 0)?;
-    let disk = changed(alloc, with_journal(alloc, b"")?, &[CAPTURE])?;
-    let held = held_in(alloc, disk)?;
+    let journal = with_one(&rt, alloc, &NEW, 0, 0);
+    let disk = changed(&rt, alloc, with_journal(&rt, alloc, b""), &[CAPTURE]);
+    let held = held_in(&rt, alloc, disk);
     assert!(rt; holds(&held, &journal, &TEXT));
-    Ok(())
 }
 
 #[test]
-fn a_commit_of_nothing_makes_no_call(rt: HostRuntime) -> Result<(), Fail> {
+fn a_commit_of_nothing_makes_no_call(rt: HostRuntime) {
     let alloc = rt.alloc();
-    let opened = opened_disk(alloc, with_journal(alloc, b"")?)?;
-    assert!(rt; calls_with(alloc, &[])? == opened.calls());
-    Ok(())
+    let opened = opened_disk(&rt, alloc, with_journal(&rt, alloc, b""));
+    assert!(rt; calls_with(&rt, alloc, &[]) == opened.calls());
 }
 
 // Opens a set over a record of version 1, open or closed: the disk then, where the record is ended.
-fn end_old(rt: &impl Abort, alloc: Global, disk: MemoryDisk) -> Result<MemoryDisk, Fail> {
-    let closed = with_byte(alloc, &OLD, 0, 0)?;
-    let (held, disk) = read_opened(alloc, disk)?;
+fn end_old(rt: &impl Abort, alloc: Global, disk: MemoryDisk) -> MemoryDisk {
+    let closed = with_one(rt, alloc, &OLD, 0, 0);
+    let (held, disk) = read_opened(rt, alloc, disk);
     assert!(rt; holds(&held, &closed, &TEXT));
-    Ok(disk)
+    disk
 }
 
 #[test]
-fn an_old_record_is_ended_and_a_new_one_follows(rt: HostRuntime) -> Result<(), Fail> {
+fn an_old_record_is_ended_and_a_new_one_follows(rt: HostRuntime) {
     let alloc = rt.alloc();
-    let disk = end_old(&rt, alloc, with_journal(alloc, &OLD)?)?;
+    let disk = end_old(&rt, alloc, with_journal(&rt, alloc, &OLD));
     // opened once more, no file changes
-    let disk = end_old(&rt, alloc, disk)?;
-    let held = held_in(alloc, changed(alloc, disk, &[RENAME])?)?;
+    let disk = end_old(&rt, alloc, disk);
+    let held = held_in(&rt, alloc, changed(&rt, alloc, disk, &[RENAME]));
     assert!(rt; matches!(held.journal.as_slice(), [0, _, _, _, _, 2, ..]));
-    Ok(())
 }
 
 // Whether the gate was opened for what the stop leaves, at the write of the gate and at the sync after it.
@@ -183,14 +182,12 @@ fn is_gate_open(is_write: bool, outcome: Outcome) -> bool {
 }
 
 // Whether both files are changed after a stop at this call of a commit of both.
-fn stop_commit(alloc: Global, k: u64, outcome: Outcome, journal: &[u8]) -> Result<bool, Fail> {
-    let mut disk = with_journal(alloc, journal)?;
+fn stop_commit(rt: &impl Abort, alloc: Global, k: u64, outcome: Outcome, journal: &[u8]) -> bool {
+    let mut disk = with_journal(rt, alloc, journal);
     disk.stop_at(k, outcome);
-    let (disk, answer) = change(alloc, disk, &BOTH)?;
-    if answer.is_ok() {
-        return Err(Fail::from("it isn't stopped"));
-    }
-    are_changed(alloc, disk.image(alloc)?)
+    let (disk, answer) = change(rt, alloc, disk, &BOTH);
+    assert!(rt; answer.is_err(), "it isn't stopped");
+    are_changed(rt, alloc, image_of(rt, alloc, &disk))
 }
 
 // Whether both files are changed after a stop at this call, the first of the commit being 1.
@@ -205,57 +202,51 @@ fn is_done(call: u64, outcome: Outcome) -> bool {
 }
 
 #[test]
-fn a_stopped_commit_changes_both_files_or_none(rt: HostRuntime) -> Result<(), Fail> {
+fn a_stopped_commit_changes_both_files_or_none(rt: HostRuntime) {
     let alloc = rt.alloc();
-    let before = calls_before_commit(alloc, with_journal(alloc, b"")?)?;
-    for k in 1..=calls_with(alloc, &BOTH)? {
+    let before = calls_before_commit(&rt, alloc, b"");
+    for k in 1..=calls_with(&rt, alloc, &BOTH) {
         for outcome in OUTCOMES {
             let expected = is_done(k.saturating_sub(before), outcome);
-            let changed = stop_commit(alloc, k, outcome, b"")?;
+            let changed = stop_commit(&rt, alloc, k, outcome, b"");
             assert!(rt; changed == expected, "stopped at call {k}");
         }
     }
-    Ok(())
 }
 
 #[test]
-fn a_body_behind_a_short_journal_opens_nothing(rt: HostRuntime) -> Result<(), Fail> {
+fn a_body_behind_a_short_journal_opens_nothing(rt: HostRuntime) {
     let alloc = rt.alloc();
-    let before = calls_before_commit(alloc, with_journal(alloc, &[1])?)?;
+    let before = calls_before_commit(&rt, alloc, &[1]);
     for outcome in OUTCOMES {
-        let changed = stop_commit(alloc, before.saturating_add(1), outcome, &[1])?;
+        let changed = stop_commit(&rt, alloc, before.saturating_add(1), outcome, &[1]);
         assert!(rt; !changed);
     }
-    Ok(())
 }
 
 // A commit at which the disk fails, and one after it.
-fn commit_failing(
-    rt: &impl Abort,
-    alloc: Global,
-    set: &mut FileSet<MemoryDisk>,
-) -> Result<(), Fail> {
-    assert!(rt; matches!(commit(alloc, set, &BOTH)?, Err(SetFault::Device)));
+fn commit_failing(rt: &impl Abort, alloc: Global, set: &mut FileSet<MemoryDisk>) {
+    let answer = must(rt, commit(alloc, set, &BOTH));
+    assert!(rt; matches!(answer, Err(SetFault::Device)));
     assert!(rt; set.is_broken());
-    assert!(rt; matches!(commit(alloc, set, &[])?, Err(SetFault::Broken)));
-    Ok(())
+    let answer = must(rt, commit(alloc, set, &[]));
+    assert!(rt; matches!(answer, Err(SetFault::Broken)));
 }
 
 // A disk at which this call fails, the first of a commit being 1.
-fn failing(alloc: Global, call: u64) -> Result<MemoryDisk, Fail> {
-    let before = calls_before_commit(alloc, with_journal(alloc, b"")?)?;
-    let mut disk = with_journal(alloc, b"")?;
+fn failing(rt: &impl Abort, alloc: Global, call: u64) -> MemoryDisk {
+    let before = calls_before_commit(rt, alloc, b"");
+    let mut disk = with_journal(rt, alloc, b"");
     disk.fail_at(before.saturating_add(call));
-    Ok(disk)
+    disk
 }
 
 #[test]
-fn a_failed_sync_of_the_gate_breaks_the_set(rt: HostRuntime) -> Result<(), Fail> {
+fn a_failed_sync_of_the_gate_breaks_the_set(rt: HostRuntime) {
     let alloc = rt.alloc();
-    let mut set = open(alloc, failing(alloc, 4)?)?;
-    commit_failing(&rt, alloc, &mut set)?;
+    let mut set = open(&rt, alloc, failing(&rt, alloc, 4));
+    commit_failing(&rt, alloc, &mut set);
     let disk = set.close();
-    assert!(rt; are_changed(alloc, disk.image(alloc)?)?);
-    assert!(rt; are_changed(alloc, disk)?);
-    Ok(())
+    assert!(rt; are_changed(&rt, alloc, image_of(&rt, alloc, &disk)));
+    assert!(rt; are_changed(&rt, alloc, disk));
 }

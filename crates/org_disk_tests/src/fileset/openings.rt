@@ -1,10 +1,12 @@
 // What opening a set finds, and how it ends a record that a stop left.
 use super::{
-    held_in, holds, open, opened_disk, opened_then_closed, stopped, with_byte, with_journal,
+    has_texts, held_in, holds, image_of, open, opened_disk, opened_over, opened_then_closed,
+    set_file, stopped, with_byte, with_journal, with_one,
 };
+use crate::disk::must;
 use org_disk::{Disk, FileName, MemoryDisk, Outcome};
 use org_fileset::{FileSet, LIMIT, OpenFault, SetFault};
-use org_fixtures::{NEW, OLD, OUTCOMES, TEXT, bytes_of, numbered_names, org_names};
+use org_fixtures::{NEW, OLD, OUTCOMES, TEXT, bytes_of, numbered_names};
 use std::alloc::Global;
 use std::process::Abort;
 use std::test::Fail;
@@ -14,89 +16,92 @@ fn length_of(alloc: Global, disk: &mut MemoryDisk, name: &str) -> Result<u64, Fa
 }
 
 #[test]
-fn opening_ends_a_record(rt: HostRuntime) -> Result<(), Fail> {
+fn opening_ends_a_record(rt: HostRuntime) {
     let alloc = rt.alloc();
-    let held = held_in(alloc, stopped(alloc, 1)?)?;
-    assert!(rt; held.inbox.as_slice() == TEXT.as_slice());
-    assert!(rt; held.a.as_slice() == b"* A\n".as_slice());
-    Ok(())
+    let held = held_in(&rt, alloc, stopped(&rt, alloc, 1));
+    assert!(rt; has_texts(&held, b"* A\n", &TEXT));
 }
 
 #[test]
-fn names_are_in_byte_order(rt: HostRuntime) -> Result<(), Fail> {
+fn names_are_in_byte_order(rt: HostRuntime) {
     let alloc = rt.alloc();
-    let set = open(alloc, MemoryDisk::new(alloc))?;
+    let set = open(&rt, alloc, MemoryDisk::new(alloc));
     let texts = match set.names() {
         [a, b, c, d] => [a.as_str(), b.as_str(), c.as_str(), d.as_str()],
         _ => [""; 4],
     };
     assert!(rt; texts == ["a.org", "a.org_archive", "inbox.org", "inbox.org_archive"]);
-    Ok(())
 }
 
 // The disk once a set over a.org alone was opened.
-fn opened_beside(alloc: Global, disk: MemoryDisk) -> Result<MemoryDisk, Fail> {
-    match FileSet::open(alloc, disk, org_names(alloc, &["a.org"])?) {
-        Ok(set) => Ok(set.close()),
-        Err(_) => Err(Fail::from("not opened")),
+fn opened_beside(rt: &impl Abort, alloc: Global, disk: MemoryDisk) -> MemoryDisk {
+    match must(rt, opened_over(alloc, disk, &["a.org"])) {
+        Ok(set) => set.close(),
+        Err(_) => panic!(rt; "not opened"),
     }
 }
 
 // The length of inbox.org once a set over a.org alone was opened.
-fn inbox_beside(alloc: Global, disk: MemoryDisk) -> Result<u64, Fail> {
-    length_of(alloc, &mut opened_beside(alloc, disk)?, "inbox.org")
+fn inbox_beside(rt: &impl Abort, alloc: Global, disk: MemoryDisk) -> u64 {
+    let mut disk = opened_beside(rt, alloc, disk);
+    must(rt, length_of(alloc, &mut disk, "inbox.org"))
 }
 
 #[test]
-fn a_record_counts_for_other_files_too(rt: HostRuntime) -> Result<(), Fail> {
+fn a_record_counts_for_other_files_too(rt: HostRuntime) {
     let alloc = rt.alloc();
-    assert!(rt; inbox_beside(alloc, stopped(alloc, 1)?)? == 16);
-    assert!(rt; inbox_beside(alloc, stopped(alloc, 0)?)? == 4);
-    Ok(())
+    assert!(rt; inbox_beside(&rt, alloc, stopped(&rt, alloc, 1)) == 16);
+    assert!(rt; inbox_beside(&rt, alloc, stopped(&rt, alloc, 0)) == 4);
 }
 
 #[test]
-fn a_closed_record_is_left(rt: HostRuntime) -> Result<(), Fail> {
+fn a_closed_record_is_left(rt: HostRuntime) {
     let alloc = rt.alloc();
     for gate in [0, 2, 0x55, 0xff] {
-        let journal = with_byte(alloc, &NEW, 0, gate)?;
-        let held = held_in(alloc, stopped(alloc, gate)?)?;
+        let journal = with_one(&rt, alloc, &NEW, 0, gate);
+        let held = held_in(&rt, alloc, stopped(&rt, alloc, gate));
         assert!(rt; holds(&held, &journal, b"* TO"), "gate {gate}");
     }
-    Ok(())
 }
 
-// Opens with a stop at the k-th call, and opens what is left.
-fn opened_twice(alloc: Global, gate: u8, k: u64, outcome: Outcome) -> Result<Vec<u8>, Fail> {
-    let mut disk = stopped(alloc, gate)?;
+// Opens with a stop at the k-th call, and opens what is left: whether inbox.org has this text then.
+fn has_opened_twice(
+    rt: &impl Abort,
+    alloc: Global,
+    gate: u8,
+    (k, outcome): (u64, Outcome),
+    text: &[u8],
+) -> bool {
+    let mut disk = stopped(rt, alloc, gate);
     disk.stop_at(k, outcome);
-    let disk = opened_disk(alloc, disk)?;
-    let held = held_in(alloc, disk.image(alloc)?)?;
-    Ok(held.inbox)
+    let disk = opened_disk(rt, alloc, disk);
+    let held = held_in(rt, alloc, image_of(rt, alloc, &disk));
+    held.inbox.as_slice() == text
 }
 
-fn stop_opening(rt: &impl Abort, alloc: Global, gate: u8, text: &[u8]) -> Result<(), Fail> {
+fn stop_opening(rt: &impl Abort, alloc: Global, gate: u8, text: &[u8]) {
     for k in 1..24u64 {
         for outcome in OUTCOMES {
-            let left = opened_twice(alloc, gate, k, outcome)?;
-            assert!(rt; left.as_slice() == text, "stopped at call {k}");
+            let has = has_opened_twice(rt, alloc, gate, (k, outcome), text);
+            assert!(rt; has, "stopped at call {k}");
         }
     }
-    Ok(())
 }
 
 #[test]
-fn a_stopped_opening_goes_on(rt: HostRuntime) -> Result<(), Fail> {
-    stop_opening(&rt, rt.alloc(), 1, &TEXT)?;
-    stop_opening(&rt, rt.alloc(), 0x55, b"* TO")
+fn a_stopped_opening_goes_on(rt: HostRuntime) {
+    stop_opening(&rt, rt.alloc(), 1, &TEXT);
+    stop_opening(&rt, rt.alloc(), 0x55, b"* TO");
 }
 
 // The disk that is handed back where a journal of these bytes is bad, over a.org and an absent inbox.org.
-fn refused(alloc: Global, journal: &[u8]) -> Result<MemoryDisk, Fail> {
-    match opened_then_closed(alloc, with_journal(alloc, journal)?)? {
-        (disk, Some(OpenFault::BadJournal)) => Ok(disk),
-        _ => Err(Fail::from("not refused as a bad journal")),
-    }
+fn refused(rt: &impl Abort, alloc: Global, journal: &[u8]) -> MemoryDisk {
+    let (disk, fault) = opened_then_closed(rt, alloc, with_journal(rt, alloc, journal));
+    assert!(rt;
+        matches!(fault, Some(OpenFault::BadJournal)),
+        "not refused as a bad journal"
+    );
+    disk
 }
 
 // Whether a disk has this journal, its a.org and no inbox.org.
@@ -110,24 +115,27 @@ fn is_as_before(alloc: Global, disk: &mut MemoryDisk, journal: &[u8]) -> Result<
 }
 
 // A journal of these bytes is refused, and the disk is handed back as it was.
-fn refuse(rt: &impl Abort, alloc: Global, journal: &[u8]) -> Result<(), Fail> {
-    let mut disk = refused(alloc, journal)?;
-    assert!(rt; is_as_before(alloc, &mut disk, journal)?);
-    Ok(())
+fn refuse(rt: &impl Abort, alloc: Global, journal: &[u8]) {
+    let mut disk = refused(rt, alloc, journal);
+    assert!(rt; must(rt, is_as_before(alloc, &mut disk, journal)));
+}
+
+// A journal whose patch is from the second byte on, past the end of an absent file.
+fn late(alloc: Global) -> Result<Vec<u8>, Fail> {
+    let from = with_byte(alloc, &OLD, 38, 1)?;
+    with_byte(alloc, &from, 46, 17)
 }
 
 #[test]
-fn a_bad_journal_is_refused(rt: HostRuntime) -> Result<(), Fail> {
+fn a_bad_journal_is_refused(rt: HostRuntime) {
     let alloc = rt.alloc();
     // the last byte missing
-    refuse(&rt, alloc, &OLD[..70])?;
-    // a patch from the second byte on, past the end of an absent file
-    let late = with_byte(alloc, &with_byte(alloc, &OLD, 38, 1)?, 46, 17)?;
-    refuse(&rt, alloc, &late)?;
+    refuse(&rt, alloc, &OLD[..70]);
+    refuse(&rt, alloc, &must(&rt, late(alloc)));
     // a header whose record isn't there
-    refuse(&rt, alloc, &with_byte(alloc, &OLD[..16], 15, 0xff)?)?;
+    refuse(&rt, alloc, &with_one(&rt, alloc, &OLD[..16], 15, 0xff));
     // another magic
-    refuse(&rt, alloc, &with_byte(alloc, &NEW, 1, 0x4b)?)
+    refuse(&rt, alloc, &with_one(&rt, alloc, &NEW, 1, 0x4b));
 }
 
 // How many names a set over so many files has, if they aren't too many; those are refused before any call.
@@ -142,58 +150,59 @@ fn names_taken(alloc: Global, count: u32) -> Result<Option<usize>, Fail> {
 }
 
 #[test]
-fn too_many_names_are_refused(rt: HostRuntime) -> Result<(), Fail> {
-    assert!(rt; names_taken(rt.alloc(), 256)? == Some(512));
-    assert!(rt; names_taken(rt.alloc(), 257)? == None);
-    Ok(())
+fn too_many_names_are_refused(rt: HostRuntime) {
+    assert!(rt; must(&rt, names_taken(rt.alloc(), 256)) == Some(512));
+    assert!(rt; must(&rt, names_taken(rt.alloc(), 257)) == None);
 }
 
-// A disk that a stop left, with an a.org of this length.
-fn with_large(alloc: Global, length: usize) -> Result<MemoryDisk, Fail> {
+// Makes a.org this long.
+fn make_large(alloc: Global, disk: &mut MemoryDisk, length: usize) -> Result<(), Fail> {
     let text = vec![in alloc; b'*'; length]?;
-    let mut disk = stopped(alloc, 1)?;
-    disk.set(&FileName::new(alloc, "a.org")?, &text)?;
-    Ok(disk)
+    set_file(alloc, disk, "a.org", &text)
 }
 
 // What opening answers over an a.org of this length and what a stop left, and how long inbox.org is then.
-fn open_large(alloc: Global, length: usize) -> Result<(Option<OpenFault>, u64), Fail> {
-    let (mut disk, fault) = opened_then_closed(alloc, with_large(alloc, length)?)?;
-    let inbox = length_of(alloc, &mut disk, "inbox.org")?;
-    Ok((fault, inbox))
+fn open_large(rt: &impl Abort, alloc: Global, length: usize) -> (Option<OpenFault>, u64) {
+    let mut disk = stopped(rt, alloc, 1);
+    must(rt, make_large(alloc, &mut disk, length));
+    let (mut disk, fault) = opened_then_closed(rt, alloc, disk);
+    let inbox = must(rt, length_of(alloc, &mut disk, "inbox.org"));
+    (fault, inbox)
+}
+
+fn is_too_large(fault: &Option<OpenFault>, file: &str) -> bool {
+    match fault {
+        Some(OpenFault::TooLarge(name)) => name.as_str() == file,
+        _ => false,
+    }
 }
 
 // What the stop had cut short is brought to an end, also where the opening is refused.
 #[test]
-fn files_up_to_the_limit_are_taken(rt: HostRuntime) -> Result<(), Fail> {
+fn files_up_to_the_limit_are_taken(rt: HostRuntime) {
     let alloc = rt.alloc();
-    assert!(rt; matches!(open_large(alloc, LIMIT)?, (None, 16)));
-    let (fault, inbox) = open_large(alloc, LIMIT + 1)?;
-    match fault {
-        Some(OpenFault::TooLarge(name)) => assert!(rt; name.as_str() == "a.org" && inbox == 16),
-        _ => return Err(Fail::from("another fault")),
-    }
-    Ok(())
+    assert!(rt; matches!(open_large(&rt, alloc, LIMIT), (None, 16)));
+    let (fault, inbox) = open_large(&rt, alloc, LIMIT + 1);
+    assert!(rt; is_too_large(&fault, "a.org") && inbox == 16);
 }
 
-fn read_failing(rt: &impl Abort, alloc: Global, set: &mut FileSet<MemoryDisk>) -> Result<(), Fail> {
-    let name = FileName::new(alloc, "a.org")?;
+fn read_failing(rt: &impl Abort, set: &mut FileSet<MemoryDisk>, name: &FileName) {
     let mut failed = false;
     for _ in 0..8 {
-        if let Err(SetFault::Device) = set.read(&name) {
+        if let Err(SetFault::Device) = set.read(name) {
             failed = true;
         }
     }
     assert!(rt; failed && set.is_broken());
-    assert!(rt; matches!(set.read(&name), Err(SetFault::Broken)));
-    Ok(())
+    assert!(rt; matches!(set.read(name), Err(SetFault::Broken)));
 }
 
 #[test]
-fn a_failed_read_breaks_the_set(rt: HostRuntime) -> Result<(), Fail> {
+fn a_failed_read_breaks_the_set(rt: HostRuntime) {
     let alloc = rt.alloc();
-    let mut disk = opened_disk(alloc, stopped(alloc, 1)?)?;
+    let name = FileName::new(alloc, "a.org").expect(&rt, "a name");
+    let mut disk = opened_disk(&rt, alloc, stopped(&rt, alloc, 1));
     disk.fail_at(12);
-    let mut set = open(alloc, disk)?;
-    read_failing(&rt, alloc, &mut set)
+    let mut set = open(&rt, alloc, disk);
+    read_failing(&rt, &mut set, &name);
 }

@@ -1,7 +1,6 @@
 // The parts of headings.
 use org_outline::{HeadParts, Outline, States, heading_level, is_closed};
 use std::process::Abort;
-use std::test::Fail;
 
 /// Whether these are the parts of a text's one heading: gap, keyword, priority, title and tags.
 fn has_parts(outline: &Outline<'_>, expected: &[&str; 5]) -> bool {
@@ -17,14 +16,13 @@ fn has_parts(outline: &Outline<'_>, expected: &[&str; 5]) -> bool {
 }
 
 /// Asserts the parts of each text's one heading.
-fn assert_parts(rt: &(impl Abort + AllocGlobal), rows: &[(&str, [&str; 5])]) -> Result<(), Fail> {
-    let states = States::new(rt.alloc(), &["TODO"], &["DONE"])?;
+fn assert_parts(rt: &(impl Abort + AllocGlobal), rows: &[(&str, [&str; 5])]) {
+    let states = States::new(rt.alloc(), &["TODO"], &["DONE"]).expect(rt, "memory");
     for (text, expected) in rows {
         assert!(rt; is_closed(text.as_bytes()), "{text}");
-        let outline = Outline::read(rt.alloc(), text.as_bytes(), &states)?;
+        let outline = Outline::read(rt.alloc(), text.as_bytes(), &states).expect(rt, "memory");
         assert!(rt; has_parts(&outline, expected), "{text}");
     }
-    Ok(())
 }
 
 const KEYWORDS: &[(&str, [&str; 5])] = &[
@@ -36,8 +34,8 @@ const KEYWORDS: &[(&str, [&str; 5])] = &[
 ];
 
 #[test]
-fn heading_keywords(rt: HostRuntime) -> Result<(), Fail> {
-    assert_parts(&rt, KEYWORDS)
+fn heading_keywords(rt: HostRuntime) {
+    assert_parts(&rt, KEYWORDS);
 }
 
 const PRIORITIES: &[(&str, [&str; 5])] = &[
@@ -52,8 +50,8 @@ const PRIORITIES: &[(&str, [&str; 5])] = &[
 ];
 
 #[test]
-fn heading_priorities(rt: HostRuntime) -> Result<(), Fail> {
-    assert_parts(&rt, PRIORITIES)
+fn heading_priorities(rt: HostRuntime) {
+    assert_parts(&rt, PRIORITIES);
 }
 
 const TAGS: &[(&str, [&str; 5])] = &[
@@ -66,8 +64,8 @@ const TAGS: &[(&str, [&str; 5])] = &[
 ];
 
 #[test]
-fn heading_tags(rt: HostRuntime) -> Result<(), Fail> {
-    assert_parts(&rt, TAGS)
+fn heading_tags(rt: HostRuntime) {
+    assert_parts(&rt, TAGS);
 }
 
 const BLANKS: &[(&str, [&str; 5])] = &[
@@ -83,15 +81,14 @@ const BLANKS: &[(&str, [&str; 5])] = &[
 ];
 
 #[test]
-fn blanks_of_headings(rt: HostRuntime) -> Result<(), Fail> {
-    assert_parts(&rt, BLANKS)
+fn blanks_of_headings(rt: HostRuntime) {
+    assert_parts(&rt, BLANKS);
 }
 
 #[test]
-fn parts_of_a_rest(rt: HostRuntime) -> Result<(), Fail> {
-    let states = States::new(rt.alloc(), &["TODO"], &["DONE"])?;
+fn parts_of_a_rest(rt: HostRuntime) {
+    let states = States::new(rt.alloc(), &["TODO"], &["DONE"]).expect(&rt, "memory");
     let parts = HeadParts::of(&states, b" TODO a :x:");
     assert!(rt; parts.title == b"a".as_slice());
     assert!(rt; heading_level(b"** a") == Some(2));
-    Ok(())
 }

@@ -2,7 +2,6 @@
 use org_outline::{Node, Outline, PathFault, States, Titles};
 use std::alloc::{AllocError, Global};
 use std::process::Abort;
-use std::test::Fail;
 
 /// Paths, and the number of the node at each.
 const PATHS: [(&[&str], Result<usize, PathFault>); 5] = [
@@ -21,16 +20,19 @@ const HEADED: [(&str, Result<Option<usize>, PathFault>); 3] = [
 ];
 
 #[test]
-fn paths(rt: HostRuntime) -> Result<(), Fail> {
-    let states = States::new(rt.alloc(), &["TODO"], &["DONE"])?;
+fn paths(rt: HostRuntime) {
+    let states = States::new(rt.alloc(), &["TODO"], &["DONE"]).expect(&rt, "memory");
     let text = b"* TODO A :x:\n** B\n* A\n* C\n*** D\n** D\n** B\n";
-    assert_paths(&rt, &Outline::read(rt.alloc(), text, &states)?)
+    assert_paths(
+        &rt,
+        &Outline::read(rt.alloc(), text, &states).expect(&rt, "memory"),
+    );
 }
 
-fn assert_paths(rt: &(impl Abort + AllocGlobal), outline: &Outline<'_>) -> Result<(), Fail> {
+fn assert_paths(rt: &(impl Abort + AllocGlobal), outline: &Outline<'_>) {
     assert!(rt; outline.count() == 7);
     for (path, node) in PATHS {
-        assert!(rt; number_at(rt.alloc(), outline, path)? == node);
+        assert!(rt; number_at(rt.alloc(), outline, path).expect(rt, "memory") == node);
     }
     for (title, node) in HEADED {
         assert!(rt;
@@ -38,7 +40,6 @@ fn assert_paths(rt: &(impl Abort + AllocGlobal), outline: &Outline<'_>) -> Resul
             "{title}"
         );
     }
-    Ok(())
 }
 
 fn number_at(
@@ -70,10 +71,9 @@ fn titles(alloc: Global, words: &[&str]) -> Result<Titles, AllocError> {
 }
 
 #[test]
-fn equal_titles(rt: HostRuntime) -> Result<(), Fail> {
-    let path = titles(rt.alloc(), &["C", "B"])?;
-    let copy = path.clone()?;
-    let other = titles(rt.alloc(), &["A"])?;
+fn equal_titles(rt: HostRuntime) {
+    let path = titles(rt.alloc(), &["C", "B"]).expect(&rt, "memory");
+    let copy = path.clone().expect(&rt, "memory");
+    let other = titles(rt.alloc(), &["A"]).expect(&rt, "memory");
     assert!(rt; path == copy && path != other);
-    Ok(())
 }

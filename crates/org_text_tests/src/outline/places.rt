@@ -5,15 +5,13 @@ ghost use Rattle.org_outline.specs.Tree.{node_count, tree};
 use org_outline::{Heads, Node, Outline, Place, States, shift};
 use org_splice::Span;
 use std::process::Abort;
-use std::test::Fail;
 
 #[test]
-fn skipped_levels(rt: HostRuntime) -> Result<(), Fail> {
+fn skipped_levels(rt: HostRuntime) {
     let text = b"before\n* a\nx\n*** b\n** c\n*bold*\n* d\n";
-    let states = States::new(rt.alloc(), &["TODO"], &["DONE"])?;
-    let outline = Outline::read(rt.alloc(), text, &states)?;
+    let states = States::new(rt.alloc(), &["TODO"], &["DONE"]).expect(&rt, "memory");
+    let outline = Outline::read(rt.alloc(), text, &states).expect(&rt, "memory");
     assert_skips_levels(&rt, &outline);
-    Ok(())
 }
 
 fn assert_skips_levels(rt: &impl Abort, outline: &Outline<'_>) {
@@ -28,11 +26,12 @@ fn assert_skips_levels(rt: &impl Abort, outline: &Outline<'_>) {
 }
 
 #[test]
-fn numbers_of_headings(rt: HostRuntime) -> Result<(), Fail> {
-    let states = States::new(rt.alloc(), &["TODO"], &["DONE"])?;
-    let outline = Outline::read(rt.alloc(), b"* a\n** b\n*** c\n** d\n* e\n", &states)?;
+fn numbers_of_headings(rt: HostRuntime) {
+    let states = States::new(rt.alloc(), &["TODO"], &["DONE"]).expect(&rt, "memory");
+    let outline = Outline::read(rt.alloc(), b"* a\n** b\n*** c\n** d\n* e\n", &states).expect(
+        &rt, "memory",
+    );
     assert_numbers(&rt, &outline);
-    Ok(())
 }
 
 fn assert_numbers(rt: &impl Abort, outline: &Outline<'_>) {
@@ -64,20 +63,18 @@ fn assert_goes_without(
 }
 
 #[test]
-fn shifted(rt: HostRuntime) -> Result<(), Fail> {
-    let moved = shift(rt.alloc(), b"* a\nx\n*** b\n", 3)?;
+fn shifted(rt: HostRuntime) {
+    let moved = shift(rt.alloc(), b"* a\nx\n*** b\n", 3).expect(&rt, "memory");
     assert!(rt; moved.as_slice() == b"*** a\nx\n***** b\n".as_slice());
-    Ok(())
 }
 
 #[test]
-fn first_among_deeper_children(rt: HostRuntime) -> Result<(), Fail> {
-    let states = States::new(rt.alloc(), &["TODO"], &["DONE"])?;
-    let mixed = Outline::read(rt.alloc(), b"* A\n*** X\n** Y\n", &states)?;
+fn first_among_deeper_children(rt: HostRuntime) {
+    let states = States::new(rt.alloc(), &["TODO"], &["DONE"]).expect(&rt, "memory");
+    let mixed = Outline::read(rt.alloc(), b"* A\n*** X\n** Y\n", &states).expect(&rt, "memory");
     assert_places(&rt, &mixed, 3, 10, 15);
-    let deeper = Outline::read(rt.alloc(), b"* A\n*** X\n", &states)?;
+    let deeper = Outline::read(rt.alloc(), b"* A\n*** X\n", &states).expect(&rt, "memory");
     assert_places(&rt, &deeper, 2, 10, 10);
-    Ok(())
 }
 
 /// Asserts how many nodes there are, and the places below the first.
@@ -89,12 +86,11 @@ fn assert_places(rt: &impl Abort, outline: &Outline<'_>, count: usize, first: us
 }
 
 #[test]
-fn headings_in_blocks(rt: HostRuntime) -> Result<(), Fail> {
+fn headings_in_blocks(rt: HostRuntime) {
     let text = b"*\n*\tA\n#+BEGIN_SRC\n* A\n#+END_SRC\n";
-    let states = States::new(rt.alloc(), &["TODO"], &["DONE"])?;
-    let heads = Heads::read(rt.alloc(), text)?;
+    let states = States::new(rt.alloc(), &["TODO"], &["DONE"]).expect(&rt, "memory");
+    let heads = Heads::read(rt.alloc(), text).expect(&rt, "memory");
     assert_one_in_block(&rt, &Outline::over(text, &heads, &states));
-    Ok(())
 }
 
 fn assert_one_in_block(rt: &impl Abort, outline: &Outline<'_>) {

@@ -33,34 +33,33 @@ fn shows(text: &Editing, bytes: &[u8], patches: &[(usize, &[u8])]) -> Result<boo
 }
 
 #[test]
-fn edits_taken_back(rt: HostRuntime) -> Result<(), AllocError> {
-    let mut text = Editing::new(Vec::from_slice(rt.alloc(), b"* A\n* B")?);
+fn edits_taken_back(rt: HostRuntime) {
+    let mut text = Editing::new(Vec::from_slice(rt.alloc(), b"* A\n* B").expect(&rt, "memory"));
     make(
         &rt,
         &mut text,
         &[(2, 1, b"CC"), (0, 3, b""), (2, 0, b"* Long\n")],
-    )?;
-    text.close_line()?;
+    )
+    .expect(&rt, "memory");
+    text.close_line().expect(&rt, "memory");
     assert!(rt; text.bytes() == b"C\n* Long\n* B\n".as_slice());
     assert!(rt; text.is_edited());
     text.undo();
     assert!(rt; !text.is_edited());
-    assert!(rt; shows(&text, b"* A\n* B", &[(0, b"")])?);
-    Ok(())
+    assert!(rt; shows(&text, b"* A\n* B", &[(0, b"")]).expect(&rt, "memory"));
 }
 
 #[test]
-fn edits_kept_and_settled(rt: HostRuntime) -> Result<(), AllocError> {
-    let mut text = Editing::new(Vec::from_slice(rt.alloc(), b"* A\n* B\n")?);
-    make(&rt, &mut text, &[(2, 1, b"C")])?;
+fn edits_kept_and_settled(rt: HostRuntime) {
+    let mut text = Editing::new(Vec::from_slice(rt.alloc(), b"* A\n* B\n").expect(&rt, "memory"));
+    make(&rt, &mut text, &[(2, 1, b"C")]).expect(&rt, "memory");
     text.keep();
-    make(&rt, &mut text, &[(6, 1, b"D"), (0, 4, b"")])?;
+    make(&rt, &mut text, &[(6, 1, b"D"), (0, 4, b"")]).expect(&rt, "memory");
     text.undo();
-    assert!(rt; shows(&text, b"* C\n* B\n", &[(2, b"C")])?);
+    assert!(rt; shows(&text, b"* C\n* B\n", &[(2, b"C")]).expect(&rt, "memory"));
     text.settle();
     text.undo();
-    assert!(rt; shows(&text, b"* C\n* B\n", &[(0, b"")])?);
-    Ok(())
+    assert!(rt; shows(&text, b"* C\n* B\n", &[(0, b"")]).expect(&rt, "memory"));
 }
 
 #[test]

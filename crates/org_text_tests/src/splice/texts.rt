@@ -80,23 +80,21 @@ const SPLICES: [(&[u8], &[(usize, usize, &[u8])], &[u8], &[(usize, &[u8])]); 10]
 ];
 
 #[test]
-fn splices_of_worked_texts(rt: HostRuntime) -> Result<(), AllocError> {
+fn splices_of_worked_texts(rt: HostRuntime) {
     for (i, (old, splices, new, expected)) in SPLICES.iter().enumerate() {
-        let text = edited(&rt, old, splices)?;
-        assert!(rt; has(&text, new, expected)?, "row {i}");
+        let text = edited(&rt, old, splices).expect(&rt, "memory");
+        assert!(rt; has(&text, new, expected).expect(&rt, "memory"), "row {i}");
     }
-    Ok(())
 }
 
 /// Changes every other byte of a text, and asserts that each is a patch of its own, up to a thousand.
-fn assert_counts(rt: &impl Abort, text: &mut Editing) -> Result<(), AllocError> {
+fn assert_counts(rt: &impl Abort, text: &mut Editing) {
     for i in 0..1_001usize {
         assert!(rt; 2 * i + 1 <= text.bytes().len());
-        text.splice(2 * i, 1, b"b")?;
-        let patches = text.patches()?;
+        text.splice(2 * i, 1, b"b").expect(rt, "memory");
+        let patches = text.patches().expect(rt, "memory");
         assert!(rt; patches.len() == (i + 1).min(1_000), "after splice {i}");
     }
-    Ok(())
 }
 
 /// Asserts that the patches change every other byte, and that the last of a thousand changes two.
@@ -111,15 +109,14 @@ fn assert_every_other(rt: &impl Abort, patches: &[Patch]) {
 }
 
 #[test]
-fn more_than_a_thousand_ranges(rt: HostRuntime) -> Result<(), AllocError> {
-    let mut text = Editing::new(vec![in rt.alloc(); b'a'; 2_002]?);
-    assert_counts(&rt, &mut text)?;
-    assert_every_other(&rt, &text.patches()?);
-    Ok(())
+fn more_than_a_thousand_ranges(rt: HostRuntime) {
+    let mut text = Editing::new(vec![in rt.alloc(); b'a'; 2_002].expect(&rt, "memory"));
+    assert_counts(&rt, &mut text);
+    assert_every_other(&rt, &text.patches().expect(&rt, "memory"));
 }
 
 #[test]
-fn texts_with_a_newline_at_their_end(rt: HostRuntime) -> Result<(), AllocError> {
+fn texts_with_a_newline_at_their_end(rt: HostRuntime) {
     let rows: [(&[u8], &[u8], &[(usize, &[u8])]); 4] = [
         (b"", b"", &[(0, b"")]),
         (b"* A\n", b"* A\n", &[(0, b"")]),
@@ -127,31 +124,29 @@ fn texts_with_a_newline_at_their_end(rt: HostRuntime) -> Result<(), AllocError> 
         (b"\n\n", b"\n\n", &[(0, b"")]),
     ];
     for (i, (old, new, expected)) in rows.iter().enumerate() {
-        let mut text = edited(&rt, old, &[])?;
-        text.close_line()?;
-        assert!(rt; has(&text, new, expected)?, "row {i}");
+        let mut text = edited(&rt, old, &[]).expect(&rt, "memory");
+        text.close_line().expect(&rt, "memory");
+        assert!(rt; has(&text, new, expected).expect(&rt, "memory"), "row {i}");
     }
-    Ok(())
 }
 
 #[test]
-fn settled_texts(rt: HostRuntime) -> Result<(), AllocError> {
-    let mut text = edited(&rt, b"* A\n", &[(2, 1, b"B")])?;
-    assert!(rt; has(&text, b"* B\n", &[(2, b"B")])?);
+fn settled_texts(rt: HostRuntime) {
+    let mut text = edited(&rt, b"* A\n", &[(2, 1, b"B")]).expect(&rt, "memory");
+    assert!(rt; has(&text, b"* B\n", &[(2, b"B")]).expect(&rt, "memory"));
     text.settle();
-    assert!(rt; has(&text, b"* B\n", &[(0, b"")])?);
-    Ok(())
+    assert!(rt; has(&text, b"* B\n", &[(0, b"")]).expect(&rt, "memory"));
 }
 
 #[test]
-fn edit_of_a_heading(rt: HostRuntime) -> Result<(), AllocError> {
-    let mut text = Editing::new(Vec::from_slice(rt.alloc(), b"* A\n")?);
-    let bytes = Bytes::new(Vec::from_slice(rt.alloc(), b"BC")?);
+fn edit_of_a_heading(rt: HostRuntime) {
+    let mut text = Editing::new(Vec::from_slice(rt.alloc(), b"* A\n").expect(&rt, "memory"));
+    let bytes = Bytes::new(Vec::from_slice(rt.alloc(), b"BC").expect(&rt, "memory"));
     text.apply(&Edit {
         at: 2,
         removed: 1,
         bytes,
-    })?;
+    })
+    .expect(&rt, "memory");
     assert!(rt; text.bytes() == b"* BC\n".as_slice());
-    Ok(())
 }

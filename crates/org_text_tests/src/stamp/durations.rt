@@ -1,9 +1,8 @@
 // How durations are printed.
 use org_stamp::duration;
-use std::test::Fail;
 
 // Minutes, the least count of characters for the hours, and the duration.
-const DURATIONS: [(u64, usize, &str); 6] = [
+const DURATIONS: &[(u64, usize, &str)] = &[
     (90, 2, " 1:30"),
     (0, 1, "0:00"),
     (0, 2, " 0:00"),
@@ -13,10 +12,9 @@ const DURATIONS: [(u64, usize, &str); 6] = [
 ];
 
 #[test]
-fn durations(rt: HostRuntime) -> Result<(), Fail> {
+fn durations(rt: HostRuntime) {
     for (minutes, width, text) in DURATIONS {
-        let found = duration(rt.alloc(), minutes, width)?;
+        let found = duration(rt.alloc(), *minutes, *width).expect(&rt, "memory");
         assert!(rt; found.as_slice() == text.as_bytes(), "{text}");
     }
-    Ok(())
 }

@@ -1,10 +1,9 @@
 // Moments of the calendar.
-use super::moment;
+use super::{moment, prints};
 use org_stamp::{Moment, Stamp};
-use std::test::Fail;
 
 // Moments, and the minutes from 1970-01-01 00:00 to each.
-const MINUTES: [(u16, u8, u8, u8, u8, i64); 5] = [
+const MINUTES: &[(u16, u8, u8, u8, u8, i64)] = &[
     (1970, 1, 1, 0, 0, 0),
     (1969, 12, 31, 23, 59, -1),
     (2000, 1, 1, 0, 1, 10957 * 1440 + 1),
@@ -13,7 +12,7 @@ const MINUTES: [(u16, u8, u8, u8, u8, i64); 5] = [
 ];
 
 // Days, and how many days after Monday each is.
-const WEEKDAYS: [(u16, u8, u8, u8); 4] = [
+const WEEKDAYS: &[(u16, u8, u8, u8)] = &[
     (2026, 7, 1, 2),
     (2005, 10, 3, 0),
     (2024, 2, 29, 3),
@@ -21,31 +20,25 @@ const WEEKDAYS: [(u16, u8, u8, u8); 4] = [
 ];
 
 #[test]
-fn moments_of_the_calendar(rt: HostRuntime) -> Result<(), Fail> {
+fn moments_of_the_calendar(rt: HostRuntime) {
     for (year, month, day, hour, minute, minutes) in MINUTES {
-        assert!(rt;
-            moment(year, month, day, hour, minute)?.minutes() == minutes,
-            "{minutes}"
-        );
+        let moment = moment(&rt, *year, *month, *day, *hour, *minute);
+        assert!(rt; moment.minutes() == *minutes, "{minutes}");
     }
-    let wednesday = moment(2026, 7, 1, 10, 0)?;
+    let wednesday = moment(&rt, 2026, 7, 1, 10, 0);
     assert!(rt; (wednesday.year(), wednesday.month(), wednesday.day()) == (2026, 7, 1));
-    Ok(())
 }
 
 #[test]
-fn weekdays(rt: HostRuntime) -> Result<(), Fail> {
+fn weekdays(rt: HostRuntime) {
     for (year, month, day, weekday) in WEEKDAYS {
-        assert!(rt;
-            moment(year, month, day, 9, 5)?.weekday() == weekday,
-            "{weekday}"
-        );
+        let moment = moment(&rt, *year, *month, *day, 9, 5);
+        assert!(rt; moment.weekday() == *weekday, "{weekday}");
     }
-    Ok(())
 }
 
 // What no calendar has.
-const NO_MOMENTS: [(u16, u8, u8, u8, u8); 10] = [
+const NO_MOMENTS: &[(u16, u8, u8, u8, u8)] = &[
     (0, 1, 1, 0, 0),
     (10000, 1, 1, 0, 0),
     (2026, 0, 1, 0, 0),
@@ -61,18 +54,16 @@ const NO_MOMENTS: [(u16, u8, u8, u8, u8); 10] = [
 #[test]
 fn no_moments(rt: HostRuntime) {
     for (year, month, day, hour, minute) in NO_MOMENTS {
-        assert!(rt; Moment::new(year, month, day, hour, minute).is_none());
+        assert!(rt; Moment::new(*year, *month, *day, *hour, *minute).is_none());
     }
     assert!(rt; Moment::new(2000, 2, 29, 23, 59).is_some());
 }
 
 #[test]
-fn stamps_of_moments(rt: HostRuntime) -> Result<(), Fail> {
-    let alloc = rt.alloc();
-    let now = moment(2026, 7, 1, 10, 0)?;
-    let date = Stamp::at(now, true, false).print(alloc)?;
-    assert!(rt; date.as_slice() == b"<2026-07-01 Wed>".as_slice());
-    let time = Stamp::at(now, false, true).print(alloc)?;
-    assert!(rt; time.as_slice() == b"[2026-07-01 Wed 10:00]".as_slice());
-    Ok(())
+fn stamps_of_moments(rt: HostRuntime) {
+    let now = moment(&rt, 2026, 7, 1, 10, 0);
+    let date = Stamp::at(now, true, false);
+    assert!(rt; prints(rt.alloc(), &date, b"<2026-07-01 Wed>") == Ok(true));
+    let time = Stamp::at(now, false, true);
+    assert!(rt; prints(rt.alloc(), &time, b"[2026-07-01 Wed 10:00]") == Ok(true));
 }

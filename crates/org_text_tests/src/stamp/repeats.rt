@@ -1,8 +1,8 @@
 // Timestamps that are repeated.
-use super::stamp;
-use std::alloc::Global;
+use super::{prints, stamp};
+use org_stamp::{RepeatFault, Stamp};
+use std::alloc::{AllocError, Global};
 use std::process::Abort;
-use std::test::Fail;
 
 // Each row of these tables: a timestamp, the moment at which it is repeated, and what it becomes by the proleptic
 // Gregorian calendar, where a day that a month lacks is its last.
@@ -156,47 +156,38 @@ const AT_THE_ENDS: &str = "\
 <2026-07-01 .+1y> at [2023-02-28]: <2024-02-28 Wed .+1y>
 ";
 
-// What the timestamp becomes, as it is printed, or the name of the fault.
-fn repeated(alloc: Global, from: &str, now: &str) -> Result<Vec<u8>, Fail> {
-    let now = stamp(now.as_bytes())?.moment();
-    match stamp(from.as_bytes())?.repeat(now) {
-        Ok(stamp) => Ok(stamp.print(alloc)?),
-        Err(fault) => Ok(format!(in alloc; "{fault:?}")?.into_bytes()),
-    }
-}
-
-fn assert_repeats(rt: &impl Abort, alloc: Global, rows: &str) -> Result<(), Fail> {
-    for row in rows.lines() {
-        let (from, rest) = row.split_once(" at ").ok_or("no moment")?;
-        let (now, to) = rest.split_once(": ").ok_or("no outcome")?;
-        let found = repeated(alloc, from, now)?;
-        assert!(rt; found.as_slice() == to.as_bytes(), "{row}");
-    }
-    Ok(())
-}
-
-#[test]
-fn repeats_of_the_manual(rt: HostRuntime) -> Result<(), Fail> {
-    assert_repeats(&rt, rt.alloc(), OF_THE_MANUAL)
-}
-
-#[test]
-fn ends_of_months_and_years(rt: HostRuntime) -> Result<(), Fail> {
-    assert_repeats(&rt, rt.alloc(), OF_MONTHS_AND_YEARS)
-}
-
-#[test]
-fn repeats_at_the_ends(rt: HostRuntime) -> Result<(), Fail> {
-    assert_repeats(&rt, rt.alloc(), AT_THE_ENDS)
-}
-
 // Hours without a time of day, or with two.
 const BAD_REPEATS: &str = "\
 <2026-01-05 Mon +1h> at [2026-07-01 10:00]: BadRepeat
 <2026-01-05 Mon 10:00-11:00 ++1h> at [2026-07-01 10:00]: BadRepeat
 ";
 
+// Whether a timestamp became this one, or was refused by the fault of this name.
+fn is(
+    alloc: Global,
+    answer: &Result<Stamp<'_>, RepeatFault>,
+    wanted: &str,
+) -> Result<bool, AllocError> {
+    match answer {
+        Ok(stamp) => prints(alloc, stamp, wanted.as_bytes()),
+        Err(RepeatFault::BadRepeat) => Ok(wanted == "BadRepeat"),
+        Err(RepeatFault::DateRange) => Ok(wanted == "DateRange"),
+    }
+}
+
+fn assert_repeated(rt: &impl Abort, alloc: Global, row: &str) {
+    let (from, rest) = row.split_once(" at ").expect(rt, "a moment");
+    let (now, wanted) = rest.split_once(": ").expect(rt, "an outcome");
+    let now = stamp(rt, now.as_bytes()).moment();
+    let answer = stamp(rt, from.as_bytes()).repeat(now);
+    assert!(rt; is(alloc, &answer, wanted) == Ok(true), "{row}");
+}
+
 #[test]
-fn bad_repeats(rt: HostRuntime) -> Result<(), Fail> {
-    assert_repeats(&rt, rt.alloc(), BAD_REPEATS)
+fn repeats(rt: HostRuntime) {
+    for rows in &[OF_THE_MANUAL, OF_MONTHS_AND_YEARS, AT_THE_ENDS, BAD_REPEATS] {
+        for row in rows.lines() {
+            assert_repeated(&rt, rt.alloc(), row);
+        }
+    }
 }

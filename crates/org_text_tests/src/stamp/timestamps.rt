@@ -1,12 +1,11 @@
 // How timestamps are read and printed.
-use super::{moment, stamp};
+use super::{moment, prints, stamp};
 use org_stamp::Stamp;
 use std::alloc::Global;
 use std::process::Abort;
-use std::test::Fail;
 
 // Timestamps, and how they are printed.
-const PRINTED: [(&str, &str); 8] = [
+const PRINTED: &[(&str, &str)] = &[
     ("<2026-07-01>", "<2026-07-01 Wed>"),
     ("[2026-07-01 mer. 9:05]", "[2026-07-01 Wed 09:05]"),
     (
@@ -24,43 +23,45 @@ const PRINTED: [(&str, &str); 8] = [
 ];
 
 #[test]
-fn timestamps(rt: HostRuntime) -> Result<(), Fail> {
+fn timestamps(rt: HostRuntime) {
     for (text, printed) in PRINTED {
-        assert_prints(&rt, rt.alloc(), text, printed)?;
+        assert_prints(&rt, rt.alloc(), text, printed);
     }
-    Ok(())
 }
 
-fn assert_prints(rt: &impl Abort, alloc: Global, text: &str, printed: &str) -> Result<(), Fail> {
-    let found = stamp(text.as_bytes())?.print(alloc)?;
-    assert!(rt; found.as_slice() == printed.as_bytes(), "{text}");
-    Ok(())
-}
-
-#[test]
-fn front_of_a_range(rt: HostRuntime) -> Result<(), Fail> {
-    let (front, length) = Stamp::read(b"[2026-07-01 Wed 10:00]--[2026-07-01 Wed 11:30]").ok_or(
-        "no timestamp",
-    )?;
-    assert_eq!(rt; length, 22);
-    assert!(rt; !front.is_active());
-    assert!(rt; front.has_time());
-    assert!(rt; !front.has_cookies());
-    assert_eq!(rt;
-        front.moment().minutes(),
-        moment(2026, 7, 1, 10, 0)?.minutes()
+fn assert_prints(rt: &impl Abort, alloc: Global, text: &str, printed: &str) {
+    let stamp = stamp(rt, text.as_bytes());
+    assert!(rt;
+        prints(alloc, &stamp, printed.as_bytes()) == Ok(true),
+        "{text}"
     );
-    Ok(())
 }
 
 #[test]
-fn what_timestamps_have(rt: HostRuntime) -> Result<(), Fail> {
-    assert!(rt; stamp(b"<2026-07-01 -3d>")?.has_cookies());
-    assert!(rt; !stamp(b"<2026-07-01 -3d>")?.repeats());
-    assert!(rt; !stamp(b"<2026-07-01 ++0y>")?.repeats());
-    assert!(rt; stamp(b"<2026-07-01 -3d ++1y>")?.repeats());
-    assert!(rt; !stamp(b"<2026-07-01 10:00-11:00>")?.has_time());
-    Ok(())
+fn front_of_a_range(rt: HostRuntime) {
+    let range: &[u8] = b"[2026-07-01 Wed 10:00]--[2026-07-01 Wed 11:30]";
+    let (front, length) = Stamp::read(range).expect(&rt, "a timestamp");
+    let start = moment(&rt, 2026, 7, 1, 10, 0);
+    assert!(rt; (length, front.moment().minutes()) == (22, start.minutes()));
+    let has = (front.is_active(), front.has_time(), front.has_cookies());
+    assert!(rt; has == (false, true, false));
+}
+
+// Timestamps, and whether each has a time, has cookies, and repeats.
+const HAVING: &[(&str, bool, bool, bool)] = &[
+    ("<2026-07-01 -3d>", false, true, false),
+    ("<2026-07-01 ++0y>", false, true, false),
+    ("<2026-07-01 -3d ++1y>", false, true, true),
+    ("<2026-07-01 10:00-11:00>", false, false, false),
+];
+
+#[test]
+fn what_timestamps_have(rt: HostRuntime) {
+    for (text, time, cookies, repeats) in HAVING {
+        let stamp = stamp(&rt, text.as_bytes());
+        let has = (stamp.has_time(), stamp.has_cookies(), stamp.repeats());
+        assert!(rt; has == (*time, *cookies, *repeats), "{text}");
+    }
 }
 
 // Timestamps with their parts in every order, and how they are printed.
@@ -92,15 +93,14 @@ const EVERY_ORDER: &str = "\
 ";
 
 #[test]
-fn parts_in_every_order(rt: HostRuntime) -> Result<(), Fail> {
+fn parts_in_every_order(rt: HostRuntime) {
     for line in EVERY_ORDER.lines() {
-        let (text, printed) = line.split_once(": ").ok_or("no row")?;
-        assert_prints(&rt, rt.alloc(), text, printed)?;
+        let (text, printed) = line.split_once(": ").expect(&rt, "a row");
+        assert_prints(&rt, rt.alloc(), text, printed);
     }
-    Ok(())
 }
 
-const NO_TIMESTAMPS: [&str; 25] = [
+const NO_TIMESTAMPS: &[&str] = &[
     "",
     "2026-07-01",
     "<2026-07-01",
