@@ -71,6 +71,7 @@ module _ {D : Type 0} (files : D → List ℕ → FileState) (moment : D → ℕ
           fit = ran.disk.fit;
         };
         untouched = λ broken. ran.untouched (fault_of_reply n answer Broken broken);
+        nothing = λ is. ran.nothing;
       }
 
   -- A store that was broken keeps its disk, and how many commands are accepted.

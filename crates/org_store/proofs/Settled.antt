@@ -2,7 +2,7 @@
 use Rattle.std.proofs.Common.{◌≡◌, inl, inr, ℕ, ◌≤◌, true, List, Result, Ok, Err, refl, sym, ap, ◌∙◌, subst, arith}
 use Rattle.std.proofs.lemmas.Bool.{cases_Bool, false≢true}
 use Rattle.org_store.specs.declared.command.Reply.{Reply}
-use Rattle.org_store.specs.declared.command.Reply.TheVariants.{Done, Safe, Text}
+use Rattle.org_store.specs.declared.command.Reply.TheVariants.{Done, Safe, Text, Time}
 use Rattle.org_store.specs.declared.command.RunFault.{RunFault}
 use Rattle.org_store.specs.declared.command.RunFault.TheVariants.{Refused, OutOfMemory, Device, Broken}
 use Rattle.org_store.specs.Session.{Session}
@@ -22,6 +22,7 @@ settled_done s files counted = elim (cases_Bool (fills s)) [
 pub settled_on : (old new : Session) (outcome : Outcome) (answer : Result Reply RunFault) → Does old outcome answer new → old.acknowledged ≤ old.accepted → IsSettled old → IsSettled new
 settled_on old new outcome (Ok (Done n)) does counted was = subst IsSettled (sym does.1.3) (settled_done old does.1.0 counted)
 settled_on old new outcome (Ok (Text bytes)) does counted was = subst IsSettled (sym does.2) was
+settled_on old new outcome (Ok (Time minutes)) does counted was = subst IsSettled (sym does.2) was
 settled_on old new outcome (Ok (Safe n)) does counted was = subst IsSettled (sym does.3) (λ sound all. refl)
 settled_on old new outcome (Err (Refused why)) does counted was = subst IsSettled (sym does.2) was
 settled_on old new outcome (Err OutOfMemory) does counted was = subst IsSettled (sym does.1) was

@@ -86,6 +86,18 @@ invariant_of-self g c =
     let d = g.D.Disk in
     let inside = c.self.inside in
     let old = kept_over d.files inside.states inside.files inside.tally in
+    let new = kept_over d.files inside.states c.time.new.files inside.tally in
+    let acts : Acts d.files d.moment d.left_since d.honest old (outcome old.session (Time c.in-Time.file c.in-Time.path)) c.time.result new = c.time.ensures.acts inside.tally in (
+      c.self.invariant.0,
+      search rules,
+      λ honest. settled_on old.session new.session (outcome old.session (Time c.in-Time.file c.in-Time.path)) c.time.result (acts.does honest) c.self.invariant.0 (c.self.invariant.2 (c.time.ensures.accounts.was_honest honest)),
+    )
+
+pub invariant_of-self-in-Show-1 : goal.invariant_of-self-in-Show-1
+invariant_of-self-in-Show-1 g c =
+    let d = g.D.Disk in
+    let inside = c.self.inside in
+    let old = kept_over d.files inside.states inside.files inside.tally in
     let new = kept_over d.files inside.states c.show.new.files inside.tally in
     let acts : Acts d.files d.moment d.left_since d.honest old (outcome old.session (Show c.in-Show.file)) c.show.result new = c.show.ensures.acts inside.states inside.tally in (
       c.self.invariant.0,
