@@ -1,11 +1,13 @@
 -- A command that is accepted puts texts in the places of files'.
 use Rattle.std.proofs.Common.{◌≡◌, inl, inr, ℕ, ◌-◌, ◌^◌, ◌==◌, ◌≤◌, nat_lt, length, Bool, true, false, List, [], ◌∷◌, Option, Some, None, Result, Ok, Err, refl, if◌then◌else◌, arith}
 use Rattle.std.specs.List.{AllByRecursion}
+use Rattle.std.specs.Option.{unwrap_or}
 use Rattle.std.specs.Str.{bytes_eq}
 use Rattle.std.proofs.lemmas.Bool.{cases_Bool}
 use Rattle.std.proofs.lemmas.Bool.Decides.{nat_tests}
 use Rattle.org_outline.specs.declared.moves.Place.{Place}
 use Rattle.org_outline.specs.declared.paths.PathFault.{PathFault}
+use Rattle.org_outline.specs.Paths.{find_path}
 use Rattle.org_outline.specs.Tree.{Document, Node, print, tree}
 use Rattle.org_stamp.specs.Calendar.{CivilMinute}
 use Rattle.org_fileset.specs.Names.{limit}
@@ -15,19 +17,22 @@ use Rattle.org_capture.specs.Capture.{captured}
 use Rattle.org_move.specs.declared.fault.MoveFault.{MoveFault}
 use Rattle.org_move.specs.Archive.{archive_across, archive_within}
 use Rattle.org_move.specs.Location.{Destination, location}
-use Rattle.org_move.specs.Refile.{refile_across, refile_within}
+use Rattle.org_move.specs.Refile.{Moved, refile_across, refile_within}
 use Rattle.org_state.specs.declared.fault.StateFault.{StateFault}
+use Rattle.org_state.specs.declared.run.Running.{Running}
 use Rattle.org_state.specs.Clock.{clocked_at}
 use Rattle.org_state.specs.Todo.{todo as in_state}
 use Rattle.org_store.specs.declared.command.Command.{Command}
-use Rattle.org_store.specs.declared.command.Command.TheVariants.{Capture, Refile, Todo, Archive, Time, Show, Settle}
+use Rattle.org_store.specs.declared.command.Command.TheVariants.{Capture, Refile, Todo, ClockIn, ClockOut, Archive, Time, Show, Settle}
 use Rattle.org_store.specs.declared.command.Refusal.TheVariants.{TooLarge}
 use Rattle.org_store.specs.Capture.{new_entry}
+use Rattle.org_store.specs.Clocks.{running_over}
+use Rattle.org_store.specs.Clocking.{clocked_in, clocked_out, clock_moved}
 use Rattle.org_store.specs.Files.{has_large}
 use Rattle.org_store.specs.InOrder.{text_at, with_all}
 use Rattle.org_store.specs.Refile.{text_within, texts_across}
 use Rattle.org_store.specs.Session.{Session}
-use Rattle.org_store.specs.Outcome.{Accepts, Refuses, changed, with_document, with_entry, capture, refile, with_moved, with_minutes, with_state, time, todo, archive_to, archive_at, archive, show, outcome}
+use Rattle.org_store.specs.Outcome.{Accepts, Refuses, changed, with_document, with_entry, capture, refile, with_moved, with_minutes, with_state, time, todo, with_clock_moved, clock_in_beside, clock_in, clock_out, archive_to, archive_at, archive, show, outcome}
 
 -- texts of which none is past the limit
 abbrev pub AreWithin : List (List ℕ × List ℕ) → Type 0
@@ -106,6 +111,27 @@ archive_puts : (s : Session) (name : List ℕ) (path : List (List ℕ)) (moment 
 archive_puts s name path moment None files accepts = absurd (cc)
 archive_puts s name path moment (Some text) files accepts = archive_at_puts s name path moment text (location s.states name path text) files accepts
 
+clock_moved_puts : (s : Session) (other name : List ℕ) (said : Result Moved StateFault) (files : List (List ℕ)) → with_clock_moved s other name said ≡ Accepts files → Puts s files
+clock_moved_puts s other name (Err why) files accepts = absurd (cc)
+clock_moved_puts s other name (Ok new) files accepts = changed_puts s (texts_across other name new) files accepts
+
+clock_in_beside_puts : (s : Session) (name : List ℕ) (moment : CivilMinute) (d : Document) (found : Result ℕ PathFault) (clock : Option (List ℕ × Running)) (files : List (List ℕ))
+    → clock_in_beside s name moment d found clock ≡ Accepts files → Puts s files
+clock_in_beside_puts s name moment d found None files accepts = state_puts s name (clocked_in moment None d found) files accepts
+clock_in_beside_puts s name moment d found (Some clock) files accepts = elim (cases_Bool (bytes_eq clock.0 name)) [
+  | inl t ↦ state_puts s name (clocked_in moment (Some clock.1) d found) files (rw t at accepts)
+  | inr f ↦ clock_moved_puts s clock.0 name (clock_moved moment clock.1 (tree (unwrap_or (text_at s.names s.files clock.0) [])) d found) files (rw f at accepts)
+]
+
+clock_in_puts : (s : Session) (name : List ℕ) (path : List (List ℕ)) (moment : CivilMinute) (old : Option (List ℕ)) (files : List (List ℕ)) → clock_in s name path moment old ≡ Accepts files → Puts s files
+clock_in_puts s name path moment None files accepts = absurd (cc)
+clock_in_puts s name path moment (Some text) files accepts =
+    clock_in_beside_puts s name moment (tree text) (find_path s.states (tree text) path) (running_over s.names s.files) files accepts
+
+clock_out_puts : (s : Session) (moment : CivilMinute) (clock : Option (List ℕ × Running)) (files : List (List ℕ)) → clock_out s moment clock ≡ Accepts files → Puts s files
+clock_out_puts s moment None files accepts = absurd (cc)
+clock_out_puts s moment (Some clock) files accepts = state_puts s clock.0 (clocked_out moment clock.1 (tree (unwrap_or (text_at s.names s.files clock.0) []))) files accepts
+
 shows_none : (old : Option (List ℕ)) (files : List (List ℕ)) → show old ≡ Accepts files → ⊥
 shows_none None files accepts = absurd (cc)
 shows_none (Some text) files accepts = absurd (cc)
@@ -125,6 +151,8 @@ accepted_puts s (Refile file path to_file to_path place) files accepts =
     refile_puts s file path to_file to_path place (text_at s.names s.files file) (text_at s.names s.files to_file) files accepts
 accepted_puts s (Todo file path state moment) files accepts = todo_puts s file path state moment (text_at s.names s.files file) files accepts
 accepted_puts s (Archive file path moment) files accepts = archive_puts s file path moment (text_at s.names s.files file) files accepts
+accepted_puts s (ClockIn file path moment) files accepts = clock_in_puts s file path moment (text_at s.names s.files file) files accepts
+accepted_puts s (ClockOut moment) files accepts = clock_out_puts s moment (running_over s.names s.files) files accepts
 accepted_puts s (Time file path) files accepts = absurd (time_none s path (text_at s.names s.files file) files accepts)
 accepted_puts s (Show file) files accepts = absurd (shows_none (text_at s.names s.files file) files accepts)
 accepted_puts s Settle files accepts = absurd (cc)

@@ -9,7 +9,7 @@ use Rattle.org_journal.specs.Standing.{Image, contents}
 use Rattle.org_texts.specs.declared.plan.Plan.{Plan}
 use Rattle.org_texts.specs.Texts.{Holding}
 use Rattle.org_store.specs.declared.command.Refusal.{Refusal}
-use Rattle.org_store.specs.declared.command.Refusal.TheVariants.{NoSuchFile, BadTemplate, BadEntry, NotFound, NotUnique, InsideItself, AlreadyArchive, UnknownState, OddPlanning, BadRepeat, DateRange, ClockBackwards, BadLocation, TooLarge}
+use Rattle.org_store.specs.declared.command.Refusal.TheVariants.{NoSuchFile, BadTemplate, BadEntry, NotFound, NotUnique, InsideItself, AlreadyArchive, UnknownState, OddPlanning, BadRepeat, DateRange, NoClock, ClockBackwards, BadLocation, TooLarge}
 use Rattle.org_store.specs.declared.command.Reply.{Reply}
 use Rattle.org_store.specs.declared.command.Reply.TheVariants.{Done, Safe, Text, Time}
 use Rattle.org_store.specs.declared.command.RunFault.{RunFault}
@@ -133,6 +133,7 @@ module _ {D : Type 0} (files : D → List ℕ → FileState) (moment : D → ℕ
       go (Refused OddPlanning) puts = absurd puts
       go (Refused BadRepeat) puts = absurd puts
       go (Refused DateRange) puts = absurd puts
+      go (Refused NoClock) puts = absurd puts
       go (Refused ClockBackwards) puts = absurd puts
       go (Refused BadLocation) puts = absurd puts
       go OutOfMemory puts = acts_starved new same unbroken (changed old.session (new_texts plan held.now))

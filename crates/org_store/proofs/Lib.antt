@@ -13,6 +13,7 @@ pub mod Refiles
 pub mod Archives
 pub mod Todos
 pub mod Running
+pub mod Clocks
 pub mod Times
 pub mod Sessions
 pub mod Settled

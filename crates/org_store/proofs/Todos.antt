@@ -70,17 +70,14 @@ pub todo_is : (s : Session) (file : List ℕ) (path : List (List ℕ)) (state : 
 todo_is s file path state moment text seen shut = ap (λ (d : Document). with_state s file (in_state s.states path state moment d)) (sym (ap tree shut ∙ tree-closed text))
 
 -- what is refused
-pub todo_refused : (s : Session) (file : List ℕ) (path : List (List ℕ)) (state : List ℕ) (moment : CivilMinute) (text seen : List ℕ) (result : Result (Option Plan) StateFault) (why : StateFault) → s.broken ≡ false → seen ≡ closed text
-    → result ≡ Err why → PlansState file seen (in_state s.states path state moment (tree seen)) result → Does s (todo s file path state moment (Some text)) (Err (fault_of_state why)) s
-todo_refused s file path state moment text seen result why unbroken shut was plans = go why (subst (PlansState file seen said) was plans)
+pub state_not_made : (s : Session) (file : List ℕ) (seen : List ℕ) (told : Outcome) (said : Result (Option Document) StateFault) (result : Result (Option Plan) StateFault) (why : StateFault) → s.broken ≡ false → told ≡ with_state s file said
+    → result ≡ Err why → PlansState file seen said result → Does s told (Err (fault_of_state why)) s
+state_not_made s file seen told said result why unbroken is was plans = go why (subst (PlansState file seen said) was plans)
   where
-    said : Result (Option Document) StateFault
-    said = in_state s.states path state moment (tree seen)
+    refuses : (w : StateFault) → said ≡ Err w → told ≡ Refuses (refusal_of_state w)
+    refuses w none = is ∙ ap (with_state s file) none
 
-    refuses : (w : StateFault) → said ≡ Err w → todo s file path state moment (Some text) ≡ Refuses (refusal_of_state w)
-    refuses w is = todo_is s file path state moment text seen shut ∙ ap (with_state s file) is
-
-    go : (w : StateFault) → PlansState file seen said (Err w) → Does s (todo s file path state moment (Some text)) (Err (fault_of_state w)) s
+    go : (w : StateFault) → PlansState file seen said (Err w) → Does s told (Err (fault_of_state w)) s
     go fault.OutOfMemory plans = (unbroken, refl)
     go fault.NotFound plans = (unbroken, refuses fault.NotFound plans, refl)
     go fault.NotUnique plans = (unbroken, refuses fault.NotUnique plans, refl)
@@ -89,6 +86,11 @@ todo_refused s file path state moment text seen result why unbroken shut was pla
     go fault.BadRepeat plans = (unbroken, refuses fault.BadRepeat plans, refl)
     go fault.DateRange plans = (unbroken, refuses fault.DateRange plans, refl)
     go fault.ClockBackwards plans = (unbroken, refuses fault.ClockBackwards plans, refl)
+
+pub todo_refused : (s : Session) (file : List ℕ) (path : List (List ℕ)) (state : List ℕ) (moment : CivilMinute) (text seen : List ℕ) (result : Result (Option Plan) StateFault) (why : StateFault) → s.broken ≡ false → seen ≡ closed text
+    → result ≡ Err why → PlansState file seen (in_state s.states path state moment (tree seen)) result → Does s (todo s file path state moment (Some text)) (Err (fault_of_state why)) s
+todo_refused s file path state moment text seen result why unbroken shut was plans =
+    state_not_made s file seen (todo s file path state moment (Some text)) (in_state s.states path state moment (tree seen)) result why unbroken (todo_is s file path state moment text seen shut) was plans
 
 -- ---- the plan
 

@@ -44,6 +44,14 @@ Reads old (Err Device) new = new ≡ failed_in_read old
 Reads old (Err Broken) new = ⊥
 Reads old (Err (Refused why)) new = ⊥
 
+-- A heading was looked for, and it is there; or it isn't, for this reason; or its file couldn't be read.
+abbrev pub LooksUp : {A : Type 0} → Session → Result ℕ PathFault → Result A RunFault → Session → Type 0
+LooksUp old found (Ok _) new = ((i : ℕ) × (found ≡ Ok i)) × (new ≡ old)
+LooksUp old found (Err (Refused why)) new = ((fault : PathFault) × (found ≡ Err fault) × (why ≡ refusal_of_path fault)) × (new ≡ old)
+LooksUp old found (Err OutOfMemory) new = new ≡ old
+LooksUp old found (Err Device) new = new ≡ failed_in_read old
+LooksUp old found (Err Broken) new = ⊥
+
 -- What a call does that is to have this outcome: to the session, to the disk, and to the counts whatever the disk does.
 pub record Acts {D : Type 0} (files : D → List ℕ → FileState) (moment : D → ℕ) (left_since : D → ℕ → Image → Type 0)
     (honest : D → Type 0) (old : Kept D) (outcome : Outcome) (answer : Result Reply RunFault) (new : Kept D) : Type 0 where

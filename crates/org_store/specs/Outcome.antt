@@ -1,8 +1,10 @@
 -- What a command is to do, on plain texts.
+use Rattle.std.specs.Option.{unwrap_or}
 use Rattle.std.specs.Str.{bytes_eq}
 use Rattle.std.specs.Prelude.{ℕ, ◌-◌, ◌^◌, ◌==◌, List, [], ◌∷◌, Option, Some, None, Result, Ok, Err, if◌then◌else◌}
 use Rattle.org_outline.specs.declared.moves.Place.{Place}
 use Rattle.org_outline.specs.declared.paths.PathFault.{PathFault}
+use Rattle.org_outline.specs.Paths.{find_path}
 use Rattle.org_outline.specs.declared.paths.PathFault.TheVariants as path_fault
 use Rattle.org_outline.specs.Tree.{Document, Node, print, tree}
 use Rattle.org_stamp.specs.Calendar.{CivilMinute}
@@ -14,16 +16,19 @@ use Rattle.org_move.specs.declared.fault.MoveFault.{MoveFault}
 use Rattle.org_move.specs.declared.fault.MoveFault.TheVariants as move
 use Rattle.org_move.specs.Archive.{archive_across, archive_within}
 use Rattle.org_move.specs.Location.{Destination, location}
-use Rattle.org_move.specs.Refile.{refile_across, refile_within}
+use Rattle.org_move.specs.Refile.{Moved, refile_across, refile_within}
 use Rattle.org_state.specs.declared.fault.StateFault.{StateFault}
 use Rattle.org_state.specs.declared.fault.StateFault.TheVariants as state
+use Rattle.org_state.specs.declared.run.Running.{Running}
 use Rattle.org_state.specs.Clock.{clocked_at}
 use Rattle.org_state.specs.Todo.{todo as in_state}
 use Rattle.org_store.specs.declared.command.Command.{Command}
-use Rattle.org_store.specs.declared.command.Command.TheVariants.{Capture, Refile, Todo, Archive, Time, Show, Settle}
+use Rattle.org_store.specs.declared.command.Command.TheVariants.{Capture, Refile, Todo, ClockIn, ClockOut, Archive, Time, Show, Settle}
 use Rattle.org_store.specs.declared.command.Refusal.{Refusal}
-use Rattle.org_store.specs.declared.command.Refusal.TheVariants.{NoSuchFile, BadTemplate, BadEntry, NotFound, NotUnique, InsideItself, AlreadyArchive, UnknownState, OddPlanning, BadRepeat, DateRange, ClockBackwards, BadLocation, TooLarge}
+use Rattle.org_store.specs.declared.command.Refusal.TheVariants.{NoSuchFile, BadTemplate, BadEntry, NotFound, NotUnique, InsideItself, AlreadyArchive, UnknownState, OddPlanning, BadRepeat, DateRange, NoClock, ClockBackwards, BadLocation, TooLarge}
 use Rattle.org_store.specs.Capture.{new_entry}
+use Rattle.org_store.specs.Clocks.{running_over}
+use Rattle.org_store.specs.Clocking.{clocked_in, clocked_out, clock_moved}
 use Rattle.org_store.specs.Files.{has_large}
 use Rattle.org_store.specs.InOrder.{text_at, with_all}
 use Rattle.org_store.specs.Refile.{text_within, texts_across}
@@ -110,7 +115,7 @@ refusal_of_state state.DateRange = DateRange
 refusal_of_state state.ClockBackwards = ClockBackwards
 refusal_of_state state.OutOfMemory = TooLarge
 
--- the file with the document that another state makes of it; where there is none, nothing changes
+-- the file with the document that another state or clock makes of it; where there is none, nothing changes
 abbrev pub with_state : Session → List ℕ → Result (Option Document) StateFault → Outcome
 with_state s file (Ok (Some new)) = changed s ((file, print new) ∷ [])
 with_state s file (Ok None) = changed s []
@@ -140,6 +145,32 @@ abbrev pub archive : Session → List ℕ → List (List ℕ) → CivilMinute �
 archive s file path moment None = Refuses NoSuchFile
 archive s file path moment (Some text) = archive_at s file path moment text (location s.states file path text)
 
+-- the files with what clocking in at a heading of the second makes of both
+abbrev pub with_clock_moved : Session → List ℕ → List ℕ → Result Moved StateFault → Outcome
+with_clock_moved s other file (Ok new) = changed s (texts_across other file new)
+with_clock_moved s other file (Err fault) = Refuses (refusal_of_state fault)
+
+-- Clocking in at the heading that was found in a file with this document, where this clock runs: in the same file, or in
+-- another one, of which the new text comes first.
+abbrev pub clock_in_beside : Session → List ℕ → CivilMinute → Document → Result ℕ PathFault → Option (List ℕ × Running) → Outcome
+clock_in_beside s file moment d found None = with_state s file (clocked_in moment None d found)
+clock_in_beside s file moment d found (Some clock) =
+    if bytes_eq clock.0 file then with_state s file (clocked_in moment (Some clock.1) d found)
+    else with_clock_moved s clock.0 file (clock_moved moment clock.1 (tree (unwrap_or (text_at s.names s.files clock.0) [])) d found)
+
+-- Clocking in at a heading of a file that has this text: it is refused for its file first, then for its path, then where
+-- the moment is before the start of the clock that is to be closed.
+abbrev pub clock_in : Session → List ℕ → List (List ℕ) → CivilMinute → Option (List ℕ) → Outcome
+clock_in s file path moment None = Refuses NoSuchFile
+clock_in s file path moment (Some text) =
+    clock_in_beside s file moment (tree text) (find_path s.states (tree text) path) (running_over s.names s.files)
+
+-- clocking out, where this clock runs
+abbrev pub clock_out : Session → CivilMinute → Option (List ℕ × Running) → Outcome
+clock_out s moment None = Refuses NoClock
+clock_out s moment (Some clock) =
+    with_state s clock.0 (clocked_out moment clock.1 (tree (unwrap_or (text_at s.names s.files clock.0) [])))
+
 -- why no heading is at a path
 abbrev pub refusal_of_path : PathFault → Refusal
 refusal_of_path path_fault.NotFound = NotFound
@@ -166,6 +197,8 @@ outcome s (Refile file path to_file to_path place) =
     refile s file path to_file to_path place (text_at s.names s.files file) (text_at s.names s.files to_file)
 outcome s (Todo file path state moment) = todo s file path state moment (text_at s.names s.files file)
 outcome s (Archive file path moment) = archive s file path moment (text_at s.names s.files file)
+outcome s (ClockIn file path moment) = clock_in s file path moment (text_at s.names s.files file)
+outcome s (ClockOut moment) = clock_out s moment (running_over s.names s.files)
 outcome s (Time file path) = time s path (text_at s.names s.files file)
 outcome s (Show file) = show (text_at s.names s.files file)
 outcome s Settle = AsksToSettle
@@ -176,6 +209,8 @@ IsChange (Capture file target place moment template initial) = Unit {0}
 IsChange (Refile file path to_file to_path place) = Unit {0}
 IsChange (Todo file path state moment) = Unit {0}
 IsChange (Archive file path moment) = Unit {0}
+IsChange (ClockIn file path moment) = Unit {0}
+IsChange (ClockOut moment) = Unit {0}
 IsChange (Time file path) = ⊥
 IsChange (Show file) = ⊥
 IsChange Settle = ⊥

@@ -1,7 +1,7 @@
 -- The number and the name of each refusal, as a reply tells them.
 use Rattle.std.specs.Prelude.{ℕ, List, codes}
 use Rattle.org_store.specs.declared.command.Refusal.{Refusal}
-use Rattle.org_store.specs.declared.command.Refusal.TheVariants.{NoSuchFile, BadTemplate, BadEntry, NotFound, NotUnique, InsideItself, AlreadyArchive, UnknownState, OddPlanning, BadRepeat, DateRange, ClockBackwards, BadLocation, TooLarge}
+use Rattle.org_store.specs.declared.command.Refusal.TheVariants.{NoSuchFile, BadTemplate, BadEntry, NotFound, NotUnique, InsideItself, AlreadyArchive, UnknownState, OddPlanning, BadRepeat, DateRange, NoClock, ClockBackwards, BadLocation, TooLarge}
 
 abbrev pub code_of : Refusal → ℕ
 code_of NoSuchFile = 1
@@ -15,6 +15,7 @@ code_of UnknownState = 8
 code_of OddPlanning = 9
 code_of BadRepeat = 10
 code_of DateRange = 11
+code_of NoClock = 12
 code_of ClockBackwards = 13
 code_of BadLocation = 15
 code_of TooLarge = 14
@@ -31,6 +32,7 @@ name_of UnknownState = codes "UnknownState"
 name_of OddPlanning = codes "OddPlanning"
 name_of BadRepeat = codes "BadRepeat"
 name_of DateRange = codes "DateRange"
+name_of NoClock = codes "NoClock"
 name_of ClockBackwards = codes "ClockBackwards"
 name_of BadLocation = codes "BadLocation"
 name_of TooLarge = codes "TooLarge"

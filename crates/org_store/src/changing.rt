@@ -16,6 +16,7 @@ ghost use Rattle.org_store.specs.Session.{kept_over, session_over};
 use crate::command::{Command, Refusal, Reply, RunFault};
 use crate::commands::archive::plan_archive;
 use crate::commands::capture::plan_capture;
+use crate::commands::clock::{plan_clock_in, plan_clock_out};
 use crate::commands::refile::plan_refile;
 use crate::commands::todo::plan_todo;
 use crate::files::Files;
@@ -194,6 +195,10 @@ fn plan<D: Disk>(
             let plan = plan_archive(files, states, file, path, *moment)?;
             Ok(Some(plan))
         }
+        Command::ClockIn { file, path, moment } => {
+            plan_clock_in(files, states, file, path, *moment)
+        }
+        Command::ClockOut { moment } => plan_clock_out(files, states, *moment),
         Command::Time { .. } | Command::Show { .. } | Command::Settle => unreachable!(),
     }
 }

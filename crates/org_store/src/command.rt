@@ -69,6 +69,22 @@ pub enum Command {
         /// The moment of the archiving.
         moment: Moment,
     },
+    /// Starts a clock at a heading, and stops the one that runs elsewhere, at the same moment (Org manual, "Clocking
+    /// commands"). The clock that runs is the first open one of all files, in byte order of their names. Where it is the
+    /// heading's own, all bytes stay, whatever the moment.
+    ClockIn {
+        /// The file of the heading.
+        file: FileName,
+        /// Its path there.
+        path: Titles,
+        /// The moment from which the clock runs.
+        moment: Moment,
+    },
+    /// Stops the clock that runs (Org manual, "Clocking commands").
+    ClockOut {
+        /// The moment up to which it ran.
+        moment: Moment,
+    },
     /// Answers the time clocked at a heading and below it (Org manual, "The clock table").
     Time {
         /// The file of the heading.
@@ -123,6 +139,8 @@ pub enum Refusal {
     BadRepeat,
     /// A repeated date is past the year 9999.
     DateRange,
+    /// No clock runs.
+    NoClock,
     /// The moment is before the start of the clock that is to be closed.
     ClockBackwards,
     /// The location of an entry's archive can't be read, or its heading can't be made.
@@ -148,6 +166,7 @@ impl Refusal {
             Refusal::OddPlanning => 9,
             Refusal::BadRepeat => 10,
             Refusal::DateRange => 11,
+            Refusal::NoClock => 12,
             Refusal::ClockBackwards => 13,
             Refusal::BadLocation => 15,
             Refusal::TooLarge => 14,
@@ -170,6 +189,7 @@ impl Refusal {
             Refusal::OddPlanning => "OddPlanning",
             Refusal::BadRepeat => "BadRepeat",
             Refusal::DateRange => "DateRange",
+            Refusal::NoClock => "NoClock",
             Refusal::ClockBackwards => "ClockBackwards",
             Refusal::BadLocation => "BadLocation",
             Refusal::TooLarge => "TooLarge",

@@ -1,6 +1,7 @@
 //! The commands, each with what it is to change or to answer.
 pub(crate) mod archive;
 pub(crate) mod capture;
+pub(crate) mod clock;
 mod outline;
 pub(crate) mod refile;
 pub(crate) mod running;

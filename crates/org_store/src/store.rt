@@ -229,7 +229,9 @@ impl<D: Disk> Store<D> {
             Command::Capture { .. }
             | Command::Refile { .. }
             | Command::Todo { .. }
-            | Command::Archive { .. } => {
+            | Command::Archive { .. }
+            | Command::ClockIn { .. }
+            | Command::ClockOut { .. } => {
                 change(&mut self.files, &self.states, &mut self.tally, command)
             }
         }

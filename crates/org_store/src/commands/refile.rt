@@ -6,7 +6,7 @@ ghost use Rattle.org_outline.specs.Tree.{tree};
 ghost use Rattle.org_move.specs.Answers.{Gives};
 ghost use Rattle.org_move.specs.Refile.{refile_across, refile_within};
 ghost use Rattle.org_store.specs.declared.tally.Tally.{Tally};
-ghost use Rattle.org_store.specs.Files.{AreReady, IsPlanFor};
+ghost use Rattle.org_store.specs.Files.{AreReady, IsPlanFor, KeepsHeld};
 ghost use Rattle.org_store.specs.InOrder.{is_name, text_at};
 ghost use Rattle.org_store.specs.Keeping.{Plans, Reads};
 ghost use Rattle.org_store.specs.Outcome.{refile as outcome};
@@ -93,7 +93,7 @@ fn plan_across(
 }
 
 /// Makes two files ready: see `Files::ready`.
-fn both_ready<D: Disk>(
+pub(crate) fn both_ready<D: Disk>(
     files: &mut Files<D>,
     file: &FileName,
     to_file: &FileName,
@@ -103,6 +103,7 @@ fn both_ready<D: Disk>(
     requires unbroken { files.old.broken ≡ false }
     ensures ready { OnOk result ((names : List (List ℕ)) → AreReady names files.old.held
         → AreReady (to_file.now ∷ file.now ∷ names) files.new.held) }
+    ensures keeps { KeepsHeld files.old.held files.new.held }
     ensures reads { (states : Keywords) (tally : Tally) → D.honest files.new.disk
         → Reads (kept_over D.files states files.old tally).session result
         (kept_over D.files states files.new tally).session }

@@ -1,4 +1,4 @@
-use Rattle.std.proofs.Common.{◌≡◌, Option, Some, Result, Ok, Err, sym, subst, rules}
+use Rattle.std.proofs.Common.{◌≡◌, Option, Result, Ok, Err, sym, subst, rules}
 use Rattle.org_journal.specs.Standing.{Image, contents}
 use Rattle.org_texts.specs.declared.plan.Plan.{Plan}
 use Rattle.org_store.specs.declared.command.Command.{Command}
@@ -71,3 +71,17 @@ returns-in-Todo-clause-plans g c tally honest =
     let s = session_over texts c.args.states.now c.args.files.now tally in
     let new = session_over texts c.args.states.now c.plan_todo.new.files tally in
     subst (λ (command : Command). PlansOrStays s (outcome s command) c.plan_todo.result c.plan_todo.new.files.held new) (sym c.in-Todo.is) (c.plan_todo.ensures.plans tally honest)
+
+pub returns-in-ClockIn-clause-plans : goal.returns-in-ClockIn-clause-plans
+returns-in-ClockIn-clause-plans g c tally honest =
+    let texts : g.row.D.Denot → Image = λ disk. contents (g.D.Disk.files disk) in
+    let s = session_over texts c.args.states.now c.args.files.now tally in
+    let new = session_over texts c.args.states.now c.plan_clock_in.new.files tally in
+    subst (λ (command : Command). PlansOrStays s (outcome s command) c.plan_clock_in.result c.plan_clock_in.new.files.held new) (sym c.in-ClockIn.is) (c.plan_clock_in.ensures.plans tally honest)
+
+pub returns-in-ClockOut-clause-plans : goal.returns-in-ClockOut-clause-plans
+returns-in-ClockOut-clause-plans g c tally honest =
+    let texts : g.row.D.Denot → Image = λ disk. contents (g.D.Disk.files disk) in
+    let s = session_over texts c.args.states.now c.args.files.now tally in
+    let new = session_over texts c.args.states.now c.plan_clock_out.new.files tally in
+    subst (λ (command : Command). PlansOrStays s (outcome s command) c.plan_clock_out.result c.plan_clock_out.new.files.held new) (sym c.in-ClockOut.is) (c.plan_clock_out.ensures.plans tally honest)

@@ -2,6 +2,7 @@ use Rattle.std.proofs.Common.{◌≡◌, Err, subst, rules}
 use Rattle.org_journal.specs.Standing.{Image, contents}
 use Rattle.org_store.specs.Keeping.{Reads}
 use Rattle.org_store.specs.Session.{Session, session_over}
+use Rattle.org_store.proofs.Held.{keeps_then}
 use Rattle.org_store.proofs.Sessions.{reads_fault}
 use Rattle.org_store.proofs.commands.refile.both_ready.Goals as goal
 
@@ -18,3 +19,6 @@ returns-clause-reads g c states tally honest =
     let new = session_over texts states c.ready-2.new.self tally in
     let read : session_over texts states c.ready.new.self tally ≡ session_over texts states c.args.files.now tally = c.in_ok-ready.ensures.reads states tally (c.ready-2.ensures.accounts.was_honest honest) in
     subst (λ (s : Session). Reads s c.ready-2.result new) read (c.ready-2.ensures.reads states tally honest)
+
+pub returns-clause-keeps : goal.returns-clause-keeps
+returns-clause-keeps g c = keeps_then c.args.files.now.held c.ready.new.self.held c.ready-2.new.self.held c.ready.ensures.keeps c.ready-2.ensures.keeps

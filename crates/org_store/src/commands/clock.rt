@@ -1,0 +1,361 @@
+//! Clocks, started and stopped.
+ghost use Rattle.std.specs.Prelude.{◌≡◌, ◌≢◌, ◌↔◌, [], None, Some, IfOk, OnOk, IsErrOf, IsTrue, false, true};
+ghost use Rattle.std.specs.Option.{ForSome, unwrap_or};
+ghost use Rattle.std.specs.Result.{result_map_both};
+ghost use Rattle.org_disk.specs.Accounts.{Accounts, Looks};
+ghost use Rattle.org_outline.specs.Paths.{find_path};
+ghost use Rattle.org_outline.specs.Tree.{tree};
+ghost use Rattle.org_state.specs.Clock.{running_in};
+ghost use Rattle.org_state.specs.Todo.{fault_of_path};
+ghost use Rattle.org_store.specs.declared.tally.Tally.{Tally};
+ghost use Rattle.org_store.specs.Clocking.{PlansClocks, clock_moved, clocked_in, clocked_out};
+ghost use Rattle.org_store.specs.Clocks.{RunsHeld, running_over};
+ghost use Rattle.org_store.specs.Files.{IsPlanFor};
+ghost use Rattle.org_store.specs.InOrder.{is_name, text_at};
+ghost use Rattle.org_store.specs.Keeping.{LooksUp, Plans, PlansOrStays};
+ghost use Rattle.org_store.specs.Outcome.{clock_in as outcome_in, clock_out as outcome_out, with_clock_moved, with_state};
+ghost use Rattle.org_store.specs.Session.{kept_over};
+ghost use Rattle.org_store.specs.Todo.{PlansState};
+
+use crate::command::{Refusal, RunFault};
+use crate::commands::outline::outline_of;
+use crate::commands::refile::{both_ready, edits_of};
+use crate::commands::running::{Clock, running_clock};
+use crate::files::Files;
+use org_disk::{Disk, FileName};
+use org_outline::{States, Titles};
+use org_stamp::Moment;
+use org_state::{Running, StateFault, clock_in, clock_out, switch_clock};
+use org_texts::{FileEdits, Held, Plan};
+use std::alloc::Global;
+
+/// Tests that a text that is ready has a heading at a path.
+fn look_up(states: &States, held: &Held, path: &Titles) -> Result<(), StateFault>
+    requires ready { held.now.ready ≡ true }
+    ensures { result ≡ result_map_both (λ _. tt) fault_of_path
+        (find_path states.now (tree held.now.text.bytes) path.now) }
+{
+    outline_of(held, states).find(path.as_slice())?;
+    Ok(())
+}
+
+/// The edits of a file, whose text is ready, that clock in at one of its headings. No clock runs in it.
+fn plan_start(
+    alloc: Global,
+    states: &States,
+    held: &Held,
+    file: &FileName,
+    path: &Titles,
+    moment: Moment,
+) -> Result<Option<Plan>, StateFault>
+    requires ready { held.now.ready ≡ true }
+    ensures { let d = tree held.now.text.bytes in PlansState file.now held.now.text.bytes
+        (clocked_in moment None d (find_path states.now d path.now)) result }
+{
+    let outline = outline_of(held, states);
+    let edit = clock_in(alloc, &outline, path.as_slice(), moment)?;
+    Ok(Some(Plan {
+        first: edits_of(alloc, file, [edit])?,
+        second: None,
+    }))
+}
+
+/// The edits of a file, whose text is ready, that clock in at one of its headings, where this clock runs in it; none where
+/// it is the heading's own.
+fn plan_switch(
+    alloc: Global,
+    states: &States,
+    held: &Held,
+    file: &FileName,
+    path: &Titles,
+    running: Running,
+    moment: Moment,
+) -> Result<Option<Plan>, StateFault>
+    requires ready { held.now.ready ≡ true }
+    requires runs { running_in (tree held.now.text.bytes) ≡ Some running }
+    ensures { let d = tree held.now.text.bytes in PlansState file.now held.now.text.bytes
+        (clocked_in moment (Some running) d (find_path states.now d path.now)) result }
+{
+    let outline = outline_of(held, states);
+    let edits = switch_clock(alloc, &outline, path.as_slice(), running, moment)?;
+    if edits.is_empty() {
+        return Ok(None);
+    }
+    let file = file.clone()?;
+    Ok(Some(Plan {
+        first: FileEdits { file, edits },
+        second: None,
+    }))
+}
+
+/// The edits of a file, whose text is ready, that clock in at one of its headings. This clock runs in it, or none.
+fn plan_in_text(
+    alloc: Global,
+    states: &States,
+    held: &Held,
+    file: &FileName,
+    path: &Titles,
+    running: Option<Running>,
+    moment: Moment,
+) -> Result<Option<Plan>, StateFault>
+    requires ready { held.now.ready ≡ true }
+    requires runs { ForSome running
+        (λ running. running_in (tree held.now.text.bytes) ≡ Some running) }
+    ensures { let d = tree held.now.text.bytes in PlansState file.now held.now.text.bytes
+        (clocked_in moment running d (find_path states.now d path.now)) result }
+{
+    match running {
+        None => plan_start(alloc, states, held, file, path, moment),
+        Some(running) => plan_switch(alloc, states, held, file, path, running, moment),
+    }
+}
+
+/// The edits of a file, whose text is ready, that stop the clock that runs in it.
+fn plan_stop(
+    alloc: Global,
+    states: &States,
+    held: &Held,
+    file: &FileName,
+    running: Running,
+    moment: Moment,
+) -> Result<Option<Plan>, StateFault>
+    requires ready { held.now.ready ≡ true }
+    requires runs { running_in (tree held.now.text.bytes) ≡ Some running }
+    ensures { PlansState file.now held.now.text.bytes
+        (clocked_out moment running (tree held.now.text.bytes)) result }
+{
+    let outline = outline_of(held, states);
+    let edit = clock_out(alloc, outline.text(), running, moment)?;
+    Ok(Some(Plan {
+        first: edits_of(alloc, file, [edit])?,
+        second: None,
+    }))
+}
+
+/// The edits of two files, whose texts are ready, that stop the clock that runs in the first, and clock in at a heading of
+/// the second.
+fn plan_move(
+    alloc: Global,
+    states: &States,
+    other: &Held,
+    held: &Held,
+    clock: &Clock,
+    file: &FileName,
+    path: &Titles,
+    moment: Moment,
+) -> Result<Plan, StateFault>
+    requires other { other.now.ready ≡ true }
+    requires ready { held.now.ready ≡ true }
+    requires runs { running_in (tree other.now.text.bytes) ≡ Some clock.now.running }
+    ensures { let d = tree held.now.text.bytes in
+        PlansClocks clock.now.file file.now other.now.text.bytes held.now.text.bytes
+        (clock_moved moment clock.now.running (tree other.now.text.bytes) d
+        (find_path states.now d path.now)) result }
+{
+    let from = outline_of(other, states);
+    let into = outline_of(held, states);
+    let start = clock_in(alloc, &into, path.as_slice(), moment)?;
+    let stop = clock_out(alloc, from.text(), clock.running, moment)?;
+    Ok(Plan {
+        first: edits_of(alloc, &clock.file, [stop])?,
+        second: Some(edits_of(alloc, file, [start])?),
+    })
+}
+
+/// Tests that one of the files has a heading at a path. No text changes.
+fn look_up_in<D: Disk>(
+    files: &mut Files<D>,
+    states: &States,
+    file: &FileName,
+    path: &Titles,
+) -> Result<(), RunFault>
+    requires file { is_name files.old.names file.now ≡ true }
+    requires unbroken { files.old.broken ≡ false }
+    requires begun { files.old.held.now ≡ files.old.held.before }
+    ensures finds { (tally : Tally) → D.honest files.new.disk
+        → let session = (kept_over D.files states.now files.old tally).session in
+        let d = tree (unwrap_or (text_at session.names session.files file.now) []) in
+        LooksUp session (find_path states.now d path.now) result
+        (kept_over D.files states.now files.new tally).session }
+    ensures begun { OnOk result (files.new.held.now ≡ files.new.held.before) }
+    ensures looks { D.honest files.new.disk
+        → Looks D.files D.moment D.left_since files.old.disk files.new.disk }
+    ensures names { files.new.names ≡ files.old.names }
+    ensures works { IsErrOf result RunFault.Broken → ⊥ }
+    ensures breaks { IsErrOf result RunFault.Device ↔ IsTrue files.new.broken }
+    ensures accounts { Accounts D.steady D.honest D.failures files.old.disk files.new.disk
+        (IsErrOf result RunFault.Device) }
+{
+    files.ready(file)?;
+    let Some(held) = files.get(file) else {
+        unreachable!();
+    };
+    look_up(states, held, path)?;
+    files.undo();
+    Ok(())
+}
+
+/// What clocking in at a heading of one of the files is to change, where no clock runs in another one. This clock runs in
+/// it, or none.
+fn start_in_one<D: Disk>(
+    files: &mut Files<D>,
+    states: &States,
+    file: &FileName,
+    path: &Titles,
+    running: Option<Running>,
+    moment: Moment,
+) -> Result<Option<Plan>, RunFault>
+    requires file { is_name files.old.names file.now ≡ true }
+    requires unbroken { files.old.broken ≡ false }
+    requires begun { files.old.held.now ≡ files.old.held.before }
+    requires runs { ForSome running (λ running. RunsHeld files.old.held file.now running) }
+    ensures plan { IfOk result (λ plan. ForSome plan
+        (λ plan. IsPlanFor files.new.names files.new.held plan)) }
+    ensures plans { (tally : Tally) → D.honest files.new.disk
+        → let session = (kept_over D.files states.now files.old tally).session in
+        let d = tree (unwrap_or (text_at session.names session.files file.now) []) in
+        PlansOrStays session (with_state session file.now
+        (clocked_in moment running d (find_path states.now d path.now))) result
+        files.new.held (kept_over D.files states.now files.new tally).session }
+    ensures looks { D.honest files.new.disk
+        → Looks D.files D.moment D.left_since files.old.disk files.new.disk }
+    ensures works { IsErrOf result RunFault.Broken → ⊥ }
+    ensures breaks { IsErrOf result RunFault.Device ↔ IsTrue files.new.broken }
+    ensures accounts { Accounts D.steady D.honest D.failures files.old.disk files.new.disk
+        (IsErrOf result RunFault.Device) }
+{
+    files.ready(file)?;
+    let Some(held) = files.get(file) else {
+        unreachable!();
+    };
+    Ok(plan_in_text(files.alloc(), states, held, file, path, running, moment)?)
+}
+
+/// What clocking in at a heading of one of the files is to change, where this clock runs in another one.
+fn start_beside<D: Disk>(
+    files: &mut Files<D>,
+    states: &States,
+    clock: &Clock,
+    file: &FileName,
+    path: &Titles,
+    moment: Moment,
+) -> Result<Plan, RunFault>
+    requires other { is_name files.old.names clock.now.file ≡ true }
+    requires file { is_name files.old.names file.now ≡ true }
+    requires apart { clock.now.file ≢ file.now }
+    requires unbroken { files.old.broken ≡ false }
+    requires begun { files.old.held.now ≡ files.old.held.before }
+    requires runs { RunsHeld files.old.held clock.now.file clock.now.running }
+    ensures plan { IfOk result (λ plan. IsPlanFor files.new.names files.new.held plan) }
+    ensures plans { (tally : Tally) → D.honest files.new.disk
+        → let session = (kept_over D.files states.now files.old tally).session in
+        let d = tree (unwrap_or (text_at session.names session.files file.now) []) in
+        let other = tree (unwrap_or (text_at session.names session.files clock.now.file) []) in
+        Plans session (with_clock_moved session clock.now.file file.now
+        (clock_moved moment clock.now.running other d (find_path states.now d path.now))) result
+        files.new.held (kept_over D.files states.now files.new tally).session }
+    ensures looks { D.honest files.new.disk
+        → Looks D.files D.moment D.left_since files.old.disk files.new.disk }
+    ensures works { IsErrOf result RunFault.Broken → ⊥ }
+    ensures breaks { IsErrOf result RunFault.Device ↔ IsTrue files.new.broken }
+    ensures accounts { Accounts D.steady D.honest D.failures files.old.disk files.new.disk
+        (IsErrOf result RunFault.Device) }
+{
+    both_ready(files, &clock.file, file)?;
+    let Some(other) = files.get(&clock.file) else {
+        unreachable!();
+    };
+    let Some(held) = files.get(file) else {
+        unreachable!();
+    };
+    Ok(plan_move(
+        files.alloc(),
+        states,
+        other,
+        held,
+        clock,
+        file,
+        path,
+        moment,
+    )?)
+}
+
+/// What clocking in is to change; no plan where the clock that runs is the heading's own. It is refused for its file first,
+/// then for its path, then where the moment is before the start of the clock that is to be stopped. Where that one runs in
+/// another file, its text is the plan's first.
+pub(crate) fn plan_clock_in<D: Disk>(
+    files: &mut Files<D>,
+    states: &States,
+    file: &FileName,
+    path: &Titles,
+    moment: Moment,
+) -> Result<Option<Plan>, RunFault>
+    requires unbroken { files.old.broken ≡ false }
+    requires begun { files.old.held.now ≡ files.old.held.before }
+    ensures plan { IfOk result (λ plan. ForSome plan
+        (λ plan. IsPlanFor files.new.names files.new.held plan)) }
+    ensures plans { (tally : Tally) → D.honest files.new.disk
+        → let session = (kept_over D.files states.now files.old tally).session in
+        PlansOrStays session (outcome_in session file.now path.now moment
+        (text_at session.names session.files file.now)) result
+        files.new.held (kept_over D.files states.now files.new tally).session }
+    ensures looks { D.honest files.new.disk
+        → Looks D.files D.moment D.left_since files.old.disk files.new.disk }
+    ensures works { IsErrOf result RunFault.Broken → ⊥ }
+    ensures breaks { IsErrOf result RunFault.Device ↔ IsTrue files.new.broken }
+    ensures accounts { Accounts D.steady D.honest D.failures files.old.disk files.new.disk
+        (IsErrOf result RunFault.Device) }
+{
+    if !files.has(file) {
+        return Err(RunFault::Refused(Refusal::NoSuchFile));
+    }
+    look_up_in(files, states, file, path)?;
+    let Some(clock) = running_clock(files, states)? else {
+        return start_in_one(files, states, file, path, None, moment);
+    };
+    if clock.file == *file {
+        return start_in_one(files, states, file, path, Some(clock.running), moment);
+    }
+    let plan = start_beside(files, states, &clock, file, path, moment)?;
+    Ok(Some(plan))
+}
+
+/// What clocking out is to change. It is refused where no clock runs, and where the moment is before the start of the one
+/// that does.
+pub(crate) fn plan_clock_out<D: Disk>(
+    files: &mut Files<D>,
+    states: &States,
+    moment: Moment,
+) -> Result<Option<Plan>, RunFault>
+    requires unbroken { files.old.broken ≡ false }
+    requires begun { files.old.held.now ≡ files.old.held.before }
+    ensures plan { IfOk result (λ plan. ForSome plan
+        (λ plan. IsPlanFor files.new.names files.new.held plan)) }
+    ensures plans { (tally : Tally) → D.honest files.new.disk
+        → let session = (kept_over D.files states.now files.old tally).session in
+        PlansOrStays session (outcome_out session moment
+        (running_over session.names session.files)) result
+        files.new.held (kept_over D.files states.now files.new tally).session }
+    ensures looks { D.honest files.new.disk
+        → Looks D.files D.moment D.left_since files.old.disk files.new.disk }
+    ensures works { IsErrOf result RunFault.Broken → ⊥ }
+    ensures breaks { IsErrOf result RunFault.Device ↔ IsTrue files.new.broken }
+    ensures accounts { Accounts D.steady D.honest D.failures files.old.disk files.new.disk
+        (IsErrOf result RunFault.Device) }
+{
+    let Some(clock) = running_clock(files, states)? else {
+        return Err(RunFault::Refused(Refusal::NoClock));
+    };
+    files.ready(&clock.file)?;
+    let Some(held) = files.get(&clock.file) else {
+        unreachable!();
+    };
+    Ok(plan_stop(
+        files.alloc(),
+        states,
+        held,
+        &clock.file,
+        clock.running,
+        moment,
+    )?)
+}
