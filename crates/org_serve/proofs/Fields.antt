@@ -9,7 +9,7 @@ more_than_seven : (fields : List (List ℕ)) → 7 < length fields → command_o
 more_than_seven [] e = absurd (omega arith)
 more_than_seven (a ∷ []) e = absurd (omega arith)
 more_than_seven (a ∷ b ∷ []) e = absurd (omega arith)
-more_than_seven (a ∷ b ∷ c ∷ []) e = refl
+more_than_seven (a ∷ b ∷ c ∷ []) e = absurd (omega arith)
 more_than_seven (a ∷ b ∷ c ∷ d ∷ []) e = absurd (omega arith)
 more_than_seven (a ∷ b ∷ c ∷ d ∷ f ∷ []) e = absurd (omega arith)
 more_than_seven (a ∷ b ∷ c ∷ d ∷ f ∷ g ∷ []) e = absurd (omega arith)

@@ -12,12 +12,12 @@ use Rattle.org_fileset.proofs.Commits.{at_rest_stands}
 use Rattle.org_fileset.proofs.Stands.{stands_as}
 use Rattle.org_store.specs.declared.command.Command.{Command}
 use Rattle.org_store.specs.declared.command.Reply.{Reply}
-use Rattle.org_store.specs.declared.command.Reply.TheVariants.{Done, Safe, Text}
+use Rattle.org_store.specs.declared.command.Reply.TheVariants.{Done, Safe, Text, Time}
 use Rattle.org_store.specs.declared.command.RunFault.{RunFault}
 use Rattle.org_store.specs.declared.command.RunFault.TheVariants.{Refused, OutOfMemory, Device, Broken}
 use Rattle.org_store.specs.InOrder.{with_texts}
 use Rattle.org_store.specs.Session.{Session, Kept, Holds}
-use Rattle.org_store.specs.Outcome.{Outcome, Accepts, Shows, AsksToSettle, Refuses, outcome}
+use Rattle.org_store.specs.Outcome.{Outcome, Accepts, Shows, Tells, AsksToSettle, Refuses, outcome}
 use Rattle.org_store.specs.Step.{Step, Settles, fills, done, settled}
 use Rattle.org_store.specs.Runs.{IsOnDisk, IsBetween}
 use Rattle.org_store.proofs.Runs.{Course, HaveTexts, course_none, course_run, course_settle, done_accepted, done_files, falls, holds_back, on_disk_after}
@@ -58,6 +58,7 @@ done_broken s files = elim (cases_Bool (fills s)) [ inl t ↦ rw t refl | inr f 
 abbrev pub texts_after : Outcome → ℕ → ℕ → Texts → Texts
 texts_after (Accepts files) before now texts = if nat_eq now before then texts else texts ++ files ∷ []
 texts_after (Shows text) before now texts = texts
+texts_after (Tells minutes) before now texts = texts
 texts_after AsksToSettle before now texts = texts
 texts_after (Refuses why) before now texts = texts
 
@@ -71,6 +72,7 @@ adds_none (Accepts files) before now texts same =
     let is : nat_eq before before ≡ true = grind (arith) in
     rw (same, is) (inl (refl, refl))
 adds_none (Shows text) before now texts same = inl (same, refl)
+adds_none (Tells minutes) before now texts same = inl (same, refl)
 adds_none AsksToSettle before now texts same = inl (same, refl)
 adds_none (Refuses why) before now texts same = inl (same, refl)
 
@@ -79,6 +81,7 @@ adds : (old new : Session) (command : Command) (answer : Result Reply RunFault) 
 adds old new command (Ok (Done n)) texts step =
     adds_one (outcome old command) step.1.0 old.accepted new.accepted texts step.1.1 (ap (λ (s : Session). s.accepted) step.1.3 ∙ done_accepted old step.1.0)
 adds old new command (Ok (Text bytes)) texts step = adds_none (outcome old command) old.accepted new.accepted texts (ap (λ (s : Session). s.accepted) step.2)
+adds old new command (Ok (Time minutes)) texts step = adds_none (outcome old command) old.accepted new.accepted texts (ap (λ (s : Session). s.accepted) step.2)
 adds old new command (Ok (Safe n)) texts step = adds_none (outcome old command) old.accepted new.accepted texts (ap (λ (s : Session). s.accepted) step.3)
 adds old new command (Err (Refused why)) texts step = adds_none (outcome old command) old.accepted new.accepted texts (ap (λ (s : Session). s.accepted) step.2)
 adds old new command (Err OutOfMemory) texts step = adds_none (outcome old command) old.accepted new.accepted texts (ap (λ (s : Session). s.accepted) step.1)
@@ -151,6 +154,8 @@ lists_step old new command (Ok (Done n)) texts more step added lists =
     (lists_done old step.1.0 texts more (subst (λ o. Adds o old.accepted (done old step.1.0).accepted texts more) step.1.1 (subst (λ (s : Session). Adds (outcome old command) old.accepted s.accepted texts more) is added)) lists)
 lists_step old new command (Ok (Text bytes)) texts more step added lists =
     lists_same old new texts more step.2 (none_added (outcome old command) old.accepted new.accepted texts more added (ap (λ (s : Session). s.accepted) step.2)) lists
+lists_step old new command (Ok (Time minutes)) texts more step added lists =
+    lists_same old new texts more step.2 (none_added (outcome old command) old.accepted new.accepted texts more added (ap (λ (s : Session). s.accepted) step.2)) lists
 lists_step old new command (Ok (Safe n)) texts more step added lists =
     let none : more ≡ texts = none_added (outcome old command) old.accepted new.accepted texts more added (ap (λ (s : Session). s.accepted) step.3) in
     subst (Lists new) (sym none) (lists_settled old new texts step.0 step.3 lists)
@@ -180,6 +185,7 @@ lists_settling old new (Err Device) texts settles lists =
 same_or_sound : (old new : Session) (command : Command) (answer : Result Reply RunFault) → (IsErrOf answer Device → ⊥) → Step old command answer new → (new ≡ old) ⊎ (new.broken ≡ false)
 same_or_sound old new command (Ok (Done n)) fine step = inr (ap (λ (s : Session). s.broken) step.1.3 ∙ done_broken old step.1.0 ∙ step.0)
 same_or_sound old new command (Ok (Text bytes)) fine step = inl step.2
+same_or_sound old new command (Ok (Time minutes)) fine step = inl step.2
 same_or_sound old new command (Ok (Safe n)) fine step = inr (ap (λ (s : Session). s.broken) step.3 ∙ step.0)
 same_or_sound old new command (Err (Refused why)) fine step = inl step.2
 same_or_sound old new command (Err OutOfMemory) fine step = inl step.1

@@ -14,5 +14,6 @@ pub mod Stops
 pub mod History
 mod OnePlace
 mod Opened
+mod Times
 mod Told
 mod Openable

@@ -4,7 +4,7 @@ use Rattle.std.specs.List.{AllByRecursion, IsDistinct}
 use Rattle.std.specs.Str.{bytes_eq}
 use Rattle.org_store.specs.declared.command.Command.{Command}
 use Rattle.org_store.specs.declared.command.Reply.{Reply}
-use Rattle.org_store.specs.declared.command.Reply.TheVariants.{Done, Safe, Text}
+use Rattle.org_store.specs.declared.command.Reply.TheVariants.{Done, Safe, Text, Time}
 use Rattle.org_store.specs.declared.command.RunFault.{RunFault}
 use Rattle.org_store.specs.declared.command.RunFault.TheVariants.{Refused, OutOfMemory, Device, Broken}
 use Rattle.org_store.specs.InOrder.{text_at}
@@ -31,6 +31,7 @@ keeps_none old new small is = subst (Keeps old) (sym is) ((refl, small), λ rest
 same_files : (old new : Session) (told : Outcome) (answer : Result Reply RunFault) → ((files : List (List ℕ)) → told ≡ Accepts files → ⊥) → GoesOn old told answer new → new.files ≡ old.files
 same_files old new told (Ok (Done n)) never on = absurd (never on.1.0 on.1.1)
 same_files old new told (Ok (Text text)) never on = ap (λ (s : Session). s.files) on.2
+same_files old new told (Ok (Time minutes)) never on = ap (λ (s : Session). s.files) on.2
 same_files old new told (Ok (Safe n)) never on = ap (λ (s : Session). s.files) on.3
 same_files old new told (Err (Refused why)) never on = ap (λ (s : Session). s.files) on.2
 same_files old new told (Err OutOfMemory) never on = ap (λ (s : Session). s.files) on.1

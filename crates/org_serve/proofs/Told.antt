@@ -4,7 +4,7 @@ use Rattle.std.specs.Prelude.{decimal, if◌then◌else◌}
 use Rattle.std.proofs.lemmas.Bool.{cases_Bool}
 use Rattle.org_store.specs.declared.command.Command.{Command}
 use Rattle.org_store.specs.declared.command.Reply.{Reply}
-use Rattle.org_store.specs.declared.command.Reply.TheVariants.{Done, Safe, Text}
+use Rattle.org_store.specs.declared.command.Reply.TheVariants.{Done, Safe, Text, Time}
 use Rattle.org_store.specs.declared.command.RunFault.{RunFault}
 use Rattle.org_store.specs.Session.{Session}
 use Rattle.org_store.specs.Step.{Step}
@@ -25,6 +25,7 @@ pub safe_written : (answer : Result Reply RunFault) (old new a : ℕ) → told_s
 safe_written (Ok (Done n)) old new a told = written_done n new a (nat_lt old new) told
 safe_written (Ok (Safe n)) old new a told = ([], ap safe_line (same_some n a told))
 safe_written (Ok (Text bytes)) old new a told = none_some a told
+safe_written (Ok (Time minutes)) old new a told = none_some a told
 safe_written (Err fault) old new a told = none_some a told
 
 pub safe_known : (old new : Session) (command : Command) (answer : Result Reply RunFault) (a : ℕ) → Step old command answer new → told_safe answer old.acknowledged new.acknowledged ≡ Some a
@@ -36,4 +37,5 @@ safe_known old new command (Ok (Done n)) a step told = elim (cases_Bool (nat_lt 
 safe_known old new command (Ok (Safe n)) a step told =
     (ap (λ (s : Session). s.acknowledged) step.3 ∙ sym step.2 ∙ same_some n a told, ap (λ (s : Session). s.broken) step.3 ∙ step.0)
 safe_known old new command (Ok (Text bytes)) a step told = none_some a told
+safe_known old new command (Ok (Time minutes)) a step told = none_some a told
 safe_known old new command (Err fault) a step told = none_some a told

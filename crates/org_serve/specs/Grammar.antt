@@ -11,7 +11,7 @@ use Rattle.org_capture.specs.declared.target.Target.{Target}
 use Rattle.org_capture.specs.declared.target.Target.TheVariants.{Top, Head, Path, Date}
 use Rattle.org_stamp.specs.Calendar.{CivilMinute, at_minute, civil_day}
 use Rattle.org_store.specs.declared.command.Command.{Command}
-use Rattle.org_store.specs.declared.command.Command.TheVariants.{Capture, Refile, Todo, Archive, Show, Settle}
+use Rattle.org_store.specs.declared.command.Command.TheVariants.{Capture, Refile, Todo, ClockIn, ClockOut, Time, Archive, Show, Settle}
 
 -- what a letter behind a backslash stands for: `\n` a newline, `\t` a tab, `\\` a backslash, `\s` a slash
 abbrev pub escape : ℕ → Option ℕ
@@ -146,11 +146,31 @@ archive_of file path moment =
     Archive f p m)
     (moment_of moment)) (path_of path)) (file_of file)
 
+-- `clock-in` FILE PATH MOMENT
+unfoldable pub clock_in_of : List ℕ → List ℕ → List ℕ → Option Command
+clock_in_of file path moment =
+    option_and_then (λ f. option_and_then (λ p. option_map (λ m. ClockIn f p m) (moment_of moment)) (path_of path)) (file_of file)
+
+-- `clock-out` MOMENT
+unfoldable pub clock_out_of : List ℕ → Option Command
+clock_out_of moment = option_map ClockOut (moment_of moment)
+
+-- `time` FILE PATH
+unfoldable pub clocked_of : List ℕ → List ℕ → Option Command
+clocked_of file path = option_and_then (λ f. option_map (λ p. Time f p) (path_of path)) (file_of file)
+
 -- a line of these fields; any other word or number of fields is no command
 abbrev pub command_of_fields : List (List ℕ) → Option Command
 command_of_fields (word ∷ []) = if bytes_eq word (codes "settle") then Some Settle else None
-command_of_fields (word ∷ file ∷ []) = if bytes_eq word (codes "show") then show_of file else None
-command_of_fields (word ∷ file ∷ path ∷ moment ∷ []) = if bytes_eq word (codes "archive") then archive_of file path moment else None
+command_of_fields (word ∷ field ∷ []) =
+    if bytes_eq word (codes "show") then show_of field
+    else if bytes_eq word (codes "clock-out") then clock_out_of field
+    else None
+command_of_fields (word ∷ file ∷ path ∷ []) = if bytes_eq word (codes "time") then clocked_of file path else None
+command_of_fields (word ∷ file ∷ path ∷ moment ∷ []) =
+    if bytes_eq word (codes "archive") then archive_of file path moment
+    else if bytes_eq word (codes "clock-in") then clock_in_of file path moment
+    else None
 command_of_fields (word ∷ file ∷ path ∷ state ∷ moment ∷ []) =
     if bytes_eq word (codes "todo") then todo_of file path state moment else None
 command_of_fields (word ∷ file ∷ path ∷ to_file ∷ to_path ∷ place ∷ []) =

@@ -1,7 +1,8 @@
 -- The bytes of replies.
 use Rattle.std.specs.Prelude.{ℕ, List, [], ◌++◌, nat_lt, if◌then◌else◌, length, codes, decimal, Option, Some, None, Result, Ok, Err}
+use Rattle.org_stamp.specs.Stamp.{duration_text}
 use Rattle.org_store.specs.declared.command.Reply.{Reply}
-use Rattle.org_store.specs.declared.command.Reply.TheVariants.{Done, Safe, Text}
+use Rattle.org_store.specs.declared.command.Reply.TheVariants.{Done, Safe, Text, Time}
 use Rattle.org_store.specs.declared.command.RunFault.{RunFault}
 use Rattle.org_store.specs.declared.command.RunFault.TheVariants.{Refused, OutOfMemory, Device, Broken}
 use Rattle.org_store.specs.Refusals.{code_of, name_of}
@@ -26,6 +27,7 @@ abbrev pub answer_text : Result Reply RunFault → ℕ → ℕ → List ℕ
 answer_text (Ok (Done n)) old new = codes "ok " ++ decimal n ++ codes "\n" ++ safe_if_risen old new
 answer_text (Ok (Safe n)) old new = safe_line n
 answer_text (Ok (Text bytes)) old new = codes "text " ++ decimal (length bytes) ++ codes "\n" ++ bytes ++ codes "\n"
+answer_text (Ok (Time minutes)) old new = codes "time " ++ duration_text minutes 1 ++ codes "\n"
 answer_text (Err fault) old new = fault_line fault
 
 -- what is written for the settling at the end of the input
@@ -38,4 +40,5 @@ abbrev pub told_safe : Result Reply RunFault → ℕ → ℕ → Option ℕ
 told_safe (Ok (Done n)) old new = if nat_lt old new then Some new else None
 told_safe (Ok (Safe n)) old new = Some n
 told_safe (Ok (Text bytes)) old new = None
+told_safe (Ok (Time minutes)) old new = None
 told_safe (Err fault) old new = None

@@ -1,6 +1,6 @@
 //! Command lines.
 ghost use Rattle.std.specs.Prelude.{map};
-ghost use Rattle.org_serve.specs.Grammar.{show_of, capture_of, refile_of, todo_of, archive_of, command_of, command_of_fields};
+ghost use Rattle.org_serve.specs.Grammar.{show_of, capture_of, refile_of, todo_of, clock_in_of, clock_out_of, clocked_of, archive_of, command_of, command_of_fields};
 ghost use Rattle.org_serve.specs.Gives.{Gives};
 
 use crate::fault::LineFault;
@@ -33,9 +33,18 @@ fn command(alloc: Global, fields: &[&[u8]]) -> Result<Command, LineFault>
                 Err(LineFault::BadLine)
             }
         }
-        [word, name] => {
+        [word, field] => {
             if is(word, "show") {
-                show(alloc, name)
+                show(alloc, field)
+            } else if is(word, "clock-out") {
+                clock_out(field)
+            } else {
+                Err(LineFault::BadLine)
+            }
+        }
+        [word, name, titles] => {
+            if is(word, "time") {
+                time(alloc, name, titles)
             } else {
                 Err(LineFault::BadLine)
             }
@@ -43,6 +52,8 @@ fn command(alloc: Global, fields: &[&[u8]]) -> Result<Command, LineFault>
         [word, name, titles, when] => {
             if is(word, "archive") {
                 archive(alloc, name, titles, when)
+            } else if is(word, "clock-in") {
+                clock_in(alloc, name, titles, when)
             } else {
                 Err(LineFault::BadLine)
             }
@@ -163,4 +174,31 @@ fn archive(alloc: Global, name: &[u8], titles: &[u8], when: &[u8]) -> Result<Com
     let path = path(alloc, titles)?;
     let moment = moment(when).ok_or(LineFault::BadLine)?;
     Ok(Command::Archive { file, path, moment })
+}
+
+#[tactic(auto, unfolding(crate::specs::Grammar::clock_in_of))]
+fn clock_in(alloc: Global, name: &[u8], titles: &[u8], when: &[u8]) -> Result<Command, LineFault>
+    ensures { Gives result (clock_in_of name.now titles.now when.now) }
+{
+    let file = file(alloc, name)?;
+    let path = path(alloc, titles)?;
+    let moment = moment(when).ok_or(LineFault::BadLine)?;
+    Ok(Command::ClockIn { file, path, moment })
+}
+
+#[tactic(auto, unfolding(crate::specs::Grammar::clock_out_of))]
+fn clock_out(when: &[u8]) -> Result<Command, LineFault>
+    ensures { Gives result (clock_out_of when.now) }
+{
+    let moment = moment(when).ok_or(LineFault::BadLine)?;
+    Ok(Command::ClockOut { moment })
+}
+
+#[tactic(auto, unfolding(crate::specs::Grammar::clocked_of))]
+fn time(alloc: Global, name: &[u8], titles: &[u8]) -> Result<Command, LineFault>
+    ensures { Gives result (clocked_of name.now titles.now) }
+{
+    let file = file(alloc, name)?;
+    let path = path(alloc, titles)?;
+    Ok(Command::Time { file, path })
 }

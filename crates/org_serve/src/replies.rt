@@ -1,6 +1,7 @@
 //! Replies, written line by line.
 ghost use Rattle.std.specs.Prelude.{◌≡◌, ◌++◌, length, OnOk, OnErr, codes, decimal};
 ghost use Rattle.std.specs.Io.KnownBytes.{Appends};
+ghost use Rattle.org_stamp.specs.Stamp.{duration_text};
 ghost use Rattle.org_store.specs.declared.command.RunFault.TheVariants.{Refused};
 ghost use Rattle.org_disk.specs.Disk.{HasRisen};
 ghost use Rattle.org_serve.specs.Faults.{fault_text};
@@ -27,6 +28,7 @@ pub fn write_answer<W: Sink>(
         Ok(Reply::Done(n)) => write_done(writer, *n, before, safe)?,
         Ok(Reply::Safe(n)) => write_safe(writer, *n)?,
         Ok(Reply::Text(bytes)) => write_text(writer, bytes.as_slice())?,
+        Ok(Reply::Time(minutes)) => write_time(writer, *minutes)?,
         Err(fault) => write_fault(writer, *fault)?,
     }
     writer.flush()
@@ -101,6 +103,18 @@ fn write_text<W: Sink>(writer: &mut W, bytes: &[u8]) -> Result<(), PipeFault>
     writer.write(b"\n")?;
     writer.write(bytes)?;
     writer.write(b"\n")
+}
+
+fn write_time<W: Sink>(writer: &mut W, minutes: u64) -> Result<(), PipeFault>
+    ensures ok { OnOk result (Appends (W.written writer.old) (W.written writer.new)
+        (codes "time " ++ duration_text minutes 1 ++ codes "\n")) }
+    ensures same { OnOk result (W.failures writer.new ≡ W.failures writer.old) }
+    ensures err { OnErr result (HasRisen (W.failures writer.old) (W.failures writer.new)) }
+{
+    let past = (minutes % 60) as u8;
+    writer.write(b"time ")?;
+    writer.write(Buffer::new().format(minutes / 60).as_bytes())?;
+    writer.write(&[b':', b'0' + past / 10, b'0' + past % 10, b'\n'])
 }
 
 fn write_fault<W: Sink>(writer: &mut W, fault: RunFault) -> Result<(), PipeFault>
