@@ -3,6 +3,8 @@ ghost use Rattle.std.specs.Prelude.{IfOk, All};
 ghost use Rattle.org_disk.specs.Names.{IsOrgFile};
 ghost use Rattle.org_serve.specs.Group.{IsGroup};
 
+mod archives;
+mod clocks;
 mod failures;
 mod groups;
 mod journals;

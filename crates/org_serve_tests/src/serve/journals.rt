@@ -51,7 +51,7 @@ fn the_gate_goes_out(rt: HostRuntime) {
 }
 
 // The gate once a disk was opened.
-fn gate_opened(alloc: Global, disk: MemoryDisk) -> Result<u8, Fail> {
+pub fn gate_opened(alloc: Global, disk: MemoryDisk) -> Result<u8, Fail> {
     gate_of(alloc, run(alloc, disk, 1, b"")?.disk)
 }
 

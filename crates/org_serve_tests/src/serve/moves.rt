@@ -11,21 +11,26 @@ use std::alloc::Global;
 use std::process::Abort;
 use std::test::Fail;
 
-// Lines that are settled as one: what a.org and b.org hold before them, and what shows of both answer before and after.
+// Lines that are settled as one: what a.org and b.org hold before them, and what shows of two files answer before and
+// after.
 #[derive(Clone, Copy)]
 pub struct Step {
     pub a: &'static [u8],
     pub b: &'static [u8],
     pub lines: &'static [u8],
+    pub shows: &'static [u8],
     pub before: &'static [u8],
     pub after: &'static [u8],
 }
+
+pub const BOTH: &[u8] = b"show\ta.org\nshow\tb.org\n";
 
 // The last line of the target has no newline.
 const ACROSS: Step = Step {
     a: b"* A\n** B\nb\n",
     b: b"* T",
     lines: b"refile\ta.org\tA/B\tb.org\tT\tlast\n",
+    shows: BOTH,
     before: b"text 11\n* A\n** B\nb\n\ntext 3\n* T\n",
     after: b"text 4\n* A\n\ntext 11\n* T\n** B\nb\n\n",
 };
@@ -35,6 +40,7 @@ const BACK: Step = Step {
     a: b"* T\n** K\n",
     b: b"* A\n** B\n*** C",
     lines: b"refile\tb.org\tA/B\ta.org\tT\tfirst\n",
+    shows: BOTH,
     before: b"text 9\n* T\n** K\n\ntext 14\n* A\n** B\n*** C\n",
     after: b"text 20\n* T\n** B\n*** C\n** K\n\ntext 4\n* A\n\n",
 };
@@ -43,6 +49,7 @@ const WITHIN: Step = Step {
     a: b"* A\n** B\nb\n* T",
     b: b"* Z",
     lines: b"refile\ta.org\tA/B\ta.org\tT\tfirst\n",
+    shows: BOTH,
     before: b"text 14\n* A\n** B\nb\n* T\ntext 3\n* Z\n",
     after: b"text 15\n* A\n* T\n** B\nb\n\ntext 3\n* Z\n",
 };
@@ -52,6 +59,7 @@ const THERE_AND_BACK: Step = Step {
     a: b"* A\n** B\nb\n",
     b: b"* T",
     lines: b"refile\ta.org\tA/B\tb.org\tT\tlast\nrefile\tb.org\tT/B\ta.org\tA\tlast\n",
+    shows: BOTH,
     before: b"text 11\n* A\n** B\nb\n\ntext 3\n* T\n",
     after: b"text 11\n* A\n** B\nb\n\ntext 4\n* T\n\n",
 };
@@ -61,6 +69,7 @@ const TO_A_HEAD: Step = Step {
     a: b"x",
     b: b"* Z",
     lines: b"capture\ta.org\thead:Tasks\tlast\t2026-07-01 10:00\t* N\t\n",
+    shows: BOTH,
     before: b"text 1\nx\ntext 3\n* Z\n",
     after: b"text 15\nx\n* Tasks\n** N\n\ntext 3\n* Z\n",
 };
@@ -70,12 +79,13 @@ const TO_A_DAY: Step = Step {
     a: b"* 2026\n* 2027\n",
     b: b"* Z",
     lines: b"capture\ta.org\tdate\tlast\t2026-07-01 10:00\t* N\t\n",
+    shows: BOTH,
     before: b"text 14\n* 2026\n* 2027\n\ntext 3\n* Z\n",
     after: b"text 62\n* 2026\n** 2026-07 July\n*** 2026-07-01 Wednesday\n**** N\n* 2027\n\n\
         text 3\n* Z\n",
 };
 
-fn disk_of(alloc: Global, step: &Step) -> Result<MemoryDisk, Fail> {
+pub fn disk_of(alloc: Global, step: &Step) -> Result<MemoryDisk, Fail> {
     two_files(alloc, step.a, step.b)
 }
 
@@ -91,8 +101,8 @@ fn is_after(shown: &[u8], step: &Step) -> Option<bool> {
 }
 
 // Whether the files of a disk are those after the step, once it is opened again, and not those before.
-fn is_done(alloc: Global, disk: MemoryDisk, step: &Step) -> Result<bool, Fail> {
-    let shown = served(alloc, disk, 1, b"show\ta.org\nshow\tb.org\n")?;
+pub fn is_done(alloc: Global, disk: MemoryDisk, step: &Step) -> Result<bool, Fail> {
+    let shown = served(alloc, disk, 1, step.shows)?;
     Ok(is_after(&shown, step).ok_or("neither before nor after")?)
 }
 

@@ -1,6 +1,6 @@
 // Lines that change TODO states, and TODO changes over a disk that stops or fails: the file is as before, or as after.
 use super::answers_over;
-use super::moves::{Step, fail_at_every_call, stop_at_every_call};
+use super::moves::{BOTH, Step, fail_at_every_call, stop_at_every_call};
 use std::test::Fail;
 
 // What a.org holds, lines, and what is answered to them.
@@ -67,6 +67,7 @@ const REPEATED: Step = Step {
     a: b"* TODO A\nSCHEDULED: <2026-06-30 Tue ++1d>\n* B",
     b: b"* Z",
     lines: b"todo\ta.org\tA\tDONE\t2026-07-01 10:00\n",
+    shows: BOTH,
     before: b"text 45\n* TODO A\nSCHEDULED: <2026-06-30 Tue ++1d>\n* B\ntext 3\n* Z\n",
     after: b"text 164\n* TODO A\nSCHEDULED: <2026-07-02 Thu ++1d>\n:PROPERTIES:\n\
         :LAST_REPEAT: [2026-07-01 Wed 10:00]\n:END:\n\

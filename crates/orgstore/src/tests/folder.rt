@@ -33,13 +33,13 @@ fn opened(rt: &HostRuntime, passes: u64) -> Result<Result<Store<Folder>, OpenFau
     Ok(Store::open(alloc, disk, names, states).map_err(|refused| refused.fault))
 }
 
-// How serving the captures ends, and how many are acknowledged and accepted then.
-fn captured(rt: &HostRuntime, passes: u64) -> Result<(ServeEnd, u64, u64), Fail> {
+// How serving these lines in groups of two ends, and how many commands are acknowledged and accepted then.
+fn served(rt: &HostRuntime, lines: &[u8], passes: u64) -> Result<(ServeEnd, u64, u64), Fail> {
     match opened(rt, passes)? {
         Err(_) => Ok((ServeEnd::Device, 0, 0)),
         Ok(mut store) => {
             store.set_group(2);
-            let mut reader = Counted::new(CAPTURES);
+            let mut reader = Counted::new(lines);
             let mut writer = Counted::new(Vec::new(rt.alloc()));
             let end = serve(rt.alloc(), &mut store, &mut reader, &mut writer, 100);
             Ok((end, store.acknowledged(), store.accepted()))
@@ -78,7 +78,7 @@ fn prefix_in(rt: &HostRuntime) -> Result<u64, Fail> {
 fn broken_off_at_every_call(rt: HostRuntime) -> Result<(), Fail> {
     for passes in 0..100u64 {
         make_folder(&rt)?;
-        let (end, acknowledged, accepted) = captured(&rt, passes)?;
+        let (end, acknowledged, accepted) = served(&rt, CAPTURES, passes)?;
         let prefix = prefix_in(&rt)?;
         assert!(rt;
             acknowledged <= prefix && prefix <= accepted,
@@ -88,6 +88,52 @@ fn broken_off_at_every_call(rt: HostRuntime) -> Result<(), Fail> {
             assert!(rt; prefix == 2 && acknowledged == 2);
             return Ok(fs::remove_dir_all(&rt, "fused")?);
         }
+        assert!(rt; end == ServeEnd::Device && acknowledged == 0);
+    }
+    Err("no run is whole")?
+}
+
+const ARCHIVE: &[u8] = b"archive\tb.org\tZ\t2026-07-01 10:00\n";
+
+const ARCHIVED: &[u8] = b"* Z\n:PROPERTIES:\n:ARCHIVE_TIME: 2026-07-01 Wed 10:00\n\
+    :ARCHIVE_FILE: b.org\n:ARCHIVE_CATEGORY: b\n:END:\n";
+
+// The text of b.org's archive file; where it isn't there it is empty.
+fn archive_read(rt: &HostRuntime) -> io::Result<Vec<u8>> {
+    if fs::metadata(rt, "fused/b.org_archive").is_err() {
+        return Ok(Vec::new(rt.alloc()));
+    }
+    fs::read(rt, "fused/b.org_archive")
+}
+
+// Whether the heading is in the archive file, and not in b.org, once the folder is opened again; none where it is in both
+// or in neither, or not as it should be.
+fn is_archived(rt: &HostRuntime) -> Result<Option<bool>, Fail> {
+    if opened(rt, u64::MAX)?.is_err() {
+        return Err("not opened")?;
+    }
+    let b = fs::read(rt, "fused/b.org")?;
+    let archive = archive_read(rt)?;
+    if b.as_slice() == b"* Z".as_slice() && archive.is_empty() {
+        return Ok(Some(false));
+    }
+    if b.is_empty() && archive.as_slice() == ARCHIVED {
+        return Ok(Some(true));
+    }
+    Ok(None)
+}
+
+#[test]
+fn an_archive_broken_off_at_every_call(rt: HostRuntime) -> Result<(), Fail> {
+    for passes in 0..100u64 {
+        make_folder(&rt)?;
+        let (end, acknowledged, _) = served(&rt, ARCHIVE, passes)?;
+        let archived = is_archived(&rt)?;
+        if end == ServeEnd::End {
+            assert!(rt; archived == Some(true) && acknowledged == 1);
+            return Ok(fs::remove_dir_all(&rt, "fused")?);
+        }
+        assert!(rt; archived.is_some(), "after {passes} calls");
         assert!(rt; end == ServeEnd::Device && acknowledged == 0);
     }
     Err("no run is whole")?
