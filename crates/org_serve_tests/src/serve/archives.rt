@@ -250,12 +250,12 @@ fn archives_in_a_group_stopped(rt: HostRuntime) -> Result<(), Fail> {
     stop_at_every_call(&rt, 3, &TO_THE_ARCHIVE)
 }
 
-// The source is asked for its length and read, the archive file for its length; the record is written and synced, and
-// the gate is the sixth call.
-const GATE: u64 = 6;
+// Both files are asked for their length and read, though the archive file isn't there; the record is written and synced,
+// and the gate is the seventh call.
+const GATE: u64 = 7;
 
 // Behind the gate's sync the source's patch is written, and it is asked for its length and cut; then the archive file's.
-const ARCHIVE_FILE: u64 = 11;
+const ARCHIVE_FILE: u64 = 12;
 
 // What a stop at this call behind the opening leaves.
 fn stopped_behind(alloc: Global, call: u64, outcome: Outcome) -> Result<MemoryDisk, Fail> {
@@ -267,7 +267,11 @@ fn stopped_behind(alloc: Global, call: u64, outcome: Outcome) -> Result<MemoryDi
 }
 
 fn is_done_stopped(alloc: Global, call: u64, outcome: Outcome) -> Result<bool, Fail> {
-    is_done(alloc, stopped_behind(alloc, call, outcome)?, &TO_THE_ARCHIVE)
+    is_done(
+        alloc,
+        stopped_behind(alloc, call, outcome)?,
+        &TO_THE_ARCHIVE,
+    )
 }
 
 fn gate_left(alloc: Global) -> Result<u8, Fail> {
@@ -299,7 +303,7 @@ fn another_byte_at_the_gate_is_left_alone(rt: HostRuntime) {
 
 #[test]
 fn each_call_of_an_archive_fails(rt: HostRuntime) -> Result<(), Fail> {
-    fail_at_every_call(&rt, &TO_THE_ARCHIVE, 16)
+    fail_at_every_call(&rt, &TO_THE_ARCHIVE, 17)
 }
 
 #[test]
