@@ -23,5 +23,7 @@ pub mod Sortings
 pub mod Runs
 pub mod Reopening
 pub mod NodeCounts
+pub mod ArchivedCounts
 pub mod Calls
 pub mod OnePlace
+pub mod MovedCounts

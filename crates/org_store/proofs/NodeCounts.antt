@@ -41,7 +41,7 @@ untouched (one ∷ names) (text ∷ texts) name new same out = elim (name_cases 
   | inr not ↦ let f = not.1 in rw f (ap (λ (ts : List (List ℕ)). text ∷ ts) (untouched names texts name new (omega (arith, same)) (rw f at out)))
 ]
 
-sum_put : (weight : List ℕ → ℕ) (names texts : List (List ℕ)) (name old new : List ℕ) → IsDistinct bytes_eq names → length texts ≡ length names → text_at names texts name ≡ Some old
+pub sum_put : (weight : List ℕ → ℕ) (names texts : List (List ℕ)) (name old new : List ℕ) → IsDistinct bytes_eq names → length texts ≡ length names → text_at names texts name ≡ Some old
     → sum_by weight (with_text names texts name new) + weight old ≡ sum_by weight texts + weight new
 sum_put weight [] texts name old new apart same at = absurd (cc)
 sum_put weight (one ∷ names) [] name old new apart same at = absurd (cc)
@@ -61,7 +61,7 @@ sum_put weight (one ∷ names) (text ∷ texts) name old new apart same at = eli
       rw f (omega (arith, more, sum_by-cons weight text (with_text names texts name new), sum_by-cons weight text texts))
 ]
 
-still_at : (names texts : List (List ℕ)) (name other new : List ℕ) → name ≢ other → text_at names (with_text names texts name new) other ≡ text_at names texts other
+pub still_at : (names texts : List (List ℕ)) (name other new : List ℕ) → name ≢ other → text_at names (with_text names texts name new) other ≡ text_at names texts other
 still_at [] texts name other new apart = refl
 still_at (one ∷ names) [] name other new apart = refl
 still_at (one ∷ names) (text ∷ texts) name other new apart = elim (name_cases one other) [
@@ -74,14 +74,14 @@ still_at (one ∷ names) (text ∷ texts) name other new apart = elim (name_case
   | inr not ↦ let f = not.1 in rw f (still_at names texts name other new apart)
 ]
 
-still_long : (names texts : List (List ℕ)) (name new : List ℕ) → length texts ≡ length names → length (with_text names texts name new) ≡ length names
+pub still_long : (names texts : List (List ℕ)) (name new : List ℕ) → length texts ≡ length names → length (with_text names texts name new) ≡ length names
 still_long [] texts name new same = refl
 still_long (one ∷ names) [] name new same = absurd (cc)
 still_long (one ∷ names) (text ∷ texts) name new same = let more = still_long names texts name new (omega (arith, same)) in omega (arith, more)
 
 -- ---- a refile
 
-accepted_are : (s : Session) (changes : List (List ℕ × List ℕ)) (files : List (List ℕ)) → changed s changes ≡ Accepts files → with_all s.names s.files changes ≡ files
+pub accepted_are : (s : Session) (changes : List (List ℕ × List ℕ)) (files : List (List ℕ)) → changed s changes ≡ Accepts files → with_all s.names s.files changes ≡ files
 accepted_are s changes files = go (has_large changes) (s.accepted == 2 ^ 64 - 1)
   where
     go : (large full : Bool) → (if large then Refuses TooLarge else if full then Refuses TooLarge else Accepts (with_all s.names s.files changes)) ≡ Accepts files → with_all s.names s.files changes ≡ files
@@ -90,10 +90,10 @@ accepted_are s changes files = go (has_large changes) (s.accepted == 2 ^ 64 - 1)
     go false false accepts = cc
 
 module _ (s : Session) (apart : IsDistinct bytes_eq s.names) (each : length s.files ≡ length s.names) (rest : List ℕ) (section : List (List ℕ)) where
-  abbrev weight : List ℕ → ℕ
+  abbrev pub weight : List ℕ → ℕ
   weight text = count_in rest section (tree text)
 
-  again : (d : Document) → IsValid d → weight (print d) ≡ count_in rest section d
+  pub again : (d : Document) → IsValid d → weight (print d) ≡ count_in rest section d
   again d valid = ap (count_in rest section) (tree-print d valid)
 
   within_keeps : (file : List ℕ) (path to : List (List ℕ)) (place : Place) (text : List ℕ) (files : List (List ℕ)) (said : Result Document MoveFault) → text_at s.names s.files file ≡ Some text

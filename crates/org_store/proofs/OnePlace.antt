@@ -95,12 +95,16 @@ module _ (given : List (List ℕ)) (s : Session) (of : IsSessionOf given s) wher
       (λ reached. nodes_as s.names reached.0.files s.files image (kept reached.0 reached.1) reached.2)
       left
 
+-- what is known of each session that was reached
+pub reached_as : (s : Session) (P Q : Session → Type 0) (image : Image) → ((mid : Session) → P mid → Q mid) → HasNodesOfOne s P image → HasNodesOfOne s Q image
+reached_as s P Q image weaker left = ⊎_elim (λ held. inl held) (λ reached. inr (reached.0, weaker reached.0 reached.1, reached.2)) left
+
 -- ---- a run of refiles
 
 same_nodes : (texts others : List (List ℕ)) → texts ≡ others → HaveSameNodes texts others
 same_nodes texts others is rest section = ap (count_over rest section) is
 
-accepted_keeps : (s : Session) (command : Command) (files : List (List ℕ)) → IsDistinct bytes_eq s.names → AreSmall s.names s.files → IsRefile command → outcome s command ≡ Accepts files
+pub accepted_keeps : (s : Session) (command : Command) (files : List (List ℕ)) → IsDistinct bytes_eq s.names → AreSmall s.names s.files → IsRefile command → outcome s command ≡ Accepts files
     → HaveSameNodes files s.files
 accepted_keeps s command files apart small is accepts rest section =
     let told = subst (λ (c : Command). outcome s c ≡ Accepts files) is.5 accepts in

@@ -5,6 +5,8 @@ use Rattle.org_outline.specs.declared.moves.Place.{Place}
 use Rattle.org_outline.specs.declared.moves.Place.TheVariants.{First, Last}
 use Rattle.org_capture.specs.declared.target.Target.TheVariants.{Top}
 use Rattle.org_stamp.specs.Calendar.{CivilMinute, at_minute, civil_day}
+use Rattle.org_splice.specs.Lines.{print_lines}
+use Rattle.org_move.specs.Counts.{count_over}
 use Rattle.org_store.specs.declared.command.Refusal.TheVariants.{NoSuchFile, BadTemplate, BadEntry, NotFound, InsideItself}
 use Rattle.org_outline.specs.States.{Keywords}
 use Rattle.org_store.specs.InOrder.{text_at}
@@ -84,3 +86,32 @@ no_source_heading = refl
 
 unknown_target_before_path : refiled_in (store [] []) (codes "a.org") (codes "A" ∷ []) (codes "q.org") (codes "B" ∷ []) Last ≡ Refuses NoSuchFile
 unknown_target_before_path = refl
+
+-- ---- archivings
+
+-- an entry with a child, whose location is a heading of another file that isn't there yet
+abbrev located : List ℕ
+located = line (codes "#+ARCHIVE: b.org::* Old") ++ line (codes "* A") ++ line (codes "x") ++ line (codes "** B")
+
+abbrev properties : List (List ℕ)
+properties = codes ":PROPERTIES:" ∷ codes ":ARCHIVE_TIME: 2026-07-01 Wed 10:00" ∷ codes ":ARCHIVE_FILE: a.org" ∷ codes ":ARCHIVE_CATEGORY: a" ∷ codes ":END:" ∷ []
+
+-- both files once the entry is archived, written by hand
+abbrev after_it : List (List ℕ)
+after_it = line (codes "#+ARCHIVE: b.org::* Old") ∷ (line (codes "* Old") ++ line (codes "** A") ++ print_lines properties ++ line (codes "x") ++ line (codes "*** B")) ∷ []
+
+-- how often a node is there over both files, before it and after it
+abbrev counted : List ℕ → List (List ℕ) → ℕ × ℕ
+counted rest section = (count_over rest section (located ∷ [] ∷ []), count_over rest section after_it)
+
+entry_as_it_was : counted (codes " A") (codes "x" ∷ []) ≡ (1, 0)
+entry_as_it_was = refl
+
+entry_archived : counted (codes " A") (properties ++ codes "x" ∷ []) ≡ (0, 1)
+entry_archived = refl
+
+child_of_the_entry : counted (codes " B") [] ≡ (1, 1)
+child_of_the_entry = refl
+
+heading_made : counted (codes " Old") [] ≡ (0, 1)
+heading_made = refl

@@ -1,18 +1,23 @@
 -- Each node in one place: how often it is there over all files of a store, in what a stop leaves.
-use Rattle.std.specs.Prelude.{◌≡◌, ◌⊎◌, ℕ, List, [], ◌∷◌, Result, Ok, Err, IsSomeAnd}
-use Rattle.std.specs.List.{All}
-use Rattle.org_disk.specs.Names.{IsOrgFile}
+use Rattle.std.specs.Prelude.{◌≡◌, ◌⊎◌, ℕ, ◌+◌, ◌≤◌, List, [], ◌∷◌, length, Option, Some, Result, Ok, Err, IsSomeAnd}
+use Rattle.std.specs.List.{All, sum_by}
+use Rattle.org_disk.specs.Names.{IsDiskName, IsOrgFile}
+use Rattle.org_stamp.specs.Calendar.{CivilMinute}
 use Rattle.org_outline.specs.declared.moves.Place.{Place}
+use Rattle.org_outline.specs.Paths.{find_path}
+use Rattle.org_outline.specs.Tree.{node_at, tree}
 use Rattle.org_journal.specs.Standing.{Image, stands}
 use Rattle.org_fileset.specs.Names.{with_archives, AreSorted}
-use Rattle.org_move.specs.Counts.{count_over}
+use Rattle.org_move.specs.Archive.{archived_section, target_heading}
+use Rattle.org_move.specs.Counts.{count_over, made_count, one_of}
+use Rattle.org_move.specs.Location.{Destination, location}
 use Rattle.org_store.specs.declared.command.Command.{Command}
-use Rattle.org_store.specs.declared.command.Command.TheVariants.{Refile}
+use Rattle.org_store.specs.declared.command.Command.TheVariants.{Archive, Refile}
 use Rattle.org_store.specs.declared.command.Reply.{Reply}
 use Rattle.org_store.specs.declared.command.Reply.TheVariants.{Done, Safe, Text, Time}
 use Rattle.org_store.specs.declared.command.RunFault.{RunFault}
 use Rattle.org_store.specs.declared.command.RunFault.TheVariants.{Refused, OutOfMemory, Device, Broken}
-use Rattle.org_store.specs.InOrder.{texts_of}
+use Rattle.org_store.specs.InOrder.{text_at, texts_of}
 use Rattle.org_store.specs.Reopening.{AreSmall}
 use Rattle.org_store.specs.Session.{Session}
 
@@ -56,3 +61,55 @@ abbrev pub OnlyRefiles : List Command → List (Result Reply RunFault) → Type 
 OnlyRefiles (command ∷ commands) (answer ∷ answers) = (MayBeAccepted answer → IsRefile command) × OnlyRefiles commands answers
 OnlyRefiles [] answers = Unit {0}
 OnlyRefiles (command ∷ commands) [] = Unit {0}
+
+-- These texts of all files have one entry archived, the one at a path of a session's file, and each other node as often
+-- (Org manual, "Moving a tree to an archive file").
+pub record ArchivesOne (s : Session) (file : List ℕ) (path : List (List ℕ)) (now : CivilMinute) (files : List (List ℕ)) : Type 0 where
+  -- the entry: the heading at the path, by its number in the text of its file
+  pub text : List ℕ
+  pub in_file : text_at s.names s.files file ≡ Some text
+  pub entry : ℕ
+  pub found : find_path s.states (tree text) path ≡ Ok entry
+  -- where it goes: to a file of this text, below this heading of it, or below none that is there
+  pub to : Destination
+  pub place : location s.states file path text ≡ Ok to
+  pub target : List ℕ
+  pub in_target : text_at s.names s.files to.file ≡ Some target
+  pub up : Option ℕ
+  pub heading : target_heading s.states to (tree target) ≡ Ok up
+  -- with the entry as it was, each node is there as often as before with the entry as it is then and with the heading made
+  pub counts : (rest : List ℕ) (section : List (List ℕ)) → let own = (node_at (tree text) entry).node in
+      count_over rest section files + one_of rest section own.rest own.section
+      ≡ count_over rest section s.files + one_of rest section own.rest (archived_section s.states file now (tree text) entry) + made_count rest section to up
+
+-- an archiving from a file with a name that a store's files have
+abbrev pub IsArchiving : Command → Type 0
+IsArchiving command = (file : List ℕ) × (path : List (List ℕ)) × (now : CivilMinute) × IsDiskName file × (command ≡ Archive file path now)
+
+-- These commands got these answers, and none but refiles and archivings were accepted.
+abbrev pub OnlyMoves : List Command → List (Result Reply RunFault) → Type 0
+OnlyMoves (command ∷ commands) (answer ∷ answers) = (MayBeAccepted answer → IsRefile command ⊎ IsArchiving command) × OnlyMoves commands answers
+OnlyMoves [] answers = Unit {0}
+OnlyMoves (command ∷ commands) [] = Unit {0}
+
+-- a node whose section became another one; the rest of its heading line stays
+pub record NewSection : Type 0 where
+  pub rest : List ℕ
+  pub old : List (List ℕ)
+  pub new : List (List ℕ)
+
+-- Each node is as often over these texts as over the others, but that these nodes have new sections, and that headings with
+-- these rests of their lines were made, with empty sections.
+abbrev pub HaveNodesBut : List NewSection → List (List ℕ) → List (List ℕ) → List (List ℕ) → Type 0
+HaveNodesBut roots made texts others = (rest : List ℕ) (section : List (List ℕ)) →
+    count_over rest section texts + sum_by (λ root. one_of rest section root.rest root.old) roots
+    ≡ count_over rest section others + sum_by (λ root. one_of rest section root.rest root.new) roots + sum_by (λ line. one_of rest section line []) made
+
+-- So it is between two sessions, with at most one new section for each command that was accepted since, and with at most
+-- one heading made for each of these.
+pub record KeepsNodesBut (old new : Session) : Type 0 where
+  pub roots : List NewSection
+  pub made : List (List ℕ)
+  pub few_roots : old.accepted + length roots ≤ new.accepted
+  pub few_made : length made ≤ length roots
+  pub counts : HaveNodesBut roots made new.files old.files

@@ -5,25 +5,26 @@ ghost use Rattle.std.specs.Str.{bytes_eq};
 ghost use Rattle.org_disk.specs.Disk.{HasRisen};
 ghost use Rattle.org_disk.specs.Accounts.{LeavesOver};
 ghost use Rattle.org_journal.specs.Standing.{Image, IsFit, contents};
-ghost use Rattle.org_disk.specs.Names.{IsOrgFile};
+ghost use Rattle.org_disk.specs.Names.{IsDiskName, IsOrgFile};
 ghost use Rattle.org_fileset.specs.Names.{with_archives, AreSorted, AreFew, first_large};
 ghost use Rattle.org_fileset.specs.Opening.{IsReason};
 ghost use Rattle.org_fileset.specs.Replay.{IsAtRest};
 ghost use Rattle.org_fileset.specs.declared.open.OpenFault.{OpenFault};
 ghost use Rattle.org_fileset.specs.declared.open.OpenFault.TheVariants.{OutOfMemory, Device};
+ghost use Rattle.org_stamp.specs.Calendar.{CivilMinute};
 ghost use Rattle.org_outline.specs.declared.moves.Place.{Place};
 ghost use Rattle.org_move.specs.Counts.{count_over};
 ghost use Rattle.org_store.specs.declared.command.Command.{Command};
-ghost use Rattle.org_store.specs.declared.command.Command.TheVariants.{Refile};
+ghost use Rattle.org_store.specs.declared.command.Command.TheVariants.{Archive, Refile};
 ghost use Rattle.org_store.specs.declared.command.Reply.{Reply};
 ghost use Rattle.org_store.specs.declared.command.Reply.TheVariants.{Done};
 ghost use Rattle.org_store.specs.declared.command.RunFault.{RunFault};
 ghost use Rattle.org_store.specs.Calls.{Call, CallsOver, ReachesBy};
 ghost use Rattle.org_store.specs.Left.{IsLeft};
-ghost use Rattle.org_store.specs.OnePlace.{HaveSameNodes, HasNodesOf, HasNodesOfOne, IsSessionOf, OnlyRefiles};
+ghost use Rattle.org_store.specs.OnePlace.{ArchivesOne, HaveSameNodes, HasNodesOf, HasNodesOfOne, IsSessionOf, KeepsNodesBut, OnlyMoves, OnlyRefiles};
 ghost use Rattle.org_store.specs.Outcome.{Accepts, outcome};
 ghost use Rattle.org_store.specs.Reopening.{AreSameNames, AreSmall, IsOpenable};
-ghost use Rattle.org_store.specs.Runs.{RunsAllOver, IsOnDisk, Reaches, IsBetween, IsLeftOf};
+ghost use Rattle.org_store.specs.Runs.{RunsAllOver, RunsOver, IsOnDisk, Reaches, IsBetween, IsLeftOf};
 ghost use Rattle.org_store.specs.InOrder.{texts_of};
 ghost use Rattle.org_store.specs.Session.{Session, Kept, Holds};
 ghost use Rattle.org_store.specs.Step.{Step, Run, IsReply};
@@ -107,7 +108,8 @@ pub fn calls_leave_a_prefix<D: Disk>()
 /// Each node in one place. Where a run of commands began as for `stops_leave_a_prefix`, each node is in what a stop leaves
 /// as often, over all files of the store, as after the commands that were acknowledged then, or after some of the commands
 /// of the run, from the first on. Where no command but refiles is accepted, that is as often as when the run began: a stop
-/// within a refile loses no node of the subtree and doubles none, in the old place or the new.
+/// within a refile loses no node of the subtree and doubles none, in the old place or the new. A stop within an archiving
+/// leaves each node as often as after the commands that were acknowledged then, as before it, or as after it.
 pub fn one_place<D: Disk>()
     ensures any_moment { (given : List (List ℕ)) (old new : Kept D) (commands : List Command)
         (answers : List (Result Reply RunFault)) → D.honest old.disk → IsAtRest (D.files old.disk)
@@ -130,6 +132,26 @@ pub fn one_place<D: Disk>()
         → Run old commands answers new → IsFalse new.broken → OnlyRefiles commands answers
         → HaveSameNodes new.files old.files
         × (HaveSameNodes old.settled old.files → HaveSameNodes new.settled new.files) }
+    // One archiving: each node of its subtree is in the old place or the new, the root there with its properties.
+    ensures archive { (given : List (List ℕ)) (old new : Kept D) (file : List ℕ)
+        (path : List (List ℕ)) (now : CivilMinute) (answer : Result Reply RunFault)
+        → D.honest old.disk → IsAtRest (D.files old.disk)
+        → IsOnDisk old.session (contents (D.files old.disk)) → IsFalse old.session.broken
+        → IsSessionOf given old.session → IsDiskName file
+        → RunsOver D.files D.moment D.left_since old (Archive file path now) answer new
+        → LeavesOver D.moment D.left_since old.disk new.disk (HasNodesOfOne old.session
+        (λ mid. (mid.files ≡ old.session.files)
+        ⊎ ArchivesOne old.session file path now mid.files)) }
+    // Where none but refiles and archivings are accepted: as often as when the run began, but that for each accepted
+    // command at most one node has another section under the same heading line, and at most one heading is made.
+    ensures moves { (given : List (List ℕ)) (old new : Kept D) (commands : List Command)
+        (answers : List (Result Reply RunFault)) → D.honest old.disk → IsAtRest (D.files old.disk)
+        → IsOnDisk old.session (contents (D.files old.disk)) → IsFalse old.session.broken
+        → IsSessionOf given old.session
+        → RunsAllOver D.files D.moment D.left_since old commands answers new
+        → OnlyMoves commands answers
+        → LeavesOver D.moment D.left_since old.disk new.disk
+        (HasNodesOfOne old.session (KeepsNodesBut old.session)) }
 {}
 
 /// There is one way to put names in order, each once. So the given names are few or too many, and never both.
@@ -154,6 +176,16 @@ pub fn refiles_keep_counts()
         → outcome s (Refile file path to_file to place) ≡ Accepts files
         → (rest : List ℕ) (section : List (List ℕ))
         → count_over rest section files ≡ count_over rest section s.files }
+{}
+
+/// An archiving that is accepted keeps how often each node is there over all files, but that its entry becomes one with the
+/// same rest of the heading line and with the section that has the archive's properties, and that a heading is made where
+/// the location's isn't there: the nodes below the entry, and all others, are as often there as before.
+pub fn archives_keep_counts()
+    ensures { (s : Session) (file : List ℕ) (path : List (List ℕ)) (now : CivilMinute)
+        (files : List (List ℕ)) → IsDistinct bytes_eq s.names → length s.files ≡ length s.names
+        → IsDiskName file → outcome s (Archive file path now) ≡ Accepts files
+        → ArchivesOne s file path now files }
 {}
 
 /// Every image of a store's disk opens again, with the names that the store was opened with: over a disk that holds

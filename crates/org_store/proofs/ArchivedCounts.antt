@@ -1,0 +1,157 @@
+-- An archiving keeps how often each node is there over all files of a store, but for the entry's section and for the heading
+-- that is made.
+use Rattle.std.proofs.Common.{◌≡◌, ◌≢◌, ◌⊎◌, inl, inr, ⊎_elim, ℕ, ◌+◌, Bool, true, false, List, [], ◌∷◌, length, Option, Some, None, Result, Ok, Err, refl, sym, ◌∙◌, ap, subst, if◌then◌else◌, arith}
+use Rattle.std.specs.List.{IsDistinct, sum_by}
+use Rattle.std.specs.Str.{bytes_eq}
+use Rattle.org_disk.specs.Names.{IsDiskName}
+use Rattle.org_disk.proofs.Names.{name_cases}
+use Rattle.org_splice.specs.Lines.{IsLine}
+use Rattle.org_stamp.specs.Calendar.{CivilMinute}
+use Rattle.org_outline.specs.declared.paths.PathFault.{PathFault}
+use Rattle.org_outline.specs.Paths.{find_path}
+use Rattle.org_outline.specs.Tree.{Document, print, tree}
+use Rattle.org_outline.proofs.Trees.{tree-is}
+use Rattle.org_move.specs.declared.fault.MoveFault.{MoveFault}
+use Rattle.org_move.specs.Archive.{archive_across, archive_within, target_heading, with_heading}
+use Rattle.org_move.specs.Location.{Destination, location}
+use Rattle.org_move.specs.Refile.{Moved}
+use Rattle.org_move.proofs.Archives.{across_keeps, across_stays_valid, within_keeps, within_stays_valid}
+use Rattle.org_move.proofs.Moving.{found_of}
+use Rattle.org_move.proofs.Values.{name_line, place_line}
+use Rattle.org_store.specs.declared.command.Command.TheVariants.{Archive}
+use Rattle.org_store.specs.declared.command.Reply.{Reply}
+use Rattle.org_store.specs.declared.command.Reply.TheVariants.{Done, Safe, Text, Time}
+use Rattle.org_store.specs.declared.command.RunFault.{RunFault}
+use Rattle.org_store.specs.declared.command.RunFault.TheVariants.{Refused, OutOfMemory, Device, Broken}
+use Rattle.org_store.specs.InOrder.{text_at, with_text}
+use Rattle.org_store.specs.OnePlace.{ArchivesOne}
+use Rattle.org_store.specs.Outcome.{Accepts, archive, archive_at, archive_to, outcome, with_moved}
+use Rattle.org_store.specs.Refile.{text_within, texts_across}
+use Rattle.org_store.specs.Runs.{GoesOn, Reaches}
+use Rattle.org_store.specs.Session.{Session}
+use Rattle.org_store.specs.Step.{done, fills}
+use Rattle.org_store.proofs.NodeCounts.{accepted_are, again, still_at, still_long, sum_put, weight}
+
+-- the heading of a place where something was made
+heading_at : {A : Type 0} (said : Result (Option ℕ) PathFault) (make : Option ℕ → Result A MoveFault) (x : A) → with_heading said make ≡ Ok x → (up : Option ℕ) × (said ≡ Ok up)
+heading_at (Ok up) make x is = (up, refl)
+heading_at (Err fault) make x is = absurd cc
+
+-- the texts of all files after an accepted command
+pub done_files : (s : Session) (files : List (List ℕ)) → (done s files).files ≡ files
+done_files s files = go (fills s)
+  where
+    go : (full : Bool) → (if full then record s { files = files; settled = files; accepted = s.accepted + 1; acknowledged = s.accepted + 1 } else record s { files = files; accepted = s.accepted + 1 }).files ≡ files
+    go true = refl
+    go false = refl
+
+module _ (s : Session) (apart : IsDistinct bytes_eq s.names) (each : length s.files ≡ length s.names) (file : List ℕ) (named : IsDiskName file) (path : List (List ℕ)) (now : CivilMinute) where
+  line : IsLine file
+  line = name_line file named
+
+  within_archives : (text : List ℕ) (to : Destination) (files : List (List ℕ)) (said : Result Document MoveFault) → file ≡ to.file → text_at s.names s.files file ≡ Some text → location s.states file path text ≡ Ok to
+      → archive_within s.states file path now to (tree text) ≡ said → with_moved s (text_within file) said ≡ Accepts files → ArchivesOne s file path now files
+  within_archives text to files (Err why) own at place is accepts = absurd (cc)
+  within_archives text to files (Ok new) own at place is accepts =
+      let first = found_of (find_path s.states (tree text) path) _ new is in
+      let second = heading_at (target_heading s.states to (tree text)) _ new first.2 in
+      let made : with_text s.names s.files file (print new) ≡ files = accepted_are s (text_within file new) files accepts in
+      let valid = within_stays_valid s.states file path now to (tree text) new line (place_line s.states file path text to place) is (tree-is text).valid in
+      record {
+        text = text;
+        in_file = at;
+        entry = first.0;
+        found = first.1;
+        to = to;
+        place = place;
+        target = text;
+        in_target = subst (λ (n : List ℕ). text_at s.names s.files n ≡ Some text) own at;
+        up = second.0;
+        heading = second.1;
+        counts = λ rest section. omega (
+          arith,
+          ap (sum_by (weight s apart each rest section)) made,
+          sum_put (weight s apart each rest section) s.names s.files file text (print new) apart each at,
+          again s apart each rest section new valid,
+          within_keeps s.states file path now to (tree text) new first.0 second.0 first.1 second.1 is rest section,
+        );
+      }
+
+  across_archives : (text target : List ℕ) (to : Destination) (files : List (List ℕ)) (said : Result Moved MoveFault) → file ≢ to.file → text_at s.names s.files file ≡ Some text
+      → text_at s.names s.files to.file ≡ Some target → location s.states file path text ≡ Ok to → archive_across s.states file path now (tree text) s.states to (tree target) ≡ said
+      → with_moved s (texts_across file to.file) said ≡ Accepts files → ArchivesOne s file path now files
+  across_archives text target to files (Err why) different at there place is accepts = absurd (cc)
+  across_archives text target to files (Ok new) different at there place is accepts =
+      let first = found_of (find_path s.states (tree text) path) _ new is in
+      let second = heading_at (target_heading s.states to (tree target)) _ new first.2 in
+      let left = with_text s.names s.files file (print new.source) in
+      let made : with_text s.names left to.file (print new.target) ≡ files = accepted_are s (texts_across file to.file new) files accepts in
+      let valid = across_stays_valid s.states s.states file path now to (tree text) (tree target) new line (place_line s.states file path text to place) is (tree-is text).valid (tree-is target).valid in
+      record {
+        text = text;
+        in_file = at;
+        entry = first.0;
+        found = first.1;
+        to = to;
+        place = place;
+        target = target;
+        in_target = there;
+        up = second.0;
+        heading = second.1;
+        counts = λ rest section. omega (
+          arith,
+          ap (sum_by (weight s apart each rest section)) made,
+          sum_put (weight s apart each rest section) s.names s.files file text (print new.source) apart each at,
+          sum_put (weight s apart each rest section) s.names left to.file target (print new.target) apart (still_long s.names s.files file (print new.source) each)
+              (still_at s.names s.files file to.file (print new.source) different ∙ there),
+          again s apart each rest section new.source valid.0,
+          again s apart each rest section new.target valid.1,
+          across_keeps s.states s.states file path now to (tree text) (tree target) new first.0 second.0 first.1 second.1 is rest section,
+        );
+      }
+
+  to_archives : (text : List ℕ) (to : Destination) (into : Option (List ℕ)) (files : List (List ℕ)) → text_at s.names s.files file ≡ Some text → location s.states file path text ≡ Ok to
+      → text_at s.names s.files to.file ≡ into → archive_to s file path now text to into ≡ Accepts files → ArchivesOne s file path now files
+  to_archives text to None files at place there accepts = absurd (cc)
+  to_archives text to (Some target) files at place there accepts = elim (name_cases file to.file) [
+    | inl is ↦ let t = is.1 in within_archives text to files (archive_within s.states file path now to (tree text)) is.0 at place refl (rw t at accepts)
+    | inr not ↦ let f = not.1 in across_archives text target to files (archive_across s.states file path now (tree text) s.states to (tree target)) not.0 at there place refl (rw f at accepts)
+  ]
+
+  at_archives : (text : List ℕ) (said : Result Destination MoveFault) (files : List (List ℕ)) → text_at s.names s.files file ≡ Some text → location s.states file path text ≡ said
+      → archive_at s file path now text said ≡ Accepts files → ArchivesOne s file path now files
+  at_archives text (Err why) files at place accepts = absurd (cc)
+  at_archives text (Ok to) files at place accepts = to_archives text to (text_at s.names s.files to.file) files at place refl accepts
+
+  in_archives : (old : Option (List ℕ)) (files : List (List ℕ)) → text_at s.names s.files file ≡ old → archive s file path now old ≡ Accepts files → ArchivesOne s file path now files
+  in_archives None files at accepts = absurd (cc)
+  in_archives (Some text) files at accepts = at_archives text (location s.states file path text) files at refl accepts
+
+  pub archive_keeps : (files : List (List ℕ)) → outcome s (Archive file path now) ≡ Accepts files → ArchivesOne s file path now files
+  archive_keeps files accepts = in_archives (text_at s.names s.files file) files refl accepts
+
+  -- ---- what a stop leaves of it
+
+  -- the files are as before, or have the entry archived
+  abbrev pub IsOneOf : Session → Type 0
+  IsOneOf mid = (mid.files ≡ s.files) ⊎ ArchivesOne s file path now mid.files
+
+  done_archives : (new : Session) (files : List (List ℕ)) → outcome s (Archive file path now) ≡ Accepts files → new ≡ done s files → IsOneOf new
+  done_archives new files accepts goes =
+      inr (subst (ArchivesOne s file path now) (sym (ap (λ (t : Session). t.files) goes ∙ done_files s files)) (archive_keeps files accepts))
+
+  same_files : (new : Session) → new ≡ s → IsOneOf new
+  same_files new is = inl (ap (λ (t : Session). t.files) is)
+
+  goes_archives : (new : Session) (answer : Result Reply RunFault) → GoesOn s (outcome s (Archive file path now)) answer new → IsOneOf new
+  goes_archives new (Ok (Done n)) on = done_archives new on.1.0 on.1.1 on.1.3
+  goes_archives new (Ok (Text text)) on = same_files new on.2
+  goes_archives new (Ok (Time minutes)) on = same_files new on.2
+  goes_archives new (Ok (Safe n)) on = inl (ap (λ (t : Session). t.files) on.3)
+  goes_archives new (Err (Refused why)) on = same_files new on.2
+  goes_archives new (Err OutOfMemory) on = same_files new on.1
+  goes_archives new (Err Device) on = done_archives new on.0 on.1 on.3
+  goes_archives new (Err Broken) on = same_files new on.1
+
+  pub reached_archives : (mid : Session) (answer : Result Reply RunFault) → Reaches s (Archive file path now ∷ []) (answer ∷ []) mid → IsOneOf mid
+  reached_archives mid answer reaches = ⊎_elim (λ is. same_files mid is) (λ on. subst IsOneOf (sym on.2) (goes_archives on.0 answer on.1)) reaches
