@@ -6,6 +6,8 @@ pub mod Puts
 pub mod Walks
 pub mod Logs
 pub mod Closing
+pub mod Flat
+pub mod ClosedClocks
 pub mod Entries
 pub mod PlanningText
 pub mod Replanning

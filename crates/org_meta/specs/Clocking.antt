@@ -7,6 +7,7 @@ use Rattle.org_splice.specs.Lines.{lines_of}
 use Rattle.org_splice.specs.declared.Span.{Span}
 use Rattle.org_splice.specs.declared.edit.Edit.{Edit}
 use Rattle.org_stamp.specs.Calendar.{CivilMinute}
+use Rattle.org_stamp.specs.Parts.{◌>>=◌}
 use Rattle.org_stamp.specs.Stamp.{duration_text}
 use Rattle.org_meta.specs.declared.clock.Running.{Running}
 use Rattle.org_meta.specs.declared.fault.ClockFault.{ClockFault}
@@ -57,6 +58,10 @@ closed_clock now line None = Ok line
 -- the line, closed where it is an open clock, unless the moment is before its start
 abbrev pub closed_line : CivilMinute → List ℕ → Result (List ℕ) ClockFault
 closed_line now line = closed_clock now line (running_clock line)
+
+-- how many minutes an open clock line has run at a moment, where that isn't before its start
+abbrev pub minutes_run : CivilMinute → List ℕ → Option ℕ
+minutes_run now line = running_clock line >>= λ running. minutes_between running.start now
 
 -- The edit closes the open clock line at the span, and all other lines stay.
 abbrev pub Closes : CivilMinute → List ℕ → Span → Edit → Type 0

@@ -1,14 +1,15 @@
 //! What holds of the definitions, for all values: each law is the contract of a function with
 //! nothing to do.
-ghost use Rattle.std.specs.Prelude.{◌≡◌, ◌++◌, ◌∷◌, [], ℕ, Bool, List, Result, Some, Ok, true, codes, IsTrue};
+ghost use Rattle.std.specs.Prelude.{◌≡◌, ◌<◌, ◌++◌, ◌∷◌, [], ℕ, Bool, List, Result, Some, Ok, true, false, codes, IsTrue};
 ghost use Rattle.org_splice.specs.Blanks.{trimmed};
-ghost use Rattle.org_stamp.specs.Calendar.{CivilMinute};
+ghost use Rattle.org_stamp.specs.Calendar.{CivilMinute, IsDay};
 ghost use Rattle.org_meta.specs.Sections.{SectionParts, split, joined, is_planning, is_property_name, property, property_line, put};
 ghost use Rattle.org_meta.specs.Planning.{PlanningEntry, PlanningLine, planning_of, entries_text, has_repeater, AreRepeated, repeated_entries};
 ghost use Rattle.org_meta.specs.declared.fault.PlanningFault.{PlanningFault};
 ghost use Rattle.org_meta.specs.Replans.{repeated_line};
 ghost use Rattle.org_meta.specs.Notes.{note_line, with_note};
-ghost use Rattle.org_meta.specs.Clocking.{clock_line, opened};
+ghost use Rattle.org_meta.specs.Clocks.{is_open, minutes_in};
+ghost use Rattle.org_meta.specs.Clocking.{clock_line, closed_line, minutes_run, opened};
 ghost use Rattle.org_meta.specs.Lines.{AllPass};
 
 /// The parts of a section are all of it.
@@ -81,4 +82,16 @@ pub fn keeps_lines()
     ensures opened { (test : List ℕ → Bool) (now : CivilMinute) (lines : List (List ℕ))
         → AllPass test (clock_line now ∷ codes ":LOGBOOK:" ∷ codes ":END:" ∷ [])
         → AllPass test lines → AllPass test (joined (opened now (split lines))) }
+{}
+
+/// The clock line of a moment is open. A line that was closed isn't: it says the minutes from its
+/// start to the moment.
+pub fn clocks_open_and_close()
+    ensures opened { (now : CivilMinute) → IsDay now.day → now.minute < 1440
+        → is_open (clock_line now) ≡ true }
+    ensures closed { (now : CivilMinute) (line new : List ℕ) → closed_line now line ≡ Ok new
+        → is_open new ≡ false }
+    ensures minutes { (now : CivilMinute) (line new : List ℕ) (minutes : ℕ) → IsDay now.day
+        → now.minute < 1440 → minutes_run now line ≡ Some minutes → closed_line now line ≡ Ok new
+        → minutes_in new ≡ minutes }
 {}

@@ -9,7 +9,7 @@ use Rattle.org_meta.specs.Sections.{split}
 use Rattle.org_meta.proofs.Computed.{entries_computed}
 use Rattle.org_state.specs.declared.fault.StateFault.{StateFault}
 use Rattle.org_state.specs.Keyword.{keyword_in}
-use Rattle.org_state.specs.Todo.{Own, changed, first_active, repeating, repeated_parts, TurnsDone, Turns, is_done, IsChanged, own_at, with_own_at, heading_to_change, IsTodoAt, IsTodo, turned_done, turned, in_state, todo_at, todo}
+use Rattle.org_state.specs.Todo.{Own, changed, first_active, repeating, repeated_parts, TurnsDone, Turns, is_done, own_at, with_own_at, heading_to_change, IsTodoAt, IsTodo, turned_done, turned, todo_at, todo}
 
 module _ (states : Keywords) (state : List ℕ) (now : CivilMinute) where
   done_computed : (own : Own) (o : Option PlanningLine) (r : Result Own StateFault) → TurnsDone states state now own o r → turned_done states state now own o ≡ r

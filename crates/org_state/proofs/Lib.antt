@@ -7,4 +7,7 @@ pub mod Switching
 pub mod Both
 pub mod One
 pub mod Rows
+pub mod ClockRows
+pub mod Opens
+pub mod ClocksKept
 pub mod Computed

@@ -3,3 +3,4 @@ pub mod Todo
 pub mod Edits
 pub mod Answers
 pub mod Clock
+pub mod Open

@@ -1,9 +1,14 @@
-//! What holds of changes of TODO states, for all values: each law is the contract of a function with nothing to do.
-ghost use Rattle.std.specs.Prelude.{◌≡◌, ℕ, List, Option, Result};
-ghost use Rattle.org_stamp.specs.Calendar.{CivilMinute};
+//! What holds of changes of TODO states and of clocks, for all values: each law is the contract of a function with
+//! nothing to do.
+ghost use Rattle.std.specs.Prelude.{◌≡◌, ◌<◌, ◌+◌, ◌∷◌, ◌++◌, [], ℕ, min, List, Option, Some, Result, Ok, drop, slice_get};
+ghost use Rattle.std.specs.Option.{option_map};
+ghost use Rattle.org_stamp.specs.Calendar.{CivilMinute, IsDay};
 ghost use Rattle.org_outline.specs.States.{Keywords};
-ghost use Rattle.org_outline.specs.Tree.{Document};
+ghost use Rattle.org_outline.specs.Tree.{Document, IsValid, node_count, print, tree};
+ghost use Rattle.org_meta.specs.Clocking.{clock_line, minutes_run};
 ghost use Rattle.org_state.specs.declared.fault.StateFault.{StateFault};
+ghost use Rattle.org_state.specs.Clock.{clocked_minutes, running_heading, switched, with_closed, with_opened};
+ghost use Rattle.org_state.specs.Open.{open_clocks};
 ghost use Rattle.org_state.specs.Todo.{IsTodo, todo};
 
 /// A change of a state has one outcome.
@@ -18,4 +23,65 @@ pub fn outcome_computes()
     ensures { (states : Keywords) (path : List (List ℕ)) (state : List ℕ) (now : CivilMinute)
         (d : Document) (r : Result (Option Document) StateFault)
         → IsTodo states path state now d r → todo states path state now d ≡ r }
+{}
+
+/// The clock that runs is the first of those that are open.
+pub fn first_clock_runs()
+    ensures { (d : Document) → running_heading d
+        ≡ option_map (λ (clock : ℕ × List ℕ). clock.0) (slice_get (open_clocks d) 0) }
+{}
+
+/// A clock that is opened is one open clock more, of the moment, at its heading; all others stay.
+pub fn opened_clocks_are_open()
+    ensures { (now : CivilMinute) (i : ℕ) (d : Document) → IsDay now.day → now.minute < 1440
+        → i < node_count d → (before : List (ℕ × List ℕ)) × (after : List (ℕ × List ℕ))
+        × (open_clocks d ≡ before ++ after)
+        × (open_clocks (with_opened now i d) ≡ before ++ ((i, clock_line now) ∷ after)) }
+{}
+
+/// A clock that is closed is open no more, and all others stay, so that the next one runs, or none.
+pub fn closed_clocks_are_closed()
+    ensures { (now : CivilMinute) (i : ℕ) (d new : Document) → running_heading d ≡ Some i
+        → with_closed now i d ≡ Ok new → open_clocks new ≡ drop 1 (open_clocks d) }
+{}
+
+/// Clocking keeps to one clock: where none is open one runs after clocking in, where one runs none does after clocking
+/// out, and clocking in elsewhere leaves one, there.
+pub fn one_clock_runs()
+    ensures opened { (now : CivilMinute) (i : ℕ) (d : Document) → IsDay now.day → now.minute < 1440
+        → i < node_count d → open_clocks d ≡ []
+        → open_clocks (with_opened now i d) ≡ (i, clock_line now) ∷ [] }
+    ensures closed { (now : CivilMinute) (i : ℕ) (line : List ℕ) (d new : Document)
+        → open_clocks d ≡ (i, line) ∷ [] → with_closed now i d ≡ Ok new → open_clocks new ≡ [] }
+    ensures switched { (now : CivilMinute) (from i : ℕ) (line : List ℕ) (d new : Document)
+        → IsDay now.day → now.minute < 1440 → i < node_count d
+        → open_clocks d ≡ (from, line) ∷ [] → switched now from d i ≡ Ok (Some new)
+        → open_clocks new ≡ (i, clock_line now) ∷ [] }
+{}
+
+/// Clocking keeps a document valid, so that the tree of the new text is what was made: a clock line is no heading line.
+pub fn clocks_are_valid()
+    ensures opened { (now : CivilMinute) (i : ℕ) (d : Document) → i < node_count d → IsValid d
+        → IsValid (with_opened now i d) }
+    ensures closed { (now : CivilMinute) (i : ℕ) (d new : Document) → i < node_count d
+        → with_closed now i d ≡ Ok new → IsValid d → IsValid new }
+    ensures switched { (now : CivilMinute) (from i : ℕ) (d new : Document) → from < node_count d
+        → i < node_count d → switched now from d i ≡ Ok (Some new) → IsValid d → IsValid new }
+    ensures opened_text { (now : CivilMinute) (i : ℕ) (t : List ℕ) → i < node_count (tree t)
+        → tree (print (with_opened now i (tree t))) ≡ with_opened now i (tree t) }
+    ensures closed_text { (now : CivilMinute) (i : ℕ) (t : List ℕ) (new : Document)
+        → i < node_count (tree t) → with_closed now i (tree t) ≡ Ok new → tree (print new) ≡ new }
+    ensures switched_text { (now : CivilMinute) (from i : ℕ) (t : List ℕ) (new : Document)
+        → from < node_count (tree t) → i < node_count (tree t)
+        → switched now from (tree t) i ≡ Ok (Some new) → tree (print new) ≡ new }
+{}
+
+/// Closing a clock adds to the time clocked at its heading the minutes from its start to the moment.
+pub fn closing_adds_its_minutes()
+    ensures { (now : CivilMinute) (i : ℕ) (line : List ℕ) (more : List (ℕ × List ℕ))
+        (minutes : ℕ) (d new : Document) → IsDay now.day → now.minute < 1440
+        → open_clocks d ≡ (i, line) ∷ more → minutes_run now line ≡ Some minutes
+        → with_closed now i d ≡ Ok new
+        → clocked_minutes new i
+        ≡ min (clocked_minutes d i + minutes) 18_446_744_073_709_551_615 }
 {}
