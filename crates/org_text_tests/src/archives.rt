@@ -1,8 +1,9 @@
 // Locations of archives through the public call: rows worked by hand from the rules of archiving.
+use crate::edits::titles;
 use org_disk::{FileName, NameFault};
 use org_move::{Location, MoveFault, location};
 use org_outline::{Outline, States, is_closed};
-use std::alloc::{AllocError, Global};
+use std::alloc::Global;
 use std::process::Abort;
 use std::test::Fail;
 
@@ -15,17 +16,8 @@ type Row = (
     Result<(&'static str, usize, &'static str), MoveFault>,
 );
 
-/// The titles of a path.
-fn titles(alloc: Global, path: &[&str]) -> Result<Vec<Vec<u8>>, AllocError> {
-    let mut titles = Vec::new(alloc);
-    for title in path {
-        titles.push(Vec::from_slice(alloc, title.as_bytes())?)?;
-    }
-    Ok(titles)
-}
-
 /// The name of a file.
-fn named(alloc: Global, text: &str) -> Result<FileName, MoveFault> {
+pub fn named(alloc: Global, text: &str) -> Result<FileName, MoveFault> {
     match FileName::new(alloc, text) {
         Ok(name) => Ok(name),
         Err(NameFault::BadName) => Err(MoveFault::NoSuchFile),

@@ -1,11 +1,9 @@
 // Clocks through the public calls: rows worked by hand from the rules of clocking.
+use crate::edits::{edited, edited_by, titles};
 use org_outline::{Outline, PathFault, States, is_closed};
-use org_splice::{Edit, Editing};
 use org_stamp::Moment;
-use org_state::{StateFault, clock_in, clock_out, clocked, running};
-use std::alloc::{AllocError, Global};
+use org_state::{StateFault, clock_in, clock_out, clocked, running, switch_clock};
 use std::process::Abort;
-use std::test::Fail;
 
 /// A text, and what it is with a clock opened at its heading A.
 type In = (&'static str, Result<&'static str, StateFault>);
@@ -14,17 +12,22 @@ type In = (&'static str, Result<&'static str, StateFault>);
 type Out = (
     &'static str,
     (u8, u8),
-    Option<Result<&'static str, StateFault>>,
+    Result<Option<&'static str>, StateFault>,
+);
+
+/// A text in which a clock runs, a minute of 2026-07-01, and the text with a clock opened at its heading A then; none
+/// where nothing changes.
+type Switch = (
+    &'static str,
+    (u8, u8),
+    Result<Option<&'static str>, StateFault>,
 );
 
 /// A text, and the minutes clocked at its heading A.
 type Time = (&'static str, Result<u64, PathFault>);
 
-/// The path of the heading A.
-fn path(alloc: Global) -> Result<Vec<Vec<u8>>, AllocError> {
-    let mut path = Vec::new(alloc);
-    path.push(Vec::from_slice(alloc, b"A")?)?;
-    Ok(path)
+fn states(rt: &(impl Abort + AllocGlobal)) -> States {
+    States::new(rt.alloc(), &["TODO"], &["DONE"]).expect(rt, "states")
 }
 
 /// A minute of 2026-07-01.
@@ -32,13 +35,13 @@ fn moment(rt: &impl Abort, (hour, minute): (u8, u8)) -> Moment {
     Moment::new(2026, 7, 1, hour, minute).expect(rt, "a moment")
 }
 
-/// The text after an edit, which has to lie in it.
-fn edited(rt: &impl Abort, alloc: Global, text: &[u8], edit: &Edit) -> Result<Vec<u8>, AllocError> {
-    let size = text.len();
-    assert!(rt; edit.at <= size && edit.removed <= size - edit.at);
-    let mut after = Editing::new(Vec::from_slice(alloc, text)?);
-    after.apply(edit)?;
-    after.bytes().to_vec(alloc)
+/// Whether an answer is what a row has.
+fn is(answer: &Result<Vec<u8>, StateFault>, expected: &Result<&str, StateFault>) -> bool {
+    match (answer, expected) {
+        (Ok(after), Ok(expected)) => after.as_slice() == expected.as_bytes(),
+        (Err(fault), Err(expected)) => fault == expected,
+        _ => false,
+    }
 }
 
 /// The text with a clock opened at its heading A.
@@ -49,13 +52,13 @@ fn opened(
 ) -> Result<Vec<u8>, StateFault> {
     let alloc = rt.alloc();
     assert!(rt; is_closed(text));
-    let path = path(alloc)?;
+    let path = titles(alloc, &["A"])?;
     let outline = Outline::read(alloc, text, states)?;
     let edit = clock_in(alloc, &outline, path.as_slice(), moment(rt, (10, 0)))?;
-    Ok(edited(rt, alloc, text, &edit)?)
+    Ok(edited(rt, alloc, text, &edit))
 }
 
-const OPENED: [In; 9] = [
+const OPENED: &[In] = &[
     (
         "* A\n",
         Ok("* A\n:LOGBOOK:\nCLOCK: [2026-07-01 Wed 10:00]\n:END:\n"),
@@ -93,18 +96,25 @@ const OPENED: [In; 9] = [
 ];
 
 #[test]
-fn clocks_in(rt: HostRuntime) -> Result<(), Fail> {
-    let states = States::new(rt.alloc(), &["TODO"], &["DONE"])?;
-    for (text, expected) in OPENED.iter() {
-        match (opened(&rt, &states, text.as_bytes()), expected) {
-            (Ok(after), Ok(expected)) => {
-                assert!(rt; after.as_slice() == expected.as_bytes(), "{text}");
-            }
-            (Err(fault), Err(expected)) => assert!(rt; fault == *expected, "{text}"),
-            _ => assert!(rt; false, "{text}"),
-        }
+fn clocks_in(rt: HostRuntime) {
+    let states = states(&rt);
+    for (text, expected) in OPENED {
+        let answer = opened(&rt, &states, text.as_bytes());
+        assert!(rt; is(&answer, expected), "{text}");
     }
-    Ok(())
+}
+
+/// Whether an answer, if any, is what a row has.
+fn is_changed(
+    answer: &Result<Option<Vec<u8>>, StateFault>,
+    expected: &Result<Option<&str>, StateFault>,
+) -> bool {
+    match (answer, expected) {
+        (Ok(Some(after)), Ok(Some(expected))) => after.as_slice() == expected.as_bytes(),
+        (Ok(None), Ok(None)) => true,
+        (Err(fault), Err(expected)) => fault == expected,
+        _ => false,
+    }
 }
 
 /// The text with its running clock closed.
@@ -121,34 +131,34 @@ fn closed(
         return Ok(None);
     };
     let edit = clock_out(alloc, text, running, now)?;
-    Ok(Some(edited(rt, alloc, text, &edit)?))
+    Ok(Some(edited(rt, alloc, text, &edit)))
 }
 
-const CLOSED: [Out; 14] = [
+const CLOSED: &[Out] = &[
     (
         "* A\n:LOGBOOK:\nCLOCK: [2026-07-01 Wed 10:00]\n:END:\n",
         (11, 30),
-        Some(Ok(
+        Ok(Some(
             "* A\n:LOGBOOK:\nCLOCK: [2026-07-01 Wed 10:00]--[2026-07-01 Wed 11:30] =>  1:30\n:END:\n",
         )),
     ),
     (
         "* B\n:LOGBOOK:\nCLOCK: [2026-07-01 Wed 11:30]\n:END:\n",
         (11, 30),
-        Some(Ok(
+        Ok(Some(
             "* B\n:LOGBOOK:\nCLOCK: [2026-07-01 Wed 11:30]--[2026-07-01 Wed 11:30] =>  0:00\n:END:\n",
         )),
     ),
     (
         "* B\n:LOGBOOK:\nCLOCK: [2026-07-01 Wed 11:30]\n:END:\n",
         (11, 29),
-        Some(Err(StateFault::ClockBackwards)),
+        Err(StateFault::ClockBackwards),
     ),
     // The first of two, outside a drawer, below another heading; what follows its timestamp goes.
     (
         "* A\n** B\n  CLOCK: [2026-06-30 10:00] \t\r\n* C\nCLOCK: [2026-07-01 Wed 09:00]\n",
         (11, 0),
-        Some(Ok(
+        Ok(Some(
             "* A\n** B\n  CLOCK: [2026-06-30 10:00]--[2026-07-01 Wed 11:00] => 25:00\n* C\nCLOCK: [2026-07-01 Wed 09:00]\n",
         )),
     ),
@@ -156,47 +166,194 @@ const CLOSED: [Out; 14] = [
     (
         "* A\nCLOCK: [2026-06-01 Mon 00:00]\n",
         (0, 5),
-        Some(Ok("* A\nCLOCK: [2026-06-01 Mon 00:00]--[2026-07-01 Wed 00:05] => 720:05\n")),
+        Ok(Some("* A\nCLOCK: [2026-06-01 Mon 00:00]--[2026-07-01 Wed 00:05] => 720:05\n")),
     ),
     // The first open line, whatever closed ones stand before it.
     (
         "* A\nCLOCK: [2026-07-01 08:00]--[2026-07-01 09:00] =>  1:00\nCLOCK: [2026-07-01 10:00]\nCLOCK: [2026-07-01 10:30]\n",
         (11, 0),
-        Some(Ok(
+        Ok(Some(
             "* A\nCLOCK: [2026-07-01 08:00]--[2026-07-01 09:00] =>  1:00\nCLOCK: [2026-07-01 10:00]--[2026-07-01 Wed 11:00] =>  1:00\nCLOCK: [2026-07-01 10:30]\n",
         )),
     ),
+    // In a block, and in a drawer without an end.
+    (
+        "* A\n#+BEGIN_SRC\nCLOCK: [2026-07-01 Wed 10:00]\n#+END_SRC\n",
+        (11, 0),
+        Ok(Some(
+            "* A\n#+BEGIN_SRC\nCLOCK: [2026-07-01 Wed 10:00]--[2026-07-01 Wed 11:00] =>  1:00\n#+END_SRC\n",
+        )),
+    ),
+    (
+        "* A\n:LOGBOOK:\nCLOCK: [2026-06-27 Sat 06:00]\n",
+        (10, 0),
+        Ok(Some(
+            "* A\n:LOGBOOK:\nCLOCK: [2026-06-27 Sat 06:00]--[2026-07-01 Wed 10:00] => 100:00\n",
+        )),
+    ),
+    // What runs backwards is text, and no clock that was opened.
+    (
+        "* A\nCLOCK: [2026-07-01 11:00]--[2026-07-01 10:59] =>  0:01\n* B\nCLOCK: [2026-07-01 Wed 10:00]\n",
+        (10, 0),
+        Ok(Some(
+            "* A\nCLOCK: [2026-07-01 11:00]--[2026-07-01 10:59] =>  0:01\n* B\nCLOCK: [2026-07-01 Wed 10:00]--[2026-07-01 Wed 10:00] =>  0:00\n",
+        )),
+    ),
+    (
+        "* A\nCLOCK: [2026-07-01 11:00]--[2026-07-01 10:59] =>  0:01\n",
+        (11, 0),
+        Ok(None),
+    ),
     // Before the first heading there is none.
-    ("CLOCK: [2026-07-01 Wed 10:00]\n* A\n", (11, 0), None),
+    ("CLOCK: [2026-07-01 Wed 10:00]\n* A\n", (11, 0), Ok(None)),
     // No clock lines: in lower case, without a blank, with an active timestamp, without a time, with two times, with a
     // repeater, with more behind the timestamp.
-    ("* A\nclock: [2026-07-01 Wed 10:00]\n", (11, 0), None),
-    ("* A\nCLOCK:[2026-07-01 Wed 10:00]\n", (11, 0), None),
-    ("* A\nCLOCK: <2026-07-01 Wed 10:00>\n", (11, 0), None),
-    ("* A\nCLOCK: [2026-07-01 Wed]\n", (11, 0), None),
-    ("* A\nCLOCK: [2026-07-01 Wed 10:00-10:30]\n", (11, 0), None),
-    ("* A\nCLOCK: [2026-07-01 Wed 10:00 +1d]\n", (11, 0), None),
-    ("* A\nCLOCK: [2026-07-01 Wed 10:00] x\n", (11, 0), None),
+    ("* A\nclock: [2026-07-01 Wed 10:00]\n", (11, 0), Ok(None)),
+    ("* A\nCLOCK:[2026-07-01 Wed 10:00]\n", (11, 0), Ok(None)),
+    ("* A\nCLOCK: <2026-07-01 Wed 10:00>\n", (11, 0), Ok(None)),
+    ("* A\nCLOCK: [2026-07-01 Wed]\n", (11, 0), Ok(None)),
+    (
+        "* A\nCLOCK: [2026-07-01 Wed 10:00-10:30]\n",
+        (11, 0),
+        Ok(None),
+    ),
+    (
+        "* A\nCLOCK: [2026-07-01 Wed 10:00 +1d]\n",
+        (11, 0),
+        Ok(None),
+    ),
+    ("* A\nCLOCK: [2026-07-01 Wed 10:00] x\n", (11, 0), Ok(None)),
 ];
 
 #[test]
-fn clocks_out(rt: HostRuntime) -> Result<(), Fail> {
-    let states = States::new(rt.alloc(), &["TODO"], &["DONE"])?;
-    for (text, when, expected) in CLOSED.iter() {
-        let now = moment(&rt, *when);
-        match (closed(&rt, &states, text.as_bytes(), now), expected) {
-            (Ok(None), None) => {}
-            (Ok(Some(after)), Some(Ok(expected))) => {
-                assert!(rt; after.as_slice() == expected.as_bytes(), "{text}");
-            }
-            (Err(fault), Some(Err(expected))) => assert!(rt; fault == *expected, "{text}"),
-            _ => assert!(rt; false, "{text}"),
-        }
+fn clocks_out(rt: HostRuntime) {
+    let states = states(&rt);
+    for (text, when, expected) in CLOSED {
+        let answer = closed(&rt, &states, text.as_bytes(), moment(&rt, *when));
+        assert!(rt; is_changed(&answer, expected), "{text}");
     }
-    Ok(())
 }
 
-const TIMES: [Time; 10] = [
+/// The text with a clock opened at its heading A where one runs, if anything changes.
+fn switched(
+    rt: &(impl Abort + AllocGlobal),
+    states: &States,
+    text: &[u8],
+    now: Moment,
+) -> Result<Option<Vec<u8>>, StateFault> {
+    let alloc = rt.alloc();
+    assert!(rt; is_closed(text));
+    let path = titles(alloc, &["A"])?;
+    let outline = Outline::read(alloc, text, states)?;
+    let running = running(&outline).expect(rt, "a clock that runs");
+    let edits = switch_clock(alloc, &outline, path.as_slice(), running, now)?;
+    if edits.is_empty() {
+        return Ok(None);
+    }
+    Ok(Some(edited_by(rt, alloc, text, edits.as_slice())))
+}
+
+const SWITCHED: &[Switch] = &[
+    // From a heading before it, and from one behind it.
+    (
+        "* B\n:LOGBOOK:\nCLOCK: [2026-07-01 Wed 10:00]\n:END:\n* A\n",
+        (11, 30),
+        Ok(Some(
+            "* B\n:LOGBOOK:\nCLOCK: [2026-07-01 Wed 10:00]--[2026-07-01 Wed 11:30] =>  1:30\n:END:\n* A\n:LOGBOOK:\nCLOCK: [2026-07-01 Wed 11:30]\n:END:\n",
+        )),
+    ),
+    (
+        "* A\nx\n* B\nCLOCK: [2026-07-01 Wed 10:00]\n",
+        (11, 30),
+        Ok(Some(
+            "* A\n:LOGBOOK:\nCLOCK: [2026-07-01 Wed 11:30]\n:END:\nx\n* B\nCLOCK: [2026-07-01 Wed 10:00]--[2026-07-01 Wed 11:30] =>  1:30\n",
+        )),
+    ),
+    // From a heading below it, at the clock's own start.
+    (
+        "* A\n** B\nCLOCK: [2026-07-01 Wed 11:30]\n",
+        (11, 30),
+        Ok(Some(
+            "* A\n:LOGBOOK:\nCLOCK: [2026-07-01 Wed 11:30]\n:END:\n** B\nCLOCK: [2026-07-01 Wed 11:30]--[2026-07-01 Wed 11:30] =>  0:00\n",
+        )),
+    ),
+    // Nothing changes where it runs at the heading itself, whatever the moment.
+    ("* A\nCLOCK: [2026-07-01 Wed 10:00]\n", (11, 30), Ok(None)),
+    (
+        "* A\nCLOCK: [2026-07-01 Wed 10:00]\n* B\n",
+        (9, 0),
+        Ok(None),
+    ),
+    // An open clock of the heading that isn't the first stays, and it gets a second one.
+    (
+        "* B\nCLOCK: [2026-07-01 Wed 10:00]\n* A\nCLOCK: [2026-07-01 Wed 09:00]\n",
+        (11, 30),
+        Ok(Some(
+            "* B\nCLOCK: [2026-07-01 Wed 10:00]--[2026-07-01 Wed 11:30] =>  1:30\n* A\n:LOGBOOK:\nCLOCK: [2026-07-01 Wed 11:30]\n:END:\nCLOCK: [2026-07-01 Wed 09:00]\n",
+        )),
+    ),
+    // So does one before the first heading.
+    (
+        "CLOCK: [2026-07-01 Wed 12:00]\n* B\nCLOCK: [2026-07-01 Wed 10:00]\n* A\n",
+        (11, 30),
+        Ok(Some(
+            "CLOCK: [2026-07-01 Wed 12:00]\n* B\nCLOCK: [2026-07-01 Wed 10:00]--[2026-07-01 Wed 11:30] =>  1:30\n* A\n:LOGBOOK:\nCLOCK: [2026-07-01 Wed 11:30]\n:END:\n",
+        )),
+    ),
+    // Lines that end with a carriage return, and a drawer without an end.
+    (
+        "* B\r\n:LOGBOOK:\r\nCLOCK: [2026-07-01 Wed 10:00]\r\n:END:\r\n* A\r\n:LOGBOOK:\r\n:END:\r\n",
+        (11, 30),
+        Ok(Some(
+            "* B\r\n:LOGBOOK:\r\nCLOCK: [2026-07-01 Wed 10:00]--[2026-07-01 Wed 11:30] =>  1:30\n:END:\r\n* A\r\n:LOGBOOK:\r\nCLOCK: [2026-07-01 Wed 11:30]\n:END:\r\n",
+        )),
+    ),
+    (
+        "* B\n:LOGBOOK:\nCLOCK: [2026-07-01 Wed 10:00]\n* A\n:LOGBOOK:\n- note\n",
+        (11, 30),
+        Ok(Some(
+            "* B\n:LOGBOOK:\nCLOCK: [2026-07-01 Wed 10:00]--[2026-07-01 Wed 11:30] =>  1:30\n* A\n:LOGBOOK:\nCLOCK: [2026-07-01 Wed 11:30]\n:END:\n:LOGBOOK:\n- note\n",
+        )),
+    ),
+    // Before the clock's start; but the path is asked first.
+    (
+        "* B\nCLOCK: [2026-07-01 Wed 10:00]\n* A\n",
+        (9, 59),
+        Err(StateFault::ClockBackwards),
+    ),
+    (
+        "* A\n* B\nCLOCK: [2026-07-01 Wed 10:00]\n",
+        (9, 59),
+        Err(StateFault::ClockBackwards),
+    ),
+    (
+        "* B\nCLOCK: [2026-07-01 Wed 10:00]\n",
+        (9, 59),
+        Err(StateFault::NotFound),
+    ),
+    (
+        "* B\nCLOCK: [2026-07-01 Wed 10:00]\n* A\n* TODO A\n",
+        (9, 59),
+        Err(StateFault::NotUnique),
+    ),
+    // Also where it runs at one of them.
+    (
+        "* A\nCLOCK: [2026-07-01 Wed 10:00]\n* A\n",
+        (11, 30),
+        Err(StateFault::NotUnique),
+    ),
+];
+
+#[test]
+fn clocks_elsewhere(rt: HostRuntime) {
+    let states = states(&rt);
+    for (text, when, expected) in SWITCHED {
+        let answer = switched(&rt, &states, text.as_bytes(), moment(&rt, *when));
+        assert!(rt; is_changed(&answer, expected), "{text}");
+    }
+}
+
+const TIMES: &[Time] = &[
     // The written durations aren't read, and headings below count.
     (
         "* A\nCLOCK: [2026-07-01 Wed 10:00]--[2026-07-01 Wed 11:30] =>  9:99\n** B\nCLOCK: [2026-07-01 Wed 12:00]--[2026-07-01 Wed 12:05] => 0:05\n",
@@ -221,6 +378,16 @@ const TIMES: [Time; 10] = [
         "* A\nCLOCK: [0001-01-01 0:00]--[9999-12-31 23:59] => 0:00\n",
         Ok(5_258_964_959),
     ),
+    // No line says more minutes, so a sum past 2^64 - 1 would want some 3,500,000,000 lines: more than a file may have.
+    (
+        "* A\nCLOCK: [0001-01-01 0:00]--[9999-12-31 23:59] => 0:00\n** B\nCLOCK: [0001-01-01 0:00]--[9999-12-31 23:59] => 0:00\n",
+        Ok(10_517_929_918),
+    ),
+    // In a block and in a drawer without an end, with carriage returns; in small letters it is text.
+    (
+        "* A\r\n:LOGBOOK:\r\nCLOCK: [2026-07-01 Wed 10:00]--[2026-07-01 Wed 10:01] =>  7:77\r\n#+BEGIN_SRC\r\nCLOCK: [2026-07-01 Wed 10:00]--[2026-07-01 Wed 10:02] =>  0:02\r\n#+END_SRC\r\nclock: [2026-07-01 Wed 10:00]--[2026-07-01 Wed 10:04] =>  0:04\r\n",
+        Ok(3),
+    ),
     ("*\n*\tA\n#+BEGIN_SRC\n* A\n#+END_SRC\n", Ok(0)),
     ("* TODO A :x:\n* A\n", Err(PathFault::NotUnique)),
     ("* a\n", Err(PathFault::NotFound)),
@@ -228,13 +395,12 @@ const TIMES: [Time; 10] = [
 ];
 
 #[test]
-fn times(rt: HostRuntime) -> Result<(), Fail> {
-    let states = States::new(rt.alloc(), &["TODO"], &["DONE"])?;
-    let path = path(rt.alloc())?;
-    for (text, expected) in TIMES.iter() {
+fn times(rt: HostRuntime) {
+    let states = states(&rt);
+    let path = titles(rt.alloc(), &["A"]).expect(&rt, "memory");
+    for (text, expected) in TIMES {
         assert!(rt; is_closed(text.as_bytes()));
-        let outline = Outline::read(rt.alloc(), text.as_bytes(), &states)?;
+        let outline = Outline::read(rt.alloc(), text.as_bytes(), &states).expect(&rt, "memory");
         assert!(rt; clocked(&outline, path.as_slice()) == *expected, "{text}");
     }
-    Ok(())
 }

@@ -4,6 +4,8 @@
 #[cfg(test)]
 mod archives;
 #[cfg(test)]
+mod archiving;
+#[cfg(test)]
 mod captures;
 #[cfg(test)]
 mod clocks;

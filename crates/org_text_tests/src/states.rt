@@ -2,7 +2,7 @@
 ghost use Rattle.std.specs.Prelude.{◌≡◌};
 ghost use Rattle.org_splice.specs.Lines.{closed};
 
-use crate::edits::{edited, titles};
+use crate::edits::{edited_by, titles};
 use org_outline::{Outline, States, is_closed};
 use org_splice::Edit;
 use org_stamp::Moment;
@@ -36,15 +36,6 @@ fn edits_of(
     let path = titles(alloc, path)?;
     let outline = Outline::read(alloc, text, states)?;
     todo(alloc, &outline, path.as_slice(), state.as_bytes(), now)
-}
-
-/// The text after edits, one after the other.
-fn edited_by(rt: &impl Abort, alloc: Global, text: &[u8], edits: &[Edit]) -> Vec<u8> {
-    let mut after = text.to_vec(alloc).expect(rt, "memory");
-    for edit in edits {
-        after = edited(rt, alloc, &after, edit);
-    }
-    after
 }
 
 /// The text with the heading at a path in another state, if anything changes.
