@@ -103,7 +103,7 @@ put_last_valid to None node d line good valid =
     elim (cases_Bool (to.level == 0)) [
       | inl e ↦ rw e (IsValid-insert None Last node d good valid)
       | inr e ↦ rw e (IsValid-insert (Some (node_count d)) Last node (append_heading to.level (32 ∷ to.title) d) good
-        (append_heading_valid to.level (32 ∷ to.title) d (above_top to.level e) refl (spaced to.title line) valid))
+          (append_heading_valid to.level (32 ∷ to.title) d (above_top to.level e) refl (spaced to.title line) valid))
     ]
 
 pub within_stays_valid : (states : Keywords) (name : List ℕ) (path : List (List ℕ)) (now : CivilMinute) (to : Destination) (d new : Document)
@@ -124,7 +124,7 @@ across_stays_valid states there name path now to source target new line title ma
     let same : record { source = take first.0 source; target = put_last to second.0 (archived states name now source first.0) target } ≡ new = cc in (
       subst IsValid (ap (λ (m : Moved). m.source) same) (take_valid first.0 source valid),
       subst IsValid (ap (λ (m : Moved). m.target) same) (put_last_valid to second.0 (archived states name now source first.0) target title
-        (archived_node states name now source first.0 line valid (found_in states source path first.0 first.1)) valid_target),
+          (archived_node states name now source first.0 line valid (found_in states source path first.0 first.1)) valid_target),
     )
 
 -- ---- counts
@@ -148,10 +148,10 @@ put_last_count rest section to None node d up_in =
     elim (cases_Bool (to.level == 0)) [
       | inl e ↦ rw e (omega (arith, insert-weight w None Last node d (λ i none. absurd cc)))
       | inr e ↦ rw e (omega (
-          arith,
-          insert-weight w (Some (node_count d)) Last node new (some_holds (λ p. p < node_count new) (node_count d) (one_more to.level (32 ∷ to.title) d)),
-          made-weight w to.level (32 ∷ to.title) d,
-        ))
+        arith,
+        insert-weight w (Some (node_count d)) Last node new (some_holds (λ p. p < node_count new) (node_count d) (one_more to.level (32 ∷ to.title) d)),
+        made-weight w to.level (32 ∷ to.title) d,
+      ))
     ]
 
 -- the heading's number once the subtree is taken out

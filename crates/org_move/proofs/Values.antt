@@ -355,7 +355,7 @@ value_line text i =
     let d : Document = tree text in
     unwrap_line (option_or (nearest (codes "ARCHIVE") d i) (value_of_lines (lines_of text))) (codes "%s_archive::")
     (or_line (nearest (codes "ARCHIVE") d i) (value_of_lines (lines_of text)) (last_value_line (codes "ARCHIVE") d (ancestors_of d i ++ i ∷ []) (tree-is text).valid)
-      (found_line is_archive_line (lines_of text) (all_flat (lines_of text) (lines_of-lines text)))) (tested (codes "%s_archive::") refl)
+    (found_line is_archive_line (lines_of text) (all_flat (lines_of text) (lines_of-lines text)))) (tested (codes "%s_archive::") refl)
 
 behind_first : (b : ℕ) (l : List ℕ) → Flat (b ∷ l) → Flat l
 behind_first b l line = record { flat = line.flat.1 }
@@ -415,4 +415,4 @@ place_line states name path text to is =
     let first = found_of (find_path states (tree text) path) _ to is in
     let o : Option Destination = location_of states name (value_for text first.0) in
     (and_file_line o to (of_halves_line states name (halves_of (value_for text first.0)) (halves_line (value_for text first.0) (value_line text first.0)))
-      (not_archive (is_archive_name name) (and_file o) to first.2)).flat
+    (not_archive (is_archive_name name) (and_file o) to first.2)).flat

@@ -4,7 +4,7 @@ use super::moves::{BOTH, Step, fail_at_every_call, stop_at_every_call};
 use std::test::Fail;
 
 // What a.org and b.org hold, lines, and what is answered to them.
-const CLOCKED: [(&str, &str, &str, &str); 8] = [
+const CLOCKED: [(&str, &str, &str, &str); 11] = [
     // in, in elsewhere, out before its start, out, out again, and the time
     (
         "* A\n",
@@ -94,6 +94,27 @@ const CLOCKED: [(&str, &str, &str, &str); 8] = [
         "ok 1\nsafe 1\ntext 147\n* A\n\
             CLOCK: [2026-07-01 Wed 08:00]--[2026-07-01 Wed 10:00] =>  2:00\n* B\n:LOGBOOK:\n\
             CLOCK: [2026-07-01 Wed 10:00]\n:END:\nCLOCK: [2026-07-01 Wed 09:00]\n\n",
+    ),
+    // a title with a keyword and one without are the same
+    (
+        "* TODO A :x:\n* A\n",
+        "",
+        "time\ta.org\tA\ntime\ta.org\tQ\nshow\tq.org\n",
+        "refused 5 NotUnique\nrefused 4 NotFound\nrefused 1 NoSuchFile\n",
+    ),
+    // a star alone, or with a tab behind it, is no heading; one in a block is
+    (
+        "*\n*\tA\n#+BEGIN_SRC\n* A\n#+END_SRC\n",
+        "",
+        "time\ta.org\tA\ncapture\ta.org\tpath:A\tlast\t2026-07-01 10:00\t* N\t\nshow\ta.org\n",
+        "time 0:00\nok 1\nsafe 1\ntext 37\n*\n*\tA\n#+BEGIN_SRC\n* A\n#+END_SRC\n** N\n\n",
+    ),
+    // a slash within a title
+    (
+        "* a/b\n",
+        "",
+        "time\ta.org\ta\\sb\ntime\ta.org\ta/b\n",
+        "time 0:00\nrefused 4 NotFound\n",
     ),
 ];
 
