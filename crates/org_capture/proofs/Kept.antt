@@ -20,6 +20,7 @@ use Rattle.org_outline.specs.Numbers.{weigh, weigh_node}
 use Rattle.org_outline.specs.Paths.{find_headed, find_path}
 use Rattle.org_outline.proofs.Changes.{append_heading_valid, insert_before_valid}
 use Rattle.org_outline.proofs.ByNumber.{count-is}
+use Rattle.org_outline.proofs.Found.{found_in, some_holds}
 use Rattle.org_outline.proofs.Trees.{tree-is}
 use Rattle.org_outline.proofs.Valid.{IsNode-shift_node, IsValid-insert, tree-print}
 use Rattle.org_outline.proofs.Weights.{Weight, weigh-shift, insert-weight, beside-weight, made-weight, one_each}
@@ -34,7 +35,7 @@ use Rattle.org_capture.specs.Entry.{entry_in, only_root}
 use Rattle.org_capture.specs.Capture.{rest_of, is_only_title, can_be_title, below_found, below_made, below_head, below_day, captured, date_base}
 use Rattle.org_capture.specs.Dates.{key_len, key_on, behind_key, month_name, weekday_name, first_dated, put_dated, found_or_made, made_over, dated}
 use Rattle.org_capture.specs.Made.{added, date_rest, missing, missing_below, missing_dates, missing_title}
-use Rattle.org_capture.proofs.Numbers.{some_holds, dated_in, path_in, base_in, headed_in}
+use Rattle.org_capture.proofs.Numbers.{dated_in, base_in, headed_in}
 
 -- ---- the three ways in which a capture makes a document
 
@@ -92,7 +93,7 @@ way states Top place moment entry d new P ways is = ok_holds (P []) (insert None
 way states (Head title) place moment entry d new P ways is =
     head_way states place moment.day entry d new P ways title (find_headed states d title) (headed_in states d title) is
 way states (Path titles) place moment entry d new P ways is =
-    path_way states place moment.day entry d new P ways (find_path states d titles) (path_in states d titles) is
+    path_way states place moment.day entry d new P ways (find_path states d titles) (found_in states d titles) is
 way states (Date titles) place moment entry d new P ways is =
     day_way states place moment entry d new P ways (date_base states d titles) (base_in states d titles) is
 

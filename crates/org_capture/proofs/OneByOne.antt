@@ -12,6 +12,7 @@ use Rattle.org_outline.specs.Tree.{Forest, Empty, Tree, Node, Document, total, n
 use Rattle.org_outline.specs.Moves.{joined, put_below, insert, from_node, put_before, insert_before, heading_alone, level_below, shift_node}
 use Rattle.org_outline.specs.Numbers.{heading_over, number_last, size_of, roots_from}
 use Rattle.org_outline.proofs.ByNumber.{nth, node-is, count-is, size_room}
+use Rattle.org_outline.proofs.Found.{some_holds}
 use Rattle.org_outline.proofs.Making.{made_last, made_before}
 use Rattle.org_outline.proofs.Taking.{size_of-room}
 use Rattle.org_outline.proofs.Weights.{weigh-put_below, weigh-before, insert-weight, beside-weight, one_each}
@@ -20,7 +21,7 @@ use Rattle.org_capture.specs.declared.dates.DateKind.{DateKind}
 use Rattle.org_capture.specs.Dates.{key_on, made_over, first_dated, is_dated, put_dated, found_or_made, dated}
 use Rattle.org_capture.specs.Made.{date_rest, number_put, dated_one_by_one}
 use Rattle.org_capture.proofs.DateTrees.{found_level, made_shift}
-use Rattle.org_capture.proofs.Numbers.{some_holds, dated_in}
+use Rattle.org_capture.proofs.Numbers.{dated_in}
 
 -- ---- a heading put among the trees
 

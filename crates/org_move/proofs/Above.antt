@@ -9,8 +9,8 @@ use Rattle.org_outline.specs.Tree.{Forest, Empty, Tree, Document, node_count, pa
 use Rattle.org_outline.specs.Numbers.{ancestors_of, way_to}
 use Rattle.org_outline.proofs.ByNumber.{count-is, parent-is, up_of}
 use Rattle.org_outline.proofs.Family.{way_step}
+use Rattle.org_outline.proofs.Found.{some_holds}
 use Rattle.org_move.specs.Inherited.{last_value, nearest, own_value}
-use Rattle.org_move.proofs.Found.{some_holds}
 
 -- ---- the way
 

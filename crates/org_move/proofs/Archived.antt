@@ -6,14 +6,13 @@ use Rattle.org_disk.specs.Names.{IsDiskName}
 use Rattle.org_splice.specs.Lines.{IsLine, lines_of}
 use Rattle.org_stamp.specs.Calendar.{CivilMinute}
 use Rattle.org_outline.specs.States.{Keywords}
-use Rattle.org_outline.specs.Tree.{Document, IsPlain, IsValid, Node, node_at, node_count, print_node, tree}
+use Rattle.org_outline.specs.Tree.{Document, IsPlain, IsValid, node_at, node_count, print_node, tree}
 use Rattle.org_outline.specs.Moves.{IsNode, IsPrinted}
+use Rattle.org_outline.proofs.Sections.{valid_node}
 use Rattle.org_outline.proofs.Trees.{tree-is}
 use Rattle.org_outline.proofs.Valid.{node-print}
-use Rattle.org_meta.specs.Sections.{joined, split}
 use Rattle.org_meta.proofs.Puts.{joined_split}
 use Rattle.org_move.specs.Archive.{archive_properties, archived, archived_section}
-use Rattle.org_move.proofs.Kept.{valid_node}
 use Rattle.org_move.proofs.Values.{all_put, each_plain, name_line}
 
 pub archived_node : (states : Keywords) (name : List ℕ) (now : CivilMinute) (d : Document) (i : ℕ) → IsLine name → IsValid d → i < node_count d → IsNode (archived states name now d i)

@@ -12,11 +12,12 @@ use Rattle.org_outline.specs.declared.moves.Place.TheVariants.{Last}
 use Rattle.org_outline.specs.declared.paths.PathFault.{PathFault}
 use Rattle.org_outline.specs.States.{Keywords}
 use Rattle.org_outline.specs.Tree.{Document, IsValid, Node, Placed, node_at, node_count, nodes, print, tree}
-use Rattle.org_outline.specs.Moves.{IsNode, append_heading, insert, take}
+use Rattle.org_outline.specs.Moves.{IsNode, append_heading, take}
 use Rattle.org_outline.specs.Numbers.{parent_without, size_of, weigh, weigh_node}
 use Rattle.org_outline.specs.Paths.{find_path, one_or_none, title_of, titled_nodes}
 use Rattle.org_outline.proofs.ByNumber.{count-is}
 use Rattle.org_outline.proofs.Changes.{append_heading_valid, take_valid}
+use Rattle.org_outline.proofs.Found.{found_in, some_holds}
 use Rattle.org_outline.proofs.Trees.{tree-is}
 use Rattle.org_outline.proofs.Valid.{IsValid-insert}
 use Rattle.org_outline.proofs.Weights.{Weight, insert-weight, made-weight, one_each, take-weight}
@@ -27,7 +28,6 @@ use Rattle.org_move.specs.Counts.{count_in, count_over, made_count, one_of}
 use Rattle.org_move.specs.Location.{Destination}
 use Rattle.org_move.specs.Refile.{Moved, is_inside}
 use Rattle.org_move.proofs.Archived.{archived_node}
-use Rattle.org_move.proofs.Found.{found_in, some_holds}
 use Rattle.org_move.proofs.Kept.{counts_add, counts_again, other_stays}
 use Rattle.org_move.proofs.Moving.{found_of, number_in}
 use Rattle.org_move.proofs.Within.{left_with}

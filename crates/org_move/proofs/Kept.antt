@@ -5,23 +5,17 @@ use Rattle.std.proofs.lemmas.List.Sums.{sum_by-set}
 use Rattle.org_outline.specs.declared.moves.Place.{Place}
 use Rattle.org_outline.specs.States.{Keywords}
 use Rattle.org_outline.specs.Tree.{Document, IsValid, node_at, node_count, print, tree}
-use Rattle.org_outline.specs.Moves.{IsNode, insert, take}
+use Rattle.org_outline.specs.Moves.{insert, take}
 use Rattle.org_outline.specs.Numbers.{size_of, number_without, weigh}
 use Rattle.org_outline.proofs.Changes.{take_valid}
-use Rattle.org_outline.proofs.Sections.{node-valid}
+use Rattle.org_outline.proofs.Found.{some_holds}
+use Rattle.org_outline.proofs.Sections.{valid_node}
 use Rattle.org_outline.proofs.Trees.{tree-is}
 use Rattle.org_outline.proofs.Valid.{IsValid-insert, tree-print}
 use Rattle.org_outline.proofs.Weights.{insert-weight, take-weight, Weight}
 use Rattle.org_move.specs.Refile.{moved, refile_within, Moved, refile_across}
 use Rattle.org_move.specs.Counts.{count_in, count_over}
-use Rattle.org_move.proofs.Found.{some_holds}
 use Rattle.org_move.proofs.Moving.{Within, Across, within_of, across_of, number_in}
-
--- a node of a valid document is one
-pub valid_node : (d : Document) (i : ℕ) → IsValid d → i < node_count d → IsNode (node_at d i).node
-valid_node d i valid lt =
-    let P : Document → Type 0 = λ d. i < node_count d → IsNode (node_at d i).node in
-    subst P (tree-print d valid) (node-valid (print d) i) lt
 
 pub within_valid : (states : Keywords) (path to : List (List ℕ)) (place : Place) (d new : Document)
     → refile_within states path to place d ≡ Ok new → IsValid d → IsValid new

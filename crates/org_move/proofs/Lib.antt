@@ -1,4 +1,3 @@
-pub mod Found
 pub mod Moving
 pub mod Kept
 pub mod Made

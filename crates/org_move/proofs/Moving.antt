@@ -10,11 +10,11 @@ use Rattle.org_outline.specs.Tree.{Document, node_at, node_count}
 use Rattle.org_outline.specs.Moves.{insert, take}
 use Rattle.org_outline.specs.Numbers.{size_of, number_without}
 use Rattle.org_outline.specs.Paths.{find_path}
+use Rattle.org_outline.proofs.Found.{found_in}
 use Rattle.org_outline.proofs.Taking.{size_of-room, count-without}
 use Rattle.org_move.specs.declared.fault.MoveFault.{MoveFault}
 use Rattle.org_move.specs.declared.fault.MoveFault.TheVariants.{InsideItself}
 use Rattle.org_move.specs.Refile.{with_found, is_inside, moved, refile_within, Moved, refile_across}
-use Rattle.org_move.proofs.Found.{found_in}
 
 -- the parts of a refile within a document that succeeds
 pub record Within (place : Place) (d new : Document) : Type 0 where

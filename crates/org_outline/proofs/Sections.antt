@@ -9,7 +9,7 @@ use Rattle.org_splice.proofs.Lines.{lines_of-lines, size, size-cons, print_lines
 use Rattle.org_outline.specs.declared.heads.Heading.{Heading}
 use Rattle.org_splice.specs.Lines.{closed, print_lines, IsLine, lines_of}
 use Rattle.org_outline.specs.Text.{heading_line}
-use Rattle.org_outline.specs.Tree.{Forest, Empty, Tree, Placed, lines, own_lines, print_node, IsForest, tree, nodes_from, nodes_of, node_at, node_count, no_node}
+use Rattle.org_outline.specs.Tree.{Forest, Empty, Tree, Document, Placed, lines, own_lines, print_node, IsForest, IsValid, tree, nodes, nodes_from, node_at, node_count, no_node}
 use Rattle.org_outline.specs.Outline.{headings_of, next_at, start_or, IsSection}
 use Rattle.org_outline.specs.Moves.{IsNode}
 use Rattle.org_outline.proofs.Lines.{AllByRecursion-append}
@@ -26,10 +26,12 @@ nodes-valid at (Tree n r s kids later) v =
           (nodes-valid (at + size (own_lines node)) kids v.2) (nodes-valid (at + length (print_node node)) later v.4),
     )
 
+-- so is each of a valid document, and of a text
+pub valid_node : (d : Document) (i : ℕ) → IsValid d → i < node_count d → IsNode (node_at d i).node
+valid_node d i valid lt = AllByRecursion-at (λ (p : Placed). IsNode p.node) (nodes d) i no_node (nodes-valid (size d.preamble) d.forest valid.forest) lt
+
 pub node-valid : (t : List ℕ) (i : ℕ) → i < node_count (tree t) → IsNode (node_at (tree t) i).node
-node-valid t i lt =
-    let d = tree t in
-    AllByRecursion-at (λ (p : Placed). IsNode p.node) (nodes_of t) i no_node (nodes-valid (size d.preamble) d.forest (valid-tree_of_lines (lines_of t) (lines_of-lines t)).forest) lt
+node-valid t i lt = valid_node (tree t) i (valid-tree_of_lines (lines_of t) (lines_of-lines t)) lt
 
 -- the first newline after a line
 pub first_newline : (l more : List ℕ) (e : ℕ) → IsLine l → ((k : ℕ) → k < e → get_or (l ++ 10 ∷ more) k 0 ≢ 10) → get_or (l ++ 10 ∷ more) e 0 ≡ 10 → e ≡ length l
