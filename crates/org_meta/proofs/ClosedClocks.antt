@@ -1,5 +1,5 @@
 -- What an open clock line is made of, and what it says once it is closed.
-use Rattle.std.proofs.Common.{◌≡◌, eqb, ℕ, zero, suc, ◌+◌, ◌-◌, ◌/◌, ◌%◌, ◌<◌, ◌≤◌, Bool, true, false, Option, Some, None, Result, Ok, Err, List, [], ◌∷◌, ◌++◌, length, take, drop, refl, sym, ap, subst, ◌∙◌, arith, inl, inr, append_assoc, append-nil, length-append}
+use Rattle.std.proofs.Common.{◌≡◌, eqb, ℕ, zero, suc, ◌+◌, ◌-◌, ◌/◌, ◌%◌, ◌<◌, ◌≤◌, Bool, true, false, Option, Some, None, Ok, List, [], ◌∷◌, ◌++◌, length, take, drop, refl, sym, ap, subst, ◌∙◌, arith, inl, inr, append_assoc, append-nil, length-append}
 use Rattle.std.specs.Prelude.{◌≢◌, codes, is_some, nat_eq, nat_lt, replicate, if◌then◌else◌, ◌==◌}
 use Rattle.std.specs.Option.{option_map_or}
 use Rattle.std.specs.Char.{is_ascii_digit}
@@ -14,7 +14,7 @@ use Rattle.org_splice.specs.Lines.{IsLine}
 use Rattle.org_splice.proofs.Ends.{both, front_behind, front_passes, kept_end}
 use Rattle.org_stamp.specs.Calendar.{CivilMinute, IsDay, weekday_of}
 use Rattle.org_stamp.specs.Parts.{◌>>=◌}
-use Rattle.org_stamp.specs.Stamp.{StampValue, IsStamp, IsStampText, opening, start_of, stamp_of, two_digits, date_text, day_name, clock_text, duration_text}
+use Rattle.org_stamp.specs.Stamp.{StampValue, IsStamp, IsStampText, opening, start_of, stamp_of, date_text, day_name, clock_text, duration_text}
 use Rattle.org_stamp.specs.Front.{stamp_at}
 use Rattle.org_stamp.proofs.Exact.{stamp_complete, stamp_sound}
 use Rattle.org_stamp.proofs.Found.{bind_ok}
@@ -22,7 +22,6 @@ use Rattle.org_stamp.proofs.Print.{digit_is, print_is}
 use Rattle.org_meta.specs.declared.clock.Running.{Running}
 use Rattle.org_meta.specs.declared.clock.Clock.{Clock}
 use Rattle.org_meta.specs.declared.clock.Clock.TheVariants.{Open, Closed}
-use Rattle.org_meta.specs.declared.fault.ClockFault.{ClockFault}
 use Rattle.org_meta.specs.Moments.{moment_text}
 use Rattle.org_meta.specs.Clocks.{is_clock_stamp, clock_stamp_at, behind_some, behind_mark, behind_hours, are_minutes, is_duration, closed_minutes, clock_from, clock_of, running_of, running_clock, is_open, minutes_between, minutes_in}
 use Rattle.org_meta.specs.Clocking.{clock_line, closing_text, closed_after, closed_clock, closed_line, minutes_run}
@@ -431,11 +430,11 @@ number_line (b ∷ l) all =
     let parts = both (is_ascii_digit b) (list_all is_ascii_digit l) all in
     record { flat = (λ e. let none : is_ascii_digit b ≡ false = rw e refl in absurd (false≢true (sym none ∙ parts.0)), (number_line l parts.1).flat) }
 
-blanks_line : (n : ℕ) → Flat (replicate n 32)
+pub blanks_line : (n : ℕ) → Flat (replicate n 32)
 blanks_line zero = empty_line
 blanks_line (suc n) = with_first_byte 32 (replicate n 32) refl (blanks_line n)
 
-moment_line : (now : CivilMinute) → Flat (moment_text now)
+pub moment_line : (now : CivilMinute) → Flat (moment_text now)
 moment_line now =
     let d = now.day in
     let day : List ℕ = 32 ∷ day_name (weekday_of d) in
@@ -489,9 +488,10 @@ pub record NoStar (l : List ℕ) : Type 0 where
 begin_shape : (indentation l gap stamp text : List ℕ) (b : ℕ) → (indentation ++ (b ∷ (l ++ (gap ++ stamp)))) ++ text ≡ indentation ++ (b ∷ (l ++ ((gap ++ stamp) ++ text)))
 begin_shape indentation l gap stamp text b = simp append_assoc
 
-begins_plainly : (indentation more : List ℕ) → list_all is_blank indentation ≡ true → NoStar (indentation ++ (67 ∷ more))
-begins_plainly [] more all = record { first = 67; others = more; is = refl; other = refl }
-begins_plainly (b ∷ bs) more all = record { first = b; others = bs ++ (67 ∷ more); is = refl; other = blank_no_star b (both (is_blank b) (list_all is_blank bs) all).0 }
+-- blanks, and behind them a byte that is no star
+pub begins_plainly : (indentation : List ℕ) (b : ℕ) (more : List ℕ) → list_all is_blank indentation ≡ true → eqb b 42 ≡ false → NoStar (indentation ++ (b ∷ more))
+begins_plainly [] b more all other = record { first = b; others = more; is = refl; other = other }
+begins_plainly (c ∷ cs) b more all other = record { first = c; others = cs ++ (b ∷ more); is = refl; other = blank_no_star c (both (is_blank c) (list_all is_blank cs) all).0 }
 
 pub closed_begins : (now : CivilMinute) (line new : List ℕ) → is_open line ≡ true → closed_line now line ≡ Ok new → NoStar new
 closed_begins now line new runs e =
@@ -501,4 +501,4 @@ closed_begins now line new runs e =
     let text : List ℕ = closing_text now c.minutes in
     let tail : List ℕ = codes "LOCK:" ++ (((o.first ∷ o.others) ++ o.stamp) ++ text) in
     let shape : clock_front o.indentation (o.first ∷ o.others) o.stamp ++ text ≡ o.indentation ++ (67 ∷ tail) = begin_shape o.indentation (codes "LOCK:") (o.first ∷ o.others) o.stamp text 67 in
-    subst NoStar (sym (c.is ∙ ap (λ (t : List ℕ). t ++ text) (head_is line r.0 o) ∙ shape)) (begins_plainly o.indentation tail o.blank)
+    subst NoStar (sym (c.is ∙ ap (λ (t : List ℕ). t ++ text) (head_is line r.0 o) ∙ shape)) (begins_plainly o.indentation 67 tail o.blank refl)

@@ -1,5 +1,5 @@
 -- The next repetition of a planning line's entries, computed.
-use Rattle.std.proofs.Common.{◌≡◌, ℕ, zero, suc, ◌<◌, true, false, Bool, Option, Some, Result, Ok, Err, List, [], ◌∷◌, take, drop, length, if◌then◌else◌, sym, ap, ◌∙◌, subst, inl, inr}
+use Rattle.std.proofs.Common.{◌≡◌, ℕ, true, false, Bool, Result, Ok, Err, List, [], ◌∷◌, if◌then◌else◌, refl, sym, ap, ◌∙◌}
 use Rattle.std.specs.Prelude.{MatchBool, MatchResult}
 use Rattle.std.specs.Result.{result_map_both}
 use Rattle.org_stamp.specs.Calendar.{CivilMinute}
@@ -7,7 +7,7 @@ use Rattle.org_stamp.specs.Stamp.{StampValue}
 use Rattle.org_stamp.specs.Repeat.{IsRepeated, repeated}
 use Rattle.org_stamp.specs.declared.fault.RepeatFault.{RepeatFault}
 use Rattle.org_meta.specs.declared.fault.PlanningFault.{PlanningFault}
-use Rattle.org_meta.specs.Planning.{PlanningEntry, PlanningLine, word_at, word_text, entry_at, entries_at, planning_of, is_closed, is_repeating, entry_text, entry_with, fault_of, behind_text, IsRepeatedEntry, AreRepeated, repeated_entry, behind_first, repeated_entries}
+use Rattle.org_meta.specs.Planning.{PlanningEntry, is_closed, is_repeating, entry_text, entry_with, fault_of, behind_text, IsRepeatedEntry, AreRepeated, repeated_entry, behind_first, repeated_entries}
 
 module _ (now : CivilMinute) where
   matched : {X : Type 0} (t : Bool) (a b x : X) (B : Type 0) → (B → b ≡ x) → MatchBool t (x ≡ a) B → if t then a else b ≡ x
@@ -40,3 +40,33 @@ module _ (now : CivilMinute) where
   entries_computed [] r is = sym is
   entries_computed (e ∷ es) r (first, one, rest) =
       all_told e es r first (entry_computed e first one) (λ more are. entries_computed es more are) rest
+
+  -- the text of an entry, by whether it is CLOSED and whether it repeats
+  abbrev made : PlanningEntry → Bool → Bool → Result (List ℕ) PlanningFault
+  made e a b = if a then Ok [] else (if b then result_map_both (entry_with e) fault_of (repeated e.stamp now) else Ok (entry_text e))
+
+  -- what is computed is what is defined
+  entry_repeats : (e : PlanningEntry) → IsRepeatedEntry e now (repeated_entry now e)
+  entry_repeats e = by_tests (is_closed e) (is_repeating e)
+    where
+      by_stamp : (q : Result StampValue RepeatFault)
+          → MatchResult q (λ s. result_map_both (entry_with e) fault_of q ≡ Ok (entry_with e s)) (λ fault. result_map_both (entry_with e) fault_of q ≡ Err (fault_of fault))
+      by_stamp (Ok s) = refl
+      by_stamp (Err fault) = refl
+
+      by_tests : (a b : Bool) → MatchBool a (made e a b ≡ Ok [])
+          (MatchBool b
+          ((q : Result StampValue RepeatFault) × IsRepeated e.stamp now q × MatchResult q (λ s. made e a b ≡ Ok (entry_with e s)) (λ fault. made e a b ≡ Err (fault_of fault)))
+          (made e a b ≡ Ok (entry_text e)))
+      by_tests true b = refl
+      by_tests false true = (repeated e.stamp now, refl, by_stamp (repeated e.stamp now))
+      by_tests false false = refl
+
+  first_repeats : (es : List PlanningEntry) (first more : Result (List ℕ) PlanningFault) → AreRepeated es now more
+      → MatchResult first (λ text. (q : Result (List ℕ) PlanningFault) × AreRepeated es now q × (behind_first first more ≡ behind_text text q)) (λ fault. behind_first first more ≡ Err fault)
+  first_repeats es (Ok text) more are = (more, are, refl)
+  first_repeats es (Err fault) more are = refl
+
+  pub entries_repeat : (es : List PlanningEntry) → AreRepeated es now (repeated_entries now es)
+  entries_repeat [] = refl
+  entries_repeat (e ∷ es) = (repeated_entry now e, entry_repeats e, first_repeats es (repeated_entry now e) (repeated_entries now es) (entries_repeat es))

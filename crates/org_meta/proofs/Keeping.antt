@@ -1,15 +1,36 @@
 -- What holds of every line of a section holds of it edited.
-use Rattle.std.proofs.Common.{◌≡◌, ℕ, true, false, ◌&&◌, Option, Some, None, List, [], ◌∷◌, drop, refl, subst, inl, inr}
+use Rattle.std.proofs.Common.{◌≡◌, ℕ, true, false, ◌&&◌, Option, Some, None, List, [], ◌∷◌, ◌++◌, drop, refl, subst, inl, inr}
 use Rattle.std.specs.Prelude.{is_some, codes}
 use Rattle.std.specs.List.{AllByRecursion, list_any}
 use Rattle.std.specs.Option.{option_map, unwrap_or}
 use Rattle.org_stamp.specs.Calendar.{CivilMinute}
 use Rattle.org_meta.specs.Clocking.{is_logbook, in_logbook, logged, clock_line, opened}
 use Rattle.std.proofs.lemmas.Bool.{cases_Bool}
-use Rattle.org_meta.specs.Sections.{split, joined, is_end, value_named, put_before_end, put_in_drawer, planning_size, drawer_size}
+use Rattle.org_meta.specs.Sections.{SectionParts, split, joined, is_end, value_named, put_before_end, put_in_drawer, planning_size, drawer_size}
 use Rattle.org_meta.specs.Notes.{with_note}
 use Rattle.org_meta.specs.Resplits.{with_drawer_line}
 use Rattle.org_meta.proofs.AllLines.{AllByRecursion-append, AllByRecursion-take, AllByRecursion-drop}
+
+-- what holds of each line of the parts
+pub record AllParts (P : List ℕ → Type 0) (parts : SectionParts) : Type 0 where
+  pub planning : AllByRecursion P parts.planning
+  pub drawer : AllByRecursion P parts.drawer
+  pub rest : AllByRecursion P parts.rest
+
+pub all_split : (P : List ℕ → Type 0) (ls : List (List ℕ)) → AllByRecursion P ls → AllParts P (split ls)
+all_split P ls p =
+    let lines : List (List ℕ) = drop (planning_size ls) ls in
+    let below : AllByRecursion P lines = AllByRecursion-drop P (planning_size ls) ls p in
+    record {
+      planning = AllByRecursion-take P (planning_size ls) ls p;
+      drawer = AllByRecursion-take P (drawer_size lines) lines below;
+      rest = AllByRecursion-drop P (drawer_size lines) lines below;
+    }
+
+pub all_joined : (P : List ℕ → Type 0) (parts : SectionParts) → AllParts P parts → AllByRecursion P (joined parts)
+all_joined P parts a = AllByRecursion-append P parts.planning (parts.drawer ++ parts.rest) a.planning (AllByRecursion-append P parts.drawer parts.rest a.drawer a.rest)
+
+-- ---- a line in the property drawer
 
 module _ (P : List ℕ → Type 0) (name line : List ℕ) (own : P line) where
   at_end : (l : List ℕ) (ls : List (List ℕ)) → is_end l ≡ true → line ∷ l ∷ ls ≡ put_before_end name line (l ∷ ls)
@@ -33,30 +54,26 @@ module _ (P : List ℕ → Type 0) (name line : List ℕ) (own : P line) where
             ]
       ]
 
-  All-drawer : P (codes ":PROPERTIES:") → P (codes ":END:") → (ls : List (List ℕ)) → AllByRecursion P ls → AllByRecursion P (put_in_drawer name line ls)
+  pub All-drawer : P (codes ":PROPERTIES:") → P (codes ":END:") → (ls : List (List ℕ)) → AllByRecursion P ls → AllByRecursion P (put_in_drawer name line ls)
   All-drawer first last [] p = (first, (own, (last, tt)))
   All-drawer first last (l ∷ ls) p = (p.0, All-put ls p.1)
 
   pub keeps_put : P (codes ":PROPERTIES:") → P (codes ":END:") → (ls : List (List ℕ)) → AllByRecursion P ls → AllByRecursion P (joined (with_drawer_line name line (split ls)))
   keeps_put first last ls p =
-      let below = AllByRecursion-drop P (planning_size ls) ls p in
-      AllByRecursion-append P _ _ (AllByRecursion-take P (planning_size ls) ls p)
-      (AllByRecursion-append P _ _ (All-drawer first last (split ls).drawer (AllByRecursion-take P (drawer_size (drop (planning_size ls) ls)) (drop (planning_size ls) ls) below))
-      (AllByRecursion-drop P (drawer_size (drop (planning_size ls) ls)) (drop (planning_size ls) ls) below))
+      let a = all_split P ls p in
+      all_joined P (with_drawer_line name line (split ls)) (record { planning = a.planning; drawer = All-drawer first last (split ls).drawer a.drawer; rest = a.rest })
+
+-- ---- another rest, another planning
 
 pub keeps_note : (P : List ℕ → Type 0) (note : List ℕ) (ls : List (List ℕ)) → P note → AllByRecursion P ls → AllByRecursion P (joined (with_note note (split ls)))
 keeps_note P note ls own p =
-    let below = AllByRecursion-drop P (planning_size ls) ls p in
-    AllByRecursion-append P _ _ (AllByRecursion-take P (planning_size ls) ls p)
-    (AllByRecursion-append P _ _ (AllByRecursion-take P (drawer_size (drop (planning_size ls) ls)) (drop (planning_size ls) ls) below)
-    (own, AllByRecursion-drop P (drawer_size (drop (planning_size ls) ls)) (drop (planning_size ls) ls) below))
+    let a = all_split P ls p in
+    all_joined P (with_note note (split ls)) (record { planning = a.planning; drawer = a.drawer; rest = (own, a.rest) })
 
 pub keeps_planning : (P : List ℕ → Type 0) (planning ls : List (List ℕ)) → AllByRecursion P planning → AllByRecursion P ls → AllByRecursion P (joined (record (split ls) { planning = planning }))
 keeps_planning P planning ls own p =
-    let below = AllByRecursion-drop P (planning_size ls) ls p in
-    AllByRecursion-append P _ _ own
-    (AllByRecursion-append P _ _ (AllByRecursion-take P (drawer_size (drop (planning_size ls) ls)) (drop (planning_size ls) ls) below)
-    (AllByRecursion-drop P (drawer_size (drop (planning_size ls) ls)) (drop (planning_size ls) ls) below))
+    let a = all_split P ls p in
+    all_joined P (record (split ls) { planning = planning }) (record { planning = own; drawer = a.drawer; rest = a.rest })
 
 -- ---- a line in the LOGBOOK drawer
 
@@ -96,7 +113,5 @@ module _ (P : List ℕ → Type 0) (line : List ℕ) (own : P line) where
 
 pub keeps_opened : (P : List ℕ → Type 0) (now : CivilMinute) (ls : List (List ℕ)) → P (clock_line now) → P (codes ":LOGBOOK:") → P (codes ":END:") → AllByRecursion P ls → AllByRecursion P (joined (opened now (split ls)))
 keeps_opened P now ls own first last p =
-    let below = AllByRecursion-drop P (planning_size ls) ls p in
-    AllByRecursion-append P _ _ (AllByRecursion-take P (planning_size ls) ls p)
-    (AllByRecursion-append P _ _ (AllByRecursion-take P (drawer_size (drop (planning_size ls) ls)) (drop (planning_size ls) ls) below)
-    (All-logged P (clock_line now) own first last (drop (drawer_size (drop (planning_size ls) ls)) (drop (planning_size ls) ls)) (AllByRecursion-drop P (drawer_size (drop (planning_size ls) ls)) (drop (planning_size ls) ls) below)))
+    let a = all_split P ls p in
+    all_joined P (opened now (split ls)) (record { planning = a.planning; drawer = a.drawer; rest = All-logged P (clock_line now) own first last (split ls).rest a.rest })

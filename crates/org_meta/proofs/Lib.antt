@@ -19,3 +19,4 @@ pub mod Trims
 pub mod Reading
 pub mod Replanned
 pub mod Computed
+pub mod PlannedLines

@@ -63,7 +63,7 @@ word_front text w e =
 
 -- ---- entries
 
-entry_front : (text rest : List ℕ) (e : PlanningEntry) → entry_at text ≡ Some (e, rest) → text ≡ entry_text e ++ rest
+pub entry_front : (text rest : List ℕ) (e : PlanningEntry) → entry_at text ≡ Some (e, rest) → text ≡ entry_text e ++ rest
 entry_front text rest e is =
     let w = bind_some (word_at text) _ (e, rest) is in
     let inner = drop (length (word_text w.0)) text in
@@ -80,14 +80,14 @@ entry_front text rest e is =
     let shape : word_text w.0 ++ (front is_blank inner ++ (take s.0.1 bytes ++ (front is_blank tail ++ behind is_blank tail))) ≡ entry_text read ++ behind is_blank tail = simp append_assoc in
     parts ∙ shape ∙ ap (λ (r : PlanningEntry × List ℕ). entry_text r.0 ++ r.1) same
 
-entries_ended : (n : ℕ) (text : List ℕ) → list_all is_trailing text ≡ true → entries_at n text ≡ Some ([], text)
+pub entries_ended : (n : ℕ) (text : List ℕ) → list_all is_trailing text ≡ true → entries_at n text ≡ Some ([], text)
 entries_ended zero text end = rw end refl
 entries_ended (suc n) text end = rw end refl
 
-entries_full : (text : List ℕ) → list_all is_trailing text ≡ false → entries_at 0 text ≡ None
+pub entries_full : (text : List ℕ) → list_all is_trailing text ≡ false → entries_at 0 text ≡ None
 entries_full text other = rw other refl
 
-entries_next : (n : ℕ) (text : List ℕ) → list_all is_trailing text ≡ false → entries_at (suc n) text ≡ (entry_at text >>= λ e. entries_at n e.1 >>= λ es. Some (e.0 ∷ es.0, es.1))
+pub entries_next : (n : ℕ) (text : List ℕ) → list_all is_trailing text ≡ false → entries_at (suc n) text ≡ (entry_at text >>= λ e. entries_at n e.1 >>= λ es. Some (e.0 ∷ es.0, es.1))
 entries_next n text other = rw other refl
 
 entries_front : (n : ℕ) (text : List ℕ) (r : List PlanningEntry × List ℕ) → entries_at n text ≡ Some r → text ≡ entries_text r.0 ++ r.1

@@ -1,13 +1,12 @@
 -- Planning lines that edits make are planning lines.
-use Rattle.std.proofs.Common.{◌≡◌, ℕ, true, false, Bool, ◌||◌, ◌&&◌, Option, Some, None, Result, Ok, Err, List, [], ◌∷◌, ◌++◌, refl, sym, ap, ◌∙◌, append_assoc, inl, inr}
+use Rattle.std.proofs.Common.{◌≡◌, ℕ, true, false, Bool, ◌||◌, ◌&&◌, Some, Result, Ok, Err, List, [], ◌∷◌, ◌++◌, refl, sym, ap, ◌∙◌, append_assoc, inl, inr}
 use Rattle.std.specs.Prelude.{MatchBool, MatchResult, not, codes, nat_eq}
 use Rattle.std.specs.List.{prefix_len, list_all, list_any, starts_with}
 use Rattle.std.proofs.lemmas.Bool.{cases_Bool, false≢true}
-use Rattle.org_splice.specs.Blanks.{is_blank, front, behind}
+use Rattle.org_splice.specs.Blanks.{is_blank, behind}
 use Rattle.org_splice.proofs.Ends.{front_passes}
 use Rattle.org_stamp.specs.Calendar.{CivilMinute}
 use Rattle.org_stamp.specs.Stamp.{StampValue, stamp_text}
-use Rattle.org_stamp.specs.Repeat.{IsRepeated}
 use Rattle.org_stamp.specs.declared.fault.RepeatFault.{RepeatFault}
 use Rattle.org_meta.specs.declared.entry.Word.{Word}
 use Rattle.org_meta.specs.declared.entry.Word.TheVariants.{Closed, Deadline, Scheduled}
@@ -90,13 +89,13 @@ closed_gone e now text closed is = ok_is text [] (if_true (is_closed e) _ _ is c
 in_front : (text first more : List ℕ) → text ≡ first ++ more → BeginsWithWord first → BeginsWithWord text
 in_front text first more is b = record { word = b.word; more = b.more ++ more; is = is ∙ ap (λ (t : List ℕ). t ++ more) b.is ∙ append_assoc (word_text b.word) b.more more }
 
-others_later : (e : PlanningEntry) (es : List PlanningEntry) → is_closed e ≡ true → has_others (e ∷ es) ≡ true → has_others es ≡ true
+pub others_later : (e : PlanningEntry) (es : List PlanningEntry) → is_closed e ≡ true → has_others (e ∷ es) ≡ true → has_others es ≡ true
 others_later e es closed some = let t = rw closed at some in t
 
-same_text : (a b : List ℕ) → a ≡ b → BeginsWithWord a → BeginsWithWord b
+pub same_text : (a b : List ℕ) → a ≡ b → BeginsWithWord a → BeginsWithWord b
 same_text a b e w = record { word = w.word; more = w.more; is = sym e ∙ w.is }
 
-repeated_begins : (es : List PlanningEntry) (now : CivilMinute) (text : List ℕ) → has_others es ≡ true → AreRepeated es now (Ok text) → BeginsWithWord text
+pub repeated_begins : (es : List PlanningEntry) (now : CivilMinute) (text : List ℕ) → has_others es ≡ true → AreRepeated es now (Ok text) → BeginsWithWord text
 repeated_begins [] now text some are = absurd (false≢true some)
 repeated_begins (e ∷ es) now text some are = by_first e es now text some are.0 are.1 are.2 (λ more others later. repeated_begins es now more others later) where
   by_more : (e : PlanningEntry) (es : List PlanningEntry) (now : CivilMinute) (text first : List ℕ) → has_others (e ∷ es) ≡ true → IsRepeatedEntry e now (Ok first) → (more : Texts) → AreRepeated es now more → made text ≡ behind_text first more
@@ -127,7 +126,7 @@ or_either a b true d e f g = refl
 or_either true b false d e f g = absurd (false≢true (f refl))
 or_either false b false d e f g = g e
 
-others_repeat : (es : List PlanningEntry) → has_repeater es ≡ true → has_others es ≡ true
+pub others_repeat : (es : List PlanningEntry) → has_repeater es ≡ true → has_others es ≡ true
 others_repeat [] some = absurd (false≢true some)
 others_repeat (e ∷ es) some =
     or_either (is_repeating e) (list_any is_repeating es) (not (is_closed e)) (has_others es) some
