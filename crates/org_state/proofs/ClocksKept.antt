@@ -13,7 +13,7 @@ use Rattle.org_outline.specs.Moves.{IsNode}
 use Rattle.org_outline.specs.Numbers.{weigh_node}
 use Rattle.org_outline.proofs.Changes.{own_lines_valid}
 use Rattle.org_outline.proofs.Rewriting.{node-rewritten}
-use Rattle.org_outline.proofs.Sections.{node-valid}
+use Rattle.org_outline.proofs.Sections.{valid_node}
 use Rattle.org_outline.proofs.Trees.{tree-is}
 use Rattle.org_outline.proofs.Valid.{tree-print}
 use Rattle.org_meta.specs.declared.fault.ClockFault.{ClockFault}
@@ -28,7 +28,7 @@ use Rattle.org_state.proofs.Opens.{map_ok, switched_by, closed_count, clock_runs
 
 -- ---- valid
 
-no_star : (l : List ℕ) → NoStar l → level_of l ≡ None
+pub no_star : (l : List ℕ) → NoStar l → level_of l ≡ None
 no_star l s = ap level_of s.is ∙ rw s.other refl
 
 mark_plain : (l : List ℕ) → IsLine l → level_of l ≡ None → IsPlain l
@@ -55,8 +55,7 @@ first_plain now (l ∷ ls) new e all =
 
 section_valid : (i : ℕ) (d : Document) (section : List (List ℕ)) → i < node_count d → IsValid d → (AllByRecursion IsPlain (node_at d i).node.section → AllByRecursion IsPlain section) → IsValid (with_section_at i d section)
 section_valid i d section lt valid plain =
-    let P : Document → Type 0 = λ d. i < node_count d → IsNode (node_at d i).node in
-    let own : IsNode (node_at d i).node = subst P (tree-print d valid) (node-valid (print d) i) lt in
+    let own : IsNode (node_at d i).node = valid_node d i valid lt in
     own_lines_valid i (node_at d i).node.rest section d own.heading.space own.heading.rest (plain own.heading.section) valid
 
 pub opened_valid : (now : CivilMinute) (i : ℕ) (d : Document) → i < node_count d → IsValid d → IsValid (with_opened now i d)

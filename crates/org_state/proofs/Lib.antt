@@ -11,3 +11,4 @@ pub mod ClockRows
 pub mod Opens
 pub mod ClocksKept
 pub mod Computed
+pub mod TodosKept

@@ -1,9 +1,9 @@
 //! What holds of changes of TODO states and of clocks, for all values: each law is the contract of a function with
 //! nothing to do.
-ghost use Rattle.std.specs.Prelude.{◌≡◌, ◌<◌, ◌+◌, ◌∷◌, ◌++◌, [], ℕ, min, List, Option, Some, Result, Ok, drop, slice_get};
+ghost use Rattle.std.specs.Prelude.{◌≡◌, ◌<◌, ◌+◌, ◌∷◌, ◌++◌, [], ℕ, min, List, Option, Some, Result, Ok, IsTrue, drop, slice_get};
 ghost use Rattle.std.specs.Option.{option_map};
 ghost use Rattle.org_stamp.specs.Calendar.{CivilMinute, IsDay};
-ghost use Rattle.org_outline.specs.States.{Keywords};
+ghost use Rattle.org_outline.specs.States.{Keywords, are_states};
 ghost use Rattle.org_outline.specs.Tree.{Document, IsValid, node_count, print, tree};
 ghost use Rattle.org_meta.specs.Clocking.{clock_line, minutes_run};
 ghost use Rattle.org_state.specs.declared.fault.StateFault.{StateFault};
@@ -23,6 +23,17 @@ pub fn outcome_computes()
     ensures { (states : Keywords) (path : List (List ℕ)) (state : List ℕ) (now : CivilMinute)
         (d : Document) (r : Result (Option Document) StateFault)
         → IsTodo states path state now d r → todo states path state now d ≡ r }
+{}
+
+/// A change of a state keeps a document valid, so that the tree of the new text is what was made: no line that it puts in
+/// is a heading line.
+pub fn changes_are_valid()
+    ensures changed { (states : Keywords) (path : List (List ℕ)) (state : List ℕ)
+        (now : CivilMinute) (d new : Document) → IsTrue (are_states states)
+        → todo states path state now d ≡ Ok (Some new) → IsValid d → IsValid new }
+    ensures text { (states : Keywords) (path : List (List ℕ)) (state : List ℕ)
+        (now : CivilMinute) (t : List ℕ) (new : Document) → IsTrue (are_states states)
+        → todo states path state now (tree t) ≡ Ok (Some new) → tree (print new) ≡ new }
 {}
 
 /// The clock that runs is the first of those that are open.
