@@ -1,8 +1,11 @@
 -- What is filled in stays.
-use Rattle.std.proofs.Common.{◌≡◌, ℕ, Bool, true, false, not, ◌&&◌, eqb, List, [], ◌∷◌, ◌++◌, Option, Some, None, Result, Ok, Err, refl, sym, ◌∙◌, ap, subst, append_assoc, inl, inr}
-use Rattle.std.specs.List.{list_all}
-use Rattle.std.proofs.lemmas.Bool.{cases_Bool}
-use Rattle.std.proofs.lemmas.List.{append-nil}
+use Rattle.std.proofs.Common.{◌≡◌, arith, length, take, drop, ℕ, Bool, true, false, not, ◌&&◌, eqb, List, [], ◌∷◌, ◌++◌, Option, Some, None, Result, Ok, Err, refl, sym, ◌∙◌, ap, subst, append_assoc, inl, inr}
+use Rattle.std.specs.Prelude.{◌≢◌, unwrap_or}
+use Rattle.std.specs.List.{list_all, AllByRecursion}
+use Rattle.memchr.specs.Find.{IsFirstByte, is_byte}
+use Rattle.org_outline.proofs.HeadsFrom.{first_found, none_found}
+use Rattle.std.proofs.lemmas.Bool.{cases_Bool, eqb-true}
+use Rattle.std.proofs.lemmas.List.{append-nil, take-append-drop, take_all}
 use Rattle.org_splice.proofs.Ends.{both}
 use Rattle.org_stamp.specs.Calendar.{CivilMinute}
 use Rattle.org_capture.specs.declared.piece.Piece.{Piece}
@@ -40,6 +43,28 @@ filled_plain moment initial text (x ∷ plain) template all =
     ap (filled moment initial text) (plain_first x (plain ++ template) (is_other (eqb x 37) tests.0))
     ∙ filled_plain moment initial (text ++ x ∷ []) plain template tests.1
     ∙ ap (λ t. filled moment initial t (pieces_of template)) (append_assoc text (x ∷ []) plain)
+
+no_sign : (plain : List ℕ) → AllByRecursion (λ x. x ≢ 37) plain → list_all (λ b. not (eqb b 37)) plain ≡ true
+no_sign [] none = refl
+no_sign (x ∷ plain) none =
+    elim (cases_Bool (eqb x 37)) [
+      | inl e ↦ absurd (none.0 (eqb-true x 37 e))
+      | inr e ↦ rw e (no_sign plain none.1)
+    ]
+
+-- what stands before the first percent sign, or all where there is none
+up_to_sign : (template : List ℕ) (found : Option ℕ) → IsFirstByte (is_byte 37) template found
+    → list_all (λ b. not (eqb b 37)) (take (unwrap_or found (length template)) template) ≡ true
+up_to_sign template None first = rw (take_all (length template) template (omega arith)) (no_sign template (none_found 37 template first))
+up_to_sign template (Some end) first = no_sign (take end template) (first_found 37 template end first)
+
+pub split_there : (template front back : List ℕ) (found : Option ℕ) (end : ℕ) → IsFirstByte (is_byte 37) template found → end ≡ unwrap_or found (length template)
+    → front ≡ take end template → back ≡ drop end template → (moment : CivilMinute) (initial text : List ℕ)
+    → filled moment initial text (pieces_of template) ≡ filled moment initial (text ++ front) (pieces_of back)
+split_there template front back found end first ends is_front is_back moment initial text =
+    let none : list_all (λ b. not (eqb b 37)) front ≡ true = ap (list_all (λ b. not (eqb b 37))) (is_front ∙ ap (λ n. take n template) ends) ∙ up_to_sign template found first in
+    let whole : template ≡ front ++ back = sym (take-append-drop end template) ∙ ap (λ l. l ++ drop end template) (sym is_front) ∙ ap (λ l. front ++ l) (sym is_back) in
+    ap (λ l. filled moment initial text (pieces_of l)) whole ∙ filled_plain moment initial text front back none
 
 pub behind : (plain template : List ℕ) (moment : CivilMinute) (initial : List ℕ) → list_all (λ b. not (eqb b 37)) plain ≡ true
     → expanded (plain ++ template) moment initial ≡ filled moment initial plain (pieces_of template)

@@ -5,7 +5,7 @@ ghost use Rattle.org_capture.specs.Lengths.{AnswersLength, Grows, sizes_of};
 
 use crate::fault::CaptureFault;
 use crate::piece::{Piece, first_piece};
-use crate::template::last_line_len;
+use crate::template::{last_line_len, split_plain};
 use org_stamp::{Moment, Stamp};
 use std::alloc::Global;
 
@@ -88,9 +88,13 @@ pub fn expanded_length(
 {
     let mut sizes = Sizes { whole: 0, line: 0 };
     let mut rest = template;
-    while let Some((piece, behind)) = first_piece(rest) {
+    loop {
+        let (plain, behind) = split_plain(rest);
+        sizes = with_bytes(sizes, plain);
+        let Some((piece, behind)) = first_piece(behind) else {
+            return Ok(sizes.whole);
+        };
         sizes = with_piece(alloc, sizes, piece, moment, initial_text)?;
         rest = behind;
     }
-    Ok(sizes.whole)
 }

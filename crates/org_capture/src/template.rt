@@ -1,11 +1,13 @@
 //! Templates filled in.
-ghost use Rattle.std.specs.Prelude.{◌≡◌, ◌++◌, ◌≤◌, length, not, ◌==◌, OnOk};
+ghost use Rattle.std.specs.Prelude.{◌≡◌, ℕ, List, ◌++◌, ◌≤◌, length, not, ◌==◌, OnOk};
 ghost use Rattle.std.specs.List.{suffix_len};
-ghost use Rattle.org_capture.specs.Template.{expanded, last_line, text_of, with_prefix};
+ghost use Rattle.org_stamp.specs.Calendar.{CivilMinute};
+ghost use Rattle.org_capture.specs.Template.{expanded, filled, last_line, pieces_of, text_of, with_prefix};
 ghost use Rattle.org_capture.specs.Answers.{Adds, AnswersBytes};
 
 use crate::fault::CaptureFault;
 use crate::piece::{Piece, first_piece};
+use memchr::memchr;
 use org_stamp::{Moment, Stamp};
 use std::alloc::{AllocError, Global};
 
@@ -22,6 +24,17 @@ fn last_line(text: &[u8]) -> &[u8]
     ensures { result.now ≡ last_line text.now }
 {
     text.split_at(text.len() - last_line_len(text)).1
+}
+
+/// What stands before the first percent sign, and what begins with it: the first stays as it is.
+pub(crate) fn split_plain(template: &[u8]) -> (&[u8], &[u8])
+    ensures plain { (moment : CivilMinute) (initial text : List ℕ)
+        → filled moment initial text (pieces_of template.now)
+        ≡ filled moment initial (text ++ result.0.now) (pieces_of result.1.now) }
+    ensures within { length result.1.now ≤ length template.now }
+{
+    let end = memchr(b'%', template).unwrap_or(template.len());
+    template.split_at(end)
 }
 
 /// Puts bytes behind a text, with a prefix repeated behind each newline of theirs.
@@ -79,11 +92,15 @@ pub fn expand(
 ) -> Result<Vec<u8>, CaptureFault>
     ensures { AnswersBytes (expanded template.now moment initial_text.now) result }
 {
-    let mut text = Vec::new(alloc);
+    let mut text = Vec::with_capacity(alloc, template.len())?;
     let mut rest = template;
-    while let Some((piece, behind)) = first_piece(rest) {
+    loop {
+        let (plain, behind) = split_plain(rest);
+        text.extend_from_slice(plain)?;
+        let Some((piece, behind)) = first_piece(behind) else {
+            return Ok(text);
+        };
         push_piece(alloc, &mut text, piece, moment, initial_text)?;
         rest = behind;
     }
-    Ok(text)
 }

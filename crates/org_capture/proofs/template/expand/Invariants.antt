@@ -2,8 +2,8 @@ use Rattle.std.proofs.Common.{◌≡◌, length}
 use Rattle.org_capture.specs.Template.{expanded, filled, pieces_of}
 use Rattle.org_capture.proofs.template.expand.Given as goal
 
-abbrev pub invariant-loop-piece : goal.invariant-loop-piece
-invariant-loop-piece l = filled l.moment l.initial_text l.text.items (pieces_of l.rest) ≡ expanded l.template l.moment l.initial_text
+abbrev pub invariant-loop-text : goal.invariant-loop-text
+invariant-loop-text l = filled l.moment l.initial_text l.text.items (pieces_of l.rest) ≡ expanded l.template l.moment l.initial_text
 
-abbrev pub decreases-loop-piece : goal.decreases-loop-piece
-decreases-loop-piece l = length l.rest
+abbrev pub decreases-loop-text : goal.decreases-loop-text
+decreases-loop-text l = length l.rest
