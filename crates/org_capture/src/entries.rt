@@ -34,7 +34,8 @@ fn is_entry(alloc: Global, text: &[u8], states: &States) -> Result<bool, AllocEr
 fn closed_copy(alloc: Global, bytes: &[u8]) -> Result<Vec<u8>, AllocError>
     ensures { IfOk result (λ text. text.items ≡ closed bytes.now) }
 {
-    let mut text = bytes.to_vec(alloc)?;
+    let mut text = Vec::with_capacity(alloc, bytes.len().saturating_add(1))?;
+    text.extend_from_slice(bytes)?;
     if !is_closed(bytes) {
         text.push(b'\n')?;
     }

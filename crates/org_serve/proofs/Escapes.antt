@@ -1,6 +1,6 @@
 -- How a field is read byte by byte.
 use Rattle.std.proofs.Common.{◌≡◌, ℕ, List, [], ◌∷◌, ◌++◌, Option, None, Some, refl, append_assoc}
-use Rattle.std.specs.List.{All}
+use Rattle.std.specs.List.{All, list_any}
 use Rattle.std.specs.Option.{option_map}
 use Rattle.std.proofs.lemmas.List.Elements.{All-nil, All-cons}
 use Rattle.std.proofs.Common.{◌==◌, true, false}
@@ -12,6 +12,10 @@ use Rattle.org_serve.specs.Grammar.{escape, unescaped_from, unescaped, escaped}
 -- what was read in front of what is still read, where it is read
 abbrev pub in_front : {X : Type 0} → List X → Option (List X) → Option (List X)
 in_front text read = option_map (λ more. text ++ more) read
+
+pub in_front-nothing : {X : Type 0} (text : List X) (read : Option (List X)) → text ≡ [] → in_front text read ≡ read
+in_front-nothing text None none = refl
+in_front-nothing text (Some more) none = rw none refl
 
 pub in_front-one : {X : Type 0} (text : List X) (b : X) (read : Option (List X)) → in_front (text ++ b ∷ []) read ≡ in_front text (option_map (λ more. b ∷ more) read)
 in_front-one text b None = refl
@@ -25,6 +29,15 @@ step-backslash text x more e = rw e refl
 
 pub step-plain : (text : List ℕ) (x : ℕ) (more : List ℕ) → (x ≡ 92 → ⊥) → in_front (text ++ x ∷ []) (unescaped_from false more) ≡ in_front text (unescaped_from false (x ∷ more))
 step-plain text x more ne = let no : (x == 92) ≡ false = ne_eqb x 92 ne in rw no (in_front-one text x (unescaped_from false more))
+
+-- a field without a backslash stands for itself
+pub unescaped-plain : (field : List ℕ) → list_any (λ b. b == 92) field ≡ false → unescaped field ≡ Some field
+unescaped-plain [] none = refl
+unescaped-plain (b ∷ field) none =
+    elim (eqb_tells b 92) [
+      | inl backslash ↦ absurd (let found = rw backslash.0 at none in cc)
+      | inr e ↦ rw (e.0, unescaped-plain field (rw e.0 at none)) refl
+    ]
 
 -- an escaped text is read back
 pub unescaped-escaped : (text : List ℕ) → unescaped (escaped text) ≡ Some text

@@ -48,7 +48,11 @@ fn escape(b: u8) -> Option<u8>
 fn unescape(alloc: Global, field: &[u8]) -> Result<Vec<u8>, LineFault>
     ensures { GivesBy (λ v. v.items) result (unescaped field.now) }
 {
-    let mut text = Vec::new(alloc);
+    // Most fields have no escape, and are copied at once.
+    if !field.contains(&b'\\') {
+        return Ok(field.to_vec(alloc)?);
+    }
+    let mut text = Vec::with_capacity(alloc, field.len())?;
     let mut is_escaped = false;
     for b in field {
         if is_escaped {

@@ -6,7 +6,7 @@ use Rattle.org_capture.proofs.entries.closed_copy.Goals.{then-not-is_closed+in_o
 
 pub returns : goal.returns
 returns c =
-    let copied : c.args.bytes.now ≡ c.in_ok-text.text.items = search rules in
+    let copied : c.args.bytes.now ≡ c.extend_from_slice.new.self.items = search rules in
     elim c.if-not-is_closed.branch [
       | then-not-is_closed+in_ok-push w ↦
           ap (λ (v : Vec ℕ Global). v.items) w.text-is ∙ w.in_ok-push.ensures.items ∙ ap (λ l. l ++ 10 ∷ []) (sym copied)

@@ -1,7 +1,17 @@
-use Rattle.std.proofs.Common.{◌≡◌, ◌++◌, ◌∷◌, [], ◌+◌, drop, get_or, ◌∙◌, arith, add-one, drop-cons, ◌<◌, length}
-use Rattle.org_serve.proofs.Escapes.{step-escaped, step-backslash, step-plain}
+use Rattle.std.proofs.Common.{rules, sym, ap, ◌≡◌, ◌++◌, ◌∷◌, [], ◌+◌, drop, get_or, ◌∙◌, arith, add-one, drop-cons, ◌<◌, length, false, ◌==◌, ℕ, List, Some}
+use Rattle.std.specs.List.{list_any}
+use Rattle.org_serve.proofs.Escapes.{in_front-nothing, unescaped-plain, step-escaped, step-backslash, step-plain}
 use Rattle.org_serve.proofs.field.unescape.Goals as goal
 use Rattle.org_serve.proofs.field.unescape.Goals.{then-is_escaped+in-Some+in_ok-push, else-is_escaped+then-b-eq92, else-is_escaped+else-b-eq92+in_ok-push-2}
+
+pub returns-then-not-contains : goal.returns-then-not-contains
+returns-then-not-contains c =
+    let copied : c.args.field.now ≡ c.in_ok-to_vec.field-0.items = search rules in
+    let none : list_any (λ b. b == 92) c.args.field.now ≡ false = sym c.contains.ensures.value ∙ c.if-not-contains.true in
+    unescaped-plain c.args.field.now none ∙ ap (λ (text : List ℕ). Some text) copied
+
+pub loop-b-init : goal.loop-b-init
+loop-b-init c = in_front-nothing c.in_ok-text.text.items _ c.in_ok-text.ensures.items
 
 pub loop-b-preserved : goal.loop-b-preserved
 loop-b-preserved c =
