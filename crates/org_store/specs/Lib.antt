@@ -6,6 +6,7 @@ pub mod Capture
 pub mod Refile
 pub mod Todo
 pub mod Clocks
+pub mod Quiet
 pub mod Clocking
 pub mod Outcome
 pub mod Step

@@ -15,9 +15,11 @@ ghost use Rattle.org_fileset.specs.Names.{limit};
 ghost use Rattle.org_outline.specs.States.{Keywords};
 ghost use Rattle.org_texts.specs.Texts.{bytes_or, held_over, nothing_held, text_of};
 ghost use Rattle.org_store.specs.declared.tally.Tally.{Tally};
+ghost use Rattle.org_store.specs.Clocks.{RunsIn};
 ghost use Rattle.org_store.specs.Files.{AreReady, AreSmallToWrite, CommitsTexts, IsPlanFor, KeepsHeld, PutsPlan, files_of, has_large, texts_in};
 ghost use Rattle.org_store.specs.InOrder.{is_name, texts_of};
 ghost use Rattle.org_store.specs.Keeping.{Reads};
+ghost use Rattle.org_store.specs.Quiet.{Forgets};
 ghost use Rattle.org_store.specs.Session.{kept_over};
 
 use crate::command::{Refusal, RunFault};
@@ -37,12 +39,15 @@ pub(crate) struct Files<D: Disk> {
     alloc: Global,
     set: FileSet<D>,
     texts: Texts,
+    // Which files are held and known to have no clock that runs, by the numbers of their names; it may end early.
+    quiet: Vec<bool>,
 }
 
 impl<D: Disk> Model for Files<D> {
     ghost use Rattle.std.specs.Prelude.{◌≡◌, false};
     ghost use Rattle.org_journal.specs.Standing.{contents};
     ghost use Rattle.org_store.specs.Files.{OpenFiles, IsSound};
+    ghost use Rattle.org_store.specs.Quiet.{IsNoted};
 
     ghost Value = { OpenFiles D };
 
@@ -54,7 +59,7 @@ impl<D: Disk> Model for Files<D> {
     } };
 
     ghost invariant = { λ f. IsSound f.set.names ((f.set.broken ≡ false) × D.honest f.set.disk)
-        (contents (D.files f.set.disk)) f.texts };
+        (contents (D.files f.set.disk)) f.texts × IsNoted f.set.names f.quiet.items f.texts };
 }
 
 impl<D: Disk> Files<D> {
@@ -88,6 +93,7 @@ impl<D: Disk> Files<D> {
                 alloc,
                 set,
                 texts: Texts::new(alloc),
+                quiet: Vec::new(alloc),
             }),
             Err(refused) => Err(refused),
         }
@@ -216,6 +222,24 @@ impl<D: Disk> Files<D> {
         Ok(())
     }
 
+    /// Whether the file of this number is known to have no clock that runs.
+    pub(crate) fn is_quiet(&self, index: usize) -> bool
+        ensures { IsTrue result → (name : List ℕ) → slice_get self.now.names index ≡ Some name
+            → RunsIn self.now.held.before name None }
+    {
+        matches!(self.quiet.get(index), Some(true))
+    }
+
+    /// Notes that no clock runs in the file of this number, until an edit of it is put. Nothing else changes.
+    pub(crate) fn note_quiet(&mut self, index: usize)
+        requires begun { self.old.held.now ≡ self.old.held.before }
+        requires quiet { (name : List ℕ) → slice_get self.old.names index ≡ Some name
+            → RunsIn self.old.held.before name None }
+        ensures { self.new ≡ self.old }
+    {
+        note(&mut self.quiet, index);
+    }
+
     /// Makes the edits of a plan, in memory. `TooLarge` where one of the texts would be past the limit; then, and where
     /// there is no memory, all edits of the command are taken back.
     pub(crate) fn put(&mut self, plan: &Plan) -> Result<(), RunFault>
@@ -226,6 +250,7 @@ impl<D: Disk> Files<D> {
         ensures before { self.new.held.before ≡ self.old.held.before }
         ensures puts { PutsPlan plan.now self.old.held result self.new.held }
     {
+        forget_plan(&mut self.quiet, self.set.names(), plan);
         self.texts.apply(plan)?;
         if is_large(&self.texts, plan) {
             self.texts.undo();
@@ -310,5 +335,38 @@ fn is_large(texts: &Texts, plan: &Plan) -> bool
     match &plan.second {
         Some(change) => is_large_text(texts, &change.file),
         None => false,
+    }
+}
+
+/// Notes the file of this number, where it is noted already or is the next one. Without memory it isn't noted.
+fn note(quiet: &mut Vec<bool>, index: usize)
+    ensures { (i : ℕ) → slice_get quiet.new.items i ≡ Some true
+        → (i ≡ index) ⊎ (slice_get quiet.old.items i ≡ Some true) }
+{
+    if index < quiet.len() {
+        quiet[index] = true;
+    } else if index == quiet.len() {
+        let _ = quiet.push(true);
+    }
+}
+
+/// Forgets what was noted of the file of this name.
+fn forget(quiet: &mut Vec<bool>, names: &[FileName], file: &FileName)
+    ensures { Forgets names.now (file.now ∷ []) quiet.old.items quiet.new.items }
+{
+    for (index, name) in names.iter().enumerate() {
+        if index < quiet.len() && file == name {
+            quiet[index] = false;
+        }
+    }
+}
+
+/// Forgets what was noted of the files that a plan changes.
+fn forget_plan(quiet: &mut Vec<bool>, names: &[FileName], plan: &Plan)
+    ensures { Forgets names.now (files_of plan.now) quiet.old.items quiet.new.items }
+{
+    forget(quiet, names, &plan.first.file);
+    if let Some(change) = &plan.second {
+        forget(quiet, names, &change.file);
     }
 }

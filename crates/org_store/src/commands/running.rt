@@ -56,7 +56,7 @@ fn running_in_file<D: Disk>(
 }
 
 /// The clock that runs: the first over the files in byte order of their names. Each file is read where it isn't held, up to
-/// the one where a clock runs; all texts stay as they are.
+/// the one where a clock runs; all texts stay as they are. A file that was searched isn't searched again until it changes.
 pub(crate) fn running_clock<D: Disk>(
     files: &mut Files<D>,
     states: &States,
@@ -85,10 +85,14 @@ pub(crate) fn running_clock<D: Disk>(
         (IsErrOf result RunFault.Device) }
 {
     for index in 0..files.count() {
+        if files.is_quiet(index) {
+            continue;
+        }
         let file = files.name(index)?;
         if let Some(running) = running_in_file(files, states, &file)? {
             return Ok(Some(Clock { file, running }));
         }
+        files.note_quiet(index);
     }
     Ok(None)
 }

@@ -1,4 +1,5 @@
-use Rattle.std.proofs.Common.{◌≡◌, ◌∙◌, ◌<◌, ℕ, List, length, slice_get, true, false, Some, None, Err, sym, ap, subst, rules, arith}
+use Rattle.std.proofs.Common.{◌≡◌, ◌∙◌, ◌<◌, ℕ, List, [], length, slice_get, get_or, true, false, Some, None, Err, sym, ap, subst, rules, arith}
+use Rattle.std.proofs.lemmas.Option.{slice_get-get_or}
 use Rattle.org_disk.proofs.Accounting.{accounts_fine, accounts_then, looks_then}
 use Rattle.org_journal.specs.Standing.{Image, contents}
 use Rattle.org_texts.specs.Texts.{held_over}
@@ -79,7 +80,7 @@ loop-index-preserved g c =
     let file = c.in_ok-file.file in
     let back = looked.accounts.was_honest in
     let whole : new.broken ≡ false = search rules in
-    record {
+    rw c.note_quiet.ensures (record {
       names = looked.names ∙ sofar.names;
       unbroken = whole;
       begun = looked.begun;
@@ -97,6 +98,35 @@ loop-index-preserved g c =
           let at : slice_get old.names c.loop-index.index ≡ Some file = ap (λ (ns : List (List ℕ)). slice_get ns c.loop-index.index) (sym sofar.names) ∙ c.in_ok-file.ensures in
           let runs = subst (RunsIn new.held.before file) c.in_default.is looked.runs in
           sym (runs_later files now old.names c.loop-index.index file within at same (runs_over new.held.before (texts new.disk) file None runs)) ∙ sofar.passed (back h);
+    })
+
+pub loop-index-preserved-then-is_quiet : goal.loop-index-preserved-then-is_quiet
+loop-index-preserved-then-is_quiet g c =
+    let texts : g.row.D.Denot → Image = λ disk. contents (g.D.Disk.files disk) in
+    let sofar = c.loop-index.invariant in
+    let index = c.loop-index.index in
+    let old = c.args.files.now in
+    let new = c.loop-index.files in
+    let file = get_or old.names index [] in
+    let within : index < length old.names = omega (arith, c.loop-index-test.true, c.count-index-end.ensures) in
+    let at : slice_get old.names index ≡ Some file = slice_get-get_or old.names index [] within in
+    let there : slice_get new.names index ≡ Some file = ap (λ (ns : List (List ℕ)). slice_get ns index) sofar.names ∙ at in
+    let runs : RunsIn new.held.before file None = c.is_quiet.ensures c.if-is_quiet.true file there in
+    record {
+      names = sofar.names;
+      unbroken = sofar.unbroken;
+      begun = sofar.begun;
+      keeps = sofar.keeps;
+      accounts = sofar.accounts;
+      looks = sofar.looks;
+      same = sofar.same;
+      passed = λ h.
+          let tally : Tally = record { accepted = 0; acknowledged = 0; group = 1 } in
+          let files = held_over old.held.before (texts old.disk) in
+          let now = held_over new.held.before (texts new.disk) in
+          let read : session_over texts c.args.states.now new tally ≡ session_over texts c.args.states.now old tally = sofar.same tally h in
+          let same : texts_of now old.names ≡ texts_of files old.names = ap (λ (ns : List (List ℕ)). texts_of now ns) (sym sofar.names) ∙ ap (λ (s : Session). s.files) read in
+          sym (runs_later files now old.names index file within at same (runs_over new.held.before (texts new.disk) file None runs)) ∙ sofar.passed h;
     }
 
 pub returns-in_err-running-clause-keeps : goal.returns-in_err-running-clause-keeps

@@ -4,6 +4,7 @@ use Rattle.org_journal.specs.Standing.{Image, contents}
 use Rattle.org_texts.specs.Texts.{TextSet, text_of}
 use Rattle.org_store.specs.InOrder.{is_name}
 use Rattle.org_store.proofs.Held.{held_this, keeps_held, none_found, over_held, ready_held, sound_held, sound_still}
+use Rattle.org_store.proofs.Quiet.{noted_held, noted_still}
 use Rattle.org_store.proofs.Sessions.{session_still}
 use Rattle.org_store.proofs.files.Files.load.Goals as goal
 
@@ -20,14 +21,17 @@ invariant_of-self-2 g c =
     let there : is_name inside.set.names own ≡ true = rw (← c.self.view_is) at c.requires.name in
     let named : is_name c.read.new.self.names copy ≡ true = ap (λ (ns : List (List ℕ)). is_name ns copy) c.read.ensures.set.same_names ∙ ap (is_name inside.set.names) cloned ∙ there in
     let unbroken : inside.set.broken ≡ false = rw (← c.self.view_is) at c.requires.unbroken in
-    let still = sound_still inside.set.names c.read.new.self.names live now files left inside.texts c.self.invariant c.read.ensures.set.same_names
+    let still = sound_still inside.set.names c.read.new.self.names live now files left inside.texts c.self.invariant.0 c.read.ensures.set.same_names
     (λ n. ((unbroken, c.read.ensures.accounts.was_honest n.1), ap contents (c.read.ensures.looks n.1).same)) in
     let missing : is_some c.get.result ≡ false = search rules in
     let none : text_of inside.texts.now copy ≡ None = ap (text_of inside.texts.now) cloned ∙ none_found (λ held. held.now.text) c.get.result (text_of inside.texts.now own) missing c.get.ensures.text in
-    let none_before : text_of inside.texts.before copy ≡ None = ap (text_of inside.texts.before) cloned ∙ none_found (λ held. held.now.before) c.get.result (text_of inside.texts.before own) missing c.get.ensures.before in
-    sound_held copy c.in_ok-bytes.bytes.items c.read.new.self.names now left inside.texts c.hold.new.self none none_before named
-    (λ n. c.in_ok-bytes.ensures.text n.1 ∙ ap (λ (f : Image). f own) (sym (ap contents (c.read.ensures.looks n.1).same)) ∙ ap left (sym cloned))
-    c.in_ok-hold.ensures.now c.in_ok-hold.ensures.before still
+    let none_before : text_of inside.texts.before copy ≡ None = ap (text_of inside.texts.before) cloned ∙ none_found (λ held. held.now.before) c.get.result (text_of inside.texts.before own) missing c.get.ensures.before in (
+      sound_held copy c.in_ok-bytes.bytes.items c.read.new.self.names now left inside.texts c.hold.new.self none none_before named
+          (λ n. c.in_ok-bytes.ensures.text n.1 ∙ ap (λ (f : Image). f own) (sym (ap contents (c.read.ensures.looks n.1).same)) ∙ ap left (sym cloned))
+          c.in_ok-hold.ensures.now c.in_ok-hold.ensures.before still,
+      noted_held copy c.in_ok-bytes.bytes.items c.read.new.self.names inside.quiet.items inside.texts c.hold.new.self none none_before
+          c.in_ok-hold.ensures.now c.in_ok-hold.ensures.before (noted_still inside.set.names c.read.new.self.names inside.quiet.items inside.texts c.read.ensures.set.same_names c.self.invariant.1),
+    )
 
 pub returns-clause-held : goal.returns-clause-held
 returns-clause-held g c =

@@ -1,3 +1,5 @@
+use Rattle.std.proofs.Common.{rules}
+use Rattle.org_store.proofs.Quiet.{nothing_noted}
 use Rattle.org_store.proofs.files.Files.open.Goals as goal
 
 pub returns-in-Ok-clause-reopens : goal.returns-in-Ok-clause-reopens
@@ -9,3 +11,6 @@ pub returns-in-Err-clause-reopens : goal.returns-in-Err-clause-reopens
 returns-in-Err-clause-reopens g c ended =
     let made = c.in-Err.ensures.reopens ended in
     record { done = tt; any_moment = made.any_moment; fit = made.fit }
+
+pub invariant_of-result : goal.invariant_of-result
+invariant_of-result g c = (search rules, nothing_noted c.in-Ok.set.names c.new-in-Ok.result.items c.new.result c.new-in-Ok.ensures.items)

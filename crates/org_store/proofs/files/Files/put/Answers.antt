@@ -1,10 +1,12 @@
-use Rattle.std.proofs.Common.{◌≡◌, ◌∙◌, false, Ok, sym, ap, subst}
+use Rattle.std.proofs.Common.{◌≡◌, ◌∙◌, ℕ, List, false, Ok, sym, ap, subst, rules}
 use Rattle.std.specs.Option.{ForSome, IsSome}
 use Rattle.org_journal.specs.Standing.{contents}
 use Rattle.org_texts.specs.Plan.{IsPlan}
 use Rattle.org_texts.specs.Texts.{Holding, TextSet, text_of}
 use Rattle.org_store.specs.Files.{AreReady, AreSmallToWrite, OpenFiles, PutsPlan, files_of, has_large, new_texts, texts_in}
+use Rattle.org_store.specs.Quiet.{Forgets}
 use Rattle.org_store.proofs.Held.{first_held, second_held, small_put, sound_put}
+use Rattle.org_store.proofs.Quiet.{noted_put}
 use Rattle.org_store.proofs.files.Files.put.Goals as goal
 
 pub is_large-requires-clause-first : goal.is_large-requires-clause-first
@@ -24,8 +26,13 @@ invariant_of-self-else-is_large g c =
     let inside = c.self.inside in
     let plan = c.args.plan.now in
     let is : IsPlan plan inside.texts.now = rw (← c.self.view_is) at c.requires.is in
-    sound_put plan inside.set.names ((inside.set.broken ≡ false) × g.D.Disk.honest inside.set.disk) (contents (g.D.Disk.files inside.set.disk)) inside.texts c.apply.new.self is
-    c.in_ok-apply.ensures.now c.in_ok-apply.ensures.before c.self.invariant
+    let now = c.in_ok-apply.ensures.now in
+    let before = c.in_ok-apply.ensures.before in
+    let named : c.names.result.now ≡ inside.set.names = search rules in (
+      sound_put plan inside.set.names ((inside.set.broken ≡ false) × g.D.Disk.honest inside.set.disk) (contents (g.D.Disk.files inside.set.disk)) inside.texts c.apply.new.self is now before c.self.invariant.0,
+      noted_put plan inside.set.names inside.quiet.items c.forget_plan.new.quiet.items inside.texts c.apply.new.self now before
+          (subst (λ (ns : List (List ℕ)). Forgets ns (files_of plan) inside.quiet.items c.forget_plan.new.quiet.items) named c.forget_plan.ensures) c.self.invariant.1,
+    )
 
 pub returns-clause-puts : goal.returns-clause-puts
 returns-clause-puts g c =
@@ -37,4 +44,4 @@ returns-clause-puts g c =
     let small : has_large (new_texts plan inside.texts.now) ≡ false =
     subst (λ (set : TextSet). has_large (texts_in set (files_of plan)) ≡ false) now (sym test ∙ c.if-is_large.false) in
     let same : inside.texts ≡ c.args.self.now.held = ap (λ (f : OpenFiles g.row.D.Denot). f.held) c.self.view_is in
-    subst (λ (h : Holding). PutsPlan plan h (Ok tt) c.apply.new.self) same (small, now, subst AreSmallToWrite (sym now) (small_put plan inside.texts ready c.self.invariant.small small))
+    subst (λ (h : Holding). PutsPlan plan h (Ok tt) c.apply.new.self) same (small, now, subst AreSmallToWrite (sym now) (small_put plan inside.texts ready c.self.invariant.0.small small))
