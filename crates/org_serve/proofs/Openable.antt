@@ -5,7 +5,7 @@ use Rattle.std.proofs.lemmas.Bool.{cases_Bool, false≢true}
 use Rattle.org_disk.specs.Disk.{FileState}
 use Rattle.org_outline.specs.States.{Keywords}
 use Rattle.org_journal.specs.Standing.{Image, contents}
-use Rattle.org_fileset.specs.Names.{AreFew, first_large}
+use Rattle.org_fileset.specs.Names.{AreFew}
 use Rattle.org_store.specs.declared.command.Command.{Command}
 use Rattle.org_store.specs.declared.command.Reply.{Reply}
 use Rattle.org_store.specs.declared.command.Reply.TheVariants.{Done, Safe, Text, Time}
@@ -99,21 +99,20 @@ module _ (names : List (List ℕ)) where
 
 module _ {D : Type 0} {honest : D → Type 0} {files : D → List ℕ → FileState} {moment : D → ℕ} {left_since : D → ℕ → Image → Type 0}
     {states : Keywords} {group : ℕ} {given : List (List ℕ)} {disk now : D} {end : ServeEnd} {left left' written written' : Option (List ℕ)}
-    (served : ServesOver honest files moment left_since states group given disk now end left left' written written')
-    (sized : first_large (contents (files served.first.store.disk)) served.first.store.session.names ≡ None) where
+    (served : ServesOver honest files moment left_since states group given disk now end left left' written written') where
   abbrev first : Session
   first = served.first.store.session
 
-  first_small : AreSmall first.names first.files
-  first_small = subst (AreSmall first.names) (sym (ap (λ (s : Session). s.files) served.begins.session)) (opened_small (contents (files served.first.store.disk)) first.names sized)
+  first_small : honest served.first.store.disk → AreSmall first.names first.files
+  first_small began = subst (AreSmall first.names) (sym (ap (λ (s : Session). s.files) served.begins.session)) (opened_small (contents (files served.first.store.disk)) first.names (served.sizes began))
 
-  small_first : SmallSoFar first.names first served.first.texts
-  small_first = record {
+  small_first : honest served.first.store.disk → SmallSoFar first.names first served.first.texts
+  small_first began = record {
     same_names = refl;
-    files = λ sound. first_small;
+    files = λ sound. first_small began;
     each = λ k texts is. ⊎_elim
         (λ none. let never : ◌≡◌ {A = Option (List (List ℕ))} None (Some texts) = none in absurd (cc))
-        (λ same. subst (AreSmall first.names) same first_small)
+        (λ same. subst (AreSmall first.names) same (first_small began))
         (one_more [] first.files k texts (ap (λ (l : Texts). slice_get l k) (sym served.texts) ∙ is));
   }
 
@@ -121,11 +120,12 @@ module _ {D : Type 0} {honest : D → Type 0} {files : D → List ℕ → FileSt
   all_small : (here : Past D) → IsOnTheWay served here → honest here.store.disk → (k : ℕ) (texts : List (List ℕ)) → slice_get here.texts k ≡ Some texts → AreSmall first.names texts
   all_small here (inl way) honestly k texts is =
       let told = past_lines honest files moment left_since served.first way.answered way.written here way.before honestly in
-      let small = small_lines first.names honest files moment left_since served.first here way.answered way.written told.0 small_first in
+      let small = small_lines first.names honest files moment left_since served.first here way.answered way.written told.0 (small_first told.1) in
       small.each k texts is
   all_small here (inr last) honestly k texts is =
-      let run = (past_runs honest files moment left_since served.run (subst (λ (p : Past D). honest p.store.disk) last honestly)).0 in
-      let small = small_lines first.names honest files moment left_since served.first run.mid run.ran run.out run.answered small_first in
+      let whole = past_runs honest files moment left_since served.run (subst (λ (p : Past D). honest p.store.disk) last honestly) in
+      let run = whole.0 in
+      let small = small_lines first.names honest files moment left_since served.first run.mid run.ran run.out run.answered (small_first whole.1) in
       let ended : run.mid.texts ≡ served.last.texts = ⊎_elim (λ same. ap (λ (p : Past D). p.texts) (sym same)) (λ settled. sym settled.1.0.1) run.ends in
       small.each k texts (ap (λ (l : Texts). slice_get l k) (ended ∙ ap (λ (p : Past D). p.texts) (sym last)) ∙ is)
 

@@ -5,7 +5,7 @@ use Rattle.org_disk.specs.Disk.{FileState, AreImages, LeavesOnly}
 use Rattle.org_disk.proofs.Moments.{Image, passes_as, passes_then, leaves_only}
 use Rattle.org_outline.specs.States.{Keywords}
 use Rattle.org_journal.specs.Standing.{SameFiles, StandsFor, IsFit, stands, contents}
-use Rattle.org_fileset.specs.Names.{with_archives, AreSorted}
+use Rattle.org_fileset.specs.Names.{with_archives, AreSorted, first_large}
 use Rattle.org_fileset.specs.Recovery.{EachStands, IsReopened, StandsAsBefore}
 use Rattle.org_fileset.specs.Replay.{IsAtRest}
 use Rattle.org_store.specs.declared.command.RunFault.{RunFault}
@@ -57,18 +57,20 @@ module _ {D : Type 0} (files : D → List ℕ → FileState) (states : Keywords)
       (begins states group given (contents (files store.disk)) store.session begun.session (ap (λ (k : Kept D). k.session) is) opens sorted)
 
   pub serves : (honest : D → Type 0) (moment : D → ℕ) (left_since : D → ℕ → Image → Type 0) → AreSorted (with_archives given) store.session.names
+      → (honest store.disk → first_large (contents (files store.disk)) store.session.names ≡ None)
       → (honest begun.disk → IsReopened (files disk) (files begun.disk))
       → {end : ServeEnd} {left left' written written' : Option (List ℕ)} (after : Kept D) (now : D) → now ≡ after.disk
       → Runs (RunsLine honest files moment left_since) (HasSettledOver honest files moment left_since) begun after end left left' written written'
       → (honest now → Serves begun.session end after.session left left' written written')
       → ServesOver honest files moment left_since states group given disk now end left left' written written'
-  serves honest moment left_since sorted reopened after now closed run told =
+  serves honest moment left_since sorted sized reopened after now closed run told =
       let first : Past D = record { store = begun; texts = begun.session.files ∷ [] } in
       let past = lift_run honest files moment left_since first run in record {
         first = first;
         last = record { store = after; texts = past.0 };
         reopened = reopened;
         begins = begun_so sorted;
+        sizes = subst (λ (k : Kept D). honest k.disk → first_large (contents (files k.disk)) k.session.names ≡ None) (sym is) sized;
         texts = refl;
         run = past.1;
         closed = closed;
@@ -264,7 +266,8 @@ module _ {D : Type 0} (honest : D → Type 0) (files : D → List ℕ → FileSt
     (states : Keywords) (group : ℕ) (given : List (List ℕ)) (disk : D) (store begun : Kept D)
     (is : begun ≡ record store { session = record store.session { group = group } })
     (opens : store.session ≡ opened states store.session.names (texts_of (contents (files store.disk)) store.session.names)) where
-  pub serves_lasting : AreSorted (with_archives given) store.session.names → (honest begun.disk → IsReopened (files disk) (files begun.disk))
+  pub serves_lasting : AreSorted (with_archives given) store.session.names → (honest store.disk → first_large (contents (files store.disk)) store.session.names ≡ None)
+      → (honest begun.disk → IsReopened (files disk) (files begun.disk))
       → {end : ServeEnd} {left left' written written' : Option (List ℕ)} (after : Kept D) (now : D) → now ≡ after.disk
       → Runs (RunsLine honest files moment left_since) (HasSettledOver honest files moment left_since) begun after end left left' written written'
       → (honest now → Serves begun.session end after.session left left' written written')
@@ -272,8 +275,8 @@ module _ {D : Type 0} (honest : D → Type 0) (files : D → List ℕ → FileSt
       → (served : ServesOver honest files moment left_since states group given disk now end left left' written written')
       × (IsFit (files disk) → EachStands (files disk) → Lasts served)
   unfolding serves
-  serves_lasting sorted reopened after now closed run told opening =
-      let served = serves files states group given disk store begun is opens honest moment left_since sorted reopened after now closed run told in (
+  serves_lasting sorted sized reopened after now closed run told opening =
+      let served = serves files states group given disk store begun is opens honest moment left_since sorted sized reopened after now closed run told in (
         served,
         λ fit each. lasts only_now counts_now served (λ honestly. (reopened honestly).rest fit each) (λ honestly. opening fit each honestly),
       )

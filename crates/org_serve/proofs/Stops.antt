@@ -244,5 +244,5 @@ module _ {D : Type 0} (honest : D → Type 0) (files : D → List ℕ → FileSt
     unfolding session_of_runs
     runs_leave start disk rest sound = (session_of_runs, course_leaves files moment left_since old new (Reaches old.session run.ran run.out) course_runs rest disk sound start)
 
-    pub runs_keep : IsOnDisk old.session (contents (files old.disk)) → KeepsDisk files old new
-    runs_keep disk = record { fit = course_runs.fit; rest = course_runs.rest; others = λ sound. course_runs.others sound disk; untouched = course_runs.stays }
+    pub runs_keep : KeepsDisk files old new
+    runs_keep = record { fit = course_runs.fit; rest = course_runs.rest; others = λ disk sound. course_runs.others sound disk; untouched = course_runs.stays }

@@ -11,7 +11,7 @@ use Rattle.org_store.specs.declared.command.Reply.{Reply}
 use Rattle.org_store.specs.declared.command.RunFault.{RunFault}
 use Rattle.org_store.specs.Session.{Session, Kept}
 use Rattle.org_store.specs.Outcome.{outcome}
-use Rattle.org_store.specs.Runs.{RunsOver, SettlesOver, GoesOn}
+use Rattle.org_store.specs.Runs.{RunsOver, SettlesOver, GoesOn, IsOnDisk}
 use Rattle.org_serve.specs.declared.end.ServeEnd.{ServeEnd}
 use Rattle.org_serve.specs.declared.end.ServeEnd.TheVariants.{Write}
 use Rattle.org_serve.specs.Lines.{cut}
@@ -68,9 +68,10 @@ Reaches old (line ∷ lines) out new =
     (new ≡ old) ⊎ ((mid : Session) × (first : List ℕ) × (later : List ℕ) × GoesOnLine old line first mid × (out ≡ first ++ later) × Reaches mid lines later new)
 
 -- What serving makes of a disk that is honest at the end: one that was at rest is left fit to be opened, and at rest again
--- where the store isn't broken then; the files that aren't the store's are as they were in that case. A store that was broken leaves it as it is.
+-- where the store isn't broken then; in that case the store's files have the texts that are settled, where they had them
+-- before, and all others are as they were. A store that was broken leaves it as it is.
 pub record KeepsDisk {D : Type 0} (files : D → List ℕ → FileState) (old new : Kept D) : Type 0 where
   pub fit : IsAtRest (files old.disk) → IsFit (files new.disk)
   pub rest : IsFalse new.session.broken → IsAtRest (files old.disk) → IsAtRest (files new.disk)
-  pub others : IsFalse new.session.broken → SameFiles (contents (files new.disk)) (with_texts new.session.names new.session.settled (contents (files old.disk)))
+  pub others : IsOnDisk old.session (contents (files old.disk)) → IsFalse new.session.broken → SameFiles (contents (files new.disk)) (with_texts new.session.names new.session.settled (contents (files old.disk)))
   pub untouched : IsTrue old.session.broken → new ≡ old

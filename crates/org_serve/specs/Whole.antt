@@ -1,13 +1,13 @@
 -- A whole run over a disk: a store is opened, serves the lines of an input, and is given up. `honest`, `files`, `moment`
 -- and `left_since` are what is seen of a disk of the type D.
-use Rattle.std.specs.Prelude.{◌≡◌, ◌≢◌, ◌⊎◌, ℕ, List, [], ◌∷◌, Option, IsFalse, Result, Ok, Err}
+use Rattle.std.specs.Prelude.{◌≡◌, ◌≢◌, ◌⊎◌, ℕ, List, [], ◌∷◌, None, Option, IsFalse, Result, Ok, Err}
 use Rattle.org_disk.specs.Disk.{FileState, AreImages, HasRisen}
 use Rattle.org_disk.specs.Accounts.{LeavesOver}
 use Rattle.org_outline.specs.States.{Keywords}
 use Rattle.org_journal.specs.Standing.{Image, contents}
 use Rattle.org_fileset.specs.declared.open.OpenFault.{OpenFault}
 use Rattle.org_fileset.specs.declared.open.OpenFault.TheVariants as open_fault
-use Rattle.org_fileset.specs.Names.{with_archives, AreSorted}
+use Rattle.org_fileset.specs.Names.{with_archives, AreSorted, first_large}
 use Rattle.org_fileset.specs.Recovery.{IsReopened, StandsAsBefore}
 use Rattle.org_store.specs.InOrder.{texts_of}
 use Rattle.org_store.specs.Opening.{opened}
@@ -42,6 +42,8 @@ pub record ServesOver {D : Type 0} (honest : D → Type 0) (files : D → List �
   -- what a stop had cut short was brought to an end; a closed gate's byte was kept
   pub reopened : honest first.store.disk → IsReopened (files disk) (files first.store.disk)
   pub begins : Begins states group given (contents (files first.store.disk)) first.store.session
+  -- each of its files is within the limit then
+  pub sizes : honest first.store.disk → first_large (contents (files first.store.disk)) first.store.session.names ≡ None
   pub texts : first.texts ≡ first.store.session.files ∷ []
   pub run : Runs (PastLine honest files moment left_since) (HasSettledPast honest files moment left_since) first last end left left' written written'
   pub closed : now ≡ last.store.disk

@@ -1,8 +1,8 @@
 //! Laws of the definitions, each the contract of a function that does nothing.
 ghost use Rattle.std.specs.Prelude.{ℕ, List, ◌≡◌, ◌∷◌, ◌++◌};
-ghost use Rattle.std.specs.Prelude.{All, None, Option, Some, Result, IsFalse};
-ghost use Rattle.org_journal.specs.Standing.{Image, contents};
-ghost use Rattle.org_fileset.specs.Names.{AreFew, first_large};
+ghost use Rattle.std.specs.Prelude.{All, Option, Some, Result, IsFalse};
+ghost use Rattle.org_journal.specs.Standing.{Image};
+ghost use Rattle.org_fileset.specs.Names.{AreFew};
 ghost use Rattle.org_outline.specs.States.{Keywords};
 ghost use Rattle.org_store.specs.declared.command.Command.{Command};
 ghost use Rattle.org_store.specs.declared.command.Reply.{Reply};
@@ -62,15 +62,13 @@ pub fn every_image_opens<D: Disk>()
         (lines : List (List ℕ)) (out : List ℕ) → AreFew given → IsSessionOf given old
         → IsLeftOf old others (λ mid. Reaches old lines out mid × IsBetween old new mid) image
         → IsOpenable given image }
-    // `Lasts` of `serve_disk`, behind the opening; an opened store has no file past the limit (`Store::open`)
+    // `Lasts` of `serve_disk`, behind the opening
     ensures whole { (states : Keywords) (group : ℕ) (given : List (List ℕ)) (disk now : D)
         (end : ServeEnd) (left left' written written' : Option (List ℕ))
         (served : ServesOver D.honest D.files D.moment D.left_since states group given disk now
         end left left' written written') (here : Past D) (least : ℕ) (image : Image)
-        → AreFew given → first_large (contents (D.files served.first.store.disk))
-        served.first.store.session.names ≡ None → IsOnTheWay served here
-        → D.honest here.store.disk → HoldsServed served here least image
-        → IsOpenable given image }
+        → AreFew given → IsOnTheWay served here → D.honest here.store.disk
+        → HoldsServed served here least image → IsOpenable given image }
 {}
 
 /// Each node in one place, in what a stop leaves while lines are served (`any_moment` of `serve`, and of `serve_disk` behind

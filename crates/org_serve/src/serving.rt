@@ -5,7 +5,7 @@ ghost use Rattle.org_disk.specs.Disk.{HasRisen};
 ghost use Rattle.org_disk.specs.Accounts.{Accounts, LeavesOver};
 ghost use Rattle.org_journal.specs.Standing.{contents};
 ghost use Rattle.org_fileset.specs.Replay.{IsAtRest};
-ghost use Rattle.org_store.specs.Runs.{IsBetween, IsLeftOf};
+ghost use Rattle.org_store.specs.Runs.{IsBetween, IsLeftOf, IsOnDisk};
 ghost use Rattle.org_serve.specs.Counts.{HasRisenBy};
 ghost use Rattle.org_serve.specs.Feeding.{FeedOk, FeedErr, EndsWith};
 ghost use Rattle.org_serve.specs.Lines.{cut};
@@ -32,13 +32,14 @@ const PIECE: usize = 4096;
 /// settled yet. A line is answered as soon as its newline was read, whatever pieces the bytes come in.
 ///
 /// Where it ends with `End`, `Unsettled` or `Device`, and the disk is honest then, the input was read to its end, and
-/// what was written is its transcript. It ends with `Read` only where a read failed or the turns are used up: the lines
-/// that were read whole are answered then. It ends with `Write` only where a write or a flush failed: of the lines
-/// some, from the first on, were run then.
+/// what was written is its transcript. It ends with `Read` where a read failed, and else only where the turns are used up:
+/// the lines that were read whole are answered then. It ends with `Write` exactly where a write or a flush failed: of the
+/// lines some, from the first on, were run then.
 ///
-/// Where the disk is honest at the end, and was at rest under a store that wasn't broken, at every moment since the
-/// call began what a stop leaves stands for the files after the commands that were acknowledged then, or for those
-/// after some of the lines that are run, from the first on; a command in which the disk failed may be the last of them.
+/// Where the disk is honest at the end, and was at rest with the settled texts of a store that wasn't broken, as it is
+/// between calls (`settled_is_on_disk`, a law of org_store), at every moment since the call began what a stop leaves
+/// stands for the files after the commands that were acknowledged then, or for those after some of the lines that are run,
+/// from the first on; a command in which the disk failed may be the last of them.
 /// The store is changed by calls of `run` and `settle` alone. What each of them did is told where the disk is honest after
 /// it (`calls`): a wrong answer takes nothing from what was done before it. A store that was broken is left as it is; one
 /// that wasn't is broken only where its disk counted a failure, and where it isn't, none was counted. It is broken where
@@ -60,6 +61,7 @@ pub fn serve<D: Disk, R: Source, W: Sink>(
     ensures read_cause { result ≡ ServeEnd.Read
         → HasRisen (R.failures reader.old) (R.failures reader.new)
         ⊎ HasRisenBy turns (R.reads reader.old) (R.reads reader.new) }
+    ensures read_told { result ≢ ServeEnd.Read → R.failures reader.new ≡ R.failures reader.old }
 
     ensures write { D.honest store.new.disk → result ≡ ServeEnd.Write
         → RunsSome AnswersLine store.old.session store.new.session (R.left reader.old)
@@ -68,12 +70,14 @@ pub fn serve<D: Disk, R: Source, W: Sink>(
         (R.left reader.old) (R.left reader.new) }
     ensures write_cause { result ≡ ServeEnd.Write
         → HasRisen (W.failures writer.old) (W.failures writer.new) }
+    ensures write_told { result ≢ ServeEnd.Write → W.failures writer.new ≡ W.failures writer.old }
 
     ensures calls { Runs (RunsLine D.honest D.files D.moment D.left_since)
         (HasSettledOver D.honest D.files D.moment D.left_since) store.old store.new result
         (R.left reader.old) (R.left reader.new) (W.written writer.old) (W.written writer.new) }
-    ensures any_moment { D.honest store.new.disk → IsAtRest (D.files store.old.disk)
-        → IsFalse store.old.session.broken
+    ensures any_moment { D.honest store.new.disk
+        → IsOnDisk store.old.session (contents (D.files store.old.disk))
+        → IsAtRest (D.files store.old.disk) → IsFalse store.old.session.broken
         → (run : Runs AnswersLine HasSettled store.old.session store.new.session result
         (R.left reader.old) (R.left reader.new) (W.written writer.old) (W.written writer.new))
         × LeavesOver D.moment D.left_since store.old.disk store.new.disk
@@ -87,7 +91,6 @@ pub fn serve<D: Disk, R: Source, W: Sink>(
     ensures accounts { Accounts D.steady D.honest D.failures store.old.disk store.new.disk
         (HasBroken store.old.session store.new.session) }
 {
-    store.settled_is_on_disk();
     let mut buffer = [0u8; PIECE];
     let mut pending = Pending::new(alloc);
     for _ in 0..turns {
@@ -209,6 +212,7 @@ fn finish<D: Disk, W: Sink>(store: &mut Store<D>, pending: &Pending, writer: &mu
         store.new }
     ensures write_cause { result ≡ ServeEnd.Write
         → HasRisen (W.failures writer.old) (W.failures writer.new) }
+    ensures write_told { result ≢ ServeEnd.Write → W.failures writer.new ≡ W.failures writer.old }
     ensures broken { EndsBroken result store.new.session }
     ensures untouched { IsTrue store.old.session.broken → store.new ≡ store.old }
     ensures accounts { Accounts D.steady D.honest D.failures store.old.disk store.new.disk
@@ -244,6 +248,7 @@ fn settle<D: Disk, W: Sink>(store: &mut Store<D>, writer: &mut W) -> ServeEnd
         → HasSettledOver D.honest D.files D.moment D.left_since store.old store.new }
     ensures write_cause { result ≡ ServeEnd.Write
         → HasRisen (W.failures writer.old) (W.failures writer.new) }
+    ensures write_told { result ≢ ServeEnd.Write → W.failures writer.new ≡ W.failures writer.old }
     ensures broken { EndsBroken result store.new.session }
     ensures untouched { IsTrue store.old.session.broken → store.new ≡ store.old }
     ensures accounts { Accounts D.steady D.honest D.failures store.old.disk store.new.disk

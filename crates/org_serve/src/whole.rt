@@ -1,5 +1,5 @@
 //! A whole run over a disk, from the opening to the end of the input.
-ghost use Rattle.std.specs.Prelude.{◌≡◌, ◌⊎◌, Ok, All, IfOk, IfErr};
+ghost use Rattle.std.specs.Prelude.{◌≡◌, ◌≢◌, ◌⊎◌, Ok, All, IfOk, IfErr};
 ghost use Rattle.org_disk.specs.Disk.{HasRisen};
 ghost use Rattle.org_disk.specs.Accounts.{Accounts, LeavesOver};
 ghost use Rattle.org_journal.specs.Standing.{IsFit, contents};
@@ -53,9 +53,9 @@ pub struct Served<D> {
 /// (`laws::safe_tells_acknowledged`). Where it ends with `End`, each image at the end stands for the files after all of
 /// them. The disk is as fit at the end, so that all this may be done again.
 ///
-/// The faults are those of `Store::open`; the ends, and when each comes, those of `serve`. With `Device`, or an opening
-/// that is refused so, it ends only where the disk counted a failure, and with `End` or `Unsettled` only where it
-/// counted none.
+/// The faults are those of `Store::open`, and then nothing is read or written; the ends, and when each comes, those of
+/// `serve`. With `Device`, or an opening that is refused so, it ends only where the disk counted a failure, and with
+/// `End` or `Unsettled` only where it counted none.
 pub fn serve_disk<D: Disk, R: Source, W: Sink>(
     alloc: Global,
     disk: D,
@@ -76,11 +76,17 @@ pub fn serve_disk<D: Disk, R: Source, W: Sink>(
         LeavesOver D.moment D.left_since disk result.disk (StandsAsBefore (D.files disk))) }
     ensures fit { D.honest result.disk → IsFit (D.files disk) → EachStands (D.files disk)
         → IsFit (D.files result.disk) × EachStands (D.files result.disk) }
+    ensures unserved { IfErr result.end (λ _. (reader.new ≡ reader.old)
+        × (writer.new ≡ writer.old)) }
     ensures read_cause { result.end ≡ Ok ServeEnd.Read
         → HasRisen (R.failures reader.old) (R.failures reader.new)
         ⊎ HasRisenBy turns (R.reads reader.old) (R.reads reader.new) }
+    ensures read_told { result.end ≢ Ok ServeEnd.Read
+        → R.failures reader.new ≡ R.failures reader.old }
     ensures write_cause { result.end ≡ Ok ServeEnd.Write
         → HasRisen (W.failures writer.old) (W.failures writer.new) }
+    ensures write_told { result.end ≢ Ok ServeEnd.Write
+        → W.failures writer.new ≡ W.failures writer.old }
     ensures refused { IfErr result.end (IsReason setup.names.items (D.honest result.disk)
         (contents (D.files disk)) (contents (D.files result.disk))) }
     ensures accounts { Accounts D.steady D.honest D.failures disk result.disk

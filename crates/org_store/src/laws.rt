@@ -1,5 +1,5 @@
 //! What follows from the relation between a store before and after a call.
-ghost use Rattle.std.specs.Prelude.{◌≡◌, ◌<◌, ◌+◌, ◌++◌, ◌⊎◌, List, ℕ, length, None, Result, Ok, IsTrue, IsFalse};
+ghost use Rattle.std.specs.Prelude.{◌≡◌, ◌<◌, ◌+◌, ◌++◌, ◌⊎◌, List, ℕ, length, None, Result, Ok, IsTrue, IsFalse, IsErrOf};
 ghost use Rattle.std.specs.List.{All, IsDistinct};
 ghost use Rattle.std.specs.Str.{bytes_eq};
 ghost use Rattle.org_disk.specs.Disk.{HasRisen};
@@ -13,18 +13,21 @@ ghost use Rattle.org_fileset.specs.declared.open.OpenFault.{OpenFault};
 ghost use Rattle.org_fileset.specs.declared.open.OpenFault.TheVariants.{OutOfMemory, Device};
 ghost use Rattle.org_stamp.specs.Calendar.{CivilMinute};
 ghost use Rattle.org_outline.specs.declared.moves.Place.{Place};
+ghost use Rattle.org_outline.specs.States.{Keywords};
 ghost use Rattle.org_move.specs.Counts.{count_over};
 ghost use Rattle.org_store.specs.declared.command.Command.{Command};
 ghost use Rattle.org_store.specs.declared.command.Command.TheVariants.{Archive, Refile};
 ghost use Rattle.org_store.specs.declared.command.Reply.{Reply};
 ghost use Rattle.org_store.specs.declared.command.Reply.TheVariants.{Done};
 ghost use Rattle.org_store.specs.declared.command.RunFault.{RunFault};
+ghost use Rattle.org_store.specs.declared.command.RunFault.TheVariants as run_fault;
 ghost use Rattle.org_store.specs.Calls.{Call, CallsOver, ReachesBy};
 ghost use Rattle.org_store.specs.Left.{IsLeft};
 ghost use Rattle.org_store.specs.OnePlace.{ArchivesOne, HaveSameNodes, HasNodesOf, HasNodesOfOne, IsSessionOf, KeepsNodesBut, OnlyMoves, OnlyRefiles};
 ghost use Rattle.org_store.specs.Outcome.{Accepts, outcome};
 ghost use Rattle.org_store.specs.Reopening.{AreSameNames, AreSmall, IsOpenable};
-ghost use Rattle.org_store.specs.Runs.{RunsAllOver, RunsOver, IsOnDisk, Reaches, IsBetween, IsLeftOf};
+ghost use Rattle.org_store.specs.Opening.{opened};
+ghost use Rattle.org_store.specs.Runs.{RunsAllOver, RunsOver, SettlesOver, IsOnDisk, Reaches, IsBetween, IsLeftOf};
 ghost use Rattle.org_store.specs.InOrder.{texts_of};
 ghost use Rattle.org_store.specs.Session.{Session, Kept, Holds};
 ghost use Rattle.org_store.specs.Step.{Step, Run, IsReply};
@@ -60,11 +63,26 @@ pub fn runs_join()
         → Run old (commands ++ later) (answers ++ more) new }
 {}
 
+/// The texts that are settled are those of the disk's files: on a store that was just opened (`Store::open`), and after
+/// each call in which the disk didn't fail.
+pub fn settled_is_on_disk<D: Disk>()
+    ensures opened { (states : Keywords) (names : List (List ℕ)) (files : Image)
+        → IsOnDisk (opened states names (texts_of files names)) files }
+    ensures run { (old new : Kept D) (command : Command) (answer : Result Reply RunFault)
+        → (IsErrOf answer run_fault.Device → ⊥)
+        → RunsOver D.files D.moment D.left_since old command answer new
+        → IsOnDisk new.session (contents (D.files new.disk)) }
+    ensures settle { (old new : Kept D) (answer : Result (Unit {0}) RunFault)
+        → (IsErrOf answer run_fault.Device → ⊥)
+        → SettlesOver D.files D.moment D.left_since old answer new
+        → IsOnDisk new.session (contents (D.files new.disk)) }
+{}
+
 /// Since a run of commands began, on a disk that was at rest and honest then, under a store that wasn't broken, a stop
 /// leaves the files as they were after the commands that were acknowledged then, or after some of the commands of the
-/// run, from the first on: no fewer are accepted then than when it began, and no more than at its end. That what is
-/// settled is on the disk is true of every store (`Store::settled_is_on_disk`); `RunsAllOver` is what `run` promises of
-/// each call where the disk is honest after it.
+/// run, from the first on: no fewer are accepted then than when it began, and no more than at its end. What is settled is
+/// on the disk between calls (`settled_is_on_disk`); `RunsAllOver` is what `run` promises of each call where the disk is
+/// honest after it.
 pub fn stops_leave_a_prefix<D: Disk>()
     ensures any_moment { (old new : Kept D) (commands : List Command)
         (answers : List (Result Reply RunFault)) → D.honest old.disk → IsAtRest (D.files old.disk)

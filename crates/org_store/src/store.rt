@@ -12,7 +12,7 @@ ghost use Rattle.org_store.specs.Group.{IsGroup};
 ghost use Rattle.org_store.specs.InOrder.{texts_of};
 ghost use Rattle.org_store.specs.Opening.{opened};
 ghost use Rattle.org_store.specs.Reopening.{IsOpenable};
-ghost use Rattle.org_store.specs.Runs.{IsOnDisk, LeavesDisk};
+ghost use Rattle.org_store.specs.Runs.{LeavesDisk};
 ghost use Rattle.org_store.specs.Step.{Step, Settles};
 ghost use Rattle.org_store.specs.Left.{IsLeft, IsLeftSettling};
 ghost use Rattle.org_store.specs.Counts.{Counts, SettledCounts};
@@ -129,13 +129,6 @@ impl<D: Disk> Store<D> {
         ensures { result ≡ self.now.session.broken }
     {
         self.files.is_broken()
-    }
-
-    /// Does nothing. It tells a proof that the texts that are settled are those of the disk's files.
-    pub fn settled_is_on_disk(&self)
-        ensures { IsOnDisk self.now.session (contents (D.files self.now.disk)) }
-    {
-        let _ = &self.files;
     }
 
     /// Sets how many commands are accepted before they are settled, from 1 to 1,000. It settles nothing by itself.

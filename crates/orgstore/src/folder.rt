@@ -1,5 +1,5 @@
 //! Lines served over a folder.
-ghost use Rattle.std.specs.Prelude.{◌≡◌, ◌⊎◌, Ok, IfOk, IfErr, All, []};
+ghost use Rattle.std.specs.Prelude.{◌≡◌, ◌≢◌, ◌⊎◌, Ok, IfOk, IfErr, All, []};
 ghost use Rattle.org_disk.specs.Disk.{HasRisen};
 ghost use Rattle.org_disk.specs.Accounts.{Accounts, LeavesOver};
 ghost use Rattle.org_journal.specs.Standing.{IsFit, contents};
@@ -36,8 +36,9 @@ const TURNS: u64 = 4_294_967_295;
 /// earlier store on the way, for one that has all commands that were acknowledged there; and after an end with `End` for
 /// all of them. The folder is left as one of which all this can be said again.
 ///
-/// An opening is refused for its reason alone. It ends with Read or Write only for a cause: a failed call of the reader
-/// or the writer, or 4,294,967,295 reads; with Device, or an opening that is refused so, only where a call failed.
+/// An opening is refused for its reason alone, and then nothing is read or written. It ends with Read or Write for a cause
+/// alone: a failed call of the reader or the writer, which is always told so, or 4,294,967,295 reads; with Device, or an
+/// opening that is refused so, only where a call failed.
 pub fn serve_folder<F: Files + AllocGlobal + Drop, S: Start, R: Source, W: Sink>(
     alloc: Global,
     disk: FolderDisk<F, S>,
@@ -62,11 +63,17 @@ where
     ensures fit { is_right S.world result.disk → IsFit (files_of S.world disk)
         → EachStands (files_of S.world disk)
         → IsFit (files_of S.world result.disk) × EachStands (files_of S.world result.disk) }
+    ensures unserved { IfErr result.end (λ _. (reader.new ≡ reader.old)
+        × (writer.new ≡ writer.old)) }
     ensures read_cause { result.end ≡ Ok ServeEnd.Read
         → HasRisen (R.failures reader.old) (R.failures reader.new)
         ⊎ HasRisenBy 4294967295 (R.reads reader.old) (R.reads reader.new) }
+    ensures read_told { result.end ≢ Ok ServeEnd.Read
+        → R.failures reader.new ≡ R.failures reader.old }
     ensures write_cause { result.end ≡ Ok ServeEnd.Write
         → HasRisen (W.failures writer.old) (W.failures writer.new) }
+    ensures write_told { result.end ≢ Ok ServeEnd.Write
+        → W.failures writer.new ≡ W.failures writer.old }
     ensures refused { IfErr result.end (IsReason setup.names.items (is_right S.world result.disk)
         (contents (files_of S.world disk)) (contents (files_of S.world result.disk))) }
     ensures accounts { Accounts ⊥ (is_right S.world) failures_of disk result.disk

@@ -11,4 +11,4 @@ returns-clause-served g c = λ given old new others image lines out few of left.
     left
 
 pub returns-clause-whole : goal.returns-clause-whole
-returns-clause-whole g c = λ states group given disk now end left left' written written' served here least image few sized way honestly holds. served_opens served sized here least image few way honestly holds
+returns-clause-whole g c = λ states group given disk now end left left' written written' served here least image few way honestly holds. served_opens served here least image few way honestly holds

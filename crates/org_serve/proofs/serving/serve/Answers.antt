@@ -49,12 +49,12 @@ returns-in-Ok-eq0-clause-calls g c =
 pub returns-in-Ok-eq0-clause-any_moment : goal.returns-in-Ok-eq0-clause-any_moment
 returns-in-Ok-eq0-clause-any_moment g c = λ honest.
     let d = g.D.Disk in
-    runs_leave d.honest d.files d.moment d.left_since (kept_runs d.honest d.files d.moment d.left_since (returns-in-Ok-eq0-clause-calls g c) honest) (λ image left. g.met.D.Disk.only_now c.args.store.now.disk image (c.loop.invariant.2.was_honest (c.finish.ensures.accounts.was_honest honest)) left) c.settled_is_on_disk.ensures
+    runs_leave d.honest d.files d.moment d.left_since (kept_runs d.honest d.files d.moment d.left_since (returns-in-Ok-eq0-clause-calls g c) honest) (λ image left. g.met.D.Disk.only_now c.args.store.now.disk image (c.loop.invariant.2.was_honest (c.finish.ensures.accounts.was_honest honest)) left)
 
 pub returns-in-Ok-eq0-clause-disk : goal.returns-in-Ok-eq0-clause-disk
 returns-in-Ok-eq0-clause-disk g c = λ honest.
     let d = g.D.Disk in
-    runs_keep d.honest d.files d.moment d.left_since (kept_runs d.honest d.files d.moment d.left_since (returns-in-Ok-eq0-clause-calls g c) honest) c.settled_is_on_disk.ensures
+    runs_keep d.honest d.files d.moment d.left_since (kept_runs d.honest d.files d.moment d.left_since (returns-in-Ok-eq0-clause-calls g c) honest)
 
 pub returns-in-Err-feed-clause-write : goal.returns-in-Err-feed-clause-write
 returns-in-Err-feed-clause-write g c = λ honest e.
@@ -75,12 +75,12 @@ returns-in-Err-feed-clause-calls g c =
 pub returns-in-Err-feed-clause-any_moment : goal.returns-in-Err-feed-clause-any_moment
 returns-in-Err-feed-clause-any_moment g c = λ honest.
     let d = g.D.Disk in
-    runs_leave d.honest d.files d.moment d.left_since (kept_runs d.honest d.files d.moment d.left_since (returns-in-Err-feed-clause-calls g c) honest) (λ image left. g.met.D.Disk.only_now c.args.store.now.disk image (c.loop.invariant.2.was_honest (c.feed.ensures.accounts.was_honest honest)) left) c.settled_is_on_disk.ensures
+    runs_leave d.honest d.files d.moment d.left_since (kept_runs d.honest d.files d.moment d.left_since (returns-in-Err-feed-clause-calls g c) honest) (λ image left. g.met.D.Disk.only_now c.args.store.now.disk image (c.loop.invariant.2.was_honest (c.feed.ensures.accounts.was_honest honest)) left)
 
 pub returns-in-Err-feed-clause-disk : goal.returns-in-Err-feed-clause-disk
 returns-in-Err-feed-clause-disk g c = λ honest.
     let d = g.D.Disk in
-    runs_keep d.honest d.files d.moment d.left_since (kept_runs d.honest d.files d.moment d.left_since (returns-in-Err-feed-clause-calls g c) honest) c.settled_is_on_disk.ensures
+    runs_keep d.honest d.files d.moment d.left_since (kept_runs d.honest d.files d.moment d.left_since (returns-in-Err-feed-clause-calls g c) honest)
 
 pub returns-in-Err-clause-read : goal.returns-in-Err-clause-read
 returns-in-Err-clause-read g c = λ honest e.
@@ -97,12 +97,12 @@ returns-in-Err-clause-calls g c =
 pub returns-in-Err-clause-any_moment : goal.returns-in-Err-clause-any_moment
 returns-in-Err-clause-any_moment g c = λ honest.
     let d = g.D.Disk in
-    runs_leave d.honest d.files d.moment d.left_since (kept_runs d.honest d.files d.moment d.left_since (returns-in-Err-clause-calls g c) honest) (λ image left. g.met.D.Disk.only_now c.args.store.now.disk image (c.loop.invariant.2.was_honest honest) left) c.settled_is_on_disk.ensures
+    runs_leave d.honest d.files d.moment d.left_since (kept_runs d.honest d.files d.moment d.left_since (returns-in-Err-clause-calls g c) honest) (λ image left. g.met.D.Disk.only_now c.args.store.now.disk image (c.loop.invariant.2.was_honest honest) left)
 
 pub returns-in-Err-clause-disk : goal.returns-in-Err-clause-disk
 returns-in-Err-clause-disk g c = λ honest.
     let d = g.D.Disk in
-    runs_keep d.honest d.files d.moment d.left_since (kept_runs d.honest d.files d.moment d.left_since (returns-in-Err-clause-calls g c) honest) c.settled_is_on_disk.ensures
+    runs_keep d.honest d.files d.moment d.left_since (kept_runs d.honest d.files d.moment d.left_since (returns-in-Err-clause-calls g c) honest)
 
 pub returns-clause-read : goal.returns-clause-read
 returns-clause-read g c = λ honest e.
@@ -117,12 +117,12 @@ returns-clause-calls g c =
 pub returns-clause-any_moment : goal.returns-clause-any_moment
 returns-clause-any_moment g c = λ honest.
     let d = g.D.Disk in
-    runs_leave d.honest d.files d.moment d.left_since (kept_runs d.honest d.files d.moment d.left_since (returns-clause-calls g c) honest) (λ image left. g.met.D.Disk.only_now c.args.store.now.disk image (c.loop.invariant.2.was_honest honest) left) c.settled_is_on_disk.ensures
+    runs_leave d.honest d.files d.moment d.left_since (kept_runs d.honest d.files d.moment d.left_since (returns-clause-calls g c) honest) (λ image left. g.met.D.Disk.only_now c.args.store.now.disk image (c.loop.invariant.2.was_honest honest) left)
 
 pub returns-clause-disk : goal.returns-clause-disk
 returns-clause-disk g c = λ honest.
     let d = g.D.Disk in
-    runs_keep d.honest d.files d.moment d.left_since (kept_runs d.honest d.files d.moment d.left_since (returns-clause-calls g c) honest) c.settled_is_on_disk.ensures
+    runs_keep d.honest d.files d.moment d.left_since (kept_runs d.honest d.files d.moment d.left_since (returns-clause-calls g c) honest)
 
 pub loop-preserved : goal.loop-preserved
 loop-preserved g c = (
