@@ -58,16 +58,17 @@ module _ {D : Type 0} (files : D → List ℕ → FileState) (states : Keywords)
 
   pub serves : (honest : D → Type 0) (moment : D → ℕ) (left_since : D → ℕ → Image → Type 0) → AreSorted (with_archives given) store.session.names
       → (honest store.disk → first_large (contents (files store.disk)) store.session.names ≡ None)
-      → (honest begun.disk → IsReopened (files disk) (files begun.disk))
+      → (honest begun.disk → honest disk) → (honest begun.disk → IsReopened (files disk) (files begun.disk))
       → {end : ServeEnd} {left left' written written' : Option (List ℕ)} (after : Kept D) (now : D) → now ≡ after.disk
       → Runs (RunsLine honest files moment left_since) (HasSettledOver honest files moment left_since) begun after end left left' written written'
       → (honest now → Serves begun.session end after.session left left' written written')
       → ServesOver honest files moment left_since states group given disk now end left left' written written'
-  serves honest moment left_since sorted sized reopened after now closed run told =
+  serves honest moment left_since sorted sized began reopened after now closed run told =
       let first : Past D = record { store = begun; texts = begun.session.files ∷ [] } in
       let past = lift_run honest files moment left_since first run in record {
         first = first;
         last = record { store = after; texts = past.0 };
+        began = began;
         reopened = reopened;
         begins = begun_so sorted;
         sizes = subst (λ (k : Kept D). honest k.disk → first_large (contents (files k.disk)) k.session.names ≡ None) (sym is) sized;
@@ -267,7 +268,7 @@ module _ {D : Type 0} (honest : D → Type 0) (files : D → List ℕ → FileSt
     (is : begun ≡ record store { session = record store.session { group = group } })
     (opens : store.session ≡ opened states store.session.names (texts_of (contents (files store.disk)) store.session.names)) where
   pub serves_lasting : AreSorted (with_archives given) store.session.names → (honest store.disk → first_large (contents (files store.disk)) store.session.names ≡ None)
-      → (honest begun.disk → IsReopened (files disk) (files begun.disk))
+      → (honest begun.disk → honest disk) → (honest begun.disk → IsReopened (files disk) (files begun.disk))
       → {end : ServeEnd} {left left' written written' : Option (List ℕ)} (after : Kept D) (now : D) → now ≡ after.disk
       → Runs (RunsLine honest files moment left_since) (HasSettledOver honest files moment left_since) begun after end left left' written written'
       → (honest now → Serves begun.session end after.session left left' written written')
@@ -275,8 +276,8 @@ module _ {D : Type 0} (honest : D → Type 0) (files : D → List ℕ → FileSt
       → (served : ServesOver honest files moment left_since states group given disk now end left left' written written')
       × (IsFit (files disk) → EachStands (files disk) → Lasts served)
   unfolding serves
-  serves_lasting sorted sized reopened after now closed run told opening =
-      let served = serves files states group given disk store begun is opens honest moment left_since sorted sized reopened after now closed run told in (
+  serves_lasting sorted sized began reopened after now closed run told opening =
+      let served = serves files states group given disk store begun is opens honest moment left_since sorted sized began reopened after now closed run told in (
         served,
         λ fit each. lasts only_now counts_now served (λ honestly. (reopened honestly).rest fit each) (λ honestly. opening fit each honestly),
       )

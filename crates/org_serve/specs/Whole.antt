@@ -39,6 +39,8 @@ pub record ServesOver {D : Type 0} (honest : D → Type 0) (files : D → List �
     (states : Keywords) (group : ℕ) (given : List (List ℕ)) (disk now : D) (end : ServeEnd) (left left' written written' : Option (List ℕ)) : Type 0 where
   pub first : Past D
   pub last : Past D
+  -- a disk that is honest behind the opening was so before it
+  pub began : honest first.store.disk → honest disk
   -- what a stop had cut short was brought to an end; a closed gate's byte was kept
   pub reopened : honest first.store.disk → IsReopened (files disk) (files first.store.disk)
   pub begins : Begins states group given (contents (files first.store.disk)) first.store.session

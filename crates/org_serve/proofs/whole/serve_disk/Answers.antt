@@ -16,7 +16,8 @@ returns-in-Ok-clause-served g c =
     let here = of_disk d.files setup.states setup.group setup.names.items c.args.disk store begun c.set_group.ensures opens in
     let reopens = c.in-Ok.ensures.reopens in
     serves_lasting d.honest d.files d.moment d.left_since laws.only_now laws.counts_now setup.states setup.group setup.names.items c.args.disk store begun c.set_group.ensures opens
-    c.in-Ok.ensures.names.1 c.in-Ok.ensures.sizes (here (λ k. d.honest k → IsReopened (d.files c.args.disk) (d.files k)) (λ honestly. (reopens honestly).done))
+    c.in-Ok.ensures.names.1 c.in-Ok.ensures.sizes (here (λ k. d.honest k → d.honest c.args.disk) c.in-Ok.ensures.accounts.was_honest)
+    (here (λ k. d.honest k → IsReopened (d.files c.args.disk) (d.files k)) (λ honestly. (reopens honestly).done))
     c.serve-end.new.store c.close.result c.close.ensures c.serve-end.ensures.calls
     (λ honest.
     let now : d.honest c.serve-end.new.store.disk = rw (← c.close.ensures) honest in
