@@ -9,10 +9,10 @@ use Rattle.org_splice.proofs.Lines.{print_lines-append}
 use Rattle.org_stamp.specs.Calendar.{CivilMinute}
 use Rattle.org_meta.specs.declared.clock.Running.{Running}
 use Rattle.org_meta.specs.declared.fault.ClockFault.{ClockFault}
-use Rattle.org_meta.specs.declared.fault.ClockFault.TheVariants.{ClockBackwards}
+use Rattle.org_meta.specs.declared.fault.ClockFault.TheVariants.{ClockBackwards, OutOfMemory}
 use Rattle.org_meta.specs.Edits.{Gives}
 use Rattle.org_meta.specs.Clocks.{running_clock, is_open, minutes_between, IsOpenAt, HasOpenAt}
-use Rattle.org_meta.specs.Clocking.{closing_text, closed_after, closed_clock, closed_line, Closes}
+use Rattle.org_meta.specs.Clocking.{closing_text, closed_after, closed_clock, closed_line, IsWhyNot, ClosesNot}
 use Rattle.org_meta.proofs.Walk.{print_lines-closed}
 use Rattle.org_meta.proofs.Puts.{gives_at}
 
@@ -40,6 +40,10 @@ module _ (section : List ℕ) (span : Span) (before : List (List ℕ)) (line : L
     pub closes_backwards : None ≡ minutes_between running.start now → closed_line now line ≡ Err ClockBackwards
     closes_backwards none = ap (closed_clock now line) clock_here ∙ ap (closed_after now (take running.head line)) (sym none)
 
+    -- the line can be closed
+    pub closes_now : (minutes : ℕ) → Some minutes ≡ minutes_between running.start now → closed_line now line ≡ Ok (take running.head line ++ closing_text now minutes)
+    closes_now minutes some = ap (closed_clock now line) clock_here ∙ ap (closed_after now (take running.head line)) (sym some)
+
     pub closes_at : (e : Edit) (minutes : ℕ) → Some minutes ≡ minutes_between running.start now → running.head ≤ length text → e.at ≡ span.start + running.head → e.removed ≡ length text - running.head → e.bytes ≡ closing_text now minutes
         → MatchResult (closed_line now line) (λ closed. Gives e section (before ++ (closed ∷ after))) (λ fault. ⊥)
     closes_at e minutes some within at removed bytes =
@@ -47,7 +51,7 @@ module _ (section : List ℕ) (span : Span) (before : List (List ℕ)) (line : L
         let a = print_lines before ++ take running.head line in
         let b = drop running.head line in
         let c = 10 ∷ print_lines after in
-        let closed_is : closed_line now line ≡ Ok (take running.head line ++ w) = ap (closed_clock now line) clock_here ∙ ap (closed_after now (take running.head line)) (sym some) in
+        let closed_is : closed_line now line ≡ Ok (take running.head line ++ w) = closes_now minutes some in
         let long : length text ≡ length line = ap length (same ∙ line_at) in
         let front : length (take running.head line) ≡ running.head = length-take-le running.head line (omega arith) in
         let shape : print_lines before ++ ((take running.head line ++ drop running.head line) ++ c) ≡ a ++ (b ++ c) = simp append_assoc in
@@ -64,3 +68,9 @@ module _ (section : List ℕ) (span : Span) (before : List (List ℕ)) (line : L
 
 pub line_runs : (section : List ℕ) (span : Span) (text : List ℕ) → closed section ≡ section → HasOpenAt section span → text ≡ take (span.end - 1 - span.start) (drop span.start section) → is_open text ≡ true
 line_runs section span text whole h same = ap is_open (same ∙ line_at section span h.before h.line h.after whole h.is) ∙ h.is.runs
+
+-- memory was refused for a line that can be closed
+pub starved : (section : List ℕ) (span : Span) (now : CivilMinute) (running : Running) (text : List ℕ) (minutes : ℕ) (fault : ClockFault) → closed section ≡ section → fault ≡ OutOfMemory
+    → text ≡ take (span.end - 1 - span.start) (drop span.start section) → Some running ≡ running_clock text → Some minutes ≡ minutes_between running.start now → ClosesNot now section span fault
+starved section span now running text minutes fault whole memory same runs some =
+    λ before line after is. rw memory (take running.head line ++ closing_text now minutes, closes_now section span before line after whole is now running text same runs minutes some)

@@ -1,6 +1,6 @@
 -- Clocking in and out: the drawer of clock lines, the line that opens a clock, and the one that is closed (Org Syntax,
 -- "Drawers", "Clocks"; Org manual, "Clocking commands").
-use Rattle.std.specs.Prelude.{◌≡◌, ◌⊎◌, ℕ, Bool, ◌&&◌, if◌then◌else◌, Option, None, Some, Result, MatchResult, Ok, Err, List, [], ◌∷◌, ◌++◌, codes, take, length}
+use Rattle.std.specs.Prelude.{◌≡◌, ℕ, Bool, ◌&&◌, if◌then◌else◌, Option, None, Some, Result, MatchResult, Ok, Err, List, [], ◌∷◌, ◌++◌, codes, take, length}
 use Rattle.std.specs.List.{list_any}
 use Rattle.std.specs.Option.{option_map, unwrap_or}
 use Rattle.org_splice.specs.Lines.{lines_of}
@@ -69,8 +69,12 @@ Closes now section span edit =
     (before : List (List ℕ)) (line : List ℕ) (after : List (List ℕ)) → IsOpenAt section span before line after
     → MatchResult (closed_line now line) (λ closed. Gives edit section (before ++ (closed ∷ after))) (λ fault. ⊥)
 
--- Memory was refused, or the moment is before the start of the open clock line at the span.
+-- why a line isn't closed: it can't be, or it can, and memory was refused
+abbrev pub IsWhyNot : Result (List ℕ) ClockFault → ClockFault → Type 0
+IsWhyNot closed OutOfMemory = (new : List ℕ) × (closed ≡ Ok new)
+IsWhyNot closed ClockBackwards = closed ≡ Err ClockBackwards
+
+-- The open clock line at the span isn't closed: the moment is before its start, or it isn't, and memory was refused.
 abbrev pub ClosesNot : CivilMinute → List ℕ → Span → ClockFault → Type 0
 ClosesNot now section span fault =
-    (fault ≡ OutOfMemory) ⊎ ((before : List (List ℕ)) (line : List ℕ) (after : List (List ℕ)) → IsOpenAt section span before line after
-    → closed_line now line ≡ Err fault)
+    (before : List (List ℕ)) (line : List ℕ) (after : List (List ℕ)) → IsOpenAt section span before line after → IsWhyNot (closed_line now line) fault

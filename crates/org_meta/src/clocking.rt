@@ -104,7 +104,8 @@ fn push_closing(out: &mut Vec<u8>, now: Moment, minutes: u64) -> Result<(), Allo
 
 /// The edit that closes an open clock line of the section, as `find_open` answers it: `--`, the
 /// moment's timestamp and the duration take the place of all that follows the line's own timestamp
-/// (Org manual, "Clocking commands"). ClockBackwards where the moment is before the clock's start.
+/// (Org manual, "Clocking commands"). ClockBackwards where the moment is before the clock's start;
+/// only where it isn't is memory wanted.
 pub fn close_clock(
     alloc: Global,
     section: &[u8],

@@ -137,7 +137,14 @@ switch_refused now t u from i fault text other a = by_fault fault (subst (λ (u 
     by_fault BadRepeat a = switched_by now from (tree t) i (Err BadRepeat) other a
     by_fault DateRange a = switched_by now from (tree t) i (Err DateRange) other a
     by_fault ClockBackwards a = switched_by now from (tree t) i (Err ClockBackwards) other a
-    by_fault OutOfMemory a = (i, refl, other)
+    by_fault OutOfMemory a =
+        (with_opened now i (with_section_at from (tree t) a.0), switched_by now from (tree t) i (Ok (with_section_at from (tree t) a.0)) other (ap (result_map_both (with_section_at from (tree t)) fault_of_clock) a.1))
+
+-- memory was refused once the clock that runs can be closed
+pub switch_starved : (now : CivilMinute) (t u : List ℕ) (from i : ℕ) (closing : Edit) (fault : StateFault) → u ≡ t → i ≢ from → ClosesSection now (tree u) from (Ok closing) → fault ≡ OutOfMemory → AnswersSwitch now t from (Ok i) (Err fault)
+switch_starved now t u from i closing fault text other closes memory =
+    let can = subst (λ (u : List ℕ). ClosesSection now (tree u) from (Ok closing)) text closes in
+    rw memory (switch_refused now t t from i OutOfMemory refl other (can.0, can.1))
 
 module _ (t : List ℕ) (i from : ℕ) (now : CivilMinute) (opening closing : Edit) (new : List (List ℕ)) (shut : closed t ≡ t) (lt : i < node_count (tree t)) (there : from < node_count (tree t))
     (opens : EditsSection opening (tree t) i (opened_section now (tree t) i)) (closes : EditsSection closing (tree t) from new) where

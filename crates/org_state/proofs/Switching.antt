@@ -267,10 +267,10 @@ module _ (t : List ℕ) (r : Running) (s : Stands t r) where
 
   pub closing_refused : (now : CivilMinute) (fault : ClockFault) → ClosesNot now (part t r.line) (record { start = 0; end = length (part t r.line) }) fault
       → ClosesSection now (tree t) r.heading (Err (fault_of_clock fault))
-  closing_refused now clock.ClockBackwards (inl memory) = absurd cc
-  closing_refused now clock.ClockBackwards (inr refused) =
-      ap (result_map_both (with_section_at r.heading (tree t)) fault_of_clock) (s.first.refuses now clock.ClockBackwards (refused [] s.first.line [] line_alone))
-  closing_refused now clock.OutOfMemory why = tt
+  closing_refused now clock.ClockBackwards why =
+      ap (result_map_both (with_section_at r.heading (tree t)) fault_of_clock) (s.first.refuses now clock.ClockBackwards (why [] s.first.line [] line_alone))
+  closing_refused now clock.OutOfMemory why =
+      let can = why [] s.first.line [] line_alone in (s.first.before ++ (can.0 ∷ s.first.after), s.first.closes now can.0 can.1)
 
   pub closing_answers : (now : CivilMinute) (result : Result Edit StateFault) → closed t ≡ t → ClosesSection now (tree t) r.heading result → AnswersClosing now t r.heading result
   closing_answers now (Ok e) shut a =
@@ -283,4 +283,4 @@ module _ (t : List ℕ) (r : Running) (s : Stands t r) where
   closing_answers now (Err BadRepeat) shut a = a
   closing_answers now (Err DateRange) shut a = a
   closing_answers now (Err ClockBackwards) shut a = a
-  closing_answers now (Err OutOfMemory) shut a = tt
+  closing_answers now (Err OutOfMemory) shut a = (with_section_at r.heading (tree t) a.0, ap (result_map_both (with_section_at r.heading (tree t)) fault_of_clock) a.1)

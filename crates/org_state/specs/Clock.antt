@@ -1,6 +1,6 @@
 -- Clocks of a document: the running clock, a clock that is opened or closed, and the time clocked at a heading and below it
 -- (Org Syntax, "Clocks"; Org manual, "Clocking commands", "The clock table").
-use Rattle.std.specs.Prelude.{◌≡◌, ◌≢◌, ℕ, ◌+◌, ◌==◌, Vec, min, Bool, if◌then◌else◌, Option, None, Some, is_some, Result, Ok, Err, List, [], ◌∷◌}
+use Rattle.std.specs.Prelude.{◌≡◌, ℕ, ◌+◌, ◌==◌, Vec, min, Bool, if◌then◌else◌, Option, None, Some, is_some, Result, Ok, Err, List, [], ◌∷◌}
 use Rattle.std.specs.Global.{Global}
 use Rattle.std.specs.List.{position, sum_by}
 use Rattle.std.specs.Option.{option_map}
@@ -113,18 +113,18 @@ AnswersOpening states path now text (Err OutOfMemory) = (i : ℕ) × (find_path 
 AnswersOpening states path now text (Err fault) =
     (why : PathFault) × (find_path states (tree text) path ≡ Err why) × (fault ≡ fault_of_path why)
 
--- an edit that closes the first clock that runs at heading i, or why it can't be closed, unless memory ran out
+-- an edit that closes the first clock that runs at heading i, or why it can't be closed; memory is wanted only where it can
 abbrev pub AnswersClosing : CivilMinute → List ℕ → ℕ → Result Edit StateFault → Type 0
 AnswersClosing now text i (Ok edit) =
     (new : Document) × (with_closed now i (tree text) ≡ Ok new) × AreEdits (edit ∷ []) text (print new)
-AnswersClosing now text i (Err OutOfMemory) = Unit {0}
+AnswersClosing now text i (Err OutOfMemory) = (new : Document) × (with_closed now i (tree text) ≡ Ok new)
 AnswersClosing now text i (Err fault) = with_closed now i (tree text) ≡ Err fault
 
 -- the same, by the section
 abbrev pub ClosesSection : CivilMinute → Document → ℕ → Result Edit StateFault → Type 0
 ClosesSection now d i (Ok edit) =
     (new : List (List ℕ)) × (closed_first now (node_at d i).node.section ≡ Ok new) × EditsSection edit d i new
-ClosesSection now d i (Err OutOfMemory) = Unit {0}
+ClosesSection now d i (Err OutOfMemory) = (new : List (List ℕ)) × (closed_first now (node_at d i).node.section ≡ Ok new)
 ClosesSection now d i (Err fault) = with_closed now i d ≡ Err fault
 
 -- edits that clock in at the heading that was found, where a clock runs at heading `from`, or why that can't be; memory is
@@ -132,5 +132,5 @@ ClosesSection now d i (Err fault) = with_closed now i d ≡ Err fault
 abbrev pub AnswersSwitch : CivilMinute → List ℕ → ℕ → Result ℕ PathFault → Result (Vec Edit Global) StateFault → Type 0
 AnswersSwitch now text from found (Ok edits) =
     (new : Option Document) × (switched_at now from (tree text) found ≡ Ok new) × Makes new text edits.items
-AnswersSwitch now text from found (Err OutOfMemory) = (i : ℕ) × (found ≡ Ok i) × (i ≢ from)
+AnswersSwitch now text from found (Err OutOfMemory) = (new : Document) × (switched_at now from (tree text) found ≡ Ok (Some new))
 AnswersSwitch now text from found (Err fault) = switched_at now from (tree text) found ≡ Err fault

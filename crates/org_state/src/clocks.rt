@@ -106,7 +106,7 @@ fn closing(alloc: Global, text: &[u8], running: Running, now: Moment) -> Result<
 /// follows the timestamp in its line.
 ///
 /// # Errors
-/// `ClockBackwards` where the moment is before the clock's start, and `OutOfMemory`.
+/// In this order: `ClockBackwards` where the moment is before the clock's start, and `OutOfMemory`.
 pub fn clock_out(
     alloc: Global,
     text: &[u8],

@@ -1,8 +1,9 @@
-use Rattle.std.proofs.Common.{◌≡◌, ◌++◌, List, ℕ, true, refl, sym, ap, ◌∙◌, arith, inr}
+use Rattle.std.proofs.Common.{◌≡◌, ◌++◌, List, ℕ, true, refl, sym, ap, ◌∙◌, arith}
 use Rattle.std.specs.Prelude.{is_some}
 use Rattle.std.proofs.lemmas.Bool.{false≢true}
+use Rattle.std.proofs.lemmas.Result.{err_from_is_err_and}
 use Rattle.org_meta.specs.Clocking.{closing_text}
-use Rattle.org_meta.proofs.Closing.{ends_within, line_runs, closes_backwards, closes_at}
+use Rattle.org_meta.proofs.Closing.{ends_within, line_runs, closes_backwards, closes_at, starved}
 use Rattle.org_meta.proofs.clocking.close_clock.Goals as goal
 
 pub slice_bounds-text-end : goal.slice_bounds-text-end
@@ -19,7 +20,14 @@ pub returns-in_default-minutes_between-clause-err : goal.returns-in_default-minu
 returns-in_default-minutes_between-clause-err c =
     let runs = sym c.in-Some.is ∙ c.running_clock.ensures.value in
     let none = sym c.in_default-minutes_between.is ∙ c.minutes_between.ensures in
-    inr (λ before line after is. closes_backwards c.args.section.now c.args.line before line after c.requires.closed is c.args.now c.in-Some.running _ refl runs none)
+    λ before line after is. closes_backwards c.args.section.now c.args.line before line after c.requires.closed is c.args.now c.in-Some.running _ refl runs none
+
+pub returns-in_err-push_closing-clause-err : goal.returns-in_err-push_closing-clause-err
+returns-in_err-push_closing-clause-err c =
+    let p = err_from_is_err_and c.from_residual.result c.from_residual.ensures.1 in
+    let runs = sym c.in-Some.is ∙ c.running_clock.ensures.value in
+    let some = sym c.in-Some-minutes_between.is ∙ c.minutes_between.ensures in
+    rw p.1 (starved c.args.section.now c.args.line c.args.now c.in-Some.running _ c.in-Some-minutes_between.minutes p.0 c.requires.closed p.2 refl runs some)
 
 pub returns-clause-ok : goal.returns-clause-ok
 returns-clause-ok c =
