@@ -1,3 +1,4 @@
 mod Names
 mod Told
 mod Absent
+mod Places

@@ -1,5 +1,7 @@
+pub mod Apart
 pub mod Calls
 pub mod CallsLaws
 pub mod FolderDisk
+pub mod Locks
 pub mod Note
 pub mod OrgFiles

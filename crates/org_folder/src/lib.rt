@@ -8,17 +8,21 @@
 //! `SystemCalls` notes has to be read against the call that it makes, and no other proof by hand may set a record.
 #![tactic(auto)]
 
+mod apart;
 mod calls;
 mod disk;
 mod folder;
 pub mod laws;
 mod list;
+mod lock;
 mod record;
 mod start;
 mod system;
 
+pub use apart::{ApartFault, Node, check_apart};
 pub use calls::{Calls, Opened};
 pub use disk::{CallsDisk, FolderDisk};
 pub use list::{ListFault, org_file, org_files};
+pub use lock::{LockFault, lock_folder};
 pub use start::{Start, Unknown};
 pub use system::SystemCalls;

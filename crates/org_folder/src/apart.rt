@@ -1,0 +1,143 @@
+//! That each two of a store's names lead to two files.
+ghost use Rattle.std.specs.Prelude.{◌≡◌, ◌<◌, ℕ, [], length, IfOk, IfErr, IfSome, IfNone, IsTrue, IsFalse};
+ghost use Rattle.std.specs.List.{list_any};
+ghost use Rattle.org_folder.specs.Apart.{is_again, is_same, MayTell};
+ghost use Rattle.org_folder.specs.declared.apart.ApartFault.TheVariants.{OutOfMemory};
+
+use org_disk::FileName;
+use std::alloc::{AllocError, AllocFailed};
+use std::fs::{self, Files};
+use std::io::{self, ErrorKind};
+use std::os::unix::fs::MetadataExt;
+use std::path::Path;
+use thiserror::Error;
+
+/// Why names can't be those of a store.
+#[derive(Debug, Drop, Error)]
+pub enum ApartFault {
+    /// This name leads to the file of one before it.
+    #[error("the file of {0} has another name")]
+    SameFile(FileName),
+    /// A name can't be looked at.
+    #[error("a name can't be looked at")]
+    Device,
+    /// There was no memory for the names' paths.
+    #[error("out of memory")]
+    OutOfMemory,
+}
+
+impl From<io::Error> for ApartFault {
+    ghost from_gives = { λ _ fault. MayTell [] fault };
+
+    fn from(error: io::Error) -> ApartFault {
+        match error.kind() {
+            ErrorKind::OutOfMemory => ApartFault::OutOfMemory,
+            _ => ApartFault::Device,
+        }
+    }
+}
+
+impl From<AllocError> for ApartFault {
+    ghost from_gives = { λ _ fault. fault ≡ OutOfMemory };
+
+    fn from(_: AllocError) -> ApartFault {
+        ApartFault::OutOfMemory
+    }
+}
+
+impl<T: Drop> From<AllocFailed<T>> for ApartFault {
+    ghost from_gives = { λ _ fault. fault ≡ OutOfMemory };
+
+    fn from(_: AllocFailed<T>) -> ApartFault {
+        ApartFault::OutOfMemory
+    }
+}
+
+/// A file as the system tells it from others: its device, and its number there.
+#[derive(Clone, Copy, Debug, PartialEq, Eq)]
+pub struct Node {
+    device: u64,
+    number: u64,
+}
+
+/// Looks where names of a folder lead, and tells the first that leads to the file of one before it. Links are followed;
+/// a name without a file leads nowhere. It changes nothing.
+///
+/// What the system answers of a name is no clause, so whether two names lead to one file isn't either.
+pub fn check_apart<R: Files + AllocGlobal>(
+    rt: &R,
+    path: &str,
+    names: &[FileName],
+) -> Result<(), ApartFault>
+    ensures { IfErr result (MayTell names.now) }
+{
+    let nodes = nodes_of(rt, path, names)?;
+    match first_again(nodes.as_slice()) {
+        Some(at) => Err(ApartFault::SameFile(names[at].clone()?)),
+        None => Ok(()),
+    }
+}
+
+// The files that these names lead to, one by one.
+fn nodes_of<R: Files + AllocGlobal>(
+    rt: &R,
+    path: &str,
+    names: &[FileName],
+) -> Result<Vec<Option<Node>>, ApartFault>
+    ensures size { IfOk result (λ nodes. length nodes.items ≡ length names.now) }
+    ensures fault { IfErr result (MayTell []) }
+{
+    let mut nodes = Vec::new(rt.alloc());
+    for name in names {
+        nodes.push(node_of(rt, path, name)?)?;
+    }
+    Ok(nodes)
+}
+
+fn node_of<R: Files + AllocGlobal>(
+    rt: &R,
+    path: &str,
+    name: &FileName,
+) -> Result<Option<Node>, ApartFault>
+    ensures { IfErr result (MayTell []) }
+{
+    let path = Path::new(path).join(rt.alloc(), name.as_str())?;
+    match fs::metadata(rt, path.as_path()) {
+        Ok(metadata) => Ok(Some(Node {
+            device: metadata.dev(),
+            number: metadata.ino(),
+        })),
+        Err(error) if error.kind() == ErrorKind::NotFound => Ok(None),
+        Err(error) => Err(error.into()),
+    }
+}
+
+// The first place whose file is that of an earlier one.
+fn first_again(nodes: &[Option<Node>]) -> Option<usize>
+    ensures found { IfSome result (λ at. (at < length nodes.now) × IsTrue (is_again nodes.now at)) }
+    ensures first { IfSome result (λ at. (i : ℕ) → i < at → IsFalse (is_again nodes.now i)) }
+    ensures none { IfNone result ((i : ℕ) → i < length nodes.now
+        → IsFalse (is_again nodes.now i)) }
+{
+    for at in 0..nodes.len() {
+        if is_among(&nodes[..at], &nodes[at]) {
+            return Some(at);
+        }
+    }
+    None
+}
+
+fn is_among(nodes: &[Option<Node>], node: &Option<Node>) -> bool
+    ensures { result ≡ list_any (λ other. is_same other node.now) nodes.now }
+{
+    nodes.iter().any(|other| is_same(other, node))
+}
+
+fn is_same(one: &Option<Node>, other: &Option<Node>) -> bool
+    ensures { result ≡ is_same one.now other.now }
+{
+    match (one, other) {
+        (Some(one), Some(other)) => one.device == other.device && one.number == other.number,
+        _ => false,
+    }
+}

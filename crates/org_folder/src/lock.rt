@@ -1,0 +1,54 @@
+//! The lock by which one store at a time is open on a folder.
+ghost use Rattle.std.specs.Prelude.{◌≡◌};
+ghost use Rattle.org_folder.specs.Locks.{held};
+
+use std::alloc::AllocError;
+use std::fs::{File, Files, TryLockError};
+use std::path::Path;
+use thiserror::Error;
+
+/// Why a folder isn't to be looked at.
+#[derive(Clone, Copy, Debug, PartialEq, Eq, Error)]
+pub enum LockFault {
+    /// Another store is open on it.
+    #[error("another store is open on the folder")]
+    Locked,
+    /// There was no memory for its path.
+    #[error("out of memory")]
+    OutOfMemory,
+}
+
+impl From<AllocError> for LockFault {
+    fn from(_: AllocError) -> LockFault {
+        LockFault::OutOfMemory
+    }
+}
+
+/// Locks a folder against every other call of this, until the answer is dropped or its process ends, however it ends.
+/// `Locked` comes where another answer is still held. None is answered where the folder can't be opened, or the system
+/// doesn't lock it. Nothing is made in the folder, and nothing in it is looked at.
+///
+/// That the system keeps the lock is no clause: no contract says what a lock does.
+pub fn lock_folder<R: Files<File = File> + AllocGlobal>(
+    rt: &R,
+    path: &str,
+) -> Result<Option<File>, LockFault> {
+    // A path that ends in a slash opens a folder or nothing: a pipe would wait for its writer.
+    let path = Path::new(path).join(rt.alloc(), "")?;
+    let Ok(folder) = File::open(rt, path.as_path()) else {
+        return Ok(None);
+    };
+    let tried = folder.try_lock();
+    held(folder, tried)
+}
+
+// What is held of a folder that was opened, by what the system answered to the try to lock it.
+fn held<F: Drop>(folder: F, tried: Result<(), TryLockError>) -> Result<Option<F>, LockFault>
+    ensures { result ≡ held folder tried }
+{
+    match tried {
+        Ok(()) => Ok(Some(folder)),
+        Err(TryLockError::WouldBlock) => Err(LockFault::Locked),
+        Err(TryLockError::Error(_)) => Ok(None),
+    }
+}
