@@ -23,6 +23,6 @@ pub use apart::{ApartFault, Node, check_apart};
 pub use calls::{Calls, Opened};
 pub use disk::{CallsDisk, FolderDisk};
 pub use list::{ListFault, org_file, org_files};
-pub use lock::{LockFault, lock_folder};
+pub use lock::{LockFault, fill_streams, lock_folder};
 pub use start::{Start, Unknown};
 pub use system::SystemCalls;

@@ -55,7 +55,8 @@ fn is_org_file(text: &str) -> bool
 }
 
 /// The names of the Org files of a folder, in the order in which the system tells them. Entries with other names are
-/// left out, and folders too, those that a link leads to as well; a link that leads nowhere is a file that is absent.
+/// left out, and so is what is no plain file: folders, pipes, sockets and devices, those that a link leads to as well. A
+/// link that leads nowhere is a file that is absent.
 pub fn org_files<R: Files + AllocGlobal + Clone + Drop>(
     rt: &R,
     path: &str,
@@ -67,7 +68,7 @@ pub fn org_files<R: Files + AllocGlobal + Clone + Drop>(
         let entry = entry?;
         match org_file(rt.alloc(), entry.file_name()) {
             Ok(name) => {
-                if !is_folder(rt, &entry) {
+                if is_file(rt, &entry) {
                     names.push(name)?;
                 }
             }
@@ -79,9 +80,9 @@ pub fn org_files<R: Files + AllocGlobal + Clone + Drop>(
 }
 
 // Links are followed. What can't be looked at is a file: its first use then fails.
-fn is_folder<R: Files>(rt: &R, entry: &DirEntry<R>) -> bool {
+fn is_file<R: Files>(rt: &R, entry: &DirEntry<R>) -> bool {
     match fs::metadata(rt, entry.path()) {
-        Ok(metadata) => metadata.is_dir(),
-        Err(_) => false,
+        Ok(metadata) => metadata.is_file(),
+        Err(_) => true,
     }
 }

@@ -42,6 +42,22 @@ pub fn lock_folder<R: Files<File = File> + AllocGlobal>(
     held(folder, tried)
 }
 
+/// Opens a folder three times, so that where standard streams are closed their numbers are the folder's as long as the
+/// answers are held, and no file that is opened later is read or written as one of them: a folder can be neither. What
+/// can't be opened isn't held.
+pub fn fill_streams<R: Files<File = File> + AllocGlobal>(
+    rt: &R,
+    path: &str,
+) -> Result<[Option<File>; 3], AllocError> {
+    let path = Path::new(path).join(rt.alloc(), "")?;
+    let path = path.as_path();
+    Ok([
+        File::open(rt, path).ok(),
+        File::open(rt, path).ok(),
+        File::open(rt, path).ok(),
+    ])
+}
+
 // What is held of a folder that was opened, by what the system answered to the try to lock it.
 fn held<F: Drop>(folder: F, tried: Result<(), TryLockError>) -> Result<Option<F>, LockFault>
     ensures { result ≡ held folder tried }

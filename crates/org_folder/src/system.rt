@@ -42,9 +42,13 @@ where
         })
     }
 
-    // A file that may not be written is opened for reading alone: writes to it fail then.
+    // A file that may not be written is opened for reading alone: writes to it fail then. What is no plain file isn't
+    // opened: a pipe would wait for its other end.
     fn find(&self, name: &FileName) -> io::Result<R::File> {
         let path = self.path_of(name)?;
+        if !fs::metadata(&self.rt, path.as_path())?.is_file() {
+            return Err(Error::from(ErrorKind::Unsupported));
+        }
         match File::options()
             .read(true)
             .write(true)
