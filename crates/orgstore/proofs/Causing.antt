@@ -3,7 +3,7 @@ use Rattle.std.proofs.Common.{◌≡◌, ℕ, List, [], ◌∷◌, Some, string_
 use Rattle.org_fileset.specs.declared.open.OpenFault.TheVariants as refused
 use Rattle.orgstore.specs.Causes.{IsCauseOfNames, first_bad}
 use Rattle.orgstore.specs.declared.fault.Fault.{Fault}
-use Rattle.orgstore.specs.declared.fault.Fault.TheVariants.{Usage, BadName, BadStates, Open, Ended}
+use Rattle.orgstore.specs.declared.fault.Fault.TheVariants.{Usage, BadName, BadStates, Locked, SameFile, Open, Ended}
 
 -- the cause that one name is, for all of which it is the first bad one
 pub of_all : (text : List ℕ) (new : List (List ℕ)) → ((found : List ℕ) → first_bad (text ∷ []) ≡ Some found → first_bad new ≡ Some found)
@@ -16,4 +16,6 @@ of_all text new first (Open refused.BadJournal) is = is
 of_all text new first (Open (refused.TooLarge name)) is = is
 of_all text new first (Usage told) is = is
 of_all text new first BadStates is = is
+of_all text new first Locked is = is
+of_all text new first (SameFile name) is = is
 of_all text new first (Ended end) is = is

@@ -2,3 +2,4 @@ mod Words
 mod Rows
 mod Firsts
 mod Causing
+mod Files

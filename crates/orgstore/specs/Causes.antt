@@ -1,17 +1,24 @@
 -- Where each fault of the program comes from.
-use Rattle.std.specs.Prelude.{◌≡◌, ℕ, List, Option, Some, None, Result, Ok, Err, IsTrue, IsFalse, find, not, string_bytes}
+use Rattle.std.specs.Prelude.{◌≡◌, ℕ, List, ◌∷◌, ◌++◌, Option, Some, None, Result, Ok, Err, IsTrue, IsFalse, find, not, string_bytes}
+use Rattle.std.specs.List.{Contains}
+use Rattle.org_disk.specs.Names.{journal_name}
 use Rattle.org_fileset.specs.declared.open.OpenFault.{OpenFault}
 use Rattle.org_fileset.specs.declared.open.OpenFault.TheVariants as refused
+use Rattle.org_fileset.specs.Names.{with_archives}
 use Rattle.org_folder.specs.OrgFiles.{is_org_file}
+use Rattle.org_folder.specs.declared.apart.ApartFault.{ApartFault}
+use Rattle.org_folder.specs.declared.apart.ApartFault.TheVariants as apart
 use Rattle.org_folder.specs.declared.list.ListFault.{ListFault}
 use Rattle.org_folder.specs.declared.list.ListFault.TheVariants as list
+use Rattle.org_folder.specs.declared.lock.LockFault.{LockFault}
+use Rattle.org_folder.specs.declared.lock.LockFault.TheVariants as lock
 use Rattle.org_outline.specs.States.{Keywords, are_states}
 use Rattle.org_outline.specs.declared.states.StatesFault.{StatesFault}
 use Rattle.org_outline.specs.declared.states.StatesFault.TheVariants as states
 use Rattle.org_serve.specs.declared.end.ServeEnd.{ServeEnd}
 use Rattle.org_serve.specs.declared.end.ServeEnd.TheVariants.{End, Unsettled, Device, Read, Write}
 use Rattle.orgstore.specs.declared.fault.Fault.{Fault}
-use Rattle.orgstore.specs.declared.fault.Fault.TheVariants.{Usage, BadName, BadStates, Open, Ended}
+use Rattle.orgstore.specs.declared.fault.Fault.TheVariants.{Usage, BadName, BadStates, Locked, SameFile, Open, Ended}
 
 -- what the program tells of how serving ended: nothing only where the input was served to its end, and all is settled
 abbrev pub told : Result ServeEnd OpenFault → Result (Unit {0}) Fault
@@ -26,6 +33,17 @@ told (Err fault) = Err (Open fault)
 abbrev pub listing : ListFault → Fault
 listing list.Device = Open refused.Device
 listing list.OutOfMemory = Open refused.OutOfMemory
+
+-- why a folder couldn't be locked
+abbrev pub locking : LockFault → Fault
+locking lock.Locked = Locked
+locking lock.OutOfMemory = Open refused.OutOfMemory
+
+-- why names couldn't be told to lead to files of their own
+abbrev pub sharing : ApartFault → Fault
+sharing (apart.SameFile name) = SameFile name
+sharing apart.Device = Open refused.Device
+sharing apart.OutOfMemory = Open refused.OutOfMemory
 
 -- why the states couldn't be had
 abbrev pub stating : StatesFault → Fault
@@ -46,14 +64,26 @@ IsCauseOfNames new (Open refused.BadJournal) = ⊥
 IsCauseOfNames new (Open (refused.TooLarge name)) = ⊥
 IsCauseOfNames new (Usage told) = ⊥
 IsCauseOfNames new BadStates = ⊥
+IsCauseOfNames new Locked = ⊥
+IsCauseOfNames new (SameFile name) = ⊥
 IsCauseOfNames new (Ended end) = ⊥
 
--- Why new names and states aren't a store's, or a folder's names can't be had beside them. What comes first in this order
--- is told: the first bad name, bad states, the folder. Want of memory may take the place of each.
+-- which name of a store with these names may be told to share a file: one of theirs, an archive file's, or the journal's
+abbrev pub MayShare : List (List ℕ) → ApartFault → Type 0
+MayShare names (apart.SameFile name) = Contains (journal_name ∷ with_archives names) name
+MayShare names apart.Device = Unit {0}
+MayShare names apart.OutOfMemory = Unit {0}
+
+-- Why new names and states aren't a store's, or its folder can't be had beside them. What comes first in this order is told:
+-- the first bad name, bad states, a folder on which another store is open, the rest of the folder. Want of memory may
+-- take the place of each.
 abbrev pub IsCause : List (List ℕ) → Keywords → Fault → Type 0
 IsCause new states (BadName name) = first_bad new ≡ Some (string_bytes name)
 IsCause new states BadStates = (first_bad new ≡ None) × IsFalse (are_states states)
+IsCause new states Locked = (first_bad new ≡ None) × IsTrue (are_states states)
 IsCause new states (Open refused.Device) = (first_bad new ≡ None) × IsTrue (are_states states)
+IsCause new states (SameFile name) = (first_bad new ≡ None) × IsTrue (are_states states)
+    × ((listed : List (List ℕ)) × Contains (journal_name ∷ with_archives (new ++ listed)) name)
 IsCause new states (Open refused.OutOfMemory) = Unit {0}
 IsCause new states (Open refused.TooManyFiles) = ⊥
 IsCause new states (Open refused.BadJournal) = ⊥

@@ -7,7 +7,7 @@ use Rattle.org_fileset.specs.declared.open.OpenFault.TheVariants.{OutOfMemory, D
 use Rattle.org_store.specs.Group.{IsGroup}
 use Rattle.orgstore.specs.declared.arguments.Arguments.{Arguments}
 use Rattle.orgstore.specs.declared.fault.Fault.{Fault}
-use Rattle.orgstore.specs.declared.fault.Fault.TheVariants.{Usage, BadName, BadStates, Open, Ended}
+use Rattle.orgstore.specs.declared.fault.Fault.TheVariants.{Usage, BadName, BadStates, Locked, SameFile, Open, Ended}
 
 -- The command line, as clap has it: a folder, which has to be there; any number of `--new NAME`; and, at most once each,
 -- `--todo LIST`, `--done LIST` and `--group K`, which are TODO, DONE and 1 where they aren't there.
@@ -79,6 +79,8 @@ IsFaultBy Reason (Open BadJournal) = ⊥
 IsFaultBy Reason (Open (TooLarge name)) = ⊥
 IsFaultBy Reason (BadName name) = ⊥
 IsFaultBy Reason BadStates = ⊥
+IsFaultBy Reason Locked = ⊥
+IsFaultBy Reason (SameFile name) = ⊥
 IsFaultBy Reason (Ended end) = ⊥
 
 -- the words aren't what the program takes, or can't be read at all, or there was no memory for them

@@ -1,10 +1,11 @@
 //! Why the program doesn't run to the end of its input: what it says on standard error, and its exit status.
 ghost use Rattle.std.specs.Prelude.{◌≡◌};
 ghost use Rattle.org_fileset.specs.declared.open.OpenFault.TheVariants.{OutOfMemory};
-ghost use Rattle.orgstore.specs.Causes.{listing, stating};
+ghost use Rattle.orgstore.specs.Causes.{listing, locking, sharing, stating};
 ghost use Rattle.orgstore.specs.declared.fault.Fault.TheVariants.{Open};
 
-use org_folder::ListFault;
+use org_disk::FileName;
+use org_folder::{ApartFault, ListFault, LockFault};
 use org_outline::StatesFault;
 use org_serve::ServeEnd;
 use org_store::OpenFault;
@@ -20,6 +21,10 @@ pub enum Fault {
     BadName(String),
     /// The states aren't ones that a store can have.
     BadStates,
+    /// Another store is open on the folder.
+    Locked,
+    /// This name of the store's leads to the file of another one.
+    SameFile(FileName),
     /// The store wasn't opened.
     Open(OpenFault),
     /// Serving didn't end well.
@@ -34,6 +39,8 @@ impl Display for Fault {
             Fault::Usage(text) => f.write_str(text.as_str()),
             Fault::BadName(name) => writeln!(f, "orgstore: bad name {name}"),
             Fault::BadStates => f.write_str("orgstore: bad states\n"),
+            Fault::Locked => f.write_str("orgstore: open: Locked\n"),
+            Fault::SameFile(name) => writeln!(f, "orgstore: open: SameFile {name}"),
             Fault::Open(fault) => write_open(f, fault),
             Fault::Ended(end) => writeln!(f, "orgstore: {end:?}"),
         }
@@ -73,6 +80,29 @@ impl From<ListFault> for Fault {
         match fault {
             ListFault::Device => Fault::Open(OpenFault::Device),
             ListFault::OutOfMemory => Fault::Open(OpenFault::OutOfMemory),
+        }
+    }
+}
+
+impl From<LockFault> for Fault {
+    ghost from_gives = { λ cause fault. fault ≡ locking cause };
+
+    fn from(fault: LockFault) -> Fault {
+        match fault {
+            LockFault::Locked => Fault::Locked,
+            LockFault::OutOfMemory => Fault::Open(OpenFault::OutOfMemory),
+        }
+    }
+}
+
+impl From<ApartFault> for Fault {
+    ghost from_gives = { λ cause fault. fault ≡ sharing cause };
+
+    fn from(fault: ApartFault) -> Fault {
+        match fault {
+            ApartFault::SameFile(name) => Fault::SameFile(name),
+            ApartFault::Device => Fault::Open(OpenFault::Device),
+            ApartFault::OutOfMemory => Fault::Open(OpenFault::OutOfMemory),
         }
     }
 }

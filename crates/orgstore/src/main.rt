@@ -8,7 +8,7 @@ ghost use Rattle.std.specs.Io.Buffered.{writer_buffer};
 ghost use Rattle.org_disk.specs.Names.{IsOrgFile};
 ghost use Rattle.org_fileset.specs.declared.open.OpenFault.TheVariants.{OutOfMemory};
 ghost use Rattle.org_store.specs.Group.{IsGroup};
-ghost use Rattle.orgstore.specs.Causes.{told, IsCause};
+ghost use Rattle.orgstore.specs.Causes.{told, IsCause, MayShare};
 ghost use Rattle.orgstore.specs.Lists.{states_in};
 ghost use Rattle.orgstore.specs.declared.fault.Fault.TheVariants.{Open};
 
@@ -23,11 +23,15 @@ mod tests;
 use arguments::Arguments;
 use fault::Fault;
 use folder::serve_folder;
-use names::new_names;
-use org_folder::{FolderDisk, Unknown, org_files};
+use names::{file_names, new_names};
+use org_disk::FileName;
+use org_folder::{
+    ApartFault, FolderDisk, Unknown, check_apart, fill_streams, lock_folder, org_files,
+};
 use org_serve::{Counted, ServeEnd, Served, Setup};
 use org_store::OpenFault;
 use states::states;
+use std::fs::File;
 use std::io::{BufWriter, Stdout};
 use std::process::ExitCode;
 
@@ -44,7 +48,10 @@ fn main(rt: HostRuntime) -> ExitCode {
 
 fn run(rt: &HostRuntime) -> Result<(), Fault> {
     let arguments = arguments::read(rt)?;
-    let setup = setup(rt, &arguments)?;
+    // A standard stream that is closed is the folder then, and no file of the store.
+    let _streams = fill_streams(rt, &arguments.folder)?;
+    // The folder is locked until all is served.
+    let (setup, _lock) = setup(rt, &arguments)?;
     let mut reader = Counted::new(rt.stdin());
     let mut writer = Counted::new(stdout(rt)?);
     let disk: FolderDisk<HostRuntime, Unknown> = FolderDisk::new(
@@ -67,24 +74,42 @@ fn told(end: Result<ServeEnd, OpenFault>) -> Result<(), Fault>
     }
 }
 
-fn setup(rt: &HostRuntime, arguments: &Arguments) -> Result<Setup, Fault>
+// What the store is opened with, and the lock on its folder, where it has one.
+fn setup(rt: &HostRuntime, arguments: &Arguments) -> Result<(Setup, Option<File>), Fault>
     requires { IsGroup arguments.now.group }
-    ensures names { IfOk result (λ setup. All IsOrgFile setup.names.items) }
-    ensures new { IfOk result (λ setup. (listed : List (List ℕ))
-        × (setup.names.items ≡ map string_bytes arguments.now.new.items ++ listed)) }
-    ensures states { IfOk result (λ setup. setup.states ≡ states_in arguments.now) }
-    ensures group { IfOk result (λ setup. setup.group ≡ arguments.now.group) }
+    ensures names { IfOk result (λ made. All IsOrgFile made.0.names.items) }
+    ensures new { IfOk result (λ made. (listed : List (List ℕ))
+        × (made.0.names.items ≡ map string_bytes arguments.now.new.items ++ listed)) }
+    ensures states { IfOk result (λ made. made.0.states ≡ states_in arguments.now) }
+    ensures group { IfOk result (λ made. made.0.group ≡ arguments.now.group) }
     ensures cause { IfErr result
         (IsCause (map string_bytes arguments.now.new.items) (states_in arguments.now)) }
 {
     let mut names = new_names(rt.alloc(), &arguments.new)?;
     let states = states(rt.alloc(), &arguments.todo, &arguments.done)?;
+    let lock = lock_folder(rt, &arguments.folder)?;
     names.append(&mut org_files(rt, &arguments.folder)?)?;
-    Ok(Setup {
-        names,
-        states,
-        group: arguments.group,
-    })
+    check_files(rt, &arguments.folder, &names)?;
+    let group = arguments.group;
+    Ok((
+        Setup {
+            names,
+            states,
+            group,
+        },
+        lock,
+    ))
+}
+
+// Whether the files of a store with these names are one each. Too many names are told by the opening.
+fn check_files(rt: &HostRuntime, folder: &str, names: &[FileName]) -> Result<(), ApartFault>
+    requires { All IsOrgFile names.now }
+    ensures { IfErr result (MayShare names.now) }
+{
+    match file_names(rt.alloc(), names)? {
+        Some(files) => check_apart(rt, folder, &files),
+        None => Ok(()),
+    }
 }
 
 fn stdout(rt: &HostRuntime) -> Result<BufWriter<Stdout>, Fault>

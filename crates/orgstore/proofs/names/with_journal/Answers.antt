@@ -1,0 +1,15 @@
+use Rattle.std.proofs.Common.{◌≡◌, ◌+◌, ◌∷◌, ◌++◌, [], take, append_assoc}
+use Rattle.std.proofs.lemmas.List.{take_more}
+use Rattle.org_disk.specs.Names.{archive_name, journal_name}
+use Rattle.org_fileset.specs.Names.{with_archives}
+use Rattle.org_fileset.proofs.Sorted.{with_archives-push}
+use Rattle.orgstore.proofs.names.with_journal.Goals as goal
+
+pub loop-name-preserved : goal.loop-name-preserved
+loop-name-preserved c =
+    let given = c.args.given.now in
+    let i = c.loop-name.name-index in
+    let name = c.name-item.result in
+    let more : take (i + 1) given ≡ take i given ++ name ∷ [] = rw (take_more given i name c.loop-name-test.true, ← c.name-item.is) in
+    rw (more, with_archives-push, c.in_ok-push-3.ensures.items, c.in_ok-push-2.ensures.items, c.in_ok-archive.ensures.name, c.in_ok-clone.ensures.cases, c.loop-name.invariant)
+    (append_assoc (journal_name ∷ with_archives (take i given)) (name ∷ []) (archive_name name ∷ []))
