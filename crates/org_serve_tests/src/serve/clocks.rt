@@ -1,10 +1,12 @@
 // Lines that start and stop clocks, and a clock that goes from one file to another over a disk that stops or fails.
-use super::answers_over;
+use super::large_moves::filled;
 use super::moves::{BOTH, Step, fail_at_every_call, stop_at_every_call};
+use super::{answers_over, served};
+use org_fixtures::two_files;
 use std::test::Fail;
 
 // What a.org and b.org hold, lines, and what is answered to them.
-const CLOCKED: [(&str, &str, &str, &str); 11] = [
+const CLOCKED: [(&str, &str, &str, &str); 12] = [
     // in, in elsewhere, out before its start, out, out again, and the time
     (
         "* A\n",
@@ -109,6 +111,25 @@ const CLOCKED: [(&str, &str, &str, &str); 11] = [
         "time\ta.org\tA\ncapture\ta.org\tpath:A\tlast\t2026-07-01 10:00\t* N\t\nshow\ta.org\n",
         "time 0:00\nok 1\nsafe 1\ntext 37\n*\n*\tA\n#+BEGIN_SRC\n* A\n#+END_SRC\n** N\n\n",
     ),
+    // files that had no clock get one: by clocking in, by a capture, and by an archiving that takes it along; what is
+    // refused in between changes nothing
+    (
+        "* A\n",
+        "* B\n",
+        "clock-out\t2026-07-01 09:00\nclock-in\ta.org\tA\t2026-07-01 10:00\n\
+            clock-in\tb.org\tQ\t2026-07-01 10:10\nclock-in\tb.org\tB\t2026-07-01 09:00\n\
+            clock-in\tb.org\tB\t2026-07-01 11:30\nclock-out\t2026-07-01 12:00\n\
+            clock-out\t2026-07-01 12:00\n\
+            capture\ta.org\ttop\tlast\t2026-07-01 12:00\t* N\\nCLOCK: [2026-07-01 Wed 12:10]\t\n\
+            clock-in\tb.org\tB\t2026-07-01 12:20\narchive\tb.org\tB\t2026-07-01 12:20\n\
+            clock-out\t2026-07-01 12:30\nclock-out\t2026-07-01 12:30\nshow\ta.org\nshow\tb.org\n\
+            time\tb.org_archive\tB\n",
+        "refused 12 NoClock\nok 1\nsafe 1\nrefused 4 NotFound\nrefused 13 ClockBackwards\nok 2\n\
+            safe 2\nok 3\nsafe 3\nrefused 12 NoClock\nok 4\nsafe 4\nok 5\nsafe 5\nok 6\nsafe 6\n\
+            ok 7\nsafe 7\nrefused 12 NoClock\ntext 150\n* A\n:LOGBOOK:\n\
+            CLOCK: [2026-07-01 Wed 10:00]--[2026-07-01 Wed 11:30] =>  1:30\n:END:\n* N\n\
+            CLOCK: [2026-07-01 Wed 12:10]--[2026-07-01 Wed 12:20] =>  0:10\n\ntext 0\n\ntime 0:40\n",
+    ),
     // a slash within a title
     (
         "* a/b\n",
@@ -123,6 +144,26 @@ fn answered_lines(rt: HostRuntime) {
     for (a, b, input, wanted) in CLOCKED {
         answers_over(&rt, (a, b), input, wanted);
     }
+}
+
+// What is answered where a.org has no room for a clock: no command that starts one there leaves a trace, and one that
+// runs elsewhere goes on.
+#[test]
+fn a_clock_past_the_limit(rt: HostRuntime) -> Result<(), Fail> {
+    let alloc = rt.alloc();
+    let disk = two_files(
+        alloc,
+        &filled(alloc, b"* A\n", 67_108_860, b'\n')?,
+        b"* B\n",
+    )?;
+    let lines = b"clock-out\t2026-07-01 10:00\nclock-in\ta.org\tA\t2026-07-01 10:00\n\
+        clock-out\t2026-07-01 10:00\nclock-in\tb.org\tB\t2026-07-01 10:00\n\
+        clock-in\ta.org\tA\t2026-07-01 10:30\nclock-out\t2026-07-01 11:00\n\
+        clock-out\t2026-07-01 11:00\ntime\tb.org\tB\n";
+    let wanted = b"refused 12 NoClock\nrefused 14 TooLarge\nrefused 12 NoClock\nok 1\nsafe 1\n\
+        refused 14 TooLarge\nok 2\nsafe 2\nrefused 12 NoClock\ntime 1:00\n";
+    assert!(rt; served(alloc, disk, 1, lines)?.as_slice() == wanted.as_slice());
+    Ok(())
 }
 
 // Nothing is to settle.

@@ -7,7 +7,7 @@ use std::process::Abort;
 use std::test::Fail;
 
 // This beginning, then so many bytes up to this size, the last of which is this one.
-fn filled(alloc: Global, head: &[u8], size: usize, last: u8) -> Result<Vec<u8>, Fail> {
+pub fn filled(alloc: Global, head: &[u8], size: usize, last: u8) -> Result<Vec<u8>, Fail> {
     let mut text = head.to_vec(alloc)?;
     text.resize(size, b'x')?;
     if let Some(byte) = text.last_mut() {
