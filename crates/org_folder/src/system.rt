@@ -59,14 +59,19 @@ where
         }
     }
 
-    // A link that leads nowhere is followed: the file is made where it leads.
+    // A link that leads nowhere is followed: the file is made where it leads. One that has bytes by now was made by
+    // another name or another program since it was found absent: it isn't written over.
     fn find_or_make(&self, name: &FileName) -> io::Result<R::File> {
         let path = self.path_of(name)?;
-        File::options()
+        let file = File::options()
             .read(true)
             .write(true)
             .create(true)
-            .open(&self.rt, path.as_path())
+            .open(&self.rt, path.as_path())?;
+        if file.metadata()?.len() > 0 {
+            return Err(Error::from(ErrorKind::AlreadyExists));
+        }
+        Ok(file)
     }
 
     fn sync_folder_of(&self, name: &FileName) -> io::Result<()> {
