@@ -17,3 +17,6 @@ mod Opened
 mod Times
 mod Told
 mod Openable
+mod Files
+mod Syncs
+mod Synced

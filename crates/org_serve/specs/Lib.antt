@@ -12,4 +12,5 @@ pub mod Serving
 pub mod Stops
 pub mod History
 pub mod OnePlace
+pub mod Syncing
 pub mod Whole

@@ -77,20 +77,26 @@ IsOnTheWayTo {honest = honest} {files = files} {moment = moment} {left_since = l
     × LeadsBy (PastLine honest files moment left_since) served.first way.answered way.written later here)
     ⊎ ((later ≡ served.last) × IsOnTheWay served here)
 
--- What a stop leaves of a run over a disk that was fit: up to each store on the way over a disk that is honest there, at the
--- last to the end.
-pub record Lasts {D : Type 0} {honest : D → Type 0} {files : D → List ℕ → FileState} {moment : D → ℕ} {left_since : D → ℕ → Image → Type 0}
+-- What a stop leaves of a run: up to each store on the way over a disk that is honest there, at the last to the end.
+-- `Before` is what it leaves of what was there when the run began.
+pub record LastsFrom {D : Type 0} {honest : D → Type 0} {files : D → List ℕ → FileState} {moment : D → ℕ} {left_since : D → ℕ → Image → Type 0}
     {states : Keywords} {group : ℕ} {given : List (List ℕ)} {disk now : D} {end : ServeEnd} {left left' written written' : Option (List ℕ)}
-    (served : ServesOver honest files moment left_since states group given disk now end left left' written written') : Type 0 where
-  -- since it began: what the disk stood for, or the files after a prefix of the accepted commands
+    (Before : Image → Type 0) (served : ServesOver honest files moment left_since states group given disk now end left left' written written') : Type 0 where
+  -- since it began: what was there then, or the files after a prefix of the accepted commands
   pub any_moment : (later : Past D) → IsOnTheWay served later → honest later.store.disk
-      → LeavesOver moment left_since disk later.store.disk (λ image. StandsAsBefore (files disk) image ⊎ HoldsServed served later 0 image)
+      → LeavesOver moment left_since disk later.store.disk (λ image. Before image ⊎ HoldsServed served later 0 image)
   -- since each store on the way that wasn't broken: a prefix that has all commands that were acknowledged there
   pub since : (here later : Past D) → IsOnTheWayTo served here later → honest later.store.disk → IsFalse here.store.session.broken
       → LeavesOver moment left_since here.store.disk later.store.disk (HoldsServed served later here.store.session.acknowledged)
   -- at the end, where it ended well: all of them
   pub ended : honest now → end ≡ End → (image : Image) → AreImages (files now) image
       → Holds served.first.store.session (contents (files served.first.store.disk)) served.last.store.session.files image
+
+-- of a run over a disk that was fit: before, what the disk stood for
+abbrev pub Lasts : {D : Type 0} {honest : D → Type 0} {files : D → List ℕ → FileState} {moment : D → ℕ} {left_since : D → ℕ → Image → Type 0}
+    {states : Keywords} {group : ℕ} {given : List (List ℕ)} {disk now : D} {end : ServeEnd} {left left' written written' : Option (List ℕ)}
+    → ServesOver honest files moment left_since states group given disk now end left left' written written' → Type 0
+Lasts {files = files} {disk = disk} served = LastsFrom (StandsAsBefore (files disk)) served
 
 -- The disk failed in a run that ended so: the fault of the opening tells it, or the end. An end with a failed read or
 -- write tells nothing of the disk.

@@ -1,5 +1,5 @@
 //! A whole run over a disk, from the opening to the end of the input.
-ghost use Rattle.std.specs.Prelude.{◌≡◌, ◌≢◌, ◌⊎◌, Ok, All, IfOk, IfErr};
+ghost use Rattle.std.specs.Prelude.{◌≡◌, ◌≢◌, ◌⊎◌, Ok, All, IfOk, IfErr, IsErr};
 ghost use Rattle.org_disk.specs.Disk.{HasRisen};
 ghost use Rattle.org_disk.specs.Accounts.{Accounts, LeavesOver};
 ghost use Rattle.org_journal.specs.Standing.{IsFit, contents};
@@ -8,11 +8,13 @@ ghost use Rattle.org_fileset.specs.Opening.{IsReason};
 ghost use Rattle.org_fileset.specs.Recovery.{EachStands, StandsAsBefore};
 ghost use Rattle.org_serve.specs.Counts.{HasRisenBy};
 ghost use Rattle.org_store.specs.Group.{IsGroup};
-ghost use Rattle.org_serve.specs.Whole.{ServesOver, Lasts, HasFailed};
+ghost use Rattle.org_serve.specs.Syncing.{OutsideStable, HasGoodJournal, IsAsFound};
+ghost use Rattle.org_serve.specs.Whole.{ServesOver, Lasts, LastsFrom, HasFailed};
 
 use crate::end::ServeEnd;
 use crate::pipes::{Sink, Source};
 use crate::serving::serve;
+use crate::syncing::sync_files;
 use org_disk::{Disk, FileName};
 use org_outline::States;
 use org_store::{OpenFault, OpenRefused, Store};
@@ -107,6 +109,72 @@ pub fn serve_disk<D: Disk, R: Source, W: Sink>(
             }
         }
         Err(OpenRefused { disk, fault }) => Served {
+            disk,
+            end: Err(fault),
+        },
+    }
+}
+
+/// `serve_disk` over files that are synced first: the journal, the files of the names, and their archive files.
+///
+/// All that `serve_disk` says of a run holds of this one. But only the other files have to be on the disk at first: where
+/// they are, whatever the store's own files held that wasn't on the disk, a stop at any moment since this began leaves one
+/// image of the files as they were found, or what stands for what they read as, or for the files after one prefix of the
+/// commands accepted by then; from each store on the way on, what it leaves is as after `serve_disk`. The disk is then left
+/// fit, and each image of it stands for files; or the store wasn't opened, and the other files are on the disk as before.
+/// Of an opening that is refused this is said where the journal isn't bad, as it reads.
+///
+/// A sync that fails is an opening that is refused with `Device`.
+pub fn serve_synced<D: Disk, R: Source, W: Sink>(
+    alloc: Global,
+    disk: D,
+    setup: Setup,
+    reader: &mut R,
+    writer: &mut W,
+    turns: u64,
+) -> Served<D>
+    requires names { All IsOrgFile setup.names.items }
+    requires group { IsGroup setup.group }
+    ensures served { IfOk result.end (λ end. (served : ServesOver
+        D.honest D.files D.moment D.left_since setup.states setup.group setup.names.items
+        disk result.disk end (R.left reader.old) (R.left reader.new) (W.written writer.old)
+        (W.written writer.new))
+        × (IsFit (D.files disk) → EachStands (D.files disk) → Lasts served)
+        × (OutsideStable setup.names.items (D.files disk)
+        → LastsFrom (IsAsFound (D.files disk)) served)) }
+    ensures unopened { D.honest result.disk → IsFit (D.files disk) → EachStands (D.files disk)
+        → IfErr result.end (λ _.
+        LeavesOver D.moment D.left_since disk result.disk (StandsAsBefore (D.files disk))) }
+    ensures unopened_as_found { D.honest result.disk
+        → OutsideStable setup.names.items (D.files disk) → HasGoodJournal (D.files disk)
+        → IfErr result.end (λ _.
+        LeavesOver D.moment D.left_since disk result.disk (IsAsFound (D.files disk))) }
+    ensures fit { D.honest result.disk → IsFit (D.files disk) → EachStands (D.files disk)
+        → IsFit (D.files result.disk) × EachStands (D.files result.disk) }
+    ensures fit_once_synced { D.honest result.disk
+        → OutsideStable setup.names.items (D.files disk) → HasGoodJournal (D.files disk)
+        → (IsFit (D.files result.disk) × EachStands (D.files result.disk))
+        ⊎ (IsErr result.end × OutsideStable setup.names.items (D.files result.disk)) }
+    ensures unserved { IfErr result.end (λ _. (reader.new ≡ reader.old)
+        × (writer.new ≡ writer.old)) }
+    ensures read_cause { result.end ≡ Ok ServeEnd.Read
+        → HasRisen (R.failures reader.old) (R.failures reader.new)
+        ⊎ HasRisenBy turns (R.reads reader.old) (R.reads reader.new) }
+    ensures read_told { result.end ≢ Ok ServeEnd.Read
+        → R.failures reader.new ≡ R.failures reader.old }
+    ensures write_cause { result.end ≡ Ok ServeEnd.Write
+        → HasRisen (W.failures writer.old) (W.failures writer.new) }
+    ensures write_told { result.end ≢ Ok ServeEnd.Write
+        → W.failures writer.new ≡ W.failures writer.old }
+    ensures refused { IfErr result.end (IsReason setup.names.items (D.honest result.disk)
+        (contents (D.files disk)) (contents (D.files result.disk))) }
+    ensures accounts { Accounts D.steady D.honest D.failures disk result.disk
+        (HasFailed result.end (D.failures disk) (D.failures result.disk)) }
+{
+    let mut disk = disk;
+    match sync_files(alloc, &mut disk, &setup.names) {
+        Ok(()) => serve_disk(alloc, disk, setup, reader, writer, turns),
+        Err(fault) => Served {
             disk,
             end: Err(fault),
         },

@@ -1,5 +1,5 @@
 //! Lines served over a folder.
-ghost use Rattle.std.specs.Prelude.{◌≡◌, ◌≢◌, ◌⊎◌, Ok, IfOk, IfErr, All, []};
+ghost use Rattle.std.specs.Prelude.{◌≡◌, ◌≢◌, ◌⊎◌, Ok, IfOk, IfErr, IsErr, All, []};
 ghost use Rattle.org_disk.specs.Disk.{HasRisen};
 ghost use Rattle.org_disk.specs.Accounts.{Accounts, LeavesOver};
 ghost use Rattle.org_journal.specs.Standing.{IsFit, contents};
@@ -9,11 +9,12 @@ ghost use Rattle.org_fileset.specs.Recovery.{EachStands, StandsAsBefore};
 ghost use Rattle.org_folder.specs.FolderDisk.{record_of};
 ghost use Rattle.org_serve.specs.Counts.{HasRisenBy};
 ghost use Rattle.org_store.specs.Group.{IsGroup};
-ghost use Rattle.org_serve.specs.Whole.{ServesOver, Lasts, HasFailed};
+ghost use Rattle.org_serve.specs.Syncing.{OutsideStable, HasGoodJournal, IsAsFound};
+ghost use Rattle.org_serve.specs.Whole.{ServesOver, Lasts, LastsFrom, HasFailed};
 ghost use Rattle.orgstore.specs.Folder.{is_right, files_of, moment_of, left_of, failures_of};
 
 use org_folder::{FolderDisk, Start};
-use org_serve::{ServeEnd, Served, Setup, Sink, Source, serve_disk};
+use org_serve::{ServeEnd, Served, Setup, Sink, Source, serve_synced};
 use std::alloc::Global;
 use std::fs::Files;
 use std::os::unix::fs::FileExt;
@@ -36,6 +37,12 @@ const TURNS: u64 = 4_294_967_295;
 /// earlier store on the way, for one that has all commands that were acknowledged there; and after an end with `End` for
 /// all of them. The folder is left as one of which all this can be said again.
 ///
+/// The store's own files are synced before it is opened: its journal, the files of its names, and their archive files. So
+/// only the other files of the folder have to be on the device at first. Where they are, what another program had written
+/// and not synced may be lost by a stop before the syncs end: then it leaves one of the images of the folder as it was
+/// found. What it leaves later stands for what the files read as when this began, or for the files after one prefix of the
+/// commands, as above. That is said of every folder; where an opening is refused, of one whose journal isn't bad.
+///
 /// An opening is refused for its reason alone, and then nothing is read or written. It ends with Read or Write for a cause
 /// alone: a failed call of the reader or the writer, which is always told so, or 4,294,967,295 reads; with Device, or an
 /// opening that is refused so, only where a call failed.
@@ -56,13 +63,24 @@ where
         setup.names.items disk result.disk end (R.left reader.old) (R.left reader.new)
         (W.written writer.old) (W.written writer.new))
         × (IsFit (files_of S.world disk) → EachStands (files_of S.world disk)
-        → Lasts served)) }
+        → Lasts served)
+        × (OutsideStable setup.names.items (files_of S.world disk)
+        → LastsFrom (IsAsFound (files_of S.world disk)) served)) }
     ensures unopened { is_right S.world result.disk → IsFit (files_of S.world disk)
         → EachStands (files_of S.world disk) → IfErr result.end (λ _. LeavesOver moment_of
         (left_of S.world) disk result.disk (StandsAsBefore (files_of S.world disk))) }
+    ensures unopened_as_found { is_right S.world result.disk
+        → OutsideStable setup.names.items (files_of S.world disk)
+        → HasGoodJournal (files_of S.world disk) → IfErr result.end (λ _. LeavesOver moment_of
+        (left_of S.world) disk result.disk (IsAsFound (files_of S.world disk))) }
     ensures fit { is_right S.world result.disk → IsFit (files_of S.world disk)
         → EachStands (files_of S.world disk)
         → IsFit (files_of S.world result.disk) × EachStands (files_of S.world result.disk) }
+    ensures fit_once_synced { is_right S.world result.disk
+        → OutsideStable setup.names.items (files_of S.world disk)
+        → HasGoodJournal (files_of S.world disk)
+        → (IsFit (files_of S.world result.disk) × EachStands (files_of S.world result.disk))
+        ⊎ (IsErr result.end × OutsideStable setup.names.items (files_of S.world result.disk)) }
     ensures unserved { IfErr result.end (λ _. (reader.new ≡ reader.old)
         × (writer.new ≡ writer.old)) }
     ensures read_cause { result.end ≡ Ok ServeEnd.Read
@@ -79,5 +97,5 @@ where
     ensures accounts { Accounts ⊥ (is_right S.world) failures_of disk result.disk
         (HasFailed result.end disk.failures result.disk.failures) }
 {
-    serve_disk(alloc, disk, setup, reader, writer, TURNS)
+    serve_synced(alloc, disk, setup, reader, writer, TURNS)
 }

@@ -23,12 +23,12 @@ mod tests;
 use arguments::Arguments;
 use fault::Fault;
 use folder::serve_folder;
-use names::{file_names, new_names};
+use names::new_names;
 use org_disk::FileName;
 use org_folder::{
     ApartFault, FolderDisk, Unknown, check_apart, fill_streams, lock_folder, org_files,
 };
-use org_serve::{Counted, ServeEnd, Served, Setup};
+use org_serve::{Counted, ServeEnd, Served, Setup, file_names};
 use org_store::OpenFault;
 use states::states;
 use std::fs::File;

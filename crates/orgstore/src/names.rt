@@ -1,7 +1,6 @@
 //! The names that the store is opened with.
-ghost use Rattle.std.specs.Prelude.{◌≡◌, [], ◌∷◌, None, map, string_bytes, IfOk, IfErr, IfNone, IfSome, OnOk, IsTrue, All};
-ghost use Rattle.org_disk.specs.Names.{journal_name, IsOrgFile};
-ghost use Rattle.org_fileset.specs.Names.{with_archives, AreFew, AreSorted, AreTooMany};
+ghost use Rattle.std.specs.Prelude.{◌≡◌, [], ◌∷◌, None, map, string_bytes, IfOk, IfErr, OnOk, IsTrue, All};
+ghost use Rattle.org_disk.specs.Names.{IsOrgFile};
 ghost use Rattle.org_folder.specs.OrgFiles.{is_org_file};
 ghost use Rattle.orgstore.specs.Causes.{IsCauseOfNames, first_bad};
 
@@ -9,10 +8,7 @@ use crate::fault::Fault;
 use org_disk::{FileName, NameFault};
 use org_folder::org_file;
 use org_store::OpenFault;
-use std::alloc::{AllocError, Global};
-
-/// How many different names a store may be opened with.
-const MOST_NAMES: usize = 256;
+use std::alloc::Global;
 
 /// The names given as new ones, each a file name in `.org`. `BadName` tells the first that is none.
 pub fn new_names(alloc: Global, new: &[String]) -> Result<Vec<FileName>, Fault>
@@ -39,53 +35,4 @@ fn new_name(alloc: Global, name: &str) -> Result<FileName, Fault>
         Err(NameFault::BadName) => Err(Fault::BadName(String::from_str(alloc, name)?)),
         Err(NameFault::OutOfMemory) => Err(Fault::Open(OpenFault::OutOfMemory)),
     }
-}
-
-/// The names of all files of a store that is opened with these names: theirs, their archive files' and the journal's, in
-/// byte order, each once. None where more names are given than a store may have.
-pub fn file_names(alloc: Global, given: &[FileName]) -> Result<Option<Vec<FileName>>, AllocError>
-    requires { All IsOrgFile given.now }
-    ensures few { IfOk result (λ found. IfSome found (λ names. AreFew given.now
-        × AreSorted (journal_name ∷ with_archives given.now) names.items)) }
-    ensures many { IfOk result (λ found. IfNone found (AreTooMany given.now)) }
-{
-    let given = in_order(copied(alloc, given)?);
-    if given.len() > MOST_NAMES {
-        return Ok(None);
-    }
-    let names = with_journal(alloc, &given)?;
-    Ok(Some(in_order(names)))
-}
-
-fn copied(alloc: Global, given: &[FileName]) -> Result<Vec<FileName>, AllocError>
-    ensures { IfOk result (λ names. names.items ≡ given.now) }
-{
-    let mut names = Vec::new(alloc);
-    for name in given {
-        names.push(name.clone()?)?;
-    }
-    Ok(names)
-}
-
-// The journal's name, and each of these with its archive file's.
-fn with_journal(alloc: Global, given: &[FileName]) -> Result<Vec<FileName>, AllocError>
-    requires { All IsOrgFile given.now }
-    ensures { IfOk result (λ names. names.items ≡ journal_name ∷ with_archives given.now) }
-{
-    let mut names = Vec::new(alloc);
-    names.push(FileName::journal_name(alloc)?)?;
-    for name in given {
-        names.push(name.clone()?)?;
-        names.push(name.archive()?)?;
-    }
-    Ok(names)
-}
-
-fn in_order(names: Vec<FileName>) -> Vec<FileName>
-    ensures { AreSorted names.items result.items }
-{
-    let mut names = names;
-    names.sort_unstable();
-    names.dedup();
-    names
 }

@@ -3,7 +3,7 @@ use Rattle.std.proofs.lemmas.List.{take_more}
 use Rattle.org_disk.specs.Names.{archive_name, journal_name}
 use Rattle.org_fileset.specs.Names.{with_archives}
 use Rattle.org_fileset.proofs.Sorted.{with_archives-push}
-use Rattle.orgstore.proofs.names.with_journal.Goals as goal
+use Rattle.org_serve.proofs.names.with_journal.Goals as goal
 
 pub loop-name-preserved : goal.loop-name-preserved
 loop-name-preserved c =

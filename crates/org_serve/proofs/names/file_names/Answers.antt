@@ -2,8 +2,8 @@ use Rattle.std.proofs.Common.{◌≤◌, length, arith}
 use Rattle.org_disk.specs.Names.{IsOrgFile}
 use Rattle.org_fileset.specs.Names.{AreSorted, most_names}
 use Rattle.org_fileset.proofs.Sorted.{all_sorted}
-use Rattle.orgstore.proofs.Files.{sorted_files}
-use Rattle.orgstore.proofs.names.file_names.Goals as goal
+use Rattle.org_serve.proofs.Files.{sorted_files}
+use Rattle.org_serve.proofs.names.file_names.Goals as goal
 
 pub with_journal-requires : goal.with_journal-requires
 with_journal-requires c =

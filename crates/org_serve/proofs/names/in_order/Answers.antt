@@ -3,7 +3,7 @@ use Rattle.std.proofs.lemmas.List.Kept.{IsStrictlySortedBy-dedup, Contains-dedup
 use Rattle.std.proofs.lemmas.List.Sorted.{Contains-permutation, IsPermutation-sym}
 use Rattle.std.proofs.lemmas.Slice.Eq.{bytes_eq-Decides}
 use Rattle.std.specs.Cmp.Lexicographic.{nat_list_cmp_total, nat_list_eq_equiv, texts_ties}
-use Rattle.orgstore.proofs.names.in_order.Goals as goal
+use Rattle.org_serve.proofs.names.in_order.Goals as goal
 
 pub returns : goal.returns
 returns c =

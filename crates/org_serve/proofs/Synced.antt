@@ -1,0 +1,135 @@
+-- A run over a disk whose files were synced first.
+use Rattle.std.proofs.Common.{◌≡◌, inl, inr, ⊎_elim, ℕ, List, Option, None, Result, Ok, Err, IfErr, ◌∙◌, ap, subst, arith}
+use Rattle.std.specs.Prelude.{IsSomeAnd, IsTrue, is_some}
+use Rattle.org_disk.specs.Accounts.{LeavesOver}
+use Rattle.org_disk.specs.Disk.{FileState, IsImage, AreImages, LeavesOnly}
+use Rattle.org_disk.specs.Names.{journal_name}
+use Rattle.org_disk.proofs.Moments.{Image, passes_as, passes_then, leaves_only}
+use Rattle.org_outline.specs.States.{Keywords}
+use Rattle.org_journal.specs.Standing.{SameFiles, IsFit, stands, contents}
+use Rattle.org_fileset.specs.declared.open.OpenFault.{OpenFault}
+use Rattle.org_fileset.specs.declared.open.OpenFault.TheVariants as open_fault
+use Rattle.org_fileset.specs.Opening.{IsReason}
+use Rattle.org_fileset.specs.Recovery.{EachStands, IsReopened, StandsAsBefore, closed_journal}
+use Rattle.org_fileset.proofs.Recovering.{as_before}
+use Rattle.org_serve.specs.declared.end.ServeEnd.{ServeEnd}
+use Rattle.org_serve.specs.History.{Past}
+use Rattle.org_serve.specs.Syncing.{AreSynced, OutsideStable, IsAsFound, IsSyncFault, stored}
+use Rattle.org_serve.specs.Whole.{ServesOver, IsOnTheWay, IsOnTheWayTo, Lasts, LastsFrom}
+use Rattle.org_serve.proofs.Honest.{past_runs, up_to}
+use Rattle.org_serve.proofs.Syncs.{still_fit, still_stands, as_at_first, as_read, now_fit, now_stand, some_stand}
+
+pub if_err : {A E : Type 0} {P Q : E → Type 0} (r : Result A E) → ((e : E) → P e → Q e) → IfErr r P → IfErr r Q
+if_err (Ok x) more held = tt
+if_err (Err e) more held = more e held
+
+-- what a stop leaves has Q too
+pub leaves_as : {m n : ℕ} {s u : ℕ → Image → Type 0} {P Q : Image → Type 0} → LeavesOnly m n s u P → ((image : Image) → P image → Q image) → LeavesOnly m n s u Q
+leaves_as leaves weaker = record { each = λ image left. weaker image (leaves.each image left); passes = passes_as leaves.passes weaker }
+
+-- the syncs, and a run behind them
+pub leaves_behind : {m n k : ℕ} {s u v : ℕ → Image → Type 0} {P Q R : Image → Type 0} → LeavesOnly m n s u P → LeavesOnly n k u v Q
+    → ((image : Image) → P image → R image) → ((image : Image) → Q image → R image) → LeavesOnly m k s v R
+leaves_behind {m} first second early late =
+    leaves_only (passes_then (passes_as first.passes early) second.passes late)
+    (λ image left. early image (first.each image (first.passes.keeps m image (omega arith) left)))
+
+-- why files weren't synced, as why a store isn't opened
+pub sync_reason : (given : List (List ℕ)) (Honest : Type 0) (before now : Image) (fault : OpenFault) → IsSyncFault given fault → IsReason given Honest before now fault
+sync_reason given Honest before now open_fault.TooManyFiles why = why
+sync_reason given Honest before now open_fault.BadJournal why = absurd why
+sync_reason given Honest before now (open_fault.TooLarge name) why = absurd why
+sync_reason given Honest before now open_fault.Device why = why
+sync_reason given Honest before now open_fault.OutOfMemory why = tt
+
+-- why it isn't opened, of files that read as before
+pub reason_before : (given : List (List ℕ)) (Honest : Type 0) (before mid now : Image) → (Honest → mid ≡ before) → (fault : OpenFault) → IsReason given Honest mid now fault → IsReason given Honest before now fault
+reason_before given Honest before mid now same open_fault.TooManyFiles why = why
+reason_before given Honest before mid now same open_fault.BadJournal why =
+    (why.0, λ h. (subst (λ (f : Image). stands f ≡ None) (same h) (why.1 h).0, (why.1 h).1 ∙ same h))
+reason_before given Honest before mid now same (open_fault.TooLarge name) why =
+    (why.0, λ h. let found = why.1 h in (found.0, found.1, found.2, subst (λ (f : Image). IsSomeAnd (stands f) (SameFiles now)) (same h) found.3))
+reason_before given Honest before mid now same open_fault.Device why = why
+reason_before given Honest before mid now same open_fault.OutOfMemory why = tt
+
+module _ {D : Type 0} (honest : D → Type 0) (files : D → List ℕ → FileState) (moment : D → ℕ) (left_since : D → ℕ → Image → Type 0)
+    (given : List (List ℕ)) (disk mid : D) (began : honest mid → honest disk)
+    (own : honest mid → (name : List ℕ) → IsImage (files mid name) (files mid name).content)
+    (synced : honest mid → AreSynced (stored given) (files disk) (files mid))
+    (images : honest mid → (name bytes : List ℕ) → IsImage (files mid name) bytes → IsImage (files disk name) bytes)
+    (time : honest mid → LeavesOver moment left_since disk mid (AreImages (files disk))) where
+  reopened_from : (new : List ℕ → FileState) → honest mid → IsReopened (files mid) new → IsReopened (files disk) new
+  reopened_from new h is = record {
+    stood = subst (λ (f : Image). IsSomeAnd (stands f) (SameFiles (contents new))) (synced h).same is.stood;
+    journal = is.journal ∙ ap (λ (f : Image). closed_journal (f journal_name)) (synced h).same;
+    gate = is.gate;
+    rest = λ fit each. is.rest (still_fit (files disk) (files mid) (own h) (images h) fit) (still_stands (files disk) (files mid) (own h) (images h) each);
+  }
+
+  module _ {states : Keywords} {group : ℕ} {now : D} {end : ServeEnd} {left left' written written' : Option (List ℕ)}
+      (served : ServesOver honest files moment left_since states group given mid now end left left' written written') where
+    pub served_from : ServesOver honest files moment left_since states group given disk now end left left' written written'
+    served_from = record {
+      first = served.first;
+      last = served.last;
+      began = λ h. began (served.began h);
+      reopened = λ h. reopened_from (files served.first.store.disk) (served.began h) (served.reopened h);
+      begins = served.begins;
+      sizes = served.sizes;
+      texts = served.texts;
+      run = served.run;
+      closed = served.closed;
+      so_far = served.so_far;
+      serves = served.serves;
+    }
+
+    first_honest : (later : Past D) → IsOnTheWay served later → honest later.store.disk → honest served.first.store.disk
+    first_honest later (inl way) h = (past_runs honest files moment left_since (up_to served.run later way) h).1
+    first_honest later (inr same) h = (past_runs honest files moment left_since served.run (subst (λ (p : Past D). honest p.store.disk) same h)).1
+
+    to_later : (here later : Past D) → IsOnTheWayTo served here later → IsOnTheWay served later
+    to_later here later (inl to) = inl to.0
+    to_later here later (inr to) = inr to.0
+
+    module _ (lasting : IsFit (files mid) → EachStands (files mid) → Lasts served) (Before : Image → Type 0)
+        (ready : honest served.first.store.disk → IsFit (files mid) × EachStands (files mid))
+        (early : (image : Image) → AreImages (files disk) image → Before image)
+        (late : honest served.first.store.disk → (image : Image) → StandsAsBefore (files mid) image → Before image) where
+      lasts : honest served.first.store.disk → Lasts served
+      lasts h = lasting (ready h).0 (ready h).1
+
+      pub lasts_from : LastsFrom Before served_from
+      unfolding served_from
+      lasts_from = record {
+        any_moment = λ later way h.
+            let first = first_honest later way h in
+            leaves_behind (time (served.began first)) ((lasts first).any_moment later way h) (λ image left. inl (early image left))
+            (λ image left. ⊎_elim (λ before. inl (late first image before)) (λ holds. inr holds) left);
+        since = λ here later way h sound. (lasts (first_honest later (to_later here later way) h)).since here later way h sound;
+        ended = λ h well image left.
+            let last : honest served.last.store.disk = subst honest served.closed h in
+            (lasts (past_runs honest files moment left_since served.run last).1).ended h well image left;
+      }
+
+    -- over a disk that was fit
+    pub lasts_fit : (IsFit (files mid) → EachStands (files mid) → Lasts served) → IsFit (files disk) → EachStands (files disk) → Lasts served_from
+    lasts_fit lasting fit each =
+        lasts_from lasting (StandsAsBefore (files disk))
+        (λ h.
+        let m = served.began h in
+        (still_fit (files disk) (files mid) (own m) (images m) fit, still_stands (files disk) (files mid) (own m) (images m) each))
+        (as_before (files disk) each)
+        (λ h image before. let m = served.began h in as_at_first (files disk) (files mid) (own m) (images m) image before)
+
+    -- over one of which the other files were on the disk
+    pub lasts_found : (IsFit (files mid) → EachStands (files mid) → Lasts served) → OutsideStable given (files disk) → LastsFrom (IsAsFound (files disk)) served_from
+    lasts_found lasting outside =
+        lasts_from lasting (IsAsFound (files disk))
+        (λ h.
+        let m = served.began h in
+        let good = subst (λ (f : Image). IsTrue (is_some (stands f))) (synced m).same (some_stand (contents (files mid)) (contents (files served.first.store.disk)) (served.reopened h).stood) in (
+          now_fit (files disk) (files mid) (own m) (images m) given (synced m) outside,
+          now_stand (files disk) (files mid) (own m) (images m) given (synced m) outside good,
+        ))
+        (λ image left. inl left)
+        (λ h image before. let m = served.began h in inr (as_read (files disk) (files mid) (own m) (images m) given (synced m) outside image before))

@@ -1,0 +1,139 @@
+-- Syncs of the files of a store, one after another, and what they make of a disk.
+use Rattle.std.proofs.Common.{true≢false, OnOk, IsErr, ◌≡◌, ◌⊎◌, inl, inr, ⊎_elim, ℕ, ◌+◌, ◌<◌, ◌≤◌, List, [], ◌∷◌, ◌++◌, length, take, drop, get_or, true, Option, Some, None, Result, Ok, Err, refl, sym, ◌∙◌, ap, subst}
+use Rattle.std.specs.Prelude.{IsSomeAnd, is_some, IsTrue}
+use Rattle.std.specs.List.{Contains}
+use Rattle.std.proofs.lemmas.List.{take_more, take_all}
+use Rattle.std.proofs.lemmas.List.Elements.{Contains-push_cases}
+use Rattle.org_disk.specs.Disk.{FileState, IsImage, IsStable, AreImages, Changes, sync}
+use Rattle.org_disk.specs.Names.{journal_name}
+use Rattle.org_disk.proofs.Images.{only_image, stable_is}
+use Rattle.org_disk.proofs.Names.{name_cases}
+use Rattle.org_journal.specs.Standing.{Image, SameFiles, StandsFor, IsFit, stands, contents}
+use Rattle.org_journal.specs.Reading.{journal_at}
+use Rattle.org_journal.specs.Gate.{is_open}
+use Rattle.org_fileset.specs.Names.{AreSorted}
+use Rattle.org_fileset.specs.Recovery.{EachStands, StandsAsBefore}
+use Rattle.org_fileset.proofs.Elements.{no_member, cons_cases, cons_here, cons_later}
+use Rattle.org_fileset.proofs.Recovering.{stable_from_only}
+use Rattle.org_serve.specs.Syncing.{AreSynced, OutsideStable, StandsAsRead, stored}
+
+-- One sync after others
+
+module _ (names : List (List ℕ)) (i : ℕ) (name : List ℕ) (within : i < length names) (is : name ≡ get_or names i name) where
+  next_names : take (i + 1) names ≡ take i names ++ name ∷ []
+  next_names = take_more names i name within ∙ ap (λ (n : List ℕ). take i names ++ n ∷ []) (sym is)
+
+  pub stable_more : (mid new : List ℕ → FileState) → Changes sync name mid new (Ok tt) → ((n : List ℕ) → Contains (take i names) n → IsStable (mid n))
+      → (n : List ℕ) → Contains (take (i + 1) names) n → IsStable (new n)
+  stable_more mid new changes sofar n there = elim (name_cases n name) [
+    | inl same ↦ subst IsStable (sym (ap new same.0 ∙ changes.ok)) (stable_is (mid name).content)
+    | inr apart ↦ subst IsStable (sym (changes.others n apart.0))
+        (sofar n (⊎_elim (λ early. early) (λ one. absurd (apart.0 (sym one))) (Contains-push_cases (take i names) name n (subst (λ (l : List (List ℕ)). Contains l n) next_names there))))
+  ]
+
+pub same_contents : (name : List ℕ) (mid new : List ℕ → FileState) → Changes sync name mid new (Ok tt) → contents new ≡ contents mid
+same_contents name mid new changes = λ i n. each n i
+  where
+    each : (n : List ℕ) → contents new n ≡ contents mid n
+    each n = elim (name_cases n name) [
+      | inl same ↦ ap (λ (m : List ℕ). contents new m) same.0 ∙ ap (λ (f : FileState). f.content) changes.ok ∙ ap (λ (m : List ℕ). contents mid m) (sym same.0)
+      | inr apart ↦ ap (λ (f : FileState). f.content) (changes.others n apart.0)
+    ]
+
+-- all of them
+pub all_synced : (names : List (List ℕ)) (i : ℕ) (old new : List ℕ → FileState) → length names ≤ i → contents new ≡ contents old
+    → ((n : List ℕ) → Contains (take i names) n → IsStable (new n)) → AreSynced names old new
+all_synced names i old new all same stable = record {
+  same = same;
+  stable = λ n there. stable n (subst (λ (l : List (List ℕ)). Contains l n) (sym (take_all i names all)) there);
+}
+
+-- a name is among these or it isn't
+pub among_cases : (names : List (List ℕ)) (name : List ℕ) → Contains names name ⊎ (Contains names name → ⊥)
+among_cases [] name = inr (no_member name)
+among_cases (first ∷ names) name = elim (name_cases first name) [
+  | inl same ↦ inl (subst (Contains (first ∷ names)) same.0 (cons_here first names))
+  | inr apart ↦ elim (among_cases names name) [
+    | inl later ↦ inl (cons_later first names name later)
+    | inr none ↦ inr (λ there. ⊎_elim apart.0 none (cons_cases first names name there))
+  ]
+]
+
+-- a sync that failed
+pub not_done : {A E : Type 0} (P : Type 0) (result : Result A E) → IsErr result → OnOk result P
+not_done P (Ok done) failed = absurd (true≢false (sym failed))
+not_done P (Err fault) failed = tt
+
+-- the names of a store's files, in another order
+pub syncs_of : (given names : List (List ℕ)) (old new : List ℕ → FileState) → AreSorted (stored given) names → AreSynced names old new → AreSynced (stored given) old new
+syncs_of given names old new sorted synced = record { same = synced.same; stable = λ name there. synced.stable name ((sorted.members name).1 there) }
+
+-- A disk of which a stop leaves nothing new
+
+pub all_images : {old new : List ℕ → FileState} → ((name bytes : List ℕ) → IsImage (new name) bytes → IsImage (old name) bytes)
+    → (image : Image) → AreImages new image → AreImages old image
+all_images images image left name = images name (image name) (left name)
+
+module _ (old new : List ℕ → FileState) (own : (name : List ℕ) → IsImage (new name) (new name).content)
+    (images : (name bytes : List ℕ) → IsImage (new name) bytes → IsImage (old name) bytes) where
+  one_content : (name : List ℕ) → IsStable (old name) → (new name).content ≡ (old name).content
+  one_content name stable = only_image stable (new name).content (images name (new name).content (own name))
+
+  pub still_stable : (name : List ℕ) → IsStable (old name) → IsStable (new name)
+  still_stable name stable = stable_from_only (new name) (own name) (λ bytes image. only_image stable bytes (images name bytes image) ∙ sym (one_content name stable))
+
+  pub still_fit : IsFit old → IsFit new
+  still_fit (inl stable) = inl (λ name not. still_stable name (stable name not))
+  still_fit (inr armed) =
+      let same = one_content journal_name armed.stable in
+      inr (record {
+        stable = still_stable journal_name armed.stable;
+        opened = ap is_open same ∙ armed.opened;
+        entries = armed.entries;
+        found = ap (λ (l : List ℕ). journal_at (drop 1 l)) same ∙ armed.found;
+        others = λ name not none. still_stable name (armed.others name not none);
+        texts = armed.texts;
+        same = λ image left. armed.same image (all_images images image left);
+      })
+
+  pub still_stands : EachStands old → EachStands new
+  still_stands each image left = each image (all_images images image left)
+
+  pub still_outside : (given : List (List ℕ)) → OutsideStable given old → OutsideStable given new
+  still_outside given outside name none = still_stable name (outside name none)
+
+  pub as_at_first : (image : Image) → StandsAsBefore new image → StandsAsBefore old image
+  as_at_first image before = record { start = before.start; left = all_images images before.start before.left; texts = before.texts; stood = before.stood; stands_now = before.stands_now }
+
+  -- the store's files were synced, and the others were on the disk
+  module _ (given : List (List ℕ)) (synced : AreSynced (stored given) old new) (outside : OutsideStable given old) where
+    pub all_stable : (name : List ℕ) → IsStable (new name)
+    all_stable name = ⊎_elim (synced.stable name) (λ none. still_stable name (outside name none)) (among_cases (stored given) name)
+
+    pub now_fit : IsFit new
+    now_fit = inl (λ name not. all_stable name)
+
+    one_image : (image : Image) → AreImages new image → image ≡ contents old
+    one_image image left = (λ i name. only_image (all_stable name) (image name) (left name) i) ∙ synced.same
+
+    pub now_stand : IsTrue (is_some (stands (contents old))) → EachStands new
+    now_stand stand image left = subst (λ (f : Image). IsTrue (is_some (stands f))) (sym (one_image image left)) stand
+
+    pub as_read : (image : Image) → StandsAsBefore new image → StandsAsRead old image
+    as_read image before = read (stands (contents old)) (subst (λ (f : Image). StandsFor before.texts f) (one_image before.start before.left) before.stood)
+      where
+        moved : (texts found : Image) → SameFiles found texts → (o : Option Image) → IsSomeAnd o (λ f. SameFiles f texts) → IsSomeAnd o (λ f. SameFiles f found)
+        moved texts found same None held = absurd held
+        moved texts found same (Some f) held = λ name not. held name not ∙ sym (same name not)
+
+        read : (o : Option Image) → IsSomeAnd o (λ found. SameFiles found before.texts) → IsSomeAnd o (λ found. StandsFor found image)
+        read None held = absurd held
+        read (Some found) held = moved before.texts found held (stands image) before.stands_now
+
+-- a disk whose files stand for something as they read
+pub some_stand : (files made : Image) → IsSomeAnd (stands files) (SameFiles made) → IsTrue (is_some (stands files))
+some_stand files made held = some (stands files) held
+  where
+    some : (o : Option Image) → IsSomeAnd o (SameFiles made) → is_some o ≡ true
+    some None held = absurd held
+    some (Some found) held = refl

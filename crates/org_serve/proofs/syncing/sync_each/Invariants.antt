@@ -1,0 +1,18 @@
+use Rattle.std.proofs.Common.{◌≡◌, List, ℕ, take}
+use Rattle.std.specs.List.{Contains}
+use Rattle.org_disk.specs.Disk.{IsImage, IsStable, AreImages}
+use Rattle.org_disk.specs.Accounts.{Accounts, PassesOver}
+use Rattle.org_journal.specs.Standing.{contents}
+use Rattle.org_serve.proofs.syncing.sync_each.Given as goal
+
+-- the files so far are synced
+abbrev pub invariant-loop-name : goal.invariant-loop-name
+invariant-loop-name g l =
+    let disk = g.D.Disk in
+    record {
+      accounts : Accounts disk.steady disk.honest disk.failures l.fn.disk l.disk ⊥;
+      same : disk.honest l.disk → contents (disk.files l.disk) ≡ contents (disk.files l.fn.disk);
+      stable : disk.honest l.disk → (name : List ℕ) → Contains (take l.name-index l.names) name → IsStable (disk.files l.disk name);
+      images : disk.honest l.disk → (name bytes : List ℕ) → IsImage (disk.files l.disk name) bytes → IsImage (disk.files l.fn.disk name) bytes;
+      time : disk.honest l.disk → PassesOver disk.moment disk.left_since l.fn.disk l.disk (AreImages (disk.files l.fn.disk));
+    }

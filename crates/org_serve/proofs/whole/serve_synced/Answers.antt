@@ -1,0 +1,103 @@
+use Rattle.std.proofs.Common.{inl, inr, ℕ, List, refl, subst}
+use Rattle.std.proofs.lemmas.Result.{IfOk-weaker}
+use Rattle.org_journal.specs.Standing.{contents}
+use Rattle.org_fileset.proofs.Recovering.{as_before}
+use Rattle.org_serve.specs.Syncing.{AreSynced, stored}
+use Rattle.org_serve.proofs.Syncs.{still_fit, still_stands, still_outside, as_at_first, as_read, now_fit, now_stand}
+use Rattle.org_serve.proofs.Synced.{if_err, leaves_as, leaves_behind, reason_before, served_from, lasts_fit, lasts_found}
+use Rattle.org_serve.proofs.whole.serve_synced.Goals as goal
+
+pub returns-in-Ok-clause-served : goal.returns-in-Ok-clause-served
+returns-in-Ok-clause-served g c =
+    let d = g.D.Disk in
+    let disk = c.args.disk in
+    let mid = c.sync_files.new.disk in
+    let given = c.args.setup.names.items in
+    let began = c.sync_files.ensures.accounts.was_honest in
+    let own = λ (h : d.honest mid) (name : List ℕ). g.met.D.Disk.content_is_image mid name h in
+    let synced = λ (h : d.honest mid). subst (λ (names : List (List ℕ)). AreSynced (stored names) (d.files disk) (d.files mid)) c.deref.ensures.value (c.in-Ok.ensures.syncs h).done in
+    let images = λ (h : d.honest mid). (c.sync_files.ensures.syncs h).images in
+    let time = c.sync_files.ensures.any_moment in
+    IfOk-weaker c.serve_disk.result.end _ _ (λ end had. (
+      served_from d.honest d.files d.moment d.left_since given disk mid began own synced images time had.0,
+      lasts_fit d.honest d.files d.moment d.left_since given disk mid began own synced images time had.0 had.1,
+      lasts_found d.honest d.files d.moment d.left_since given disk mid began own synced images time had.0 had.1,
+    )) c.serve_disk.ensures.served
+
+pub returns-in-Ok-clause-unopened : goal.returns-in-Ok-clause-unopened
+returns-in-Ok-clause-unopened g c honest fit each =
+    let d = g.D.Disk in
+    let old = d.files c.args.disk in
+    let mid = c.sync_files.new.disk in
+    let h = c.serve_disk.ensures.accounts.was_honest honest in
+    let own = λ (name : List ℕ). g.met.D.Disk.content_is_image mid name h in
+    let images = (c.sync_files.ensures.syncs h).images in
+    if_err c.serve_disk.result.end (λ _ later. leaves_behind (c.sync_files.ensures.any_moment h) later (as_before old each) (as_at_first old (d.files mid) own images))
+    (c.serve_disk.ensures.unopened honest (still_fit old (d.files mid) own images fit) (still_stands old (d.files mid) own images each))
+
+pub returns-in-Ok-clause-unopened_as_found : goal.returns-in-Ok-clause-unopened_as_found
+returns-in-Ok-clause-unopened_as_found g c honest outside good =
+    let d = g.D.Disk in
+    let old = d.files c.args.disk in
+    let mid = c.sync_files.new.disk in
+    let given = c.args.setup.names.items in
+    let h = c.serve_disk.ensures.accounts.was_honest honest in
+    let own = λ (name : List ℕ). g.met.D.Disk.content_is_image mid name h in
+    let images = (c.sync_files.ensures.syncs h).images in
+    let synced = subst (λ (names : List (List ℕ)). AreSynced (stored names) old (d.files mid)) c.deref.ensures.value (c.in-Ok.ensures.syncs h).done in
+    if_err c.serve_disk.result.end
+    (λ _ later. leaves_behind (c.sync_files.ensures.any_moment h) later (λ image left. inl left) (λ image before. inr (as_read old (d.files mid) own images given synced outside image before)))
+    (c.serve_disk.ensures.unopened honest (now_fit old (d.files mid) own images given synced outside) (now_stand old (d.files mid) own images given synced outside good))
+
+pub returns-in-Ok-clause-fit : goal.returns-in-Ok-clause-fit
+returns-in-Ok-clause-fit g c honest fit each =
+    let d = g.D.Disk in
+    let old = d.files c.args.disk in
+    let mid = c.sync_files.new.disk in
+    let h = c.serve_disk.ensures.accounts.was_honest honest in
+    let own = λ (name : List ℕ). g.met.D.Disk.content_is_image mid name h in
+    let images = (c.sync_files.ensures.syncs h).images in
+    c.serve_disk.ensures.fit honest (still_fit old (d.files mid) own images fit) (still_stands old (d.files mid) own images each)
+
+pub returns-in-Ok-clause-fit_once_synced : goal.returns-in-Ok-clause-fit_once_synced
+returns-in-Ok-clause-fit_once_synced g c honest outside good =
+    let d = g.D.Disk in
+    let old = d.files c.args.disk in
+    let mid = c.sync_files.new.disk in
+    let given = c.args.setup.names.items in
+    let h = c.serve_disk.ensures.accounts.was_honest honest in
+    let own = λ (name : List ℕ). g.met.D.Disk.content_is_image mid name h in
+    let images = (c.sync_files.ensures.syncs h).images in
+    let synced = subst (λ (names : List (List ℕ)). AreSynced (stored names) old (d.files mid)) c.deref.ensures.value (c.in-Ok.ensures.syncs h).done in
+    inl (c.serve_disk.ensures.fit honest (now_fit old (d.files mid) own images given synced outside) (now_stand old (d.files mid) own images given synced outside good))
+
+pub returns-in-Ok-clause-refused : goal.returns-in-Ok-clause-refused
+returns-in-Ok-clause-refused g c =
+    let d = g.D.Disk in
+    let now = c.serve_disk.result.disk in
+    let same = λ (h : d.honest now). (c.in-Ok.ensures.syncs (c.serve_disk.ensures.accounts.was_honest h)).done.same in
+    if_err c.serve_disk.result.end
+    (reason_before c.args.setup.names.items (d.honest now) (contents (d.files c.args.disk)) (contents (d.files c.sync_files.new.disk)) (contents (d.files now)) same)
+    c.serve_disk.ensures.refused
+
+pub returns-in-Err-clause-unopened : goal.returns-in-Err-clause-unopened
+returns-in-Err-clause-unopened g c honest fit each = leaves_as (c.sync_files.ensures.any_moment honest) (as_before (g.D.Disk.files c.args.disk) each)
+
+pub returns-in-Err-clause-unopened_as_found : goal.returns-in-Err-clause-unopened_as_found
+returns-in-Err-clause-unopened_as_found g c honest outside good = leaves_as (c.sync_files.ensures.any_moment honest) (λ image left. inl left)
+
+pub returns-in-Err-clause-fit : goal.returns-in-Err-clause-fit
+returns-in-Err-clause-fit g c honest fit each =
+    let old = g.D.Disk.files c.args.disk in
+    let new = g.D.Disk.files c.sync_files.new.disk in
+    let own = λ (name : List ℕ). g.met.D.Disk.content_is_image c.sync_files.new.disk name honest in
+    let images = (c.sync_files.ensures.syncs honest).images in
+    (still_fit old new own images fit, still_stands old new own images each)
+
+pub returns-in-Err-clause-fit_once_synced : goal.returns-in-Err-clause-fit_once_synced
+returns-in-Err-clause-fit_once_synced g c honest outside good =
+    let old = g.D.Disk.files c.args.disk in
+    let new = g.D.Disk.files c.sync_files.new.disk in
+    let own = λ (name : List ℕ). g.met.D.Disk.content_is_image c.sync_files.new.disk name honest in
+    let images = (c.sync_files.ensures.syncs honest).images in
+    inr (refl, still_outside old new own images c.args.setup.names.items outside)

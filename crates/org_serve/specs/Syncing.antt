@@ -1,0 +1,47 @@
+-- The files of a store, synced before it is opened over them, and what a stop leaves of them then.
+use Rattle.std.specs.Prelude.{◌≡◌, ◌⊎◌, ℕ, List, ◌∷◌, Result, OnOk, IsSomeAnd, IsTrue, is_some}
+use Rattle.std.specs.List.{Contains}
+use Rattle.org_disk.specs.Disk.{FileState, IsImage, IsStable, AreImages}
+use Rattle.org_disk.specs.Names.{journal_name}
+use Rattle.org_journal.specs.Standing.{Image, StandsFor, stands, contents}
+use Rattle.org_fileset.specs.Names.{with_archives, AreFew, AreTooMany}
+use Rattle.org_fileset.specs.declared.open.OpenFault.{OpenFault}
+use Rattle.org_fileset.specs.declared.open.OpenFault.TheVariants.{TooManyFiles, Device, OutOfMemory}
+
+-- the names of a store's files: the journal's, the given ones, and those of their archive files
+abbrev pub stored : List (List ℕ) → List (List ℕ)
+stored given = journal_name ∷ with_archives given
+
+-- All files read as before, and each of these is on the disk.
+pub record AreSynced (names : List (List ℕ)) (old new : List ℕ → FileState) : Type 0 where
+  pub same : contents new ≡ contents old
+  pub stable : (name : List ℕ) → Contains names name → IsStable (new name)
+
+-- The files of these names were synced, all of them or, where a sync failed, some.
+pub record Syncs {A E : Type 0} (names : List (List ℕ)) (old new : List ℕ → FileState) (result : Result A E) : Type 0 where
+  pub done : OnOk result (AreSynced names old new)
+  -- a stop leaves of a file what it might have left before
+  pub images : (name bytes : List ℕ) → IsImage (new name) bytes → IsImage (old name) bytes
+
+-- a sync of a store's files isn't done for this reason
+abbrev pub IsSyncFault : List (List ℕ) → OpenFault → Type 0
+IsSyncFault given TooManyFiles = AreTooMany given
+IsSyncFault given Device = AreFew given
+IsSyncFault given OutOfMemory = Unit {0}
+IsSyncFault given fault = ⊥
+
+-- every file but the store's is on the disk
+abbrev pub OutsideStable : List (List ℕ) → (List ℕ → FileState) → Type 0
+OutsideStable given files = (name : List ℕ) → (Contains (stored given) name → ⊥) → IsStable (files name)
+
+-- the journal isn't bad, as it reads: so the files stand for something
+abbrev pub HasGoodJournal : (List ℕ → FileState) → Type 0
+HasGoodJournal files = IsTrue (is_some (stands (contents files)))
+
+-- the image stands for what the files stand for as they read
+abbrev pub StandsAsRead : (List ℕ → FileState) → Image → Type 0
+StandsAsRead files image = IsSomeAnd (stands (contents files)) (λ texts. StandsFor texts image)
+
+-- what a stop leaves of the files as they were found, or what stands for them as they read
+abbrev pub IsAsFound : (List ℕ → FileState) → Image → Type 0
+IsAsFound files image = AreImages files image ⊎ StandsAsRead files image

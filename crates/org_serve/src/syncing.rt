@@ -1,0 +1,49 @@
+//! The files of a store, synced before it is opened over them.
+ghost use Rattle.std.specs.Prelude.{◌∷◌, All, IfErr, IsErr, IsErrOf};
+ghost use Rattle.org_disk.specs.Accounts.{Accounts, LeavesOver};
+ghost use Rattle.org_disk.specs.Disk.{AreImages};
+ghost use Rattle.org_disk.specs.Names.{IsOrgFile};
+ghost use Rattle.org_fileset.specs.declared.open.OpenFault.TheVariants.{Device};
+ghost use Rattle.org_serve.specs.Syncing.{Syncs, IsSyncFault, stored};
+
+use crate::names::file_names;
+use org_disk::{Disk, DiskFault, FileName};
+use org_fileset::OpenFault;
+use std::alloc::Global;
+
+/// Syncs the files of a store that is to be opened with these names: its journal, theirs and their archive files.
+///
+/// Once it answers Ok, all files read as before, and each of the store's is on the disk: a stop leaves its content, and
+/// nothing else. Whatever it answers, a stop at any moment since it began leaves what it might have left before.
+///
+/// It answers TooManyFiles where more names are given than a store may have, and no call is made of the disk then; Device
+/// where a sync failed; OutOfMemory.
+pub fn sync_files<D: Disk>(alloc: Global, disk: &mut D, given: &[FileName]) -> Result<(), OpenFault>
+    requires { All IsOrgFile given.now }
+    ensures syncs { D.honest disk.new →
+        Syncs (stored given.now) (D.files disk.old) (D.files disk.new) result }
+    ensures any_moment { D.honest disk.new → LeavesOver D.moment D.left_since disk.old disk.new
+        (AreImages (D.files disk.old)) }
+    ensures refused { IfErr result (IsSyncFault given.now) }
+    ensures accounts { Accounts D.steady D.honest D.failures disk.old disk.new
+        (IsErrOf result Device) }
+{
+    let Some(names) = file_names(alloc, given)? else {
+        return Err(OpenFault::TooManyFiles);
+    };
+    sync_each(disk, &names)?;
+    Ok(())
+}
+
+fn sync_each<D: Disk>(disk: &mut D, names: &[FileName]) -> Result<(), DiskFault>
+    ensures syncs { D.honest disk.new →
+        Syncs names.now (D.files disk.old) (D.files disk.new) result }
+    ensures any_moment { D.honest disk.new → LeavesOver D.moment D.left_since disk.old disk.new
+        (AreImages (D.files disk.old)) }
+    ensures accounts { Accounts D.steady D.honest D.failures disk.old disk.new (IsErr result) }
+{
+    for name in names {
+        disk.sync(name)?;
+    }
+    Ok(())
+}
