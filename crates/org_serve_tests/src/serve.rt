@@ -14,11 +14,12 @@ mod moves;
 mod pipes;
 mod states;
 mod stops;
+mod syncs;
 
 use org_disk::MemoryDisk;
 use org_fixtures::{org_names, two_files};
 use org_outline::States;
-use org_serve::{Counted, ServeEnd, Served, Setup, Sink, Source, serve_disk};
+use org_serve::{Counted, ServeEnd, Served, Setup, Sink, Source, serve_disk, serve_synced};
 use org_store::OpenFault;
 use std::alloc::Global;
 use std::process::Abort;
@@ -82,6 +83,26 @@ fn run(alloc: Global, disk: MemoryDisk, group: u32, input: &[u8]) -> Result<Ende
         &mut writer,
         10_000_000,
     )?;
+    Ok(Ended {
+        written: writer.into_inner(),
+        end,
+        disk,
+    })
+}
+
+// Serves this input in groups of one over a disk whose files are synced first.
+fn run_synced(alloc: Global, disk: MemoryDisk, input: &[u8]) -> Result<Ended, Fail> {
+    let mut reader = Counted::new(input);
+    let mut writer = Counted::new(Vec::new(alloc));
+    let setup = setup(alloc, 1)?;
+    let Served { disk, end } = serve_synced(
+        alloc,
+        disk,
+        setup,
+        &mut reader,
+        &mut writer,
+        10_000_000,
+    );
     Ok(Ended {
         written: writer.into_inner(),
         end,

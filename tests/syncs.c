@@ -1,0 +1,37 @@
+// Preloaded into a program, it tells each sync that succeeds, as a line with the last part of what was synced, behind the
+// file that SYNCS names. The sync whose number, from 1, is in FAIL fails; with 0 none does.
+#define _GNU_SOURCE
+#include <dlfcn.h>
+#include <errno.h>
+#include <fcntl.h>
+#include <limits.h>
+#include <stdio.h>
+#include <stdlib.h>
+#include <string.h>
+#include <unistd.h>
+
+static unsigned long made;
+
+static int synced(const char *call, int number) {
+    const char *failing = getenv("FAIL"), *told = getenv("SYNCS");
+    if (failing && ++made == strtoul(failing, NULL, 10)) {
+        errno = EIO;
+        return -1;
+    }
+    char link[64], path[PATH_MAX] = "";
+    snprintf(link, sizeof link, "/proc/self/fd/%d", number);
+    if (told && readlink(link, path, sizeof path - 1) > 0) {
+        FILE *file = fopen(told, "a");
+        if (file) {
+            const char *last = strrchr(path, '/');
+            fprintf(file, "%s\n", last ? last + 1 : path);
+            fclose(file);
+        }
+    }
+    int (*real)(int) = (int (*)(int))dlsym(RTLD_NEXT, call);
+    return real(number);
+}
+
+int fsync(int number) { return synced("fsync", number); }
+
+int fdatasync(int number) { return synced("fdatasync", number); }
