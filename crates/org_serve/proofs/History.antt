@@ -25,9 +25,9 @@ use Rattle.org_serve.specs.declared.fault.LineFault.{LineFault}
 use Rattle.org_serve.specs.Serving.{AnswersReadBy, AnswersLine}
 use Rattle.org_serve.specs.Stops.{Runs, RunsHonest, RunsLine, HasSettledOver}
 use Rattle.org_serve.specs.declared.end.ServeEnd.{ServeEnd}
-use Rattle.org_serve.specs.History.{Past, Adds, LeadsBy, HoldsPrefix, RunsPast as ToldRunsPast, PastLine as ToldPast, HasSettledPast as ToldSettledPast}
+use Rattle.org_serve.specs.History.{Past, Adds, Lists, LeadsBy, HoldsPrefix, RunsPast as ToldRunsPast, PastLine as ToldPast, HasSettledPast as ToldSettledPast}
 use Rattle.org_serve.specs.Transcript.{Answers}
-use Rattle.org_serve.proofs.Honest.{RunsPast, PastLine, HasSettledPast}
+use Rattle.org_serve.proofs.Honest.{RunsPast, PastLine, HasSettledPast, past_runs}
 use Rattle.org_serve.proofs.Stops.{answers_by}
 
 abbrev pub Texts : Type 0
@@ -94,13 +94,6 @@ adds old new command (Err Device) texts step = elim step.1 [
   ]
 ]
 
--- The list has the texts that the session tells.
-pub record Lists (s : Session) (texts : Texts) : Type 0 where
-  pub size : length texts ≡ s.accepted + 1
-  pub order : s.acknowledged ≤ s.accepted
-  pub files : s.broken ≡ false → slice_get texts s.accepted ≡ Some s.files
-  pub settled : s.broken ≡ false → slice_get texts s.acknowledged ≡ Some s.settled
-
 lists_same : (old new : Session) (texts more : Texts) → new ≡ old → more ≡ texts → Lists old texts → Lists new more
 lists_same old new texts more same is lists = subst (λ s. Lists s more) (sym same) (subst (Lists old) (sym is) lists)
 
@@ -146,7 +139,7 @@ lists_settled : (old new : Session) (texts : Texts) → old.broken ≡ false →
 lists_settled old new texts sound is lists =
     subst (λ s. Lists s texts) (sym is) (record { size = lists.size; order = omega arith; files = lists.files; settled = λ still. lists.files sound })
 
-lists_step : (old new : Session) (command : Command) (answer : Result Reply RunFault) (texts more : Texts) → Step old command answer new → Adds (outcome old command) old.accepted new.accepted texts more
+pub lists_step : (old new : Session) (command : Command) (answer : Result Reply RunFault) (texts more : Texts) → Step old command answer new → Adds (outcome old command) old.accepted new.accepted texts more
     → Lists old texts → Lists new more
 lists_step old new command (Ok (Done n)) texts more step added lists =
     let is : new ≡ done old step.1.0 = step.1.3 in
@@ -422,7 +415,7 @@ module _ {D : Type 0} (honest : D → Type 0) (files : D → List ℕ → FileSt
     course_to_last : Goes first last (Counts last first)
     course_to_last = course_past first run.mid last run.ran run.out run.answered (course_last run.mid last run.ends) (begin_end run.mid last run.ends) lists
 
-    lists_last : Lists last.store.session last.texts
+    pub lists_last : Lists last.store.session last.texts
     lists_last = lists_end run.mid last run.ends (lists_lines first run.mid run.ran run.out run.answered lists)
 
     pub since : (here : Past D) → LeadsBy Line first run.ran run.out run.mid here ⊎ (here ≡ last) → here.store.session.broken ≡ false
@@ -459,3 +452,37 @@ module _ {D : Type 0} (honest : D → Type 0) (files : D → List ℕ → FileSt
             let at : holds.0 ≡ last.store.session.accepted = omega (arith, within, lists_last.size, holds.1, all) in
             let same : Some texts ≡ Some last.store.session.files = sym is ∙ (ap (slice_get last.texts) at ∙ lists_last.files sound) in
             subst (λ t. Holds first.store.session (contents (files first.store.disk)) t image) (the_same texts last.store.session.files same) held
+
+-- no line was answered yet
+pub at_first : {S : Type 0} {AnswersLine : S → List ℕ → List ℕ → S → Type 0} (first new : S) (lines : List (List ℕ)) (out : List ℕ) → Answers AnswersLine first lines out new → LeadsBy AnswersLine first lines out new first
+at_first first new lines out answered = record {
+  answered = [];
+  others = lines;
+  written = [];
+  more = out;
+  all_lines = refl;
+  all_written = refl;
+  before = (refl, refl);
+  behind = answered;
+}
+
+-- What a stop leaves of a run of a store that has such a list as it begins.
+pub run_leaves : {D : Type 0} (honest : D → Type 0) (files : D → List ℕ → FileState) (moment : D → ℕ) (left_since : D → ℕ → Image → Type 0)
+    → ((disk : D) (image : Image) → honest disk → left_since disk (moment disk) image → AreImages (files disk) image)
+    → (first : Past D) (new : Kept D) (end : ServeEnd) (left left' written written' : Option (List ℕ)) → honest new.disk → IsAtRest (files first.store.disk)
+    → IsOnDisk first.store.session (contents (files first.store.disk)) → first.store.session.broken ≡ false → Lists first.store.session first.texts
+    → Runs (RunsLine honest files moment left_since) (HasSettledOver honest files moment left_since) first.store new end left left' written written'
+    → (last : Past D) × (last.store ≡ new) × Lists last.store.session last.texts
+    × Runs (ToldPast honest files moment left_since) (ToldSettledPast honest files moment left_since) first last end left left' written written'
+    × LeavesOnly (moment first.store.disk) (moment last.store.disk) (left_since first.store.disk) (left_since last.store.disk)
+    (HoldsPrefix first.store.session (contents (files first.store.disk)) last.texts first.store.session.acknowledged)
+run_leaves honest files moment left_since only_now first new end left left' written written' honestly rest disk sound lists run =
+    let lifted = lift_run honest files moment left_since first run in
+    let last : Past _ = record { store = new; texts = lifted.0 } in
+    let told = past_runs honest files moment left_since lifted.1 honestly in (
+      last,
+      refl,
+      lists_last honest files moment left_since only_now told.0 told.1 honestly rest disk lists,
+      lifted.1,
+      since honest files moment left_since only_now told.0 told.1 honestly rest disk lists first (inl (at_first first told.0.mid told.0.ran told.0.out told.0.answered)) sound,
+    )

@@ -12,11 +12,10 @@ pub mod Paths
 pub mod Honest
 pub mod Stops
 pub mod History
-mod OnePlace
 mod Opened
 mod Times
 mod Told
-mod Openable
+mod Listed
 mod Files
 mod Syncs
 mod Synced

@@ -19,11 +19,11 @@ use Rattle.org_store.specs.Step.{Settles}
 use Rattle.org_store.proofs.Keeping.{others_same}
 use Rattle.org_serve.specs.declared.end.ServeEnd.{ServeEnd}
 use Rattle.org_serve.specs.declared.end.ServeEnd.TheVariants.{End, Device, Read, Write}
-use Rattle.org_serve.specs.History.{Past, LeadsBy}
+use Rattle.org_serve.specs.History.{Past, Lists, LeadsBy}
 use Rattle.org_serve.specs.Serving.{EndsBy, Finishes, end_of}
 use Rattle.org_serve.specs.Stops.{RunsLine, HasSettledOver, Runs}
 use Rattle.org_serve.specs.Whole.{Begins, Serves, ServesOver, HoldsServed, IsOnTheWay, IsOnTheWayTo, Lasts}
-use Rattle.org_serve.proofs.History.{Lists, lift_run, session_of_past, since, whole_prefix}
+use Rattle.org_serve.proofs.History.{at_first, lift_run, session_of_past, since, whole_prefix}
 use Rattle.org_serve.proofs.Honest.{HasSettledPast, PastLine, past_last, past_leads, past_lines, past_runs, up_to}
 
 -- one run after another, of which each leaves something else
@@ -82,7 +82,7 @@ module _ {D : Type 0} (files : D → List ℕ → FileState) (states : Keywords)
       }
 
 -- what is listed of a store that was just opened
-lists_first : (states : Keywords) (group : ℕ) (given : List (List ℕ)) (files : Image) (begin : Session) → Begins states group given files begin → Lists begin (begin.files ∷ [])
+pub lists_first : (states : Keywords) (group : ℕ) (given : List (List ℕ)) (files : Image) (begin : Session) → Begins states group given files begin → Lists begin (begin.files ∷ [])
 lists_first states group given files begin begins =
     subst (λ (s : Session). Lists s (s.files ∷ [])) (sym begins.session) (record { size = refl; order = omega arith; files = λ sound. refl; settled = λ sound. refl })
 
@@ -155,17 +155,8 @@ module _ {D : Type 0} {honest : D → Type 0} {files : D → List ℕ → FileSt
         let first = served.first in
         let no_command : first.store.session.acknowledged ≡ 0 = ap (λ (s : Session). s.acknowledged) session_is in
         let sound : first.store.session.broken ≡ false = ap (λ (s : Session). s.broken) session_is in
-        let at_first = since_in first (inl (record {
-          answered = [];
-          others = run.ran;
-          written = [];
-          more = run.out;
-          all_lines = refl;
-          all_written = refl;
-          before = (refl, refl);
-          behind = run.answered;
-        })) sound in
-        leaves_then opening (subst (λ least. LeavesOnly (moment first.store.disk) (moment later.store.disk) (left_since first.store.disk) (left_since later.store.disk) (HoldsServed served later least)) no_command at_first)
+        let leaves = since_in first (inl (at_first first run.mid run.ran run.out run.answered)) sound in
+        leaves_then opening (subst (λ least. LeavesOnly (moment first.store.disk) (moment later.store.disk) (left_since first.store.disk) (left_since later.store.disk) (HoldsServed served later least)) no_command leaves)
 
     whole_in : later.store.session.broken ≡ false → later.store.session.accepted ≤ later.store.session.acknowledged → (image : Image) → AreImages (files later.store.disk) image
         → Holds served.first.store.session (contents (files served.first.store.disk)) later.store.session.files image

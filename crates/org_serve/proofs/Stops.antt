@@ -1,27 +1,22 @@
 -- What serving does to the disk of a store, line by line.
-use Rattle.std.proofs.Common.{◌≡◌, ◌≢◌, ◌⊎◌, inl, inr, ⊎_elim, ℕ, ◌<◌, Bool, true, false, nat_lt, List, [], ◌∷◌, ◌++◌, Option, Result, Ok, Err, refl, sym, ap, ◌∙◌, subst, append-nil, arith}
-use Rattle.std.specs.Prelude.{IsFalse}
+use Rattle.std.proofs.Common.{◌≡◌, ◌≢◌, ◌⊎◌, inl, inr, ⊎_elim, ℕ, ◌<◌, Bool, true, false, nat_lt, List, [], ◌∷◌, ◌++◌, Option, Result, Ok, Err, refl, sym, ap, subst, append-nil, arith}
 use Rattle.std.specs.Io.KnownBytes.{Appends}
-use Rattle.org_disk.specs.Disk.{FileState, AreImages, LeavesOnly}
-use Rattle.org_journal.specs.Standing.{Image, contents}
-use Rattle.org_fileset.specs.Replay.{IsAtRest}
+use Rattle.org_disk.specs.Disk.{FileState}
+use Rattle.org_journal.specs.Standing.{Image}
 use Rattle.org_store.specs.declared.command.Command.{Command}
 use Rattle.org_store.specs.declared.command.RunFault.{RunFault}
-use Rattle.org_store.specs.declared.command.RunFault.TheVariants as run
-use Rattle.org_store.specs.Session.{Session, Kept}
-use Rattle.org_store.specs.Outcome.{outcome}
-use Rattle.org_store.specs.Step.{Step, Settles, done}
-use Rattle.org_store.specs.Runs.{IsOnDisk, IsBetween, IsLeftOf}
-use Rattle.org_store.proofs.Runs.{Course, course_none, course_as, course_run, course_settle, course_leaves, goes_on}
+use Rattle.org_store.specs.Session.{Kept}
+use Rattle.org_store.specs.Step.{Step, Settles}
+use Rattle.org_store.proofs.Runs.{Course, course_none, course_run, course_settle}
 use Rattle.org_serve.specs.declared.end.ServeEnd.{ServeEnd}
 use Rattle.org_serve.specs.declared.end.ServeEnd.TheVariants.{End, Unsettled, Device, Read, Write}
 use Rattle.org_serve.specs.declared.fault.LineFault.{LineFault}
 use Rattle.org_serve.specs.declared.pending.Pending.{Pending}
 use Rattle.org_serve.specs.Feeding.{EndsWith}
 use Rattle.org_serve.specs.Lines.{cut}
-use Rattle.org_serve.specs.Replies.{answer_text, settled_text}
-use Rattle.org_serve.specs.Serving.{IsReadAs, AnswersReadBy, AnswersLine, EndsBy, Finishes, HasSettled, end_of}
-use Rattle.org_serve.specs.Stops.{Runs, Reaches, KeepsDisk, RunsLine as ToldLine, HasSettledOver as ToldSettled, FinishesOver as ToldFinishes, SettlesHonest as SettlesTold}
+use Rattle.org_serve.specs.Replies.{settled_text}
+use Rattle.org_serve.specs.Serving.{AnswersReadBy, AnswersLine, EndsBy, Finishes, HasSettled, end_of}
+use Rattle.org_serve.specs.Stops.{Runs, KeepsDisk, RunsLine as ToldLine, HasSettledOver as ToldSettled, FinishesOver as ToldFinishes, SettlesHonest as SettlesTold}
 use Rattle.org_serve.specs.Transcript.{Answers, RunsSome}
 use Rattle.org_serve.proofs.Honest.{RunsHonest, SettlesHonest, RunsLine, HasSettledOver, FinishesOver}
 use Rattle.org_serve.proofs.Inputs.{Served}
@@ -171,78 +166,30 @@ module _ {D : Type 0} (honest : D → Type 0) (files : D → List ℕ → FileSt
       ends true some sound less = absurd (cc)
       ends false false sound less = absurd (cc)
 
-  -- What a stop leaves.
+  -- What the disk is after it.
 
-  abbrev Goes : Kept D → Kept D → (Session → Type 0) → Type 0
-  Goes old new P = Course files moment left_since old new P
+  abbrev Goes : Kept D → Kept D → Type 0
+  Goes old new = Course files moment left_since old new (λ s. Unit {0})
 
-  pub course_end : (mid new : Kept D) → (new ≡ mid) ⊎ Settled mid new → Goes mid new (λ s. s ≡ mid.session)
+  course_read : (old mid new : Kept D) (read : Result Command LineFault) (out : List ℕ) → Reads old read out mid → Goes mid new → Goes old new
+  course_read old mid new (Err fault) out ran course = subst (λ k. Goes k new) ran.1 course
+  course_read old mid new (Ok command) out ran course =
+      course_run files moment left_since old mid new command ran.0 (λ s. Unit {0}) (λ s. Unit {0}) ran.1.0 course tt (λ fine s later. tt) tt (λ texts failed accepted full. tt)
+
+  course_lines : (old mid new : Kept D) (lines : List (List ℕ)) (out : List ℕ) → Answers Line old lines out mid → Goes mid new → Goes old new
+  course_lines old mid new [] out answers course = subst (λ k. Goes k new) answers.1 course
+  course_lines old mid new (line ∷ lines) out answers course =
+      course_read old answers.0 new answers.3.0 answers.1 answers.3.2 (course_lines answers.0 mid new lines answers.2 answers.5 course)
+
+  course_end : (mid new : Kept D) → (new ≡ mid) ⊎ Settled mid new → Goes mid new
   course_end mid new ends = ⊎_elim
-      (λ same. subst (λ k. Goes mid k (λ s. s ≡ mid.session)) (sym same) (course_none files moment left_since mid (λ s. s ≡ mid.session) refl))
-      (λ settled. course_settle files moment left_since mid new settled.0 (λ s. s ≡ mid.session) settled.1.0 refl)
+      (λ same. subst (λ k. Goes mid k) (sym same) (course_none files moment left_since mid (λ s. Unit {0}) tt))
+      (λ settled. course_settle files moment left_since mid new settled.0 (λ s. Unit {0}) settled.1.0 tt)
       ends
 
-  reaches_self : (s : Session) (lines : List (List ℕ)) (out : List ℕ) → Reaches s lines out s
-  reaches_self s [] out = refl
-  reaches_self s (line ∷ lines) out = inl refl
-
-  -- one line, and the lines after it
-  module _ (old mid new : Kept D) (line : List ℕ) (lines : List (List ℕ)) (out first later : List ℕ) (is : out ≡ first ++ later) (course : Goes mid new (Reaches mid.session lines later)) where
-    course_read : (read : Result Command LineFault) → IsReadAs line read → Reads old read first mid → Goes old new (Reaches old.session (line ∷ lines) out)
-    course_read (Err fault) readable ran =
-        let session : mid.session ≡ old.session = ap (λ (k : Kept D). k.session) ran.1 in
-        let same = course_as files moment left_since mid new (Reaches mid.session lines later) (Reaches old.session (line ∷ lines) out) course
-        (λ s reached. inr (mid.session, first, later, (Err fault, readable, (ran.0, session)), is, reached)) in
-        subst (λ k. Goes k new (Reaches old.session (line ∷ lines) out)) ran.1 same
-    course_read (Ok command) readable ran =
-        course_run files moment left_since old mid new command ran.0 (Reaches old.session (line ∷ lines) out) (Reaches mid.session lines later) ran.1.0 course (inl refl)
-        (λ fine s reached. inr (
-          mid.session,
-          first,
-          later,
-          (Ok command, readable, (ran.0, goes_on old.session mid.session (outcome old.session command) ran.0 fine ran.1.0.step, ran.2)),
-          is,
-          reached,
-        ))
-        (reaches_self mid.session lines later)
-        (λ texts failed accepted full. inr (
-          done old.session texts,
-          first,
-          later,
-          (Ok command, readable, (Err run.Device, (texts, accepted, full, refl), ran.2 ∙ ap (λ a. answer_text a old.session.acknowledged mid.session.acknowledged) failed)),
-          is,
-          reaches_self (done old.session texts) lines later,
-        ))
-
-  course_lines : (old mid new : Kept D) (lines : List (List ℕ)) (out : List ℕ) → Answers Line old lines out mid → Goes mid new (λ s. s ≡ mid.session) → Goes old new (Reaches old.session lines out)
-  course_lines old mid new [] out answers course = subst (λ k. Goes k new (λ s. s ≡ k.session)) answers.1 course
-  course_lines old mid new (line ∷ lines) out answers course =
-      course_read old answers.0 new line lines out answers.1 answers.2 answers.4 (course_lines answers.0 mid new lines answers.2 answers.5 course) answers.3.0 answers.3.1 answers.3.2
-
   module _ {old new : Kept D} {end : ServeEnd} {left left' written written' : Option (List ℕ)} (run : Runs Line Settled old new end left left' written written') where
-    course_runs : Goes old new (Reaches old.session run.ran run.out)
+    course_runs : Goes old new
     course_runs = course_lines old run.mid new run.ran run.out run.answered (course_end run.mid new run.ends)
-
-    pub session_of_runs : Runs AnswersLine HasSettled old.session new.session end left left' written written'
-    session_of_runs = record {
-      input = run.input;
-      ran = run.ran;
-      others = run.others;
-      out = run.out;
-      mid = run.mid.session;
-      read = run.read;
-      lines = run.lines;
-      answered = session_of_lines old run.ran run.out run.mid run.answered;
-      ends = ⊎_elim (λ same. inl (ap (λ (k : Kept D). k.session) same)) (λ settled. inr (session_of_settled run.mid new settled)) run.ends;
-      wrote = run.wrote;
-    }
-
-    pub runs_leave : ((image : Image) → left_since old.disk (moment old.disk) image → AreImages (files old.disk) image) → IsOnDisk old.session (contents (files old.disk)) → IsAtRest (files old.disk) → IsFalse old.session.broken
-        → (ran : Runs AnswersLine HasSettled old.session new.session end left left' written written')
-        × LeavesOnly (moment old.disk) (moment new.disk) (left_since old.disk) (left_since new.disk)
-        (IsLeftOf old.session (contents (files old.disk)) (λ mid. Reaches old.session ran.ran ran.out mid × IsBetween old.session new.session mid))
-    unfolding session_of_runs
-    runs_leave start disk rest sound = (session_of_runs, course_leaves files moment left_since old new (Reaches old.session run.ran run.out) course_runs rest disk sound start)
 
     pub runs_keep : KeepsDisk files old new
     runs_keep = record { fit = course_runs.fit; rest = course_runs.rest; others = λ disk sound. course_runs.others sound disk; untouched = course_runs.stays }

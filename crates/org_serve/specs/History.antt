@@ -1,6 +1,6 @@
 -- A store over a disk with the one list by which a whole run is told: the texts of all files after each accepted command.
 -- `honest`, `files`, `moment` and `left_since` are what is seen of a disk of the type D.
-use Rattle.std.specs.Prelude.{◌≡◌, ◌⊎◌, ℕ, ◌+◌, ◌≤◌, List, [], ◌∷◌, ◌++◌, slice_get, IsSomeAnd, Result}
+use Rattle.std.specs.Prelude.{◌≡◌, ◌⊎◌, ℕ, ◌+◌, ◌≤◌, List, [], ◌∷◌, ◌++◌, length, slice_get, Some, IsFalse, IsSomeAnd, Result}
 use Rattle.org_disk.specs.Disk.{FileState}
 use Rattle.org_journal.specs.Standing.{Image}
 use Rattle.org_store.specs.declared.command.Command.{Command}
@@ -17,6 +17,13 @@ use Rattle.org_serve.specs.Transcript.{Answers}
 pub record Past (D : Type 0) : Type 0 where
   pub store : Kept D
   pub texts : List (List (List ℕ))
+
+-- The list has the texts that the session tells: those of all accepted commands, and those that are settled.
+pub record Lists (s : Session) (texts : List (List (List ℕ))) : Type 0 where
+  pub size : length texts ≡ s.accepted + 1
+  pub order : s.acknowledged ≤ s.accepted
+  pub files : IsFalse s.broken → slice_get texts s.accepted ≡ Some s.files
+  pub settled : IsFalse s.broken → slice_get texts s.acknowledged ≡ Some s.settled
 
 -- A command with this outcome was run, and the count of accepted commands went from before to now: it isn't counted; or it
 -- is, it was to be accepted with these texts, and they stand at the end of the list.

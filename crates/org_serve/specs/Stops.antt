@@ -1,6 +1,6 @@
--- What serving does to the disk of a store, and what a stop leaves meanwhile. `files`, `moment` and `left_since` are what
--- is seen of a disk of the type D.
-use Rattle.std.specs.Prelude.{◌≡◌, ◌≢◌, ◌⊎◌, ℕ, List, [], ◌∷◌, ◌++◌, Option, Result, IsTrue, IsFalse}
+-- What serving does to a store over a disk. `files`, `moment` and `left_since` are what is seen of a disk of the type
+-- D.
+use Rattle.std.specs.Prelude.{◌≡◌, ◌≢◌, ◌⊎◌, ℕ, List, ◌++◌, Option, Result, IsTrue, IsFalse}
 use Rattle.std.specs.Io.KnownBytes.{Consumes, Appends}
 use Rattle.org_disk.specs.Disk.{FileState}
 use Rattle.org_journal.specs.Standing.{Image, SameFiles, IsFit, contents}
@@ -9,9 +9,8 @@ use Rattle.org_store.specs.InOrder.{with_texts}
 use Rattle.org_store.specs.declared.command.Command.{Command}
 use Rattle.org_store.specs.declared.command.Reply.{Reply}
 use Rattle.org_store.specs.declared.command.RunFault.{RunFault}
-use Rattle.org_store.specs.Session.{Session, Kept}
-use Rattle.org_store.specs.Outcome.{outcome}
-use Rattle.org_store.specs.Runs.{RunsOver, SettlesOver, GoesOn, IsOnDisk}
+use Rattle.org_store.specs.Session.{Kept}
+use Rattle.org_store.specs.Runs.{RunsOver, SettlesOver, IsOnDisk}
 use Rattle.org_serve.specs.declared.end.ServeEnd.{ServeEnd}
 use Rattle.org_serve.specs.declared.end.ServeEnd.TheVariants.{Write}
 use Rattle.org_serve.specs.Lines.{cut}
@@ -55,17 +54,6 @@ pub record Runs {S : Type 0} (AnswersLine : S → List ℕ → List ℕ → S �
   pub answered : Answers AnswersLine old ran out mid
   pub ends : (new ≡ mid) ⊎ Settles mid new
   pub wrote : end ≢ Write → (tail : List ℕ) × Appends written written' (out ++ tail)
-
--- A line that is answered by these bytes takes the session from old to new. A command that was to be accepted, and at
--- whose settling the disk failed, counts as done.
-abbrev pub GoesOnLine : Session → List ℕ → List ℕ → Session → Type 0
-GoesOnLine = AnswersLineBy (λ old command answer new. GoesOn old (outcome old command) answer new) (λ s. s)
-
--- Some of the lines, from the first on, lead from the one session to the other, where they are answered by these bytes.
-abbrev pub Reaches : Session → List (List ℕ) → List ℕ → Session → Type 0
-Reaches old [] out new = new ≡ old
-Reaches old (line ∷ lines) out new =
-    (new ≡ old) ⊎ ((mid : Session) × (first : List ℕ) × (later : List ℕ) × GoesOnLine old line first mid × (out ≡ first ++ later) × Reaches mid lines later new)
 
 -- What serving makes of a disk that is honest at the end: one that was at rest is left fit to be opened, and at rest again
 -- where the store isn't broken then; in that case the store's files have the texts that are settled, where they had them

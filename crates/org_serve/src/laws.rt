@@ -1,21 +1,24 @@
 //! Laws of the definitions, each the contract of a function that does nothing.
-ghost use Rattle.std.specs.Prelude.{ℕ, List, ◌≡◌, ◌∷◌, ◌++◌};
+ghost use Rattle.std.specs.Prelude.{ℕ, List, [], ◌≡◌, ◌∷◌, ◌++◌};
 ghost use Rattle.std.specs.Prelude.{All, Option, Some, Result, IsFalse};
-ghost use Rattle.org_journal.specs.Standing.{Image};
+ghost use Rattle.org_disk.specs.Accounts.{LeavesOver};
+ghost use Rattle.org_journal.specs.Standing.{Image, contents};
+ghost use Rattle.org_fileset.specs.Replay.{IsAtRest};
 ghost use Rattle.org_fileset.specs.Names.{AreFew};
 ghost use Rattle.org_outline.specs.States.{Keywords};
 ghost use Rattle.org_store.specs.declared.command.Command.{Command};
 ghost use Rattle.org_store.specs.declared.command.Reply.{Reply};
 ghost use Rattle.org_store.specs.declared.command.RunFault.{RunFault};
-ghost use Rattle.org_store.specs.OnePlace.{HaveSameNodes, HasNodesOf, HasNodesOfOne, IsSessionOf};
-ghost use Rattle.org_store.specs.Reopening.{IsOpenable};
-ghost use Rattle.org_store.specs.Runs.{IsBetween, IsLeftOf};
-ghost use Rattle.org_store.specs.Session.{Session};
+ghost use Rattle.org_store.specs.OnePlace.{HaveSameNodes, HasNodesOf, IsSessionOf};
+ghost use Rattle.org_store.specs.Opening.{opened};
+ghost use Rattle.org_store.specs.Reopening.{IsOpenable, AreSmall};
+ghost use Rattle.org_store.specs.Runs.{IsOnDisk};
+ghost use Rattle.org_store.specs.Session.{Session, Kept};
 ghost use Rattle.org_store.specs.Step.{Step};
-ghost use Rattle.org_serve.specs.OnePlace.{OnlyRefiles};
+ghost use Rattle.org_serve.specs.OnePlace.{OnlyRefiles, HasNodesOfPrefix};
 ghost use Rattle.org_serve.specs.declared.end.ServeEnd.{ServeEnd};
-ghost use Rattle.org_serve.specs.Stops.{Reaches};
-ghost use Rattle.org_serve.specs.History.{Past};
+ghost use Rattle.org_serve.specs.Stops.{Runs, RunsLine, HasSettledOver};
+ghost use Rattle.org_serve.specs.History.{Past, Lists, HoldsPrefix, PastLine, HasSettledPast};
 ghost use Rattle.org_serve.specs.Whole.{HoldsServed, IsOnTheWay, ServesOver};
 ghost use Rattle.org_serve.specs.Grammar.{escaped, unescaped, path_of, path_field};
 ghost use Rattle.org_serve.specs.Lines.{cut, joined, HasNoNewline};
@@ -54,14 +57,47 @@ pub fn safe_tells_acknowledged()
         → (new.acknowledged ≡ a) × IsFalse new.broken }
 {}
 
+/// What a stop leaves while lines are served, told by `calls` of `serve`. Where the list of a store has the texts of all
+/// files as its session tells them, it goes on with those after each command that `serve` accepts. Where the disk is honest
+/// at the end, and was at rest with the settled texts of a store that wasn't broken, as it is between calls
+/// (`settled_is_on_disk`, a law of org_store), at every moment since then what a stop leaves stands for the files after one
+/// prefix of the accepted commands, which has all that were acknowledged as it began; a command in which the disk failed may
+/// be the last of them.
+pub fn stops_leave_a_prefix<D: Disk>()
+    // a store that was just opened has such a list
+    ensures opened { (states : Keywords) (names texts : List (List ℕ))
+        → Lists (opened states names texts) (texts ∷ []) }
+    // one that the lines go on with has it too
+    ensures served { (first : Past D) (new : Kept D) (end : ServeEnd)
+        (left left' written written' : Option (List ℕ)) → D.honest new.disk
+        → IsAtRest (D.files first.store.disk)
+        → IsOnDisk first.store.session (contents (D.files first.store.disk))
+        → IsFalse first.store.session.broken → Lists first.store.session first.texts
+        → Runs (RunsLine D.honest D.files D.moment D.left_since)
+        (HasSettledOver D.honest D.files D.moment D.left_since)
+        first.store new end left left' written written'
+        → (last : Past D) × (last.store ≡ new) × Lists last.store.session last.texts
+        × Runs (PastLine D.honest D.files D.moment D.left_since)
+        (HasSettledPast D.honest D.files D.moment D.left_since)
+        first last end left left' written written'
+        × LeavesOver D.moment D.left_since first.store.disk last.store.disk
+        (HoldsPrefix first.store.session (contents (D.files first.store.disk)) last.texts
+        first.store.session.acknowledged) }
+{}
+
 /// Every image of a store's disk opens again while lines are served, with the names that the store was opened with: what
 /// that says is told by `every_image_opens` of org_store's laws.
 pub fn every_image_opens<D: Disk>()
-    // `any_moment` of `serve`
-    ensures served { (given : List (List ℕ)) (old new : Session) (others image : Image)
-        (lines : List (List ℕ)) (out : List ℕ) → AreFew given → IsSessionOf given old
-        → IsLeftOf old others (λ mid. Reaches old lines out mid × IsBetween old new mid) image
-        → IsOpenable given image }
+    // what `stops_leave_a_prefix` tells of `serve`, where no text of the list was past the limit
+    ensures served { (given : List (List ℕ)) (first last : Past D) (end : ServeEnd)
+        (left left' written written' : Option (List ℕ)) (others image : Image) (least : ℕ)
+        → AreFew given → IsSessionOf given first.store.session
+        → Lists first.store.session first.texts
+        → All (AreSmall first.store.session.names) first.texts → D.honest last.store.disk
+        → Runs (PastLine D.honest D.files D.moment D.left_since)
+        (HasSettledPast D.honest D.files D.moment D.left_since)
+        first last end left left' written written'
+        → HoldsPrefix first.store.session others last.texts least image → IsOpenable given image }
     // `Lasts` of `serve_disk`, behind the opening
     ensures whole { (states : Keywords) (group : ℕ) (given : List (List ℕ)) (disk now : D)
         (end : ServeEnd) (left left' written written' : Option (List ℕ))
@@ -71,18 +107,28 @@ pub fn every_image_opens<D: Disk>()
         → HoldsServed served here least image → IsOpenable given image }
 {}
 
-/// Each node in one place, in what a stop leaves while lines are served (`any_moment` of `serve`, and of `serve_disk` behind
-/// the opening): each node is there as often, over all files of the store, as after the commands that were acknowledged
-/// when serving began, or after some of the lines, from the first on. Where no line that is run is a command but a refile,
-/// a show or a settling, that is as often as when serving began.
-pub fn one_place()
-    ensures any_moment { (given : List (List ℕ)) (old new : Session) (others image : Image)
-        (lines : List (List ℕ)) (out : List ℕ) → IsSessionOf given old
-        → IsLeftOf old others (λ mid. Reaches old lines out mid × IsBetween old new mid) image
-        → HasNodesOfOne old (λ mid. Reaches old lines out mid × IsBetween old new mid) image }
-    ensures refiles { (given : List (List ℕ)) (old new : Session) (others image : Image)
-        (lines : List (List ℕ)) (out : List ℕ) → IsSessionOf given old → All OnlyRefiles lines
-        → HaveSameNodes old.settled old.files
-        → IsLeftOf old others (λ mid. Reaches old lines out mid × IsBetween old new mid) image
-        → HasNodesOf old.names old.files image }
+/// Each node in one place, in what a stop leaves while lines are served (`stops_leave_a_prefix`): each node is there as
+/// often, over all files of the store, as after one prefix of the accepted commands, which has all that were acknowledged
+/// when serving began. Where no line that is run is a command but a refile, a show or a settling, that is as often as when
+/// serving began.
+pub fn one_place<D: Disk>()
+    ensures any_moment { (given : List (List ℕ)) (first last : Past D) (end : ServeEnd)
+        (left left' written written' : Option (List ℕ)) (others image : Image) (least : ℕ)
+        → IsSessionOf given first.store.session → Lists first.store.session first.texts
+        → All (AreSmall first.store.session.names) first.texts → D.honest last.store.disk
+        → Runs (PastLine D.honest D.files D.moment D.left_since)
+        (HasSettledPast D.honest D.files D.moment D.left_since)
+        first last end left left' written written'
+        → HoldsPrefix first.store.session others last.texts least image
+        → HasNodesOfPrefix first.store.session.names last.texts least image }
+    ensures refiles { (given : List (List ℕ)) (first last : Past D) (end : ServeEnd)
+        (left left' written written' : Option (List ℕ)) (others image : Image) (least : ℕ)
+        → IsSessionOf given first.store.session → Lists first.store.session first.texts
+        → All (AreSmall first.store.session.names) first.texts → D.honest last.store.disk
+        → (run : Runs (PastLine D.honest D.files D.moment D.left_since)
+        (HasSettledPast D.honest D.files D.moment D.left_since)
+        first last end left left' written written') → All OnlyRefiles run.ran
+        → All (λ texts. HaveSameNodes texts first.store.session.files) first.texts
+        → HoldsPrefix first.store.session others last.texts least image
+        → HasNodesOf first.store.session.names first.store.session.files image }
 {}

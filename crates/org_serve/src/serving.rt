@@ -2,16 +2,13 @@
 ghost use Rattle.std.specs.Prelude.{◌≡◌, ◌≢◌, ◌⊎◌, ◌++◌, List, ℕ, [], OnOk, OnErr, MatchResult, IsTrue, IsFalse};
 ghost use Rattle.std.specs.Io.KnownBytes.{Appends};
 ghost use Rattle.org_disk.specs.Disk.{HasRisen};
-ghost use Rattle.org_disk.specs.Accounts.{Accounts, LeavesOver};
-ghost use Rattle.org_journal.specs.Standing.{contents};
-ghost use Rattle.org_fileset.specs.Replay.{IsAtRest};
-ghost use Rattle.org_store.specs.Runs.{IsBetween, IsLeftOf, IsOnDisk};
+ghost use Rattle.org_disk.specs.Accounts.{Accounts};
 ghost use Rattle.org_serve.specs.Counts.{HasRisenBy};
 ghost use Rattle.org_serve.specs.Feeding.{FeedOk, FeedErr, EndsWith};
 ghost use Rattle.org_serve.specs.Lines.{cut};
 ghost use Rattle.org_serve.specs.Pending.{Stands};
 ghost use Rattle.org_serve.specs.Serving.{IsReadAs, AnswersReadBy, AnswersLine, Finishes, HasSettled, HasBroken, EndsBroken, end_of};
-ghost use Rattle.org_serve.specs.Stops.{RunsHonest, RunsLine, HasSettledOver, FinishesOver, Runs, Reaches, KeepsDisk};
+ghost use Rattle.org_serve.specs.Stops.{RunsHonest, RunsLine, HasSettledOver, FinishesOver, Runs, KeepsDisk};
 ghost use Rattle.org_serve.specs.Transcript.{AnswersRest, ServesAll, ServesLines, RunsSome, RunsAllAndSettles};
 
 use crate::end::ServeEnd;
@@ -36,12 +33,9 @@ const PIECE: usize = 4096;
 /// the lines that were read whole are answered then. It ends with `Write` exactly where a write or a flush failed: of the
 /// lines some, from the first on, were run then.
 ///
-/// Where the disk is honest at the end, and was at rest with the settled texts of a store that wasn't broken, as it is
-/// between calls (`settled_is_on_disk`, a law of org_store), at every moment since the call began what a stop leaves
-/// stands for the files after the commands that were acknowledged then, or for those after some of the lines that are run,
-/// from the first on; a command in which the disk failed may be the last of them.
 /// The store is changed by calls of `run` and `settle` alone. What each of them did is told where the disk is honest after
-/// it (`calls`): a wrong answer takes nothing from what was done before it. A store that was broken is left as it is; one
+/// it (`calls`): a wrong answer takes nothing from what was done before it. What a stop leaves at any moment since the call
+/// began follows from that: `stops_leave_a_prefix`, a law. A store that was broken is left as it is; one
 /// that wasn't is broken only where its disk counted a failure, and where it isn't, none was counted. It is broken where
 /// this ends with `Device`, and isn't where it ends with `End` or `Unsettled`.
 pub fn serve<D: Disk, R: Source, W: Sink>(
@@ -75,15 +69,6 @@ pub fn serve<D: Disk, R: Source, W: Sink>(
     ensures calls { Runs (RunsLine D.honest D.files D.moment D.left_since)
         (HasSettledOver D.honest D.files D.moment D.left_since) store.old store.new result
         (R.left reader.old) (R.left reader.new) (W.written writer.old) (W.written writer.new) }
-    ensures any_moment { D.honest store.new.disk
-        → IsOnDisk store.old.session (contents (D.files store.old.disk))
-        → IsAtRest (D.files store.old.disk) → IsFalse store.old.session.broken
-        → (run : Runs AnswersLine HasSettled store.old.session store.new.session result
-        (R.left reader.old) (R.left reader.new) (W.written writer.old) (W.written writer.new))
-        × LeavesOver D.moment D.left_since store.old.disk store.new.disk
-        (IsLeftOf store.old.session (contents (D.files store.old.disk))
-        (λ mid. Reaches store.old.session run.ran run.out mid
-        × IsBetween store.old.session store.new.session mid)) }
     ensures disk { D.honest store.new.disk → KeepsDisk D.files store.old store.new }
 
     ensures broken { EndsBroken result store.new.session }

@@ -18,14 +18,14 @@ use Rattle.org_store.specs.declared.tally.Tally.{Tally}
 use Rattle.org_store.specs.Counts.{Counts, SameCounts}
 use Rattle.org_store.specs.Files.{OpenFiles, PutsPlan, new_texts}
 use Rattle.org_store.specs.InOrder.{texts_of}
-use Rattle.org_store.specs.Keeping.{Acts, IsLeftKeeping, Keeps, KeepsCounts, Reads}
-use Rattle.org_store.specs.Left.{IsLeftBy}
+use Rattle.org_store.specs.Keeping.{Acts, Keeps, KeepsCounts, Reads}
+use Rattle.org_store.specs.Left.{IsLeft, MayHaveWritten}
 use Rattle.org_store.specs.Outcome.{Outcome, Accepts, Refuses, changed}
 use Rattle.org_store.specs.Runs.{LeavesDisk}
 use Rattle.org_store.specs.Session.{Kept, Session, kept_over}
 use Rattle.org_store.specs.Step.{Does, fills}
 use Rattle.org_store.proofs.Sessions.{does_read}
-use Rattle.org_store.proofs.Keeping.{left_by_keep, left_quiet, match_err, match_ok, refuses_large}
+use Rattle.org_store.proofs.Keeping.{left_as, refuses_large}
 use Rattle.org_store.proofs.Leaving.{leaves_after, leaves_same, leaves_unwritten, leaves_weaker}
 
 -- the answers of a command that changes nothing
@@ -74,8 +74,8 @@ module _ {D : Type 0} (files : D → List ℕ → FileState) (moment : D → ℕ
       → (IsErrOf answer Broken → ⊥) → (IsErrOf answer Device ↔ IsTrue new.session.broken) → Acts files moment left_since honest old outcome answer new
   acts_quiet new outcome answer quiet was does looks now same works breaks = record {
     does = does;
-    disk = λ h. leaves_same files moment left_since old (IsLeftBy old.session (contents (files old.disk)) outcome answer new.session.accepted) (IsErrOf answer Device) (start (was h)) own
-        (λ image holds. left_quiet old.session (contents (files old.disk)) outcome answer new.session.accepted image holds) new (looks h).time (looks h).same now;
+    disk = λ h. leaves_same files moment left_since old (IsLeft old.session (contents (files old.disk)) outcome answer new.session.accepted) (IsErrOf answer Device) (start (was h)) own
+        (λ image holds. inl holds) new (looks h).time (looks h).same now;
     counts = quiet_counts old.session new.session same answer quiet;
     works = works;
     breaks = breaks;
@@ -83,10 +83,10 @@ module _ {D : Type 0} (files : D → List ℕ → FileState) (moment : D → ℕ
 
   -- a call that changes nothing, for this reason
   module _ (new : Kept D) (same : new ≡ old) (unbroken : old.session.broken ≡ false) (outcome : Outcome) where
-    unwritten : (fault : RunFault) → honest new.disk → LeavesDisk files moment left_since old new (IsLeftBy old.session (contents (files old.disk)) outcome (Err fault) new.session.accepted) (IsErrOf {T = Reply} (Err fault) Device)
+    unwritten : (fault : RunFault) → honest new.disk → LeavesDisk files moment left_since old new (IsLeft {A = Reply} old.session (contents (files old.disk)) outcome (Err fault) new.session.accepted) (IsErrOf {T = Reply} (Err fault) Device)
     unwritten fault h =
-        leaves_unwritten files moment left_since old (IsLeftBy old.session (contents (files old.disk)) outcome (Err fault) new.session.accepted) (IsErrOf {T = Reply} (Err fault) Device)
-        (start (subst (λ (k : Kept D). honest k.disk) same h)) own (λ image holds. left_quiet old.session (contents (files old.disk)) outcome (Err fault) new.session.accepted image holds)
+        leaves_unwritten files moment left_since old (IsLeft {A = Reply} old.session (contents (files old.disk)) outcome (Err fault) new.session.accepted) (IsErrOf {T = Reply} (Err fault) Device)
+        (start (subst (λ (k : Kept D). honest k.disk) same h)) own (λ image holds. inl holds)
         new (ap (λ (k : Kept D). k.disk) same) (subst (λ (k : Kept D). k.session.settled ≡ texts_of (contents (files k.disk)) k.session.names) (sym same) own)
 
     counts_stay : SameCounts old.session new.session
@@ -165,12 +165,12 @@ module _ {D : Type 0} (files : D → List ℕ → FileState) (moment : D → ℕ
     disk = λ h.
         let is = plans (was h) in
         let looked = looks (was h) in
-        leaves_after files moment left_since old (IsLeftBy old.session (contents (files old.disk)) outcome answer new.session.accepted) (IsErrOf answer Device) (start (was_before (was h))) own
-        (λ image holds. left_quiet old.session (contents (files old.disk)) outcome answer new.session.accepted image holds)
-        mid new (IsLeftBy mid.session (contents (files mid.disk)) later answer new.session.accepted) (IsErrOf answer Device) looked.time looked.same (acts.disk h)
-        (λ image left. subst (λ (s : Session). IsLeftBy s (contents (files old.disk)) outcome answer new.session.accepted image) is.1
-        (subst (λ (o : Outcome). IsLeftBy mid.session (contents (files old.disk)) o answer new.session.accepted image) (sym is.0)
-        (subst (λ (f : List ℕ → FileState). IsLeftBy mid.session (contents f) later answer new.session.accepted image) looked.same left)))
+        leaves_after files moment left_since old (IsLeft old.session (contents (files old.disk)) outcome answer new.session.accepted) (IsErrOf answer Device) (start (was_before (was h))) own
+        (λ image holds. inl holds)
+        mid new (IsLeft mid.session (contents (files mid.disk)) later answer new.session.accepted) (IsErrOf answer Device) looked.time looked.same (acts.disk h)
+        (λ image left. subst (λ (s : Session). IsLeft s (contents (files old.disk)) outcome answer new.session.accepted image) is.1
+        (subst (λ (o : Outcome). IsLeft mid.session (contents (files old.disk)) o answer new.session.accepted image) (sym is.0)
+        (subst (λ (f : List ℕ → FileState). IsLeft mid.session (contents f) later answer new.session.accepted image) looked.same left)))
         (λ fell. fell);
     counts = counts_from old.session mid.session new.session same answer acts.counts;
     works = acts.works;
@@ -180,18 +180,21 @@ module _ {D : Type 0} (files : D → List ℕ → FileState) (moment : D → ℕ
   -- one more command was counted, or wasn't
   module _ (new : Kept D) (outcome : Outcome) (texts : List (List ℕ)) (result : Result (Unit {0}) RunFault) (accepts : outcome ≡ Accepts texts) (unbroken : old.session.broken ≡ false)
       (keeps : honest new.disk → Keeps old.session texts result new.session)
-      (leaves : honest new.disk → LeavesDisk files moment left_since old new (IsLeftKeeping old.session (contents (files old.disk)) texts result) (IsErrOf result Device))
+      (leaves : honest new.disk → LeavesDisk files moment left_since old new (IsLeft old.session (contents (files old.disk)) (Accepts texts) result new.session.accepted) (IsErrOf result Device))
       (counts : KeepsCounts old.session result new.session) (breaks : IsErrOf result Device ↔ IsTrue new.session.broken) where
+    left_accepting : (answer : Result Reply RunFault) (image : Image) → IsLeft old.session (contents (files old.disk)) (Accepts texts) answer new.session.accepted image
+        → IsLeft old.session (contents (files old.disk)) outcome answer new.session.accepted image
+    left_accepting answer image left = subst (λ (o : Outcome). IsLeft old.session (contents (files old.disk)) o answer new.session.accepted image) (sym accepts) left
+
     pub acts_done : (n : ℕ) → result ≡ Ok tt → n ≡ new.session.accepted → Acts files moment left_since honest old outcome (Ok (Done n)) new
     acts_done n is number =
         let done = subst (λ r. KeepsCounts old.session r new.session) is counts in
         let more : n ≡ old.session.accepted + 1 = number ∙ done.0 in
         record {
           does = λ h. (unbroken, (texts, accepts, more, subst (λ r. Keeps old.session texts r new.session) is (keeps h)));
-          disk = λ h. leaves_weaker files moment left_since old new (IsLeftKeeping old.session (contents (files old.disk)) texts result) (IsLeftBy old.session (contents (files old.disk)) outcome (Ok (Done n)) new.session.accepted)
+          disk = λ h. leaves_weaker files moment left_since old new (IsLeft old.session (contents (files old.disk)) (Accepts texts) result new.session.accepted) (IsLeft old.session (contents (files old.disk)) outcome (Ok (Done n)) new.session.accepted)
               (IsErrOf result Device) (IsErrOf {T = Reply} (Ok (Done n)) Device) (leaves h)
-              (λ image left. match_ok (λ fault. IsLeftBy old.session (contents (files old.disk)) outcome (Err fault) new.session.accepted image) result tt is
-              (left_by_keep old.session new.session (contents (files old.disk)) texts outcome result n image accepts counts left))
+              (λ image left. left_accepting (Ok (Done n)) image (left_as old.session (contents (files old.disk)) (Accepts texts) result (Ok (Done n)) new.session.accepted image (λ wrote. tt) left))
               (λ fell. let no : Ok tt ≡ Err Device = sym is ∙ fell in absurd (cc));
           counts = (more, sym number, done.1 ∙ ap (λ (k : ℕ). if fills old.session then k else old.session.acknowledged) (sym more), done.2);
           works = λ is. absurd (cc);
@@ -201,10 +204,9 @@ module _ {D : Type 0} (files : D → List ℕ → FileState) (moment : D → ℕ
     pub acts_fault : (fault : RunFault) → result ≡ Err fault → Acts files moment left_since honest old outcome (Err fault) new
     acts_fault fault is = record {
       does = λ h. does_fault fault (subst (λ r. KeepsCounts old.session r new.session) is counts) (subst (λ r. Keeps old.session texts r new.session) is (keeps h));
-      disk = λ h. leaves_weaker files moment left_since old new (IsLeftKeeping old.session (contents (files old.disk)) texts result) (IsLeftBy old.session (contents (files old.disk)) outcome (Err fault) new.session.accepted)
+      disk = λ h. leaves_weaker files moment left_since old new (IsLeft old.session (contents (files old.disk)) (Accepts texts) result new.session.accepted) (IsLeft {A = Reply} old.session (contents (files old.disk)) outcome (Err fault) new.session.accepted)
           (IsErrOf result Device) (IsErrOf {T = Reply} (Err fault) Device) (leaves h)
-          (λ image left. match_err (IsLeftBy old.session (contents (files old.disk)) outcome (Ok (Done 0)) new.session.accepted image) (λ fault. IsLeftBy old.session (contents (files old.disk)) outcome (Err fault) new.session.accepted image) result fault is
-          (left_by_keep old.session new.session (contents (files old.disk)) texts outcome result 0 image accepts counts left))
+          (λ image left. left_accepting (Err fault) image (left_as {B = Reply} old.session (contents (files old.disk)) (Accepts texts) result (Err fault) new.session.accepted image (λ wrote. subst MayHaveWritten is wrote) left))
           (λ fell. same_answer fault Device (sym is ∙ fell));
       counts = counts_fault fault (subst (λ r. KeepsCounts old.session r new.session) is counts);
       works = λ broken. no_broken fault (subst (λ r. KeepsCounts old.session r new.session) is counts) broken;

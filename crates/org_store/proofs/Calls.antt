@@ -14,12 +14,13 @@ use Rattle.org_store.specs.declared.command.RunFault.{RunFault}
 use Rattle.org_store.specs.declared.command.RunFault.TheVariants.{Refused, OutOfMemory, Device, Broken}
 use Rattle.org_store.specs.Calls.{Call, grouped, CallOver, CallsOver, CallGoesOn, ReachesBy}
 use Rattle.org_store.specs.Calls.Call.{Ran, Settled, Grouped}
-use Rattle.org_store.specs.Left.{IsLeft, IsLeftSettling}
+use Rattle.org_store.specs.Left.{MayHaveWritten}
 use Rattle.org_store.specs.Outcome.{Accepts, AsksToSettle, outcome}
 use Rattle.org_store.specs.Reopening.{IsOpenable, AreSmall}
 use Rattle.org_store.specs.Runs.{RunsOver, SettlesOver, GoesOn, IsBetween, IsLeftOf, IsOnDisk}
 use Rattle.org_store.specs.Session.{Session, Kept}
 use Rattle.org_store.specs.Step.{Step, Settles, done}
+use Rattle.org_store.proofs.Keeping.{left_as}
 use Rattle.org_store.proofs.OnePlace.{leaves_as}
 use Rattle.org_store.proofs.Reopening.{StaysSmall, goes_small, held_opens}
 use Rattle.org_store.proofs.Runs.{Course, course_none, course_run, course_leaves, goes_on}
@@ -42,13 +43,9 @@ settle_steps old new (Err OutOfMemory) step = step
 settle_steps old new (Err Device) step = (step.0, inr (inr (step.1.0, step.1.1, refl, step.1.2)))
 settle_steps old new (Err Broken) step = step
 
-settle_left : (old : Session) (others : Image) (n accepted : ℕ) (answer : Result (Unit {0}) RunFault) (image : Image) → IsLeftSettling old others answer image
-    → IsLeft old others Settle (reply_of n answer) accepted image
-settle_left old others n accepted (Ok _) image left = left
-settle_left old others n accepted (Err (Refused why)) image left = left
-settle_left old others n accepted (Err OutOfMemory) image left = left
-settle_left old others n accepted (Err Device) image left = left
-settle_left old others n accepted (Err Broken) image left = left
+settle_wrote : (n : ℕ) (answer : Result (Unit {0}) RunFault) → MayHaveWritten answer → MayHaveWritten (reply_of n answer)
+settle_wrote n (Ok _) wrote = wrote
+settle_wrote n (Err fault) wrote = wrote
 
 reaches_itself : (s : Session) (calls : List Call) → ReachesBy s calls s
 reaches_itself s [] = refl
@@ -65,7 +62,8 @@ module _ {D : Type 0} (files : D → List ℕ → FileState) (moment : D → ℕ
       record {
         step = settle_steps old.session new.session answer ran.step;
         disk = record {
-          any_moment = λ rest. leaves_as (ran.disk.any_moment rest) (settle_left old.session (contents (files old.disk)) n new.session.accepted answer);
+          any_moment = λ rest. leaves_as (ran.disk.any_moment rest)
+              (λ image left. left_as old.session (contents (files old.disk)) AsksToSettle answer (reply_of n answer) new.session.accepted image (settle_wrote n answer) left);
           others = λ fine. ran.disk.others (λ failed. fine (ap (reply_of n) failed));
           rest = λ fine. ran.disk.rest (λ failed. fine (ap (reply_of n) failed));
           fit = ran.disk.fit;

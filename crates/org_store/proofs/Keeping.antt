@@ -1,23 +1,19 @@
 -- What the calls of a store do to its session, and what a stop may leave.
-use Rattle.std.proofs.Common.{◌≡◌, inl, inr, ⊎_elim, ℕ, ◌+◌, true, false, List, Result, Ok, Err, refl, sym, ◌∙◌, ap, subst, if◌then◌else◌}
-use Rattle.std.specs.Prelude.{MatchResult}
+use Rattle.std.proofs.Common.{◌≡◌, inl, inr, ⊎_elim, ℕ, ◌+◌, true, false, List, Result, Err, refl, sym, ◌∙◌, ap, subst, if◌then◌else◌}
 use Rattle.org_disk.specs.Disk.{FileState, AreImages}
 use Rattle.org_journal.specs.Standing.{Image, SameFiles, contents}
 use Rattle.org_fileset.specs.Replay.{IsAtRest}
 use Rattle.org_fileset.proofs.Commits.{at_rest_stands}
 use Rattle.org_store.specs.declared.command.Reply.{Reply}
-use Rattle.org_store.specs.declared.command.Reply.TheVariants.{Done, Safe, Text, Time}
 use Rattle.org_store.specs.declared.command.RunFault.{RunFault}
-use Rattle.org_store.specs.declared.command.RunFault.TheVariants.{Refused, OutOfMemory, Device, Broken}
 use Rattle.org_store.specs.declared.command.Refusal.TheVariants.{TooLarge}
 use Rattle.org_store.specs.Files.{has_large}
 use Rattle.org_store.specs.InOrder.{texts_of, with_all, with_texts}
 use Rattle.org_store.specs.Session.{Session, Holds}
 use Rattle.org_store.specs.Step.{fills}
-use Rattle.org_store.specs.Outcome.{Outcome, Accepts, Shows, Tells, AsksToSettle, Refuses, changed, counted}
+use Rattle.org_store.specs.Outcome.{Outcome, Refuses, changed, counted}
 use Rattle.org_store.specs.Counts.{SameCounts}
-use Rattle.org_store.specs.Left.{IsLeftFailing, IsLeftBy}
-use Rattle.org_store.specs.Keeping.{IsLeftKeeping, KeepsCounts}
+use Rattle.org_store.specs.Left.{IsLeft, MayHaveWritten}
 use Rattle.org_store.proofs.InOrder.{told_by_texts, holds_told}
 
 -- what a stop leaves of files at rest
@@ -33,51 +29,14 @@ pub others_unwritten : (names : List (List ℕ)) (settled : List (List ℕ)) (ol
 others_unwritten names settled old new own same =
     rw own (subst (λ (f : List ℕ → FileState). SameFiles (contents new) (with_texts names (texts_of (contents new) names) (contents f))) same (others_same names (contents new)))
 
--- where nothing was settled, an answer of any kind leaves what was settled before
-failing_quiet : (s : Session) (others : Image) (outcome : Outcome) (accepted : ℕ) (image : Image) → Holds s others s.settled image → IsLeftFailing s others outcome accepted image
-failing_quiet s others (Accepts files) accepted image holds = inl holds
-failing_quiet s others AsksToSettle accepted image holds = inl holds
-failing_quiet s others (Shows text) accepted image holds = holds
-failing_quiet s others (Tells minutes) accepted image holds = holds
-failing_quiet s others (Refuses why) accepted image holds = holds
-
-pub left_quiet : (s : Session) (others : Image) (outcome : Outcome) (answer : Result Reply RunFault) (accepted : ℕ) (image : Image) → Holds s others s.settled image
-    → IsLeftBy s others outcome answer accepted image
-left_quiet s others outcome (Ok (Done n)) accepted image holds = inl holds
-left_quiet s others outcome (Ok (Safe n)) accepted image holds = inl holds
-left_quiet s others outcome (Ok (Text text)) accepted image holds = holds
-left_quiet s others outcome (Ok (Time minutes)) accepted image holds = holds
-left_quiet s others outcome (Err (Refused why)) accepted image holds = holds
-left_quiet s others outcome (Err OutOfMemory) accepted image holds = holds
-left_quiet s others outcome (Err Device) accepted image holds = failing_quiet s others outcome accepted image holds
-left_quiet s others outcome (Err Broken) accepted image holds = holds
-
 -- what a stop leaves of the files of a store at rest
 pub left_at_rest : (s : Session) (files : List ℕ → FileState) → s.settled ≡ texts_of (contents files) s.names → IsAtRest files → (image : Image) → AreImages files image → Holds s (contents files) s.settled image
 left_at_rest s files own rest image left = subst (λ texts. Holds s (contents files) texts image) (sym own) (at_rest_holds s files rest image left)
 
--- what is left as a command is accepted, told as what it leaves by its outcome
-left_accepting : (s new : Session) (others : Image) (files : List (List ℕ)) (answer : Result (Unit {0}) RunFault) (n : ℕ) (image : Image) → KeepsCounts s answer new → IsLeftKeeping s others files answer image
-    → MatchResult answer (λ _. IsLeftBy s others (Accepts files) (Ok (Done n)) new.accepted image) (λ fault. IsLeftBy s others (Accepts files) (Err fault) new.accepted image)
-left_accepting s new others files (Ok _) n image counts left = ⊎_elim (λ before. inl before) (λ now. let full : fills s ≡ true = now.0 in inr (rw full now.1)) left
-left_accepting s new others files (Err Device) n image counts left = ⊎_elim (λ before. inl before) (λ now. inr (counts.0, now.0, now.1)) left
-left_accepting s new others files (Err OutOfMemory) n image counts left = left
-left_accepting s new others files (Err Broken) n image counts left = absurd left
-left_accepting s new others files (Err (Refused why)) n image counts left = absurd left
-
--- the same of any outcome that is to be accepted
-pub left_by_keep : (s new : Session) (others : Image) (files : List (List ℕ)) (outcome : Outcome) (answer : Result (Unit {0}) RunFault) (n : ℕ) (image : Image) → outcome ≡ Accepts files → KeepsCounts s answer new
-    → IsLeftKeeping s others files answer image
-    → MatchResult answer (λ _. IsLeftBy s others outcome (Ok (Done n)) new.accepted image) (λ fault. IsLeftBy s others outcome (Err fault) new.accepted image)
-left_by_keep s new others files outcome answer n image accepts counts left =
-    subst (λ (o : Outcome). MatchResult answer (λ _. IsLeftBy s others o (Ok (Done n)) new.accepted image) (λ fault. IsLeftBy s others o (Err fault) new.accepted image)) (sym accepts)
-    (left_accepting s new others files answer n image counts left)
-
-pub match_ok : {A E : Type 0} {P : Type 0} (Q : E → Type 0) (result : Result A E) (a : A) → result ≡ Ok a → MatchResult result (λ _. P) Q → P
-match_ok {P = P} Q result a is m = subst (λ r. MatchResult r (λ _. P) Q) is m
-
-pub match_err : {A E : Type 0} (P : Type 0) (Q : E → Type 0) (result : Result A E) (e : E) → result ≡ Err e → MatchResult result (λ _. P) Q → Q e
-match_err P Q result e is m = subst (λ r. MatchResult r (λ _. P) Q) is m
+-- the same is left of a call that wrote, if at all, where this one did
+pub left_as : {A B : Type 0} (s : Session) (others : Image) (outcome : Outcome) (answer : Result A RunFault) (given : Result B RunFault) (accepted : ℕ) (image : Image) → (MayHaveWritten answer → MayHaveWritten given)
+    → IsLeft s others outcome answer accepted image → IsLeft s others outcome given accepted image
+left_as s others outcome answer given accepted image wrote left = ⊎_elim (λ held. inl held) (λ put. inr (wrote put.0, put.1)) left
 
 -- texts that are put, and what is refused of them
 pub counts_small : (s : Session) (changes : List (List ℕ × List ℕ)) → has_large changes ≡ false → changed s changes ≡ counted s (with_all s.names s.files changes)

@@ -64,7 +64,7 @@ over_some : {A : Type 0} (P Q : A → Type 0) (found : Option A) → ((a : A) �
 over_some P Q None weaker has = absurd has
 over_some P Q (Some a) weaker has = weaker a has
 
-nodes_as : (names texts others : List (List ℕ)) (image : Image) → HaveSameNodes texts others → HasNodesOf names texts image → HasNodesOf names others image
+pub nodes_as : (names texts others : List (List ℕ)) (image : Image) → HaveSameNodes texts others → HasNodesOf names texts image → HasNodesOf names others image
 nodes_as names texts others image same =
     over_some (λ (files : Image). HaveSameNodes (texts_of files names) texts) (λ (files : Image). HaveSameNodes (texts_of files names) others) (stands image)
     (λ files has rest section. has rest section ∙ same rest section)
@@ -73,7 +73,7 @@ module _ (given : List (List ℕ)) (s : Session) (of : IsSessionOf given s) wher
   pub names_apart : IsDistinct bytes_eq s.names
   names_apart = distinct s.names of.sorted.ordered
 
-  holds_nodes : (others : Image) (texts : List (List ℕ)) (image : Image) → AreSmall s.names texts → Holds s others texts image → HasNodesOf s.names texts image
+  pub holds_nodes : (others : Image) (texts : List (List ℕ)) (image : Image) → AreSmall s.names texts → Holds s others texts image → HasNodesOf s.names texts image
   holds_nodes others texts image small =
       let found = with_texts s.names texts others in
       over_some (λ (files : Image). SameFiles files found) (λ (files : Image). HaveSameNodes (texts_of files s.names) texts) (stands image)

@@ -23,7 +23,7 @@ use Rattle.org_store.specs.InOrder.{texts_of, with_all, with_text, with_texts}
 use Rattle.org_store.specs.Session.{Session, Holds}
 use Rattle.org_store.specs.Outcome.{Outcome, Accepts, Shows, Tells, AsksToSettle, Refuses, outcome}
 use Rattle.org_store.specs.Step.{fills, done, settled}
-use Rattle.org_store.specs.Left.{to_settle, IsEither, IsLeftFailing, IsLeftBy, IsLeft}
+use Rattle.org_store.specs.Left.{IsLeft, PutsOnDisk}
 use Rattle.org_store.specs.Runs.{GoesOn, Reaches, IsBetween, IsLeftOf}
 use Rattle.org_store.specs.Reopening.{AreSameNames, IsOpenable, AreSmall}
 use Rattle.org_store.proofs.Accepted.{AreWithin, accepted_puts}
@@ -172,49 +172,20 @@ pub accepted_small : (s : Session) (command : Command) (files : List (List ℕ))
 accepted_small s command files are accepts = let put = accepted_puts s command files accepts in subst (AreSmall s.names) put.2 (small_with_all s.names s.files put.0 put.1 are)
 
 -- what a stop leaves while a command runs
-abbrev HoldsSmall : Session → Image → Image → Type 0
-HoldsSmall s others image = (texts : List (List ℕ)) × AreSmall s.names texts × Holds s others texts image
-
-small_settled : (s : Session) (others : Image) (outcome : Outcome) (image : Image) → AreSmall s.names s.files → ((files : List (List ℕ)) → outcome ≡ Accepts files → AreSmall s.names files)
-    → IsSomeAnd (to_settle s outcome) (λ texts. Holds s others texts image) → HoldsSmall s others image
-small_settled s others (Accepts files) image are accepted holds = (files, accepted files refl, go (fills s) holds)
-  where
-    go : (full : Bool) → IsSomeAnd (if full then Some files else None) (λ texts. Holds s others texts image) → Holds s others files image
-    go true there = there
-    go false there = absurd there
-small_settled s others AsksToSettle image are accepted holds = (s.files, are, holds)
-small_settled s others (Shows text) image are accepted holds = absurd holds
-small_settled s others (Tells minutes) image are accepted holds = absurd holds
-small_settled s others (Refuses why) image are accepted holds = absurd holds
-
-small_either : (s : Session) (others : Image) (outcome : Outcome) (image : Image) → AreSmall s.names s.settled → AreSmall s.names s.files
-    → ((files : List (List ℕ)) → outcome ≡ Accepts files → AreSmall s.names files) → IsEither s others outcome image → HoldsSmall s others image
-small_either s others outcome image before are accepted = ⊎_elim (λ holds. (s.settled, before, holds)) (small_settled s others outcome image are accepted)
-
-small_failing : (s : Session) (others : Image) (outcome : Outcome) (accepted : ℕ) (image : Image) → AreSmall s.names s.settled → AreSmall s.names s.files
-    → ((files : List (List ℕ)) → outcome ≡ Accepts files → AreSmall s.names files) → IsLeftFailing s others outcome accepted image → HoldsSmall s others image
-small_failing s others (Accepts files) accepted image before are small left = ⊎_elim (λ holds. (s.settled, before, holds)) (λ now. (files, small files refl, now.2)) left
-small_failing s others AsksToSettle accepted image before are small left = ⊎_elim (λ holds. (s.settled, before, holds)) (λ now. (s.files, are, now)) left
-small_failing s others (Shows text) accepted image before are small left = (s.settled, before, left)
-small_failing s others (Tells minutes) accepted image before are small left = (s.settled, before, left)
-small_failing s others (Refuses why) accepted image before are small left = (s.settled, before, left)
-
-small_left : (s : Session) (others : Image) (outcome : Outcome) (answer : Result Reply RunFault) (accepted : ℕ) (image : Image) → AreSmall s.names s.settled → AreSmall s.names s.files
-    → ((files : List (List ℕ)) → outcome ≡ Accepts files → AreSmall s.names files) → IsLeftBy s others outcome answer accepted image → HoldsSmall s others image
-small_left s others outcome (Ok (Done n)) accepted image before are small left = small_either s others outcome image before are small left
-small_left s others outcome (Ok (Safe n)) accepted image before are small left = small_either s others outcome image before are small left
-small_left s others outcome (Err run.Device) accepted image before are small left = small_failing s others outcome accepted image before are small left
-small_left s others outcome (Ok (Text text)) accepted image before are small left = (s.settled, before, left)
-small_left s others outcome (Ok (Time minutes)) accepted image before are small left = (s.settled, before, left)
-small_left s others outcome (Err (run.Refused why)) accepted image before are small left = (s.settled, before, left)
-small_left s others outcome (Err run.OutOfMemory) accepted image before are small left = (s.settled, before, left)
-small_left s others outcome (Err run.Broken) accepted image before are small left = (s.settled, before, left)
+small_put : (s : Session) (outcome : Outcome) (accepted : ℕ) (texts : List (List ℕ)) → AreSmall s.names s.files → ((files : List (List ℕ)) → outcome ≡ Accepts files → AreSmall s.names files)
+    → PutsOnDisk s outcome accepted texts → AreSmall s.names texts
+small_put s (Accepts files) accepted texts are small puts = subst (AreSmall s.names) (sym puts.0) (small files refl)
+small_put s AsksToSettle accepted texts are small puts = subst (AreSmall s.names) (sym puts) are
+small_put s (Shows text) accepted texts are small puts = absurd puts
+small_put s (Tells minutes) accepted texts are small puts = absurd puts
+small_put s (Refuses why) accepted texts are small puts = absurd puts
 
 pub left_opens : (given : List (List ℕ)) (s : Session) (others image : Image) (command : Command) (answer : Result Reply RunFault) (accepted : ℕ) → AreFew given → AreSorted (with_archives given) s.names
-    → AreSmall s.names s.settled → AreSmall s.names s.files → IsLeft s others command answer accepted image → IsOpenable given image
-left_opens given s others image command answer accepted few sorted before are left =
-    let held = small_left s others (outcome s command) answer accepted image before are (λ files. accepted_small s command files are) left in
-    held_opens given s others image held.0 few sorted held.1 held.2
+    → AreSmall s.names s.settled → AreSmall s.names s.files → IsLeft s others (outcome s command) answer accepted image → IsOpenable given image
+left_opens given s others image command answer accepted few sorted before are left = ⊎_elim
+    (λ held. held_opens given s others image s.settled few sorted before held)
+    (λ put. held_opens given s others image put.1.0 few sorted (small_put s (outcome s command) accepted put.1.0 are (λ files. accepted_small s command files are) put.1.1) put.1.2)
+    left
 
 -- the texts after commands that were run one after another
 abbrev pub StaysSmall : Session → Session → Type 0

@@ -1,6 +1,6 @@
 -- Runs of commands over a disk: what a stop leaves meanwhile, and what the disk is after them.
 use Rattle.std.proofs.Common.{◌≡◌, ◌⊎◌, inl, inr, ⊎_elim, ℕ, ◌+◌, ◌≤◌, true, false, List, [], ◌∷◌, is_some, Result, Ok, Err, refl, sym, ◌∙◌, ap, subst, arith, IsTrue}
-use Rattle.std.specs.Prelude.{IsSomeAnd, IsErrOf}
+use Rattle.std.specs.Prelude.{IsErrOf}
 use Rattle.std.specs.Str.{bytes_eq}
 use Rattle.std.proofs.lemmas.Bool.{cases_Bool, false≢true}
 use Rattle.org_disk.specs.Disk.{FileState, AreImages, Passes, LeavesOnly}
@@ -18,7 +18,7 @@ use Rattle.org_store.specs.InOrder.{text_at, with_all, with_text, with_texts}
 use Rattle.org_store.specs.Session.{Session, Kept, Holds}
 use Rattle.org_store.specs.Outcome.{Outcome, Accepts, Shows, Tells, AsksToSettle, Refuses, outcome}
 use Rattle.org_store.specs.Step.{Does, Step, Settles, fills, done, settled}
-use Rattle.org_store.specs.Left.{IsLeftBy, IsLeftFailing, IsLeftSettling, IsEither, to_settle}
+use Rattle.org_store.specs.Left.{IsLeft, PutsOnDisk}
 use Rattle.org_store.proofs.Accepted.{accepted_puts}
 use Rattle.org_store.specs.Runs.{RunsOver, SettlesOver, RunsAllOver, IsOnDisk, GoesOn, Reaches, IsBetween, IsLeftOf}
 
@@ -143,52 +143,33 @@ falls old new command step = elim step.1 [
 
 -- What is left of one call: the files that were settled, or those of a session that was reached.
 
-either_of : (old : Session) (others : Image) (outcome : Outcome) (image : Image) (IsReached : Session → Type 0) → IsReached old
-    → ((files : List (List ℕ)) → outcome ≡ Accepts files → IsTrue (fills old) → IsReached (done old files)) → IsEither old others outcome image → IsLeftOf old others IsReached image
-either_of old others outcome image IsReached self accepted left = ⊎_elim (λ before. inl before) (some outcome accepted) left
-  where
-    some : (outcome : Outcome) → ((files : List (List ℕ)) → outcome ≡ Accepts files → IsTrue (fills old) → IsReached (done old files))
-        → IsSomeAnd (to_settle old outcome) (λ texts. Holds old others texts image) → IsLeftOf old others IsReached image
-    some (Accepts files) accepted now = elim (cases_Bool (fills old)) [
-      | inl t ↦ inr (done old files, accepted files refl t, subst (λ texts. Holds old others texts image) (sym (done_files old files)) (rw t at now))
-      | inr f ↦ let none : ⊥ = rw f at now in absurd none
-    ]
-    some AsksToSettle accepted now = inr (old, self, now)
-    some (Shows text) accepted now = absurd now
-    some (Tells minutes) accepted now = absurd now
-    some (Refuses why) accepted now = absurd now
-
-failing_of : (old : Session) (others : Image) (outcome : Outcome) (accepted : ℕ) (image : Image) (IsReached : Session → Type 0) → IsReached old
-    → ((files : List (List ℕ)) → outcome ≡ Accepts files → IsTrue (fills old) → accepted ≡ old.accepted + 1 → IsReached (done old files)) → IsLeftFailing old others outcome accepted image
+left_of : {A : Type 0} (old : Session) (others : Image) (outcome : Outcome) (answer : Result A RunFault) (accepted : ℕ) (image : Image) (IsReached : Session → Type 0) → IsReached old
+    → ((files : List (List ℕ)) → outcome ≡ Accepts files → IsTrue (fills old) → accepted ≡ old.accepted + 1 → IsReached (done old files)) → IsLeft old others outcome answer accepted image
     → IsLeftOf old others IsReached image
-failing_of old others (Accepts files) accepted image IsReached self torn left = ⊎_elim
-    (λ before. inl before)
-    (λ now. inr (done old files, torn files refl now.1 now.0, subst (λ texts. Holds old others texts image) (sym (done_files old files)) now.2))
-    left
-failing_of old others AsksToSettle accepted image IsReached self torn left = ⊎_elim (λ before. inl before) (λ now. inr (old, self, now)) left
-failing_of old others (Shows text) accepted image IsReached self torn left = inl left
-failing_of old others (Tells minutes) accepted image IsReached self torn left = inl left
-failing_of old others (Refuses why) accepted image IsReached self torn left = inl left
-
-left_of : (old mid : Session) (others : Image) (outcome : Outcome) (answer : Result Reply RunFault) (image : Image) (IsReached : Session → Type 0) → Does old outcome answer mid → IsReached old
-    → ((IsErrOf answer Device → ⊥) → IsReached mid) → ((files : List (List ℕ)) → IsErrOf answer Device → outcome ≡ Accepts files → IsTrue (fills old) → mid.accepted ≡ old.accepted + 1 → IsReached (done old files))
-    → IsLeftBy old others outcome answer mid.accepted image → IsLeftOf old others IsReached image
-left_of old mid others outcome (Ok (Done n)) image IsReached does self here torn left =
-    either_of old others outcome image IsReached self
-    (λ files accepts full. let same : does.1.0 ≡ files = accepted does.1.0 files (sym does.1.1 ∙ accepts) in
-    subst IsReached (does.1.3 ∙ ap (done old) same) (here (λ (e : ◌≡◌ {A = Result Reply RunFault} (Ok (Done n)) (Err Device)). absurd (cc)))) left
+left_of old others outcome answer accepted image IsReached self full left = ⊎_elim (λ before. inl before) (λ put. inr (some outcome full put.1.0 put.1.1 put.1.2)) left
   where
-    accepted : (files more : List (List ℕ)) → Accepts files ≡ Accepts more → files ≡ more
-    accepted files more same = cc
-left_of old mid others outcome (Ok (Safe n)) image IsReached does self here torn left =
-    either_of old others outcome image IsReached self (λ files accepts full. let apart : AsksToSettle ≡ Accepts files = sym does.1 ∙ accepts in absurd (cc)) left
-left_of old mid others outcome (Err Device) image IsReached does self here torn left =
-    failing_of old others outcome mid.accepted image IsReached self (λ files accepts full counted. torn files refl accepts full counted) left
-left_of old mid others outcome (Ok (Text bytes)) image IsReached does self here torn left = inl left
-left_of old mid others outcome (Ok (Time minutes)) image IsReached does self here torn left = inl left
-left_of old mid others outcome (Err (Refused why)) image IsReached does self here torn left = inl left
-left_of old mid others outcome (Err OutOfMemory) image IsReached does self here torn left = inl left
-left_of old mid others outcome (Err Broken) image IsReached does self here torn left = inl left
+    some : (outcome : Outcome) → ((files : List (List ℕ)) → outcome ≡ Accepts files → IsTrue (fills old) → accepted ≡ old.accepted + 1 → IsReached (done old files))
+        → (texts : List (List ℕ)) → PutsOnDisk old outcome accepted texts → Holds old others texts image → (mid : Session) × IsReached mid × Holds old others mid.files image
+    some (Accepts files) full texts puts now = (done old files, full files refl puts.1 puts.2, subst (λ t. Holds old others t image) (puts.0 ∙ sym (done_files old files)) now)
+    some AsksToSettle full texts puts now = (old, self, subst (λ t. Holds old others t image) puts now)
+    some (Shows text) full texts puts now = absurd puts
+    some (Tells minutes) full texts puts now = absurd puts
+    some (Refuses why) full texts puts now = absurd puts
+
+-- a command that is counted, and met no failure of the disk, is done
+is_done : (old new : Session) (outcome : Outcome) (answer : Result Reply RunFault) (files : List (List ℕ)) → (IsErrOf answer Device → ⊥) → Does old outcome answer new → outcome ≡ Accepts files
+    → new.accepted ≡ old.accepted + 1 → new ≡ done old files
+is_done old new outcome (Ok (Done n)) files fine does accepts counted = let same : does.1.0 ≡ files = one does.1.0 files (sym does.1.1 ∙ accepts) in does.1.3 ∙ ap (done old) same
+  where
+    one : (files more : List (List ℕ)) → Accepts files ≡ Accepts more → files ≡ more
+    one files more same = cc
+is_done old new outcome (Ok (Safe n)) files fine does accepts counted = let apart : AsksToSettle ≡ Accepts files = sym does.1 ∙ accepts in absurd (cc)
+is_done old new outcome (Ok (Text bytes)) files fine does accepts counted = absurd (omega (arith, counted, ap (λ (s : Session). s.accepted) does.2))
+is_done old new outcome (Ok (Time minutes)) files fine does accepts counted = absurd (omega (arith, counted, ap (λ (s : Session). s.accepted) does.2))
+is_done old new outcome (Err (Refused why)) files fine does accepts counted = absurd (omega (arith, counted, ap (λ (s : Session). s.accepted) does.2))
+is_done old new outcome (Err OutOfMemory) files fine does accepts counted = absurd (omega (arith, counted, ap (λ (s : Session). s.accepted) does.1))
+is_done old new outcome (Err Device) files fine does accepts counted = absurd (fine refl)
+is_done old new outcome (Err Broken) files fine does accepts counted = absurd (omega (arith, counted, ap (λ (s : Session). s.accepted) does.1))
 
 -- Files before and after calls that gave the store's files texts.
 
@@ -348,20 +329,19 @@ module _ {D : Type 0} (files : D → List ℕ → FileState) (moment : D → ℕ
         let fallen = falls old.session mid.session command (subst (λ a. Step old.session command a mid.session) failed ran.step) in
         let same : new ≡ mid = course.stays fallen in
         let broken : new.session.broken ≡ true = ap (λ (k : Kept D). k.session.broken) same ∙ fallen in
-        let reached : (texts : List (List ℕ)) → IsErrOf answer Device → outcome old.session command ≡ Accepts texts → IsTrue (fills old.session)
-        → mid.session.accepted ≡ old.session.accepted + 1 → Reached old.session new.session P (done old.session texts) =
-        λ texts is accepted full counted. (
+        let reached : (texts : List (List ℕ)) → outcome old.session command ≡ Accepts texts → IsTrue (fills old.session) → mid.session.accepted ≡ old.session.accepted + 1
+        → Reached old.session new.session P (done old.session texts) =
+        λ texts accepted full counted. (
           rw (done_files old.session texts) (accepts old.session command texts accepted),
           record { no_fewer = omega (arith, done_accepted old.session texts); no_more = omega (arith, done_accepted old.session texts, counted, course.rises) },
-          torn texts is accepted full,
+          torn texts failed accepted full,
         ) in
         record {
           passes = λ rest disk sound.
               subst (λ (k : Kept D). Passes (moment old.disk) (moment k.disk) (left_since old.disk) (left_since k.disk) (IsLeftOf old.session (contents (files old.disk)) (Reached old.session new.session P)))
               (sym same)
               (passes_as (ran.disk.any_moment rest).passes
-              (λ image left. left_of old.session mid.session (contents (files old.disk)) (outcome old.session command) answer image (Reached old.session new.session P) ran.step self_reached
-              (λ fine. absurd (fine failed)) reached left));
+              (λ image left. left_of old.session (contents (files old.disk)) (outcome old.session command) answer mid.session.accepted image (Reached old.session new.session P) self_reached reached left));
           rest = λ sound. absurd (false≢true (sym sound ∙ broken));
           fit = λ rest. subst (λ (k : Kept D). IsFit (files k.disk)) (sym same) (ran.disk.fit rest);
           others = λ sound. absurd (false≢true (sym sound ∙ broken));
@@ -404,8 +384,8 @@ module _ {D : Type 0} (files : D → List ℕ → FileState) (moment : D → ℕ
           passes = λ rest disk sound.
               passes_then
               (passes_as (ran.disk.any_moment rest).passes
-              (λ image left. left_of old.session mid.session (contents (files old.disk)) (outcome old.session command) answer image (Reached old.session new.session P) ran.step self_reached
-              (λ not. here sound) (λ texts failed. absurd (fine failed)) left))
+              (λ image left. left_of old.session (contents (files old.disk)) (outcome old.session command) answer mid.session.accepted image (Reached old.session new.session P) self_reached
+              (λ texts accepted full counted. subst (Reached old.session new.session P) (is_done old.session mid.session (outcome old.session command) answer texts fine ran.step accepted counted) (here sound)) left))
               (course.passes (ran.disk.rest fine rest) now ((goes sound).0.broken ∙ sound))
               (back sound disk);
           rest = λ sound rest. course.rest sound (ran.disk.rest fine rest);
@@ -425,21 +405,14 @@ module _ {D : Type 0} (files : D → List ℕ → FileState) (moment : D → ℕ
 
   -- a settling
   module _ (old new : Kept D) (answer : Result (Unit {0}) RunFault) (P : Session → Type 0) (ran : SettlesOver files moment left_since old answer new) (self : P old.session) where
-    settling_left : (others : Image) (answer : Result (Unit {0}) RunFault) (image : Image) (IsReached : Session → Type 0) → IsReached old.session → IsLeftSettling old.session others answer image
-        → IsLeftOf old.session others IsReached image
-    settling_left others (Ok _) image IsReached here left = either_of old.session others AsksToSettle image IsReached here (λ texts (accepts : AsksToSettle ≡ Accepts texts). absurd (cc)) left
-    settling_left others (Err Device) image IsReached here left = either_of old.session others AsksToSettle image IsReached here (λ texts (accepts : AsksToSettle ≡ Accepts texts). absurd (cc)) left
-    settling_left others (Err (Refused why)) image IsReached here left = inl left
-    settling_left others (Err OutOfMemory) image IsReached here left = inl left
-    settling_left others (Err Broken) image IsReached here left = inl left
-
     pub course_settle : Goes old new P
     course_settle =
         let ends = settling_ends old.session new.session answer ran.step in
         record {
           passes = λ rest disk sound.
               passes_as (ran.disk.any_moment rest).passes
-              (λ image left. settling_left (contents (files old.disk)) answer image (Reached old.session new.session P) (λ name. refl, self_between old.session new.session ends.0, self) left);
+              (λ image left. left_of old.session (contents (files old.disk)) AsksToSettle answer new.session.accepted image (Reached old.session new.session P) (λ name. refl, self_between old.session new.session ends.0, self)
+              (λ texts (accepts : AsksToSettle ≡ Accepts texts). absurd (cc)) left);
           rest = λ sound rest. ran.disk.rest (ends.1 sound).0 rest;
           fit = ran.disk.fit;
           others = λ sound disk. ran.disk.others (ends.1 sound).0;

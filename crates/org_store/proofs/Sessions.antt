@@ -1,5 +1,5 @@
 -- What the calls of a store's files do to its session.
-use Rattle.std.proofs.Common.{◌≡◌, inl, ℕ, false, true, List, Result, Err, refl, sym, ◌∙◌, ap, subst}
+use Rattle.std.proofs.Common.{◌≡◌, inl, inr, ⊎_elim, ℕ, false, true, List, Result, Err, refl, sym, ◌∙◌, ap, subst}
 use Rattle.std.specs.Prelude.{◌↔◌, IsErrOf, IsTrue}
 use Rattle.org_disk.specs.Disk.{FileState, AreImages, LeavesOnly}
 use Rattle.org_outline.specs.States.{Keywords}
@@ -13,10 +13,10 @@ use Rattle.org_store.specs.declared.command.RunFault.TheVariants.{Refused, OutOf
 use Rattle.org_store.specs.declared.tally.Tally.{Tally}
 use Rattle.org_store.specs.Files.{OpenFiles}
 use Rattle.org_store.specs.InOrder.{HoldsEither, texts_of}
-use Rattle.org_store.specs.Session.{Session, Kept, Holds, kept_over, session_over}
-use Rattle.org_store.specs.Outcome.{Outcome}
+use Rattle.org_store.specs.Session.{Session, Kept, kept_over, session_over}
+use Rattle.org_store.specs.Outcome.{Outcome, AsksToSettle}
 use Rattle.org_store.specs.Step.{Does, Settles, failed_in_read}
-use Rattle.org_store.specs.Left.{IsLeftSettling}
+use Rattle.org_store.specs.Left.{IsLeft}
 use Rattle.org_store.specs.Keeping.{Reads, fault_of_set}
 use Rattle.org_store.specs.Runs.{LeavesDisk}
 use Rattle.org_store.proofs.Committing.{leaves_as}
@@ -50,18 +50,17 @@ module _ {D : Type 0} (files : D → List ℕ → FileState) (moment : D → ℕ
   abbrev now : Kept D
   now = kept_over files states new tally
 
-  settle_unwritten : (fault : RunFault) → ((image : Image) → Holds before.session (contents (files old.disk)) before.session.settled image → IsLeftSettling before.session (contents (files old.disk)) (Err fault) image)
-      → new ≡ old → LeavesDisk files moment left_since before now (IsLeftSettling before.session (contents (files old.disk)) (Err fault)) (IsErrOf {T = Unit {0}} (Err fault) Device)
-  settle_unwritten fault quiet same =
-      leaves_unwritten files moment left_since before (IsLeftSettling before.session (contents (files old.disk)) (Err fault)) (IsErrOf {T = Unit {0}} (Err fault) Device) start refl quiet now (ap (λ (held : OpenFiles D). held.disk) same) refl
+  settle_unwritten : (fault : RunFault) → new ≡ old → LeavesDisk files moment left_since before now (IsLeft {A = Unit {0}} before.session (contents (files old.disk)) AsksToSettle (Err fault) now.session.accepted) (IsErrOf {T = Unit {0}} (Err fault) Device)
+  settle_unwritten fault same =
+      leaves_unwritten files moment left_since before (IsLeft {A = Unit {0}} before.session (contents (files old.disk)) AsksToSettle (Err fault) now.session.accepted) (IsErrOf {T = Unit {0}} (Err fault) Device) start refl (λ image holds. inl holds) now (ap (λ (held : OpenFiles D). held.disk) same) refl
 
   pub settle_leaves : (result : Result (Unit {0}) SetFault) (fault : SetFault) → Fails old new result fault
       → (IsAtRest (files old.disk) → LeavesOnly (moment old.disk) (moment new.disk) (left_since old.disk) (left_since new.disk) (HoldsEither old.names (contents (files old.disk)) before.session.files))
       → (IsAtRest (files old.disk) → IsFit (files new.disk))
-      → LeavesDisk files moment left_since before now (IsLeftSettling before.session (contents (files old.disk)) (Err (fault_of_set fault))) (IsErrOf {T = Unit {0}} (Err (fault_of_set fault)) Device)
-  settle_leaves result set.OutOfMemory fails leaves fit = settle_unwritten OutOfMemory (λ image holds. holds) (fails.memory fails.is)
+      → LeavesDisk files moment left_since before now (IsLeft {A = Unit {0}} before.session (contents (files old.disk)) AsksToSettle (Err (fault_of_set fault)) now.session.accepted) (IsErrOf {T = Unit {0}} (Err (fault_of_set fault)) Device)
+  settle_leaves result set.OutOfMemory fails leaves fit = settle_unwritten OutOfMemory (fails.memory fails.is)
   settle_leaves result set.Device fails leaves fit = record {
-    any_moment = λ rest. leaves_as (leaves rest) (λ image either. either);
+    any_moment = λ rest. leaves_as (leaves rest) (λ image either. ⊎_elim (λ held. inl held) (λ all. inr (refl, (before.session.files, refl, all))) either);
     others = λ fine. absurd (fine refl);
     rest = λ fine. absurd (fine refl);
     fit = fit;

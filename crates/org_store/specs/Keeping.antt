@@ -1,5 +1,5 @@
 -- How a command is planned on the texts of a store's files, and how it is accepted.
-use Rattle.std.specs.Prelude.{◌≡◌, ◌⊎◌, ◌↔◌, ℕ, ◌+◌, List, [], Option, None, Some, Result, Ok, Err, IsErrOf, IsTrue, if◌then◌else◌}
+use Rattle.std.specs.Prelude.{◌≡◌, ◌↔◌, ℕ, ◌+◌, List, [], Option, None, Some, Result, Ok, Err, IsErrOf, IsTrue, if◌then◌else◌}
 use Rattle.org_disk.specs.Disk.{FileState}
 use Rattle.org_journal.specs.Standing.{Image, contents}
 use Rattle.org_fileset.specs.declared.fault.SetFault.{SetFault}
@@ -17,10 +17,10 @@ use Rattle.org_store.specs.declared.command.Reply.{Reply}
 use Rattle.org_store.specs.declared.command.RunFault.{RunFault}
 use Rattle.org_store.specs.declared.command.RunFault.TheVariants.{Refused, OutOfMemory, Device, Broken}
 use Rattle.org_store.specs.Files.{new_texts}
-use Rattle.org_store.specs.Session.{Session, Kept, Holds}
+use Rattle.org_store.specs.Session.{Session, Kept}
 use Rattle.org_store.specs.Outcome.{Outcome, changed, refusal_of, refusal_of_move, refusal_of_path, refusal_of_state}
 use Rattle.org_store.specs.Step.{Does, done, failed_in_read, torn_in, fills}
-use Rattle.org_store.specs.Left.{IsLeftBy}
+use Rattle.org_store.specs.Left.{IsLeft}
 use Rattle.org_store.specs.Counts.{Counts, SameCounts}
 use Rattle.org_store.specs.Runs.{LeavesDisk}
 
@@ -57,7 +57,7 @@ pub record Acts {D : Type 0} (files : D → List ℕ → FileState) (moment : D 
     (honest : D → Type 0) (old : Kept D) (outcome : Outcome) (answer : Result Reply RunFault) (new : Kept D) : Type 0 where
   pub does : honest new.disk → Does old.session outcome answer new.session
   pub disk : honest new.disk → LeavesDisk files moment left_since old new
-      (IsLeftBy old.session (contents (files old.disk)) outcome answer new.session.accepted) (IsErrOf answer Device)
+      (IsLeft old.session (contents (files old.disk)) outcome answer new.session.accepted) (IsErrOf answer Device)
   pub counts : Counts old.session answer new.session
   pub works : IsErrOf answer Broken → ⊥
   pub breaks : IsErrOf answer Device ↔ IsTrue new.session.broken
@@ -69,14 +69,6 @@ Keeps old files (Err OutOfMemory) new = new ≡ old
 Keeps old files (Err Device) new = IsTrue (fills old) × ((left : List (List ℕ)) × (now : List (List ℕ)) × (new ≡ torn_in old left now))
 Keeps old files (Err Broken) new = ⊥
 Keeps old files (Err (Refused why)) new = ⊥
-
--- what a stop leaves meanwhile
-abbrev pub IsLeftKeeping : Session → Image → List (List ℕ) → Result (Unit {0}) RunFault → Image → Type 0
-IsLeftKeeping old others files (Ok _) image = Holds old others old.settled image ⊎ (IsTrue (fills old) × Holds old others files image)
-IsLeftKeeping old others files (Err Device) image = Holds old others old.settled image ⊎ (IsTrue (fills old) × Holds old others files image)
-IsLeftKeeping old others files (Err OutOfMemory) image = Holds old others old.settled image
-IsLeftKeeping old others files (Err Broken) image = ⊥
-IsLeftKeeping old others files (Err (Refused why)) image = ⊥
 
 -- what becomes of the counts
 abbrev pub KeepsCounts : Session → Result (Unit {0}) RunFault → Session → Type 0

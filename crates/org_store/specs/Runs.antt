@@ -10,9 +10,9 @@ use Rattle.org_store.specs.declared.command.RunFault.{RunFault}
 use Rattle.org_store.specs.declared.command.RunFault.TheVariants.{Refused, OutOfMemory, Device, Broken}
 use Rattle.org_store.specs.InOrder.{with_texts}
 use Rattle.org_store.specs.Session.{Session, Kept, Holds}
-use Rattle.org_store.specs.Outcome.{Outcome, Accepts, outcome}
+use Rattle.org_store.specs.Outcome.{Outcome, Accepts, AsksToSettle, outcome}
 use Rattle.org_store.specs.Step.{Does, Step, Settles, fills, done}
-use Rattle.org_store.specs.Left.{IsLeft, IsLeftSettling}
+use Rattle.org_store.specs.Left.{IsLeft}
 
 -- What a call of a store leaves of its disk, where the disk is honest after it. `files`, `moment` and `left_since` are
 -- what is seen of a disk of the type D; `Left` is what a stop may leave while the call runs, and `Failed` says that the
@@ -31,14 +31,14 @@ pub record LeavesDisk {D : Type 0} (files : D → List ℕ → FileState) (momen
 -- store is `new`. These are the clauses of `Store::run`.
 pub record RunsOver {D : Type 0} (files : D → List ℕ → FileState) (moment : D → ℕ) (left_since : D → ℕ → Image → Type 0) (old : Kept D) (command : Command) (answer : Result Reply RunFault) (new : Kept D) : Type 0 where
   pub step : Step old.session command answer new.session
-  pub disk : LeavesDisk files moment left_since old new (IsLeft old.session (contents (files old.disk)) command answer new.session.accepted) (IsErrOf answer Device)
+  pub disk : LeavesDisk files moment left_since old new (IsLeft old.session (contents (files old.disk)) (outcome old.session command) answer new.session.accepted) (IsErrOf answer Device)
   pub untouched : IsErrOf answer Broken → new ≡ old
   pub nothing : command ≡ Settle → old.session.acknowledged ≡ old.session.accepted → new ≡ old
 
 -- The same of settling: the clauses of `Store::settle`.
 pub record SettlesOver {D : Type 0} (files : D → List ℕ → FileState) (moment : D → ℕ) (left_since : D → ℕ → Image → Type 0) (old : Kept D) (answer : Result (Unit {0}) RunFault) (new : Kept D) : Type 0 where
   pub step : Settles old.session answer new.session
-  pub disk : LeavesDisk files moment left_since old new (IsLeftSettling old.session (contents (files old.disk)) answer) (IsErrOf answer Device)
+  pub disk : LeavesDisk files moment left_since old new (IsLeft old.session (contents (files old.disk)) AsksToSettle answer new.session.accepted) (IsErrOf answer Device)
   pub untouched : IsErrOf answer Broken → new ≡ old
   pub nothing : old.session.acknowledged ≡ old.session.accepted → new ≡ old
 

@@ -8,8 +8,9 @@ ghost use Rattle.org_texts.specs.Texts.{held_over};
 ghost use Rattle.org_store.specs.declared.tally.Tally.{Tally as Counted};
 ghost use Rattle.org_store.specs.Files.{AreSmallToWrite, IsPlanFor, new_texts};
 ghost use Rattle.org_store.specs.InOrder.{texts_of};
-ghost use Rattle.org_store.specs.Keeping.{Acts, IsLeftKeeping, Keeps, KeepsCounts, PlansOrStays};
-ghost use Rattle.org_store.specs.Outcome.{IsChange, changed, counted, outcome};
+ghost use Rattle.org_store.specs.Keeping.{Acts, Keeps, KeepsCounts, PlansOrStays};
+ghost use Rattle.org_store.specs.Left.{IsLeft};
+ghost use Rattle.org_store.specs.Outcome.{Accepts, IsChange, changed, counted, outcome};
 ghost use Rattle.org_store.specs.Runs.{LeavesDisk};
 ghost use Rattle.org_store.specs.Session.{kept_over, session_over};
 
@@ -40,10 +41,10 @@ fn keep_or_settle<D: Disk>(files: &mut Files<D>, tally: &mut Tally) -> Result<()
     ensures disk { (states : Keywords) → D.honest files.new.disk
         → LeavesDisk D.files D.moment D.left_since (kept_over D.files states files.old tally.old)
         (kept_over D.files states files.new tally.new)
-        (IsLeftKeeping (kept_over D.files states files.old tally.old).session
+        (IsLeft (kept_over D.files states files.old tally.old).session
         (contents (D.files files.old.disk))
-        (texts_of (held_over files.old.held.now (contents (D.files files.old.disk)))
-        files.old.names) result) (IsErrOf result RunFault.Device) }
+        (Accepts (texts_of (held_over files.old.held.now (contents (D.files files.old.disk)))
+        files.old.names)) result tally.new.accepted) (IsErrOf result RunFault.Device) }
     ensures counts { (states : Keywords)
         → KeepsCounts (kept_over D.files states files.old tally.old).session result
         (kept_over D.files states files.new tally.new).session }

@@ -224,7 +224,7 @@ pub fn every_image_opens<D: Disk>()
         (answer : Result Reply RunFault) (accepted : ℕ) → AreFew given
         → AreSorted (with_archives given) s.names
         → AreSmall s.names s.settled → AreSmall s.names s.files
-        → IsLeft s others command answer accepted image → IsOpenable given image }
+        → IsLeft s others (outcome s command) answer accepted image → IsOpenable given image }
     // and what a stop leaves of a whole run of commands
     ensures run { (given : List (List ℕ)) (old new : Session) (others image : Image)
         (commands : List Command) (answers : List (Result Reply RunFault)) → AreFew given

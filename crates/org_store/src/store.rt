@@ -14,7 +14,8 @@ ghost use Rattle.org_store.specs.Opening.{opened};
 ghost use Rattle.org_store.specs.Reopening.{IsOpenable};
 ghost use Rattle.org_store.specs.Runs.{LeavesDisk};
 ghost use Rattle.org_store.specs.Step.{Step, Settles};
-ghost use Rattle.org_store.specs.Left.{IsLeft, IsLeftSettling};
+ghost use Rattle.org_store.specs.Left.{IsLeft};
+ghost use Rattle.org_store.specs.Outcome.{AsksToSettle, outcome};
 ghost use Rattle.org_store.specs.Counts.{Counts, SettledCounts};
 
 use crate::changing::change;
@@ -160,8 +161,8 @@ impl<D: Disk> Store<D> {
         ensures step { D.honest self.new.disk → Settles self.old.session result self.new.session }
         ensures disk { D.honest self.new.disk
             → LeavesDisk D.files D.moment D.left_since self.old self.new
-            (IsLeftSettling self.old.session (contents (D.files self.old.disk)) result)
-            (IsErrOf result RunFault.Device) }
+            (IsLeft self.old.session (contents (D.files self.old.disk)) AsksToSettle result
+            self.new.session.accepted) (IsErrOf result RunFault.Device) }
         ensures counts { SettledCounts self.old.session result self.new.session }
         ensures broken { IsErrOf result RunFault.Broken ↔ IsTrue self.old.session.broken }
         ensures untouched { IsErrOf result RunFault.Broken → self.new ≡ self.old }
@@ -197,8 +198,9 @@ impl<D: Disk> Store<D> {
             → Step self.old.session command.now result self.new.session }
         ensures disk { D.honest self.new.disk
             → LeavesDisk D.files D.moment D.left_since self.old self.new
-            (IsLeft self.old.session (contents (D.files self.old.disk)) command.now result
-            self.new.session.accepted) (IsErrOf result RunFault.Device) }
+            (IsLeft self.old.session (contents (D.files self.old.disk))
+            (outcome self.old.session command.now) result self.new.session.accepted)
+            (IsErrOf result RunFault.Device) }
         ensures counts { Counts self.old.session result self.new.session }
         ensures broken { IsErrOf result RunFault.Broken ↔ IsTrue self.old.session.broken }
         ensures untouched { IsErrOf result RunFault.Broken → self.new ≡ self.old }

@@ -8,7 +8,7 @@ use Rattle.org_serve.proofs.Joins.{Consumes-kept}
 use Rattle.org_serve.proofs.Counting.{HasRisenBy-counted}
 use Rattle.org_serve.proofs.Breaking.{untouched_then, breaks_then}
 use Rattle.org_serve.proofs.Honest.{kept_end, kept_runs, kept_served, kept_settled, kept_some}
-use Rattle.org_serve.proofs.Stops.{session_of_served, session_of_ends, session_of_settled, session_of_some, runs_read, runs_finish, runs_some, runs_leave, runs_keep}
+use Rattle.org_serve.proofs.Stops.{session_of_served, session_of_ends, session_of_settled, session_of_some, runs_read, runs_finish, runs_some, runs_keep}
 use Rattle.org_serve.proofs.serving.serve.Goals as goal
 
 pub returns-in-Ok-eq0-clause-end : goal.returns-in-Ok-eq0-clause-end
@@ -46,11 +46,6 @@ returns-in-Ok-eq0-clause-calls g c =
     runs_finish d.honest d.files d.moment d.left_since s c.finish.new.store c.finish.result (g.W.Sink.written c.finish.new.writer)
     (λ not. c.finish.ensures.told not (cut s.input).rest s.stands) c.finish.ensures.write
 
-pub returns-in-Ok-eq0-clause-any_moment : goal.returns-in-Ok-eq0-clause-any_moment
-returns-in-Ok-eq0-clause-any_moment g c = λ honest.
-    let d = g.D.Disk in
-    runs_leave d.honest d.files d.moment d.left_since (kept_runs d.honest d.files d.moment d.left_since (returns-in-Ok-eq0-clause-calls g c) honest) (λ image left. g.met.D.Disk.only_now c.args.store.now.disk image (c.loop.invariant.2.was_honest (c.finish.ensures.accounts.was_honest honest)) left)
-
 pub returns-in-Ok-eq0-clause-disk : goal.returns-in-Ok-eq0-clause-disk
 returns-in-Ok-eq0-clause-disk g c = λ honest.
     let d = g.D.Disk in
@@ -72,11 +67,6 @@ returns-in-Err-feed-clause-calls g c =
     (Served-some s (take c.in-Ok.n c.read.new.into) c.feed.new.store (g.R.Source.left c.read.new.self) c.in-Ok.ensures.bytes.0
     (c.in-Err-feed.ensures.fed (cut s.input).rest (rest-free s.input) s.stands))
 
-pub returns-in-Err-feed-clause-any_moment : goal.returns-in-Err-feed-clause-any_moment
-returns-in-Err-feed-clause-any_moment g c = λ honest.
-    let d = g.D.Disk in
-    runs_leave d.honest d.files d.moment d.left_since (kept_runs d.honest d.files d.moment d.left_since (returns-in-Err-feed-clause-calls g c) honest) (λ image left. g.met.D.Disk.only_now c.args.store.now.disk image (c.loop.invariant.2.was_honest (c.feed.ensures.accounts.was_honest honest)) left)
-
 pub returns-in-Err-feed-clause-disk : goal.returns-in-Err-feed-clause-disk
 returns-in-Err-feed-clause-disk g c = λ honest.
     let d = g.D.Disk in
@@ -94,11 +84,6 @@ returns-in-Err-clause-calls g c =
     runs_read (HasSettledOver d.honest d.files d.moment d.left_since)
     (Served-no_more c.loop.invariant.0 (g.R.Source.left c.read.new.self) (Consumes-kept _ _ c.in-Err.ensures.bytes))
 
-pub returns-in-Err-clause-any_moment : goal.returns-in-Err-clause-any_moment
-returns-in-Err-clause-any_moment g c = λ honest.
-    let d = g.D.Disk in
-    runs_leave d.honest d.files d.moment d.left_since (kept_runs d.honest d.files d.moment d.left_since (returns-in-Err-clause-calls g c) honest) (λ image left. g.met.D.Disk.only_now c.args.store.now.disk image (c.loop.invariant.2.was_honest honest) left)
-
 pub returns-in-Err-clause-disk : goal.returns-in-Err-clause-disk
 returns-in-Err-clause-disk g c = λ honest.
     let d = g.D.Disk in
@@ -113,11 +98,6 @@ pub returns-clause-calls : goal.returns-clause-calls
 returns-clause-calls g c =
     let d = g.D.Disk in
     runs_read (HasSettledOver d.honest d.files d.moment d.left_since) c.loop.invariant.0
-
-pub returns-clause-any_moment : goal.returns-clause-any_moment
-returns-clause-any_moment g c = λ honest.
-    let d = g.D.Disk in
-    runs_leave d.honest d.files d.moment d.left_since (kept_runs d.honest d.files d.moment d.left_since (returns-clause-calls g c) honest) (λ image left. g.met.D.Disk.only_now c.args.store.now.disk image (c.loop.invariant.2.was_honest honest) left)
 
 pub returns-clause-disk : goal.returns-clause-disk
 returns-clause-disk g c = λ honest.

@@ -1,15 +1,15 @@
-use Rattle.std.proofs.Common.{◌≡◌, ◌∙◌, inr, ⊎_elim, false, Err, refl, sym, subst, rules}
+use Rattle.std.proofs.Common.{◌≡◌, ◌∙◌, inl, inr, ⊎_elim, false, Err, refl, sym, subst, rules}
 use Rattle.std.proofs.lemmas.Bool.{false≢true}
 use Rattle.org_journal.specs.Standing.{contents}
 use Rattle.org_store.specs.declared.command.RunFault.TheVariants.{Broken}
 use Rattle.org_store.specs.declared.command.Command.{Command}
+use Rattle.org_store.specs.declared.command.Reply.{Reply}
 use Rattle.org_store.specs.declared.command.Command.TheVariants.{Time, Show}
 use Rattle.org_store.specs.InOrder.{texts_of}
 use Rattle.org_store.specs.Keeping.{Acts}
 use Rattle.org_store.specs.Left.{IsLeft}
 use Rattle.org_store.specs.Outcome.{outcome}
 use Rattle.org_store.specs.Session.{kept_over}
-use Rattle.org_store.proofs.Keeping.{left_quiet}
 use Rattle.org_store.proofs.Leaving.{leaves_unwritten}
 use Rattle.org_store.proofs.Settled.{settled_on}
 use Rattle.org_store.proofs.store.Store.run.Goals as goal
@@ -21,8 +21,8 @@ returns-then-is_broken-clause-disk g c = λ honest.
     let s = old.session in
     let files = contents (d.files old.disk) in
     let own : s.settled ≡ texts_of files s.names = rw (← c.self.view_is) refl in
-    leaves_unwritten d.files d.moment d.left_since old (IsLeft s files c.args.command.now (Err Broken) s.accepted) _ (λ image left. g.met.D.Disk.only_now old.disk image honest left) own
-    (λ image holds. left_quiet s files (outcome s c.args.command.now) (Err Broken) s.accepted image holds) old refl own
+    leaves_unwritten d.files d.moment d.left_since old (IsLeft {A = Reply} s files (outcome s c.args.command.now) (Err Broken) s.accepted) _ (λ image left. g.met.D.Disk.only_now old.disk image honest left) own
+    (λ image holds. inl holds) old refl own
 
 pub returns-in-Time-clause-disk : goal.returns-in-Time-clause-disk
 returns-in-Time-clause-disk g c =

@@ -5,7 +5,8 @@ use Rattle.org_disk.specs.Accounts.{LeavesOver}
 use Rattle.org_texts.specs.Texts.{TextSet, held_over}
 use Rattle.org_store.specs.InOrder.{HoldsEither, texts_of}
 use Rattle.org_store.specs.Keeping.{fault_of_set}
-use Rattle.org_store.specs.Left.{IsLeftSettling}
+use Rattle.org_store.specs.Left.{IsLeft}
+use Rattle.org_store.specs.Outcome.{AsksToSettle}
 use Rattle.org_store.proofs.Leaving.{leaves_unwritten}
 use Rattle.org_store.proofs.Sessions.{Fails, settle_failed, settle_leaves}
 use Rattle.org_store.proofs.store.Store.settle.Goals as goal
@@ -17,7 +18,7 @@ returns-then-is_broken-clause-disk g c = λ honest.
     let s = old.session in
     let files = contents (d.files old.disk) in
     let own : s.settled ≡ texts_of files s.names = rw (← c.self.view_is) refl in
-    leaves_unwritten d.files d.moment d.left_since old (IsLeftSettling s files (Err Broken)) _ (λ image left. g.met.D.Disk.only_now old.disk image honest left) own (λ image holds. holds) old refl own
+    leaves_unwritten d.files d.moment d.left_since old (IsLeft {A = Unit {0}} s files AsksToSettle (Err Broken) s.accepted) _ (λ image left. g.met.D.Disk.only_now old.disk image honest left) own (λ image holds. inl holds) old refl own
 
 pub returns-then-self-clause-disk : goal.returns-then-self-clause-disk
 returns-then-self-clause-disk g c = λ honest.
@@ -26,7 +27,7 @@ returns-then-self-clause-disk g c = λ honest.
     let s = old.session in
     let files = contents (d.files old.disk) in
     let own : s.settled ≡ texts_of files s.names = rw (← c.self.view_is) refl in
-    leaves_unwritten d.files d.moment d.left_since old (IsLeftSettling s files (Ok tt)) _ (λ image left. g.met.D.Disk.only_now old.disk image honest left) own (λ image holds. inl holds) old refl own
+    leaves_unwritten d.files d.moment d.left_since old (IsLeft s files AsksToSettle (Ok (tt {0})) s.accepted) _ (λ image left. g.met.D.Disk.only_now old.disk image honest left) own (λ image holds. inl holds) old refl own
 
 pub returns-in_err-commit-clause-step : goal.returns-in_err-commit-clause-step
 returns-in_err-commit-clause-step g c =

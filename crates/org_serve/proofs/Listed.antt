@@ -1,0 +1,237 @@
+-- What holds of each of the texts by which a run is told, where accepted commands keep it: they are within the limit, and
+-- after refiles alone they have the same nodes.
+use Rattle.std.proofs.Common.{◌≡◌, inl, inr, ⊎_elim, ℕ, ◌+◌, true, false, List, [], ◌∷◌, ◌++◌, Option, Some, None, Result, Ok, Err, refl, sym, ap, ◌∙◌, subst, arith}
+use Rattle.std.specs.Prelude.{All, slice_get, IsSomeAnd}
+use Rattle.std.specs.List.{AllByRecursion, IsDistinct}
+use Rattle.std.specs.Str.{bytes_eq}
+use Rattle.std.proofs.lemmas.Bool.{cases_Bool, false≢true}
+use Rattle.std.proofs.lemmas.List.Elements.{All-cons, All-nil, All-push, recursion_from_All}
+use Rattle.std.proofs.lemmas.Option.{slice_get_within, get_or_from_slice_get}
+use Rattle.org_disk.specs.Disk.{FileState}
+use Rattle.org_outline.specs.States.{Keywords}
+use Rattle.org_journal.specs.Standing.{Image, contents}
+use Rattle.org_fileset.specs.Names.{with_archives, AreSorted, AreFew}
+use Rattle.org_store.specs.declared.command.Command.{Command}
+use Rattle.org_store.specs.declared.command.Reply.{Reply}
+use Rattle.org_store.specs.declared.command.Reply.TheVariants.{Done, Safe, Text, Time}
+use Rattle.org_store.specs.declared.command.RunFault.{RunFault}
+use Rattle.org_store.specs.declared.command.RunFault.TheVariants.{Refused, OutOfMemory, Device, Broken}
+use Rattle.org_store.specs.InOrder.{text_at}
+use Rattle.org_store.specs.OnePlace.{HaveSameNodes, HasNodesOf, IsSessionOf}
+use Rattle.org_store.specs.Outcome.{Accepts, AsksToSettle, outcome, show}
+use Rattle.org_store.specs.Reopening.{IsOpenable, AreSmall}
+use Rattle.org_store.specs.Session.{Session, Holds}
+use Rattle.org_store.specs.Step.{Step}
+use Rattle.org_store.proofs.Follows.{step_setting}
+use Rattle.org_store.proofs.OnePlace.{accepted_keeps, holds_nodes, names_apart, nodes_as}
+use Rattle.org_store.proofs.Reopening.{accepted_small, held_opens, opened_small}
+use Rattle.org_serve.specs.declared.end.ServeEnd.{ServeEnd}
+use Rattle.org_serve.specs.declared.fault.LineFault.{LineFault}
+use Rattle.org_serve.specs.History.{Past, Adds, Lists, HoldsPrefix, PastLine as ToldPast, HasSettledPast as ToldSettledPast}
+use Rattle.org_serve.specs.OnePlace.{OnlyRefiles, HasNodesOfPrefix}
+use Rattle.org_serve.specs.Serving.{AnswersReadBy, IsReadAs}
+use Rattle.org_serve.specs.Stops.{Runs}
+use Rattle.org_serve.specs.Transcript.{Answers}
+use Rattle.org_serve.specs.Whole.{ServesOver, HoldsServed, IsOnTheWay}
+use Rattle.org_serve.proofs.History.{Texts, lists_step}
+use Rattle.org_serve.proofs.Honest.{RunsPast, PastLine, HasSettledPast, past_runs, up_to}
+use Rattle.org_serve.proofs.Opened.{lists_first}
+
+-- a broken store stays as it is
+broken_stays : (old new : Session) (command : Command) (answer : Result Reply RunFault) → Step old command answer new → old.broken ≡ true → new ≡ old
+broken_stays old new command (Ok (Done n)) step fell = absurd (false≢true (sym step.0 ∙ fell))
+broken_stays old new command (Ok (Text bytes)) step fell = absurd (false≢true (sym step.0 ∙ fell))
+broken_stays old new command (Ok (Time minutes)) step fell = absurd (false≢true (sym step.0 ∙ fell))
+broken_stays old new command (Ok (Safe n)) step fell = absurd (false≢true (sym step.0 ∙ fell))
+broken_stays old new command (Err (Refused why)) step fell = absurd (false≢true (sym step.0 ∙ fell))
+broken_stays old new command (Err OutOfMemory) step fell = absurd (false≢true (sym step.0 ∙ fell))
+broken_stays old new command (Err Device) step fell = absurd (false≢true (sym step.0 ∙ fell))
+broken_stays old new command (Err Broken) step fell = step.1
+
+-- the texts at a place of the list
+each_at : (Q : List (List ℕ) → Type 0) (texts : Texts) (k : ℕ) (files : List (List ℕ)) → All Q texts → slice_get texts k ≡ Some files → Q files
+each_at Q texts k files all is = subst Q (get_or_from_slice_get texts k files files is) (all k files (slice_get_within texts k files is))
+
+-- each of the first lines
+all_first : (P : List ℕ → Type 0) (some others : List (List ℕ)) → AllByRecursion P (some ++ others) → AllByRecursion P some
+all_first P [] others all = tt
+all_first P (one ∷ some) others all = (all.0, all_first P some others all.1)
+
+-- Q holds of the texts of all files after a command of a line that is allowed, where it held before it.
+module _ (names : List (List ℕ)) (Q : List (List ℕ) → Type 0) (Allowed : List ℕ → Type 0)
+    (keeps : (s : Session) (line : List ℕ) (command : Command) (files : List (List ℕ)) → s.names ≡ names → Allowed line → IsReadAs line (Ok command) → Q s.files → outcome s command ≡ Accepts files → Q files) where
+  pub record Each (s : Session) (texts : Texts) : Type 0 where
+    pub same_names : s.names ≡ names
+    pub lists : Lists s texts
+    pub all : All Q texts
+
+  each_step : (old new : Session) (line : List ℕ) (command : Command) (answer : Result Reply RunFault) (texts more : Texts) → Allowed line → IsReadAs line (Ok command) → Step old command answer new
+      → Adds (outcome old command) old.accepted new.accepted texts more → Each old texts → Each new more
+  each_step old new line command answer texts more allowed read step added each = record {
+    same_names = (step_setting old new command answer step).1 ∙ each.same_names;
+    lists = lists_step old new command answer texts more step added each.lists;
+    all = elim added [
+      | inl none ↦ subst (All Q) (sym none.1) each.all
+      | inr one ↦ subst (All Q) (sym one.1.2) (All-push Q texts one.1.0 each.all (last one.1.0 one.1.1 one.0))
+    ];
+  }
+    where
+      last : (files : List (List ℕ)) → outcome old command ≡ Accepts files → new.accepted ≡ old.accepted + 1 → Q files
+      last files accepts risen = elim (cases_Bool old.broken) [
+        | inl fell ↦ absurd (omega (arith, risen, ap (λ (s : Session). s.accepted) (broken_stays old new command answer step fell)))
+        | inr sound ↦ keeps old line command files each.same_names allowed read (each_at Q texts old.accepted old.files each.all (each.lists.files sound)) accepts
+      ]
+
+  module _ {D : Type 0} (honest : D → Type 0) (files : D → List ℕ → FileState) (moment : D → ℕ) (left_since : D → ℕ → Image → Type 0) where
+    each_read : (old : Past D) (line : List ℕ) (read : Result Command LineFault) (out : List ℕ) (new : Past D) → Allowed line → IsReadAs line read
+        → AnswersReadBy (RunsPast honest files moment left_since) (λ past. past.store.session) old read out new → Each old.store.session old.texts → Each new.store.session new.texts
+    each_read old line (Err fault) out new allowed read ran each = subst (λ (p : Past D). Each p.store.session p.texts) (sym ran.1) each
+    each_read old line (Ok command) out new allowed read ran each =
+        each_step old.store.session new.store.session line command ran.0 old.texts new.texts allowed read ran.1.0.0.step ran.1.0.1 each
+
+    each_lines : (old new : Past D) (lines : List (List ℕ)) (out : List ℕ) → AllByRecursion Allowed lines → Answers (PastLine honest files moment left_since) old lines out new
+        → Each old.store.session old.texts → Each new.store.session new.texts
+    each_lines old new [] out allowed a each = subst (λ (p : Past D). Each p.store.session p.texts) (sym a.1) each
+    each_lines old new (line ∷ lines) out allowed a each = each_lines a.0 new lines a.2 allowed.1 a.5 (each_read old line a.3.0 a.1 a.0 allowed.0 a.3.1 a.3.2 each)
+
+    pub each_run : {first last : Past D} {end : ServeEnd} {left left' written written' : Option (List ℕ)}
+        (run : Runs (PastLine honest files moment left_since) (HasSettledPast honest files moment left_since) first last end left left' written written')
+        → AllByRecursion Allowed run.ran → Each first.store.session first.texts → All Q last.texts
+    each_run {first} run allowed each =
+        let all = (each_lines first run.mid run.ran run.out allowed run.answered each).all in
+        ⊎_elim (λ same. subst (λ (p : Past D). All Q p.texts) (sym same) all) (λ settled. subst (All Q) (sym settled.1.0.1) all) run.ends
+
+  -- the same of a store on the way
+  module _ {D : Type 0} {honest : D → Type 0} {files : D → List ℕ → FileState} {moment : D → ℕ} {left_since : D → ℕ → Image → Type 0}
+      {states : Keywords} {group : ℕ} {given : List (List ℕ)} {disk now : D} {end : ServeEnd} {left left' written written' : Option (List ℕ)}
+      (served : ServesOver honest files moment left_since states group given disk now end left left' written written') (allowed : AllByRecursion Allowed served.run.ran)
+      (first : honest served.first.store.disk → Each served.first.store.session served.first.texts) where
+    pub each_on_the_way : (here : Past D) → IsOnTheWay served here → honest here.store.disk → All Q here.texts
+    each_on_the_way here (inl way) honestly =
+        let told = past_runs honest files moment left_since (up_to served.run here way) honestly in
+        each_run honest files moment left_since told.0 (all_first Allowed way.answered way.others (subst (AllByRecursion Allowed) way.all_lines allowed)) (first told.1)
+    each_on_the_way here (inr last) honestly =
+        let told = past_runs honest files moment left_since served.run (subst (λ (p : Past D). honest p.store.disk) last honestly) in
+        subst (λ (p : Past D). All Q p.texts) (sym last) (each_run honest files moment left_since told.0 allowed (first told.1))
+
+-- Texts that are within the limit.
+
+abbrev Any : List ℕ → Type 0
+Any line = Unit {0}
+
+any_line : (lines : List (List ℕ)) → AllByRecursion Any lines
+any_line [] = tt
+any_line (line ∷ lines) = (tt, any_line lines)
+
+keeps_small : (names : List (List ℕ)) (s : Session) (command : Command) (files : List (List ℕ)) → s.names ≡ names → AreSmall names s.files → outcome s command ≡ Accepts files → AreSmall names files
+keeps_small names s command files same are accepts =
+    subst (λ ns. AreSmall ns files) same (accepted_small s command files (subst (λ ns. AreSmall ns s.files) (sym same) are) accepts)
+
+-- .. and nodes that stay
+abbrev KeptNodes : List (List ℕ) → List (List ℕ) → List (List ℕ) → Type 0
+KeptNodes names base files = AreSmall names files × HaveSameNodes files base
+
+shows : (old : Option (List ℕ)) (files : List (List ℕ)) → show old ≡ Accepts files → ⊥
+shows None files accepts = absurd (cc)
+shows (Some text) files accepts = absurd (cc)
+
+settles : (files : List (List ℕ)) → AsksToSettle ≡ Accepts files → ⊥
+settles files accepts = absurd (cc)
+
+keeps_nodes : (names base : List (List ℕ)) → IsDistinct bytes_eq names → (s : Session) (line : List ℕ) (command : Command) (files : List (List ℕ)) → s.names ≡ names → OnlyRefiles line → IsReadAs line (Ok command)
+    → KeptNodes names base s.files → outcome s command ≡ Accepts files → KeptNodes names base files
+keeps_nodes names base apart s line command files same only read kept accepts = (
+  keeps_small names s command files same kept.0 accepts,
+  ⊎_elim
+      (λ refile. λ rest section.
+      accepted_keeps s command files (subst (IsDistinct bytes_eq) (sym same) apart) (subst (λ ns. AreSmall ns s.files) (sym same) kept.0) refile accepts rest section ∙ kept.1 rest section)
+      (⊎_elim
+      (λ shown. absurd (shows (text_at s.names s.files shown.0) files (subst (λ (c : Command). outcome s c ≡ Accepts files) shown.1 accepts)))
+      (λ settle. absurd (settles files (subst (λ (c : Command). outcome s c ≡ Accepts files) settle accepts))))
+      (only command read.1),
+)
+
+-- What an image that stands for one of the texts is.
+
+in_prefix : (P : Image → Type 0) (Q : List (List ℕ) → Type 0) (first : Session) (others : Image) (texts : Texts) (least : ℕ) (image : Image) → All Q texts
+    → ((files : List (List ℕ)) → Q files → Holds first others files image → P image) → HoldsPrefix first others texts least image → P image
+in_prefix P Q first others texts least image all each holds = some (slice_get texts holds.0) refl holds.2
+  where
+    some : (found : Option (List (List ℕ))) → slice_get texts holds.0 ≡ found → IsSomeAnd found (λ files. Holds first others files image) → P image
+    some None is held = absurd held
+    some (Some files) is held = each files (each_at Q texts holds.0 files all is) held
+
+prefix_opens : (given : List (List ℕ)) (first : Session) (others : Image) (texts : Texts) (least : ℕ) (image : Image) → AreFew given → AreSorted (with_archives given) first.names → All (AreSmall first.names) texts
+    → HoldsPrefix first others texts least image → IsOpenable given image
+prefix_opens given first others texts least image few sorted all =
+    in_prefix (IsOpenable given) (AreSmall first.names) first others texts least image all (λ files small held. held_opens given first others image files few sorted small held)
+
+prefix_nodes : (given : List (List ℕ)) (first : Session) (others : Image) (texts : Texts) (least : ℕ) (image : Image) → IsSessionOf given first → All (AreSmall first.names) texts
+    → HoldsPrefix first others texts least image → HasNodesOfPrefix first.names texts least image
+prefix_nodes given first others texts least image of all holds = (holds.0, holds.1, some (slice_get texts holds.0) refl holds.2)
+  where
+    some : (found : Option (List (List ℕ))) → slice_get texts holds.0 ≡ found → IsSomeAnd found (λ files. Holds first others files image) → IsSomeAnd found (λ files. HasNodesOf first.names files image)
+    some None is held = absurd held
+    some (Some files) is held = holds_nodes given first of others files image (each_at (AreSmall first.names) texts holds.0 files all is) held
+
+prefix_same : (given : List (List ℕ)) (first : Session) (others : Image) (texts : Texts) (least : ℕ) (image : Image) → IsSessionOf given first → All (KeptNodes first.names first.files) texts
+    → HoldsPrefix first others texts least image → HasNodesOf first.names first.files image
+prefix_same given first others texts least image of all =
+    in_prefix (HasNodesOf first.names first.files) (KeptNodes first.names first.files) first others texts least image all
+    (λ files kept held. nodes_as first.names files first.files image kept.1 (holds_nodes given first of others files image kept.0 held))
+
+-- a run of a store that has such a list as it begins
+module _ {D : Type 0} (honest : D → Type 0) (files : D → List ℕ → FileState) (moment : D → ℕ) (left_since : D → ℕ → Image → Type 0) (given : List (List ℕ)) (first last : Past D) {end : ServeEnd}
+    {left left' written written' : Option (List ℕ)} (run : Runs (ToldPast honest files moment left_since) (ToldSettledPast honest files moment left_since) first last end left left' written written')
+    (of : IsSessionOf given first.store.session) (lists : Lists first.store.session first.texts) (small : All (AreSmall first.store.session.names) first.texts) (honestly : honest last.store.disk)
+    (others image : Image) (least : ℕ) where
+  abbrev names : List (List ℕ)
+  names = first.store.session.names
+
+  run_small : All (AreSmall names) last.texts
+  run_small =
+      let told = past_runs honest files moment left_since run honestly in
+      each_run names (AreSmall names) Any (λ s line command texts same any read. keeps_small names s command texts same) honest files moment left_since told.0 (any_line told.0.ran)
+      (record { same_names = refl; lists = lists; all = small })
+
+  pub run_opens : AreFew given → HoldsPrefix first.store.session others last.texts least image → IsOpenable given image
+  run_opens few = prefix_opens given first.store.session others last.texts least image few of.sorted run_small
+
+  pub run_nodes : HoldsPrefix first.store.session others last.texts least image → HasNodesOfPrefix names last.texts least image
+  run_nodes = prefix_nodes given first.store.session others last.texts least image of run_small
+
+  pub run_same : All OnlyRefiles run.ran → All (λ texts. HaveSameNodes texts first.store.session.files) first.texts → HoldsPrefix first.store.session others last.texts least image
+      → HasNodesOf names first.store.session.files image
+  run_same only same =
+      let base = first.store.session.files in
+      let told = past_runs honest files moment left_since run honestly in
+      prefix_same given first.store.session others last.texts least image of
+      (each_run names (KeptNodes names base) OnlyRefiles (keeps_nodes names base (names_apart given first.store.session of)) honest files moment left_since told.0 (recursion_from_All OnlyRefiles run.ran only)
+      (record { same_names = refl; lists = lists; all = λ k d within. (small k d within, same k d within) }))
+
+-- a whole run
+module _ {D : Type 0} {honest : D → Type 0} {files : D → List ℕ → FileState} {moment : D → ℕ} {left_since : D → ℕ → Image → Type 0}
+    {states : Keywords} {group : ℕ} {given : List (List ℕ)} {disk now : D} {end : ServeEnd} {left left' written written' : Option (List ℕ)}
+    (served : ServesOver honest files moment left_since states group given disk now end left left' written written') (here : Past D) (least : ℕ) (image : Image)
+    (way : IsOnTheWay served here) (honestly : honest here.store.disk) where
+  abbrev first : Session
+  first = served.first.store.session
+
+  abbrev others : Image
+  others = contents (files served.first.store.disk)
+
+  first_small : honest served.first.store.disk → AreSmall first.names first.files
+  first_small began = subst (AreSmall first.names) (sym (ap (λ (s : Session). s.files) served.begins.session)) (opened_small others first.names (served.sizes began))
+
+  first_each : (Q : List (List ℕ) → Type 0) → Q first.files → All Q served.first.texts
+  first_each Q here = subst (All Q) (sym served.texts) (All-cons Q first.files [] here (All-nil Q))
+
+  first_lists : Lists first served.first.texts
+  first_lists = subst (Lists first) (sym served.texts) (lists_first states group given others first served.begins)
+
+  here_small : All (AreSmall first.names) here.texts
+  here_small = each_on_the_way first.names (AreSmall first.names) Any (λ s line command texts same any read. keeps_small first.names s command texts same) served (any_line served.run.ran)
+      (λ began. record { same_names = refl; lists = first_lists; all = first_each (AreSmall first.names) (first_small began) }) here way honestly
+
+  pub served_opens : AreFew given → HoldsServed served here least image → IsOpenable given image
+  served_opens few = prefix_opens given first others here.texts least image few served.begins.names here_small
