@@ -34,12 +34,14 @@ fn stopped(alloc: Global, call: u64, outcome: Outcome) -> Result<(Vec<u8>, Memor
     Ok((written, image(alloc, &disk)?))
 }
 
-// A stop may take what wasn't synced until its file is synced, which is the first call; nothing takes it after that.
+// A stop may take what wasn't synced until its file is synced, which is the first call; nothing takes it after that. What was
+// told as safe is there.
 fn is_right(call: u64, written: &[u8], shown: &[u8]) -> bool {
     let is_kept = shown.starts_with(b"text 8\n* A\n* B\n\n");
     let is_captured = shown.ends_with(b"\ntext 8\n* Z\n* K\n\n");
     let is_b_whole = is_captured || shown.ends_with(b"\ntext 3\n* Z\n");
-    (call == 1 || is_kept) && is_b_whole && (written.is_empty() || is_captured)
+    let is_safe = written.starts_with(b"ok 1\nsafe 1\n");
+    (call == 1 || is_kept) && is_b_whole && (!is_safe || is_captured)
 }
 
 fn stop_at(rt: &(impl Abort + AllocGlobal), call: u64, outcome: Outcome) {
