@@ -187,12 +187,12 @@ fn failed_work(rt: &HostRuntime, a: &FileName, fails_in: u64) -> Result<[u64; 2]
     Ok([failures, disk.failures()])
 }
 
-// The work makes 11 calls of the system: the file is made and written; its folder is looked for, opened and synced, and
-// the file synced; it is cut, written, synced, read and measured.
+// The work makes 12 calls of the system: the file is made, seen to be empty and written; its folder is looked for, opened and
+// synced, and the file synced; it is cut, written, synced, read and measured.
 #[test]
 fn each_call_of_the_system_fails_once(rt: HostRuntime) -> Result<(), Fail> {
     let a = name(&rt, "a.org")?;
-    for fails_in in 1..12u64 {
+    for fails_in in 1..13u64 {
         empty(&rt, "one_fails")?;
         let failures = failed_work(&rt, &a, fails_in)?;
         let held = holds(&rt, "one_fails/a.org", b"* A\n* C\n")?;
