@@ -1,8 +1,6 @@
 -- What a stop leaves of a run that is told in one list of texts.
-use Rattle.std.proofs.Common.{◌≡◌, ◌⊎◌, inl, inr, ⊎_elim, ℕ, zero, suc, ◌+◌, ◌<◌, ◌≤◌, true, false, List, [], ◌∷◌, ◌++◌, length, Option, Some, None, Result, Ok, Err, refl, sym, ap, ◌∙◌, subst, arith}
-use Rattle.std.specs.Prelude.{slice_get, IsSomeAnd, IsErrOf, if◌then◌else◌, nat_eq}
-use Rattle.std.proofs.lemmas.Bool.{cases_Bool, false≢true}
-use Rattle.std.proofs.lemmas.List.{length-append}
+use Rattle.std.proofs.Common.{◌≡◌, ◌⊎◌, inl, inr, ⊎_elim, ℕ, ◌≤◌, false, List, [], ◌∷◌, Option, Some, None, Result, Ok, Err, refl, sym, ap, ◌∙◌, subst, arith}
+use Rattle.std.specs.Prelude.{slice_get, IsSomeAnd}
 use Rattle.std.proofs.lemmas.Option.{slice_get_within}
 use Rattle.org_disk.specs.Disk.{FileState, AreImages, LeavesOnly}
 use Rattle.org_disk.proofs.Moments.{passes_as, leaves_only}
@@ -11,179 +9,22 @@ use Rattle.org_fileset.specs.Replay.{IsAtRest}
 use Rattle.org_fileset.proofs.Commits.{at_rest_stands}
 use Rattle.org_fileset.proofs.Stands.{stands_as}
 use Rattle.org_store.specs.declared.command.Command.{Command}
-use Rattle.org_store.specs.declared.command.Reply.{Reply}
-use Rattle.org_store.specs.declared.command.Reply.TheVariants.{Done, Safe, Text, Time}
-use Rattle.org_store.specs.declared.command.RunFault.{RunFault}
-use Rattle.org_store.specs.declared.command.RunFault.TheVariants.{Refused, OutOfMemory, Device, Broken}
 use Rattle.org_store.specs.InOrder.{with_texts}
 use Rattle.org_store.specs.Session.{Session, Kept, Holds}
-use Rattle.org_store.specs.Outcome.{Outcome, Accepts, Shows, Tells, AsksToSettle, Refuses, outcome}
-use Rattle.org_store.specs.Step.{Step, Settles, fills, done, settled}
-use Rattle.org_store.specs.Runs.{IsOnDisk, IsBetween}
-use Rattle.org_store.proofs.Runs.{Course, HaveTexts, course_none, course_run, course_settle, done_accepted, done_files, falls, holds_back, on_disk_after}
+use Rattle.org_store.specs.Outcome.{outcome}
+use Rattle.org_store.specs.Step.{Step}
+use Rattle.org_store.specs.History.{Past, Lists, HoldsPrefix}
+use Rattle.org_store.specs.Runs.{IsOnDisk}
+use Rattle.org_store.proofs.History.{Begin, Counts, Stands, Texts, adds, begin_adds, further, lists_settling, lists_step, same_or_sound, texts_after, torn}
+use Rattle.org_store.proofs.Runs.{Course, HaveTexts, IsBetween, course_none, course_run, course_settle, falls, holds_back, on_disk_after}
 use Rattle.org_serve.specs.declared.fault.LineFault.{LineFault}
 use Rattle.org_serve.specs.Serving.{AnswersReadBy, AnswersLine}
 use Rattle.org_serve.specs.Stops.{Runs, RunsHonest, RunsLine, HasSettledOver}
 use Rattle.org_serve.specs.declared.end.ServeEnd.{ServeEnd}
-use Rattle.org_serve.specs.History.{Past, Adds, Lists, LeadsBy, HoldsPrefix, RunsPast as ToldRunsPast, PastLine as ToldPast, HasSettledPast as ToldSettledPast}
+use Rattle.org_serve.specs.History.{LeadsBy, RunsPast as ToldRunsPast, PastLine as ToldPast, HasSettledPast as ToldSettledPast}
 use Rattle.org_serve.specs.Transcript.{Answers}
 use Rattle.org_serve.proofs.Honest.{RunsPast, PastLine, HasSettledPast, past_runs}
 use Rattle.org_serve.proofs.Stops.{answers_by}
-
-abbrev pub Texts : Type 0
-Texts = List (List (List ℕ))
-
--- A list and one that it begins.
-
-abbrev pub Begin : Texts → Texts → Type 0
-Begin some all = (k : ℕ) (files : List (List ℕ)) → slice_get some k ≡ Some files → slice_get all k ≡ Some files
-
-begin_append : (some more : Texts) → Begin some (some ++ more)
-begin_append [] more k files is = let none : ◌≡◌ {A = Option (List (List ℕ))} None (Some files) = is in absurd (cc)
-begin_append (one ∷ some) more zero files is = is
-begin_append (one ∷ some) more (suc k) files is = begin_append some more k files is
-
-at_end : (some : Texts) (files : List (List ℕ)) → slice_get (some ++ files ∷ []) (length some) ≡ Some files
-at_end [] files = refl
-at_end (one ∷ some) files = at_end some files
-
-same_accepted : (files more : List (List ℕ)) → Accepts files ≡ Accepts more → files ≡ more
-same_accepted files more same = cc
-
-pub done_broken : (s : Session) (files : List (List ℕ)) → (done s files).broken ≡ s.broken
-done_broken s files = elim (cases_Bool (fills s)) [ inl t ↦ rw t refl | inr f ↦ rw f refl ]
-
--- What a command adds to the list.
-
-abbrev pub texts_after : Outcome → ℕ → ℕ → Texts → Texts
-texts_after (Accepts files) before now texts = if nat_eq now before then texts else texts ++ files ∷ []
-texts_after (Shows text) before now texts = texts
-texts_after (Tells minutes) before now texts = texts
-texts_after AsksToSettle before now texts = texts
-texts_after (Refuses why) before now texts = texts
-
-adds_one : (told : Outcome) (files : List (List ℕ)) (before now : ℕ) (texts : Texts) → told ≡ Accepts files → now ≡ before + 1 → Adds told before now texts (texts_after told before now texts)
-adds_one told files before now texts accepts risen =
-    let more : nat_eq (before + 1) before ≡ false = grind (arith) in
-    rw (accepts, risen, more) (inr (refl, (files, refl, refl)))
-
-adds_none : (told : Outcome) (before now : ℕ) (texts : Texts) → now ≡ before → Adds told before now texts (texts_after told before now texts)
-adds_none (Accepts files) before now texts same =
-    let is : nat_eq before before ≡ true = grind (arith) in
-    rw (same, is) (inl (refl, refl))
-adds_none (Shows text) before now texts same = inl (same, refl)
-adds_none (Tells minutes) before now texts same = inl (same, refl)
-adds_none AsksToSettle before now texts same = inl (same, refl)
-adds_none (Refuses why) before now texts same = inl (same, refl)
-
-adds : (old new : Session) (command : Command) (answer : Result Reply RunFault) (texts : Texts) → Step old command answer new
-    → Adds (outcome old command) old.accepted new.accepted texts (texts_after (outcome old command) old.accepted new.accepted texts)
-adds old new command (Ok (Done n)) texts step =
-    adds_one (outcome old command) step.1.0 old.accepted new.accepted texts step.1.1 (ap (λ (s : Session). s.accepted) step.1.3 ∙ done_accepted old step.1.0)
-adds old new command (Ok (Text bytes)) texts step = adds_none (outcome old command) old.accepted new.accepted texts (ap (λ (s : Session). s.accepted) step.2)
-adds old new command (Ok (Time minutes)) texts step = adds_none (outcome old command) old.accepted new.accepted texts (ap (λ (s : Session). s.accepted) step.2)
-adds old new command (Ok (Safe n)) texts step = adds_none (outcome old command) old.accepted new.accepted texts (ap (λ (s : Session). s.accepted) step.3)
-adds old new command (Err (Refused why)) texts step = adds_none (outcome old command) old.accepted new.accepted texts (ap (λ (s : Session). s.accepted) step.2)
-adds old new command (Err OutOfMemory) texts step = adds_none (outcome old command) old.accepted new.accepted texts (ap (λ (s : Session). s.accepted) step.1)
-adds old new command (Err Broken) texts step = adds_none (outcome old command) old.accepted new.accepted texts (ap (λ (s : Session). s.accepted) step.1)
-adds old new command (Err Device) texts step = elim step.1 [
-  | inl in_read ↦ adds_none (outcome old command) old.accepted new.accepted texts (ap (λ (s : Session). s.accepted) in_read)
-  | inr torn ↦ elim torn [
-    | inl fell ↦ adds_one (outcome old command) fell.0 old.accepted new.accepted texts fell.3 (ap (λ (s : Session). s.accepted) fell.5)
-    | inr between ↦ adds_none (outcome old command) old.accepted new.accepted texts (ap (λ (s : Session). s.accepted) between.3)
-  ]
-]
-
-lists_same : (old new : Session) (texts more : Texts) → new ≡ old → more ≡ texts → Lists old texts → Lists new more
-lists_same old new texts more same is lists = subst (λ s. Lists s more) (sym same) (subst (Lists old) (sym is) lists)
-
--- nothing is added where nothing is counted
-none_added : (outcome : Outcome) (before now : ℕ) (old new : Texts) → Adds outcome before now old new → now ≡ before → new ≡ old
-none_added outcome before now old new added same = elim added [ inl none ↦ none.1 | inr one ↦ absurd (omega (arith, one.0, same)) ]
-
-lists_done : (old : Session) (files : List (List ℕ)) (texts more : Texts) → Adds (Accepts files) old.accepted (done old files).accepted texts more → Lists old texts → Lists (done old files) more
-lists_done old files texts more added lists = elim added [
-  | inl none ↦ absurd (omega (arith, none.0, done_accepted old files))
-  | inr one ↦
-      let same : files ≡ one.1.0 = same_accepted files one.1.0 one.1.1 in
-      let is : more ≡ texts ++ files ∷ [] = one.1.2 ∙ ap (λ t. texts ++ t ∷ []) (sym same) in
-      let here : slice_get (texts ++ files ∷ []) (old.accepted + 1) ≡ Some files = subst (λ n. slice_get (texts ++ files ∷ []) n ≡ Some files) lists.size (at_end texts files) in
-      subst (Lists (done old files)) (sym is) (elim (cases_Bool (fills old)) [
-        | inl t ↦ rw t (record {
-          size = length-append texts (files ∷ []) ∙ omega (arith, lists.size);
-          order = omega arith;
-          files = λ sound. here;
-          settled = λ sound. here;
-        })
-        | inr f ↦ rw f (record {
-          size = length-append texts (files ∷ []) ∙ omega (arith, lists.size);
-          order = omega (arith, lists.order);
-          files = λ sound. here;
-          settled = λ sound. begin_append texts (files ∷ []) old.acknowledged old.settled (lists.settled sound);
-        })
-      ])
-]
-
-lists_broken : (old new : Session) (outcome : Outcome) (texts more : Texts) → Adds outcome old.accepted new.accepted texts more → new.broken ≡ true → new.acknowledged ≡ old.acknowledged → Lists old texts → Lists new more
-lists_broken old new outcome texts more added fell same lists = record {
-  size = elim added [
-    | inl none ↦ rw none.1 (lists.size ∙ omega (arith, none.0))
-    | inr one ↦ rw one.1.2 (length-append texts (one.1.0 ∷ []) ∙ omega (arith, lists.size, one.0))
-  ];
-  order = elim added [ inl none ↦ omega (arith, same, lists.order, none.0) | inr one ↦ omega (arith, same, lists.order, one.0) ];
-  files = λ sound. absurd (false≢true (sym sound ∙ fell));
-  settled = λ sound. absurd (false≢true (sym sound ∙ fell));
-}
-
-lists_settled : (old new : Session) (texts : Texts) → old.broken ≡ false → new ≡ settled old → Lists old texts → Lists new texts
-lists_settled old new texts sound is lists =
-    subst (λ s. Lists s texts) (sym is) (record { size = lists.size; order = omega arith; files = lists.files; settled = λ still. lists.files sound })
-
-pub lists_step : (old new : Session) (command : Command) (answer : Result Reply RunFault) (texts more : Texts) → Step old command answer new → Adds (outcome old command) old.accepted new.accepted texts more
-    → Lists old texts → Lists new more
-lists_step old new command (Ok (Done n)) texts more step added lists =
-    let is : new ≡ done old step.1.0 = step.1.3 in
-    subst (λ s. Lists s more) (sym is)
-    (lists_done old step.1.0 texts more (subst (λ o. Adds o old.accepted (done old step.1.0).accepted texts more) step.1.1 (subst (λ (s : Session). Adds (outcome old command) old.accepted s.accepted texts more) is added)) lists)
-lists_step old new command (Ok (Text bytes)) texts more step added lists =
-    lists_same old new texts more step.2 (none_added (outcome old command) old.accepted new.accepted texts more added (ap (λ (s : Session). s.accepted) step.2)) lists
-lists_step old new command (Ok (Time minutes)) texts more step added lists =
-    lists_same old new texts more step.2 (none_added (outcome old command) old.accepted new.accepted texts more added (ap (λ (s : Session). s.accepted) step.2)) lists
-lists_step old new command (Ok (Safe n)) texts more step added lists =
-    let none : more ≡ texts = none_added (outcome old command) old.accepted new.accepted texts more added (ap (λ (s : Session). s.accepted) step.3) in
-    subst (Lists new) (sym none) (lists_settled old new texts step.0 step.3 lists)
-lists_step old new command (Err (Refused why)) texts more step added lists =
-    lists_same old new texts more step.2 (none_added (outcome old command) old.accepted new.accepted texts more added (ap (λ (s : Session). s.accepted) step.2)) lists
-lists_step old new command (Err OutOfMemory) texts more step added lists =
-    lists_same old new texts more step.1 (none_added (outcome old command) old.accepted new.accepted texts more added (ap (λ (s : Session). s.accepted) step.1)) lists
-lists_step old new command (Err Broken) texts more step added lists =
-    lists_same old new texts more step.1 (none_added (outcome old command) old.accepted new.accepted texts more added (ap (λ (s : Session). s.accepted) step.1)) lists
-lists_step old new command (Err Device) texts more step added lists = elim step.1 [
-  | inl in_read ↦ lists_broken old new (outcome old command) texts more added (ap (λ (s : Session). s.broken) in_read) (ap (λ (s : Session). s.acknowledged) in_read) lists
-  | inr torn ↦ elim torn [
-    | inl fell ↦ lists_broken old new (outcome old command) texts more added (ap (λ (s : Session). s.broken) fell.5) (ap (λ (s : Session). s.acknowledged) fell.5) lists
-    | inr between ↦ lists_broken old new (outcome old command) texts more added (ap (λ (s : Session). s.broken) between.3) (ap (λ (s : Session). s.acknowledged) between.3) lists
-  ]
-]
-
-lists_settling : (old new : Session) (answer : Result (Unit {0}) RunFault) (texts : Texts) → Settles old answer new → Lists old texts → Lists new texts
-lists_settling old new (Ok _) texts settles lists = lists_settled old new texts settles.0 settles.1 lists
-lists_settling old new (Err (Refused why)) texts settles lists = absurd settles
-lists_settling old new (Err OutOfMemory) texts settles lists = lists_same old new texts texts settles.1 refl lists
-lists_settling old new (Err Broken) texts settles lists = lists_same old new texts texts settles.1 refl lists
-lists_settling old new (Err Device) texts settles lists =
-    subst (λ s. Lists s texts) (sym settles.1.2) (record { size = lists.size; order = lists.order; files = λ sound. absurd (false≢true (sym sound)); settled = λ sound. absurd (false≢true (sym sound)) })
-
--- where no call of the disk failed, the session is as it was, or it isn't broken
-same_or_sound : (old new : Session) (command : Command) (answer : Result Reply RunFault) → (IsErrOf answer Device → ⊥) → Step old command answer new → (new ≡ old) ⊎ (new.broken ≡ false)
-same_or_sound old new command (Ok (Done n)) fine step = inr (ap (λ (s : Session). s.broken) step.1.3 ∙ done_broken old step.1.0 ∙ step.0)
-same_or_sound old new command (Ok (Text bytes)) fine step = inl step.2
-same_or_sound old new command (Ok (Time minutes)) fine step = inl step.2
-same_or_sound old new command (Ok (Safe n)) fine step = inr (ap (λ (s : Session). s.broken) step.3 ∙ step.0)
-same_or_sound old new command (Err (Refused why)) fine step = inl step.2
-same_or_sound old new command (Err OutOfMemory) fine step = inl step.1
-same_or_sound old new command (Err Broken) fine step = inl step.1
-same_or_sound old new command (Err Device) fine step = absurd (fine refl)
 
 -- A run of stores has such a list.
 module _ {D : Type 0} (honest : D → Type 0) (files : D → List ℕ → FileState) (moment : D → ℕ) (left_since : D → ℕ → Image → Type 0) where
@@ -294,10 +135,7 @@ module _ {D : Type 0} (honest : D → Type 0) (files : D → List ℕ → FileSt
 
   begin_read : (old : Past D) (read : Result Command LineFault) (out : List ℕ) (new : Past D) → Reads old read out new → Begin old.texts new.texts
   begin_read old (Err fault) out new ran = subst (λ (p : Past D). Begin old.texts p.texts) (sym ran.1) (λ k files is. is)
-  begin_read old (Ok command) out new ran = ⊎_elim
-      (λ none. subst (Begin old.texts) (sym none.1) (λ k files is. is))
-      (λ one. subst (Begin old.texts) (sym one.1.2) (begin_append old.texts (one.1.0 ∷ [])))
-      ran.1.0.1
+  begin_read old (Ok command) out new ran = begin_adds (outcome old.store.session command) old.store.session.accepted new.store.session.accepted old.texts new.texts ran.1.0.1
 
   pub begin_lines : (old new : Past D) (lines : List (List ℕ)) (out : List ℕ) → Answers Line old lines out new → Begin old.texts new.texts
   begin_lines old new [] out a = subst (λ (p : Past D). Begin old.texts p.texts) (sym a.1) (λ k files is. is)
@@ -314,46 +152,20 @@ module _ {D : Type 0} (honest : D → Type 0) (files : D → List ℕ → FileSt
   abbrev Goes : Past D → Past D → (Session → Type 0) → Type 0
   Goes old new P = Course files moment left_since old.store new.store P
 
-  -- the session's texts stand in the list
-  abbrev Stands : Past D → Session → Type 0
-  Stands last s = slice_get last.texts s.accepted ≡ Some s.files
-
-  -- a session that is reached from here: it is the one here, or its texts stand in the list, or it isn't counted at the end
-  abbrev pub Counts : Past D → Past D → Session → Type 0
-  Counts last here s = (s ≡ here.store.session) ⊎ (Stands last s ⊎ (last.store.session.accepted < s.accepted))
-
   -- one line, and the lines after it
   module _ (old mid last : Past D) (course : Goes mid last (Counts last mid)) (lists : Lists old.store.session old.texts) (ends : Begin mid.texts last.texts) where
-    further : (command : Command) (answer : Result Reply RunFault) (ran : RunsPast honest files moment left_since old command answer mid) → (IsErrOf answer Device → ⊥)
-        → (s : Session) → Counts last mid s → Counts last old s
-    further command answer ran fine s (inr counts) = inr counts
-    further command answer ran fine s (inl same) = ⊎_elim
-        (λ is. inl (same ∙ is))
-        (λ sound. inr (inl (subst (Stands last) (sym same)
-        (ends mid.store.session.accepted mid.store.session.files ((lists_step old.store.session mid.store.session command answer old.texts mid.texts ran.0.0.step ran.0.1 lists).files sound)))))
-        (same_or_sound old.store.session mid.store.session command answer fine ran.0.0.step)
-
-    torn : (command : Command) (answer : Result Reply RunFault) (ran : RunsPast honest files moment left_since old command answer mid) (texts : List (List ℕ)) → IsErrOf answer Device
-        → outcome old.store.session command ≡ Accepts texts → Counts last old (done old.store.session texts)
-    torn command answer ran texts failed accepted =
-        let fell = falls old.store.session mid.store.session command (subst (λ a. Step old.store.session command a mid.store.session) failed ran.0.0.step) in
-        let same : last.store.session.accepted ≡ mid.store.session.accepted = ap (λ (k : Kept D). k.session.accepted) (course.stays fell) in
-        let counted : (done old.store.session texts).accepted ≡ old.store.session.accepted + 1 = done_accepted old.store.session texts in
-        ⊎_elim
-        (λ none. inr (inr (omega (arith, same, counted, none.0))))
-        (λ one.
-        let is : texts ≡ one.1.0 = same_accepted texts one.1.0 (sym accepted ∙ one.1.1) in
-        let list : mid.texts ≡ old.texts ++ texts ∷ [] = one.1.2 ∙ ap (λ t. old.texts ++ t ∷ []) (sym is) in
-        let here : slice_get mid.texts (old.store.session.accepted + 1) ≡ Some texts =
-        subst (λ l. slice_get l (old.store.session.accepted + 1) ≡ Some texts) (sym list) (subst (λ n. slice_get (old.texts ++ texts ∷ []) n ≡ Some texts) lists.size (at_end old.texts texts)) in
-        inr (inl (rw (counted, done_files old.store.session texts) (ends (old.store.session.accepted + 1) texts here))))
-        ran.0.1
-
     course_read : (read : Result Command LineFault) (out : List ℕ) → Reads old read out mid → Goes old last (Counts last old)
     course_read (Err fault) out ran = subst (λ p. Goes p last (Counts last p)) ran.1 course
     course_read (Ok command) out ran =
-        course_run files moment left_since old.store mid.store last.store command ran.0 (Counts last old) (Counts last mid) ran.1.0.0 course (inl refl)
-        (further command ran.0 ran.1) (inl refl) (λ texts failed accepted full. torn command ran.0 ran.1 texts failed accepted)
+        let made = ran.1.0 in
+        course_run files moment left_since old.store mid.store last.store command ran.0 (Counts last old) (Counts last mid) made.0 course (inl refl)
+        (λ fine s later.
+        further old mid last (lists_step old.store.session mid.store.session command ran.0 old.texts mid.texts made.0.step made.1 lists) ends
+        (same_or_sound old.store.session mid.store.session command ran.0 fine made.0.step) s later)
+        (inl refl)
+        (λ texts failed accepted full.
+        let fell = falls old.store.session mid.store.session command (subst (λ a. Step old.store.session command a mid.store.session) failed made.0.step) in
+        torn old mid last command texts lists ends (ap (λ (k : Kept D). k.session.accepted) (course.stays fell)) made.1 accepted)
 
   pub course_past : (old mid last : Past D) (lines : List (List ℕ)) (out : List ℕ) → Answers Line old lines out mid → Goes mid last (Counts last mid) → Begin mid.texts last.texts
       → Lists old.store.session old.texts → Goes old last (Counts last old)

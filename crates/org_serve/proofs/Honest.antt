@@ -5,7 +5,6 @@ use Rattle.org_journal.specs.Standing.{Image}
 use Rattle.org_store.specs.declared.command.Command.{Command}
 use Rattle.org_store.specs.declared.command.Reply.{Reply}
 use Rattle.org_store.specs.declared.command.RunFault.{RunFault}
-use Rattle.org_store.specs.Outcome.{outcome}
 use Rattle.org_store.specs.Runs.{RunsOver, SettlesOver}
 use Rattle.org_store.specs.Session.{Session, Kept}
 use Rattle.org_serve.specs.declared.end.ServeEnd.{ServeEnd}
@@ -13,7 +12,10 @@ use Rattle.org_serve.specs.declared.end.ServeEnd.TheVariants.{Write}
 use Rattle.org_serve.specs.declared.fault.LineFault.{LineFault}
 use Rattle.org_serve.specs.declared.pending.Pending.{Pending}
 use Rattle.org_serve.specs.Feeding.{EndsWith}
-use Rattle.org_serve.specs.History.{Past, Adds, LeadsBy, PastLine as ToldPast, HasSettledPast as ToldSettledPast}
+use Rattle.org_store.specs.Calls.{CallPast}
+use Rattle.org_store.specs.Calls.Call.{Ran, Settled}
+use Rattle.org_store.specs.History.{Past}
+use Rattle.org_serve.specs.History.{LeadsBy, PastLine as ToldPast, HasSettledPast as ToldSettledPast}
 use Rattle.org_serve.specs.Lines.{cut}
 use Rattle.org_serve.specs.Serving.{AnswersLineBy, AnswersReadBy, EndsBy, FinishesBy, HasSettledBy}
 use Rattle.org_serve.specs.Stops.{Runs, Told, RunsLine as ToldLine, HasSettledOver as ToldSettled, FinishesOver as ToldFinishes}
@@ -157,12 +159,10 @@ FinishesOver honest files moment left_since = FinishesBy (SettlesHonest honest f
 
 -- what a command does, and what it adds to the list
 abbrev pub DoesPast : {D : Type 0} → (D → List ℕ → FileState) → (D → ℕ) → (D → ℕ → Image → Type 0) → Past D → Command → Result Reply RunFault → Past D → Type 0
-DoesPast files moment left_since old command answer new =
-    RunsOver files moment left_since old.store command answer new.store
-    × Adds (outcome old.store.session command) old.store.session.accepted new.store.session.accepted old.texts new.texts
+DoesPast files moment left_since old command answer new = CallPast files moment left_since old (Ran command answer) new
 
 abbrev pub DoesSettlePast : {D : Type 0} → (D → List ℕ → FileState) → (D → ℕ) → (D → ℕ → Image → Type 0) → Past D → Result (Unit {0}) RunFault → Past D → Type 0
-DoesSettlePast files moment left_since old answer new = SettlesOver files moment left_since old.store answer new.store × (new.texts ≡ old.texts)
+DoesSettlePast files moment left_since old answer new = CallPast files moment left_since old (Settled answer) new
 
 abbrev pub RunsPast : {D : Type 0} → (D → Type 0) → (D → List ℕ → FileState) → (D → ℕ) → (D → ℕ → Image → Type 0) → Past D → Command → Result Reply RunFault → Past D → Type 0
 RunsPast honest files moment left_since old command answer new = DoesPast files moment left_since old command answer new × honest new.store.disk

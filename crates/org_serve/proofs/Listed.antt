@@ -1,39 +1,40 @@
 -- What holds of each of the texts by which a run is told, where accepted commands keep it: they are within the limit, and
 -- after refiles alone they have the same nodes.
-use Rattle.std.proofs.Common.{◌≡◌, inl, inr, ⊎_elim, ℕ, ◌+◌, true, false, List, [], ◌∷◌, ◌++◌, Option, Some, None, Result, Ok, Err, refl, sym, ap, ◌∙◌, subst, arith}
-use Rattle.std.specs.Prelude.{All, slice_get, IsSomeAnd}
+use Rattle.std.proofs.Common.{◌≡◌, inl, inr, ⊎_elim, ℕ, ◌+◌, true, List, [], ◌∷◌, ◌++◌, Option, Some, None, Result, Ok, Err, refl, sym, ap, ◌∙◌, subst, arith}
+use Rattle.std.specs.Prelude.{All}
 use Rattle.std.specs.List.{AllByRecursion, IsDistinct}
 use Rattle.std.specs.Str.{bytes_eq}
 use Rattle.std.proofs.lemmas.Bool.{cases_Bool, false≢true}
 use Rattle.std.proofs.lemmas.List.Elements.{All-cons, All-nil, All-push, recursion_from_All}
-use Rattle.std.proofs.lemmas.Option.{slice_get_within, get_or_from_slice_get}
 use Rattle.org_disk.specs.Disk.{FileState}
 use Rattle.org_outline.specs.States.{Keywords}
 use Rattle.org_journal.specs.Standing.{Image, contents}
-use Rattle.org_fileset.specs.Names.{with_archives, AreSorted, AreFew}
+use Rattle.org_fileset.specs.Names.{AreFew}
 use Rattle.org_store.specs.declared.command.Command.{Command}
 use Rattle.org_store.specs.declared.command.Reply.{Reply}
 use Rattle.org_store.specs.declared.command.Reply.TheVariants.{Done, Safe, Text, Time}
 use Rattle.org_store.specs.declared.command.RunFault.{RunFault}
 use Rattle.org_store.specs.declared.command.RunFault.TheVariants.{Refused, OutOfMemory, Device, Broken}
 use Rattle.org_store.specs.InOrder.{text_at}
-use Rattle.org_store.specs.OnePlace.{HaveSameNodes, HasNodesOf, IsSessionOf}
+use Rattle.org_store.specs.History.{Past, Adds, Lists, HoldsPrefix}
+use Rattle.org_store.specs.OnePlace.{HaveSameNodes, HasNodesOf, HasNodesOfPrefix, IsSessionOf}
 use Rattle.org_store.specs.Outcome.{Accepts, AsksToSettle, outcome, show}
 use Rattle.org_store.specs.Reopening.{IsOpenable, AreSmall}
-use Rattle.org_store.specs.Session.{Session, Holds}
+use Rattle.org_store.specs.Session.{Session}
 use Rattle.org_store.specs.Step.{Step}
 use Rattle.org_store.proofs.Follows.{step_setting}
-use Rattle.org_store.proofs.OnePlace.{accepted_keeps, holds_nodes, names_apart, nodes_as}
-use Rattle.org_store.proofs.Reopening.{accepted_small, held_opens, opened_small}
+use Rattle.org_store.proofs.History.{Texts, lists_step}
+use Rattle.org_store.proofs.Listed.{KeptNodes, each_at, keeps_nodes, keeps_small, prefix_nodes, prefix_opens, prefix_same}
+use Rattle.org_store.proofs.OnePlace.{names_apart}
+use Rattle.org_store.proofs.Reopening.{opened_small}
 use Rattle.org_serve.specs.declared.end.ServeEnd.{ServeEnd}
 use Rattle.org_serve.specs.declared.fault.LineFault.{LineFault}
-use Rattle.org_serve.specs.History.{Past, Adds, Lists, HoldsPrefix, PastLine as ToldPast, HasSettledPast as ToldSettledPast}
-use Rattle.org_serve.specs.OnePlace.{OnlyRefiles, HasNodesOfPrefix}
+use Rattle.org_serve.specs.History.{PastLine as ToldPast, HasSettledPast as ToldSettledPast}
+use Rattle.org_serve.specs.OnePlace.{OnlyRefiles}
 use Rattle.org_serve.specs.Serving.{AnswersReadBy, IsReadAs}
 use Rattle.org_serve.specs.Stops.{Runs}
 use Rattle.org_serve.specs.Transcript.{Answers}
 use Rattle.org_serve.specs.Whole.{ServesOver, HoldsServed, IsOnTheWay}
-use Rattle.org_serve.proofs.History.{Texts, lists_step}
 use Rattle.org_serve.proofs.Honest.{RunsPast, PastLine, HasSettledPast, past_runs, up_to}
 use Rattle.org_serve.proofs.Opened.{lists_first}
 
@@ -47,10 +48,6 @@ broken_stays old new command (Err (Refused why)) step fell = absurd (false≢tru
 broken_stays old new command (Err OutOfMemory) step fell = absurd (false≢true (sym step.0 ∙ fell))
 broken_stays old new command (Err Device) step fell = absurd (false≢true (sym step.0 ∙ fell))
 broken_stays old new command (Err Broken) step fell = step.1
-
--- the texts at a place of the list
-each_at : (Q : List (List ℕ) → Type 0) (texts : Texts) (k : ℕ) (files : List (List ℕ)) → All Q texts → slice_get texts k ≡ Some files → Q files
-each_at Q texts k files all is = subst Q (get_or_from_slice_get texts k files files is) (all k files (slice_get_within texts k files is))
 
 -- each of the first lines
 all_first : (P : List ℕ → Type 0) (some others : List (List ℕ)) → AllByRecursion P (some ++ others) → AllByRecursion P some
@@ -123,14 +120,6 @@ any_line : (lines : List (List ℕ)) → AllByRecursion Any lines
 any_line [] = tt
 any_line (line ∷ lines) = (tt, any_line lines)
 
-keeps_small : (names : List (List ℕ)) (s : Session) (command : Command) (files : List (List ℕ)) → s.names ≡ names → AreSmall names s.files → outcome s command ≡ Accepts files → AreSmall names files
-keeps_small names s command files same are accepts =
-    subst (λ ns. AreSmall ns files) same (accepted_small s command files (subst (λ ns. AreSmall ns s.files) (sym same) are) accepts)
-
--- .. and nodes that stay
-abbrev KeptNodes : List (List ℕ) → List (List ℕ) → List (List ℕ) → Type 0
-KeptNodes names base files = AreSmall names files × HaveSameNodes files base
-
 shows : (old : Option (List ℕ)) (files : List (List ℕ)) → show old ≡ Accepts files → ⊥
 shows None files accepts = absurd (cc)
 shows (Some text) files accepts = absurd (cc)
@@ -138,47 +127,14 @@ shows (Some text) files accepts = absurd (cc)
 settles : (files : List (List ℕ)) → AsksToSettle ≡ Accepts files → ⊥
 settles files accepts = absurd (cc)
 
-keeps_nodes : (names base : List (List ℕ)) → IsDistinct bytes_eq names → (s : Session) (line : List ℕ) (command : Command) (files : List (List ℕ)) → s.names ≡ names → OnlyRefiles line → IsReadAs line (Ok command)
+line_keeps : (names base : List (List ℕ)) → IsDistinct bytes_eq names → (s : Session) (line : List ℕ) (command : Command) (files : List (List ℕ)) → s.names ≡ names → OnlyRefiles line → IsReadAs line (Ok command)
     → KeptNodes names base s.files → outcome s command ≡ Accepts files → KeptNodes names base files
-keeps_nodes names base apart s line command files same only read kept accepts = (
-  keeps_small names s command files same kept.0 accepts,
-  ⊎_elim
-      (λ refile. λ rest section.
-      accepted_keeps s command files (subst (IsDistinct bytes_eq) (sym same) apart) (subst (λ ns. AreSmall ns s.files) (sym same) kept.0) refile accepts rest section ∙ kept.1 rest section)
-      (⊎_elim
-      (λ shown. absurd (shows (text_at s.names s.files shown.0) files (subst (λ (c : Command). outcome s c ≡ Accepts files) shown.1 accepts)))
-      (λ settle. absurd (settles files (subst (λ (c : Command). outcome s c ≡ Accepts files) settle accepts))))
-      (only command read.1),
-)
-
--- What an image that stands for one of the texts is.
-
-in_prefix : (P : Image → Type 0) (Q : List (List ℕ) → Type 0) (first : Session) (others : Image) (texts : Texts) (least : ℕ) (image : Image) → All Q texts
-    → ((files : List (List ℕ)) → Q files → Holds first others files image → P image) → HoldsPrefix first others texts least image → P image
-in_prefix P Q first others texts least image all each holds = some (slice_get texts holds.0) refl holds.2
-  where
-    some : (found : Option (List (List ℕ))) → slice_get texts holds.0 ≡ found → IsSomeAnd found (λ files. Holds first others files image) → P image
-    some None is held = absurd held
-    some (Some files) is held = each files (each_at Q texts holds.0 files all is) held
-
-prefix_opens : (given : List (List ℕ)) (first : Session) (others : Image) (texts : Texts) (least : ℕ) (image : Image) → AreFew given → AreSorted (with_archives given) first.names → All (AreSmall first.names) texts
-    → HoldsPrefix first others texts least image → IsOpenable given image
-prefix_opens given first others texts least image few sorted all =
-    in_prefix (IsOpenable given) (AreSmall first.names) first others texts least image all (λ files small held. held_opens given first others image files few sorted small held)
-
-prefix_nodes : (given : List (List ℕ)) (first : Session) (others : Image) (texts : Texts) (least : ℕ) (image : Image) → IsSessionOf given first → All (AreSmall first.names) texts
-    → HoldsPrefix first others texts least image → HasNodesOfPrefix first.names texts least image
-prefix_nodes given first others texts least image of all holds = (holds.0, holds.1, some (slice_get texts holds.0) refl holds.2)
-  where
-    some : (found : Option (List (List ℕ))) → slice_get texts holds.0 ≡ found → IsSomeAnd found (λ files. Holds first others files image) → IsSomeAnd found (λ files. HasNodesOf first.names files image)
-    some None is held = absurd held
-    some (Some files) is held = holds_nodes given first of others files image (each_at (AreSmall first.names) texts holds.0 files all is) held
-
-prefix_same : (given : List (List ℕ)) (first : Session) (others : Image) (texts : Texts) (least : ℕ) (image : Image) → IsSessionOf given first → All (KeptNodes first.names first.files) texts
-    → HoldsPrefix first others texts least image → HasNodesOf first.names first.files image
-prefix_same given first others texts least image of all =
-    in_prefix (HasNodesOf first.names first.files) (KeptNodes first.names first.files) first others texts least image all
-    (λ files kept held. nodes_as first.names files first.files image kept.1 (holds_nodes given first of others files image kept.0 held))
+line_keeps names base apart s line command files same only read kept accepts = ⊎_elim
+    (λ refile. keeps_nodes names base apart s command files same refile kept accepts)
+    (⊎_elim
+    (λ shown. absurd (shows (text_at s.names s.files shown.0) files (subst (λ (c : Command). outcome s c ≡ Accepts files) shown.1 accepts)))
+    (λ settle. absurd (settles files (subst (λ (c : Command). outcome s c ≡ Accepts files) settle accepts))))
+    (only command read.1)
 
 -- a run of a store that has such a list as it begins
 module _ {D : Type 0} (honest : D → Type 0) (files : D → List ℕ → FileState) (moment : D → ℕ) (left_since : D → ℕ → Image → Type 0) (given : List (List ℕ)) (first last : Past D) {end : ServeEnd}
@@ -206,7 +162,7 @@ module _ {D : Type 0} (honest : D → Type 0) (files : D → List ℕ → FileSt
       let base = first.store.session.files in
       let told = past_runs honest files moment left_since run honestly in
       prefix_same given first.store.session others last.texts least image of
-      (each_run names (KeptNodes names base) OnlyRefiles (keeps_nodes names base (names_apart given first.store.session of)) honest files moment left_since told.0 (recursion_from_All OnlyRefiles run.ran only)
+      (each_run names (KeptNodes names base) OnlyRefiles (line_keeps names base (names_apart given first.store.session of)) honest files moment left_since told.0 (recursion_from_All OnlyRefiles run.ran only)
       (record { same_names = refl; lists = lists; all = λ k d within. (small k d within, same k d within) }))
 
 -- a whole run

@@ -19,7 +19,8 @@ use Rattle.org_store.specs.Step.{Settles}
 use Rattle.org_store.proofs.Keeping.{others_same}
 use Rattle.org_serve.specs.declared.end.ServeEnd.{ServeEnd}
 use Rattle.org_serve.specs.declared.end.ServeEnd.TheVariants.{End, Device, Read, Write}
-use Rattle.org_serve.specs.History.{Past, Lists, LeadsBy}
+use Rattle.org_store.specs.History.{Past, Lists}
+use Rattle.org_serve.specs.History.{LeadsBy}
 use Rattle.org_serve.specs.Serving.{EndsBy, Finishes, end_of}
 use Rattle.org_serve.specs.Stops.{RunsLine, HasSettledOver, Runs}
 use Rattle.org_serve.specs.Whole.{Begins, Serves, ServesOver, HoldsServed, IsOnTheWay, IsOnTheWayTo, Lasts}

@@ -13,7 +13,7 @@ use Rattle.org_fileset.specs.Opening.{IsReason}
 use Rattle.org_fileset.specs.Recovery.{EachStands, IsReopened, StandsAsBefore, closed_journal}
 use Rattle.org_fileset.proofs.Recovering.{as_before}
 use Rattle.org_serve.specs.declared.end.ServeEnd.{ServeEnd}
-use Rattle.org_serve.specs.History.{Past}
+use Rattle.org_store.specs.History.{Past}
 use Rattle.org_serve.specs.Syncing.{AreSynced, OutsideStable, IsAsFound, IsSyncFault, stored}
 use Rattle.org_serve.specs.Whole.{ServesOver, IsOnTheWay, IsOnTheWayTo, Lasts, LastsFrom}
 use Rattle.org_serve.proofs.Honest.{past_runs, up_to}

@@ -9,7 +9,7 @@ use Rattle.org_store.specs.declared.command.RunFault.{RunFault}
 use Rattle.org_store.specs.Session.{Session}
 use Rattle.org_store.specs.Step.{Step}
 use Rattle.org_serve.specs.Replies.{answer_text, safe_line, told_safe}
-use Rattle.org_serve.proofs.History.{done_broken}
+use Rattle.org_store.proofs.History.{done_broken}
 
 same_some : (one other : ℕ) → Some one ≡ Some other → one ≡ other
 same_some one other same = cc

@@ -9,12 +9,13 @@ use Rattle.org_fileset.specs.declared.open.OpenFault.{OpenFault}
 use Rattle.org_fileset.specs.declared.open.OpenFault.TheVariants as open_fault
 use Rattle.org_fileset.specs.Names.{with_archives, AreSorted, first_large}
 use Rattle.org_fileset.specs.Recovery.{IsReopened, StandsAsBefore}
+use Rattle.org_store.specs.History.{Past, HoldsPrefix}
 use Rattle.org_store.specs.InOrder.{texts_of}
 use Rattle.org_store.specs.Opening.{opened}
 use Rattle.org_store.specs.Session.{Session, Holds}
 use Rattle.org_serve.specs.declared.end.ServeEnd.{ServeEnd}
 use Rattle.org_serve.specs.declared.end.ServeEnd.TheVariants.{End, Unsettled, Device, Read, Write}
-use Rattle.org_serve.specs.History.{Past, PastLine, HasSettledPast, LeadsBy, HoldsPrefix}
+use Rattle.org_serve.specs.History.{PastLine, HasSettledPast, LeadsBy}
 use Rattle.org_serve.specs.Serving.{AnswersLine, Finishes, HasSettled}
 use Rattle.org_serve.specs.Stops.{Runs}
 use Rattle.org_serve.specs.Transcript.{Answers, ServesAll, ServesLines, RunsSome, RunsAllAndSettles}

@@ -1,6 +1,6 @@
 -- An archiving keeps how often each node is there over all files of a store, but for the entry's section and for the heading
 -- that is made.
-use Rattle.std.proofs.Common.{◌≡◌, ◌≢◌, ◌⊎◌, inl, inr, ⊎_elim, ℕ, ◌+◌, Bool, true, false, List, [], ◌∷◌, length, Option, Some, None, Result, Ok, Err, refl, sym, ◌∙◌, ap, subst, if◌then◌else◌, arith}
+use Rattle.std.proofs.Common.{◌≡◌, ◌≢◌, inl, inr, ℕ, List, length, Option, Some, None, Result, Ok, Err, refl, ◌∙◌, ap, subst, arith}
 use Rattle.std.specs.List.{IsDistinct, sum_by}
 use Rattle.std.specs.Str.{bytes_eq}
 use Rattle.org_disk.specs.Names.{IsDiskName}
@@ -19,31 +19,17 @@ use Rattle.org_move.proofs.Archives.{across_keeps, across_stays_valid, within_ke
 use Rattle.org_move.proofs.Moving.{found_of}
 use Rattle.org_move.proofs.Values.{name_line, place_line}
 use Rattle.org_store.specs.declared.command.Command.TheVariants.{Archive}
-use Rattle.org_store.specs.declared.command.Reply.{Reply}
-use Rattle.org_store.specs.declared.command.Reply.TheVariants.{Done, Safe, Text, Time}
-use Rattle.org_store.specs.declared.command.RunFault.{RunFault}
-use Rattle.org_store.specs.declared.command.RunFault.TheVariants.{Refused, OutOfMemory, Device, Broken}
 use Rattle.org_store.specs.InOrder.{text_at, with_text}
 use Rattle.org_store.specs.OnePlace.{ArchivesOne}
 use Rattle.org_store.specs.Outcome.{Accepts, archive, archive_at, archive_to, outcome, with_moved}
 use Rattle.org_store.specs.Refile.{text_within, texts_across}
-use Rattle.org_store.specs.Runs.{GoesOn, Reaches}
 use Rattle.org_store.specs.Session.{Session}
-use Rattle.org_store.specs.Step.{done, fills}
 use Rattle.org_store.proofs.NodeCounts.{accepted_are, again, still_at, still_long, sum_put, weight}
 
 -- the heading of a place where something was made
 heading_at : {A : Type 0} (said : Result (Option ℕ) PathFault) (make : Option ℕ → Result A MoveFault) (x : A) → with_heading said make ≡ Ok x → (up : Option ℕ) × (said ≡ Ok up)
 heading_at (Ok up) make x is = (up, refl)
 heading_at (Err fault) make x is = absurd cc
-
--- the texts of all files after an accepted command
-pub done_files : (s : Session) (files : List (List ℕ)) → (done s files).files ≡ files
-done_files s files = go (fills s)
-  where
-    go : (full : Bool) → (if full then record s { files = files; settled = files; accepted = s.accepted + 1; acknowledged = s.accepted + 1 } else record s { files = files; accepted = s.accepted + 1 }).files ≡ files
-    go true = refl
-    go false = refl
 
 module _ (s : Session) (apart : IsDistinct bytes_eq s.names) (each : length s.files ≡ length s.names) (file : List ℕ) (named : IsDiskName file) (path : List (List ℕ)) (now : CivilMinute) where
   line : IsLine file
@@ -129,29 +115,3 @@ module _ (s : Session) (apart : IsDistinct bytes_eq s.names) (each : length s.fi
 
   pub archive_keeps : (files : List (List ℕ)) → outcome s (Archive file path now) ≡ Accepts files → ArchivesOne s file path now files
   archive_keeps files accepts = in_archives (text_at s.names s.files file) files refl accepts
-
-  -- ---- what a stop leaves of it
-
-  -- the files are as before, or have the entry archived
-  abbrev pub IsOneOf : Session → Type 0
-  IsOneOf mid = (mid.files ≡ s.files) ⊎ ArchivesOne s file path now mid.files
-
-  done_archives : (new : Session) (files : List (List ℕ)) → outcome s (Archive file path now) ≡ Accepts files → new ≡ done s files → IsOneOf new
-  done_archives new files accepts goes =
-      inr (subst (ArchivesOne s file path now) (sym (ap (λ (t : Session). t.files) goes ∙ done_files s files)) (archive_keeps files accepts))
-
-  same_files : (new : Session) → new ≡ s → IsOneOf new
-  same_files new is = inl (ap (λ (t : Session). t.files) is)
-
-  goes_archives : (new : Session) (answer : Result Reply RunFault) → GoesOn s (outcome s (Archive file path now)) answer new → IsOneOf new
-  goes_archives new (Ok (Done n)) on = done_archives new on.1.0 on.1.1 on.1.3
-  goes_archives new (Ok (Text text)) on = same_files new on.2
-  goes_archives new (Ok (Time minutes)) on = same_files new on.2
-  goes_archives new (Ok (Safe n)) on = inl (ap (λ (t : Session). t.files) on.3)
-  goes_archives new (Err (Refused why)) on = same_files new on.2
-  goes_archives new (Err OutOfMemory) on = same_files new on.1
-  goes_archives new (Err Device) on = done_archives new on.0 on.1 on.3
-  goes_archives new (Err Broken) on = same_files new on.1
-
-  pub reached_archives : (mid : Session) (answer : Result Reply RunFault) → Reaches s (Archive file path now ∷ []) (answer ∷ []) mid → IsOneOf mid
-  reached_archives mid answer reaches = ⊎_elim (λ is. same_files mid is) (λ on. subst IsOneOf (sym on.2) (goes_archives on.0 answer on.1)) reaches

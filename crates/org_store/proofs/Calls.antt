@@ -1,34 +1,31 @@
 -- Runs of all the calls of a store: a settling goes on as the command to settle does.
-use Rattle.std.proofs.Common.{◌≡◌, inl, inr, ⊎_elim, ℕ, true, false, List, [], ◌∷◌, Result, Ok, Err, refl, sym, ◌∙◌, ap, subst, arith}
-use Rattle.std.specs.Prelude.{IsErrOf}
+use Rattle.std.proofs.Common.{◌≡◌, ◌⊎◌, inl, inr, ⊎_elim, ℕ, ◌≤◌, true, false, List, [], ◌∷◌, Result, Ok, Err, refl, sym, ◌∙◌, ap, subst, arith}
+use Rattle.std.specs.Prelude.{slice_get, Some, IsErrOf}
 use Rattle.std.proofs.lemmas.Bool.{cases_Bool, false≢true}
 use Rattle.org_disk.specs.Disk.{FileState, AreImages, LeavesOnly}
+use Rattle.org_disk.proofs.Moments.{passes_as}
 use Rattle.org_journal.specs.Standing.{Image, IsFit, contents}
-use Rattle.org_fileset.specs.Names.{with_archives, AreSorted, AreFew}
 use Rattle.org_fileset.specs.Replay.{IsAtRest}
-use Rattle.org_store.specs.declared.command.Command.{Command}
 use Rattle.org_store.specs.declared.command.Command.TheVariants.{Settle}
 use Rattle.org_store.specs.declared.command.Reply.{Reply}
 use Rattle.org_store.specs.declared.command.Reply.TheVariants.{Safe}
 use Rattle.org_store.specs.declared.command.RunFault.{RunFault}
 use Rattle.org_store.specs.declared.command.RunFault.TheVariants.{Refused, OutOfMemory, Device, Broken}
-use Rattle.org_store.specs.Calls.{Call, grouped, CallOver, CallsOver, CallGoesOn, ReachesBy}
+use Rattle.org_store.specs.Calls.{Call, grouped, CallOver, CallPast, CallsPast}
 use Rattle.org_store.specs.Calls.Call.{Ran, Settled, Grouped}
+use Rattle.org_store.specs.History.{Past, Lists, HoldsPrefix}
 use Rattle.org_store.specs.Left.{MayHaveWritten}
 use Rattle.org_store.specs.Outcome.{Accepts, AsksToSettle, outcome}
-use Rattle.org_store.specs.Reopening.{IsOpenable, AreSmall}
-use Rattle.org_store.specs.Runs.{RunsOver, SettlesOver, GoesOn, IsBetween, IsLeftOf, IsOnDisk}
-use Rattle.org_store.specs.Session.{Session, Kept}
-use Rattle.org_store.specs.Step.{Step, Settles, done}
+use Rattle.org_store.specs.Runs.{RunsOver, SettlesOver, IsOnDisk}
+use Rattle.org_store.specs.Session.{Session, Kept, Holds}
+use Rattle.org_store.specs.Step.{Step, Settles}
+use Rattle.org_store.proofs.History.{Begin, Counts, adds, begin_adds, further, lists_settling, lists_step, none_added, same_or_sound, texts_after, torn}
 use Rattle.org_store.proofs.Keeping.{left_as}
-use Rattle.org_store.proofs.OnePlace.{leaves_as}
-use Rattle.org_store.proofs.Reopening.{StaysSmall, goes_small, held_opens}
-use Rattle.org_store.proofs.Runs.{Course, course_none, course_run, course_leaves, goes_on}
-use Rattle.org_disk.proofs.Moments.{passes_as}
+use Rattle.org_store.proofs.Runs.{Course, answers_broken, course_none, course_run, course_leaves, falls, leaves_as, settling_ends}
 
 -- A settling, and the command to settle.
 
-abbrev reply_of : ℕ → Result (Unit {0}) RunFault → Result Reply RunFault
+abbrev pub reply_of : ℕ → Result (Unit {0}) RunFault → Result Reply RunFault
 reply_of n (Ok _) = Ok (Safe n)
 reply_of n (Err fault) = Err fault
 
@@ -36,7 +33,7 @@ fault_of_reply : (n : ℕ) (answer : Result (Unit {0}) RunFault) (fault : RunFau
 fault_of_reply n (Ok _) fault is = absurd (cc)
 fault_of_reply n (Err found) fault is = let same : found ≡ fault = cc in ap (λ (f : RunFault). Err f) same
 
-settle_steps : (old new : Session) (answer : Result (Unit {0}) RunFault) → Settles old answer new → Step old Settle (reply_of old.accepted answer) new
+pub settle_steps : (old new : Session) (answer : Result (Unit {0}) RunFault) → Settles old answer new → Step old Settle (reply_of old.accepted answer) new
 settle_steps old new (Ok _) step = (step.0, refl, refl, step.1)
 settle_steps old new (Err (Refused why)) step = absurd step
 settle_steps old new (Err OutOfMemory) step = step
@@ -47,13 +44,15 @@ settle_wrote : (n : ℕ) (answer : Result (Unit {0}) RunFault) → MayHaveWritte
 settle_wrote n (Ok _) wrote = wrote
 settle_wrote n (Err fault) wrote = wrote
 
-reaches_itself : (s : Session) (calls : List Call) → ReachesBy s calls s
-reaches_itself s [] = refl
-reaches_itself s (call ∷ calls) = inl refl
-
 module _ {D : Type 0} (files : D → List ℕ → FileState) (moment : D → ℕ) (left_since : D → ℕ → Image → Type 0) where
   abbrev Goes : Kept D → Kept D → (Session → Type 0) → Type 0
   Goes old new P = Course files moment left_since old new P
+
+  abbrev Made : Past D → Call → Past D → Type 0
+  Made old call new = CallPast files moment left_since old call new
+
+  abbrev AllMade : Past D → List Call → Past D → Type 0
+  AllMade old calls new = CallsPast files moment left_since old calls new
 
   settling_runs : (old new : Kept D) (answer : Result (Unit {0}) RunFault) → SettlesOver files moment left_since old answer new
       → RunsOver files moment left_since old Settle (reply_of old.session.accepted answer) new
@@ -72,42 +71,100 @@ module _ {D : Type 0} (files : D → List ℕ → FileState) (moment : D → ℕ
         nothing = λ is. ran.nothing;
       }
 
-  -- A store that was broken keeps its disk, and how many commands are accepted.
+  -- The list goes on with each call.
 
-  pub record Keeps (old new : Kept D) : Type 0 where
-    pub disk : new.disk ≡ old.disk
-    pub accepted : new.session.accepted ≡ old.session.accepted
-    pub broken : new.session.broken ≡ old.session.broken
+  pub call_listed : (old : Past D) (new : Kept D) (call : Call) → CallOver files moment left_since old.store call new → (now : Past D) × (now.store ≡ new) × Made old call now
+  call_listed old new (Ran command answer) ran = (
+    record { store = new; texts = texts_after (outcome old.store.session command) old.store.session.accepted new.session.accepted old.texts },
+    refl,
+    (ran, adds old.store.session new.session command answer old.texts ran.step),
+  )
+  call_listed old new (Settled answer) ran = (record { store = new; texts = old.texts }, refl, (ran, refl))
+  call_listed old new (Grouped group) set = (record { store = new; texts = old.texts }, refl, (set, refl))
 
-  keeps_same : (old new : Kept D) → new ≡ old → Keeps old new
-  keeps_same old new same = record {
-    disk = ap (λ (k : Kept D). k.disk) same;
-    accepted = ap (λ (k : Kept D). k.session.accepted) same;
-    broken = ap (λ (k : Kept D). k.session.broken) same;
+  pub call_lists : (old new : Past D) (call : Call) → Made old call new → Lists old.store.session old.texts → Lists new.store.session new.texts
+  call_lists old new (Ran command answer) made lists = lists_step old.store.session new.store.session command answer old.texts new.texts made.0.step made.1 lists
+  call_lists old new (Settled answer) made lists = subst (Lists new.store.session) (sym made.1) (lists_settling old.store.session new.store.session answer old.texts made.0.step lists)
+  call_lists old new (Grouped group) made lists =
+      subst (λ (k : Kept D). Lists k.session new.texts) (sym made.0)
+      (subst (Lists (grouped group old.store).session) (sym made.1) (record { size = lists.size; order = lists.order; files = lists.files; settled = lists.settled }))
+
+  pub calls_list : (old new : Past D) (calls : List Call) → Lists old.store.session old.texts → AllMade old calls new → Lists new.store.session new.texts
+  calls_list old new [] lists run = subst (λ (p : Past D). Lists p.store.session p.texts) (sym run) lists
+  calls_list old new (call ∷ calls) lists run = calls_list run.0 new calls (call_lists old run.0 call run.1 lists) run.2
+
+  begin_call : (old new : Past D) (call : Call) → Made old call new → Begin old.texts new.texts
+  begin_call old new (Ran command answer) made = begin_adds (outcome old.store.session command) old.store.session.accepted new.store.session.accepted old.texts new.texts made.1
+  begin_call old new (Settled answer) made = subst (Begin old.texts) (sym made.1) (λ k texts is. is)
+  begin_call old new (Grouped group) made = subst (Begin old.texts) (sym made.1) (λ k texts is. is)
+
+  begin_calls : (old new : Past D) (calls : List Call) → AllMade old calls new → Begin old.texts new.texts
+  begin_calls old new [] run = subst (λ (p : Past D). Begin old.texts p.texts) (sym run) (λ k texts is. is)
+  begin_calls old new (call ∷ calls) run = λ k texts is. begin_calls run.0 new calls run.2 k texts (begin_call old run.0 call run.1 k texts is)
+
+  -- A store that was broken stays as it is, but for the size of its group.
+
+  pub record Keeps (old new : Past D) : Type 0 where
+    pub store : new.store ≡ grouped new.store.session.group old.store
+    pub texts : new.texts ≡ old.texts
+
+  keeps_same : (old new : Past D) → new.store ≡ old.store → new.texts ≡ old.texts → Keeps old new
+  keeps_same old new same texts = record {
+    store = subst (λ (k : Kept D). k ≡ grouped k.session.group old.store) (sym same) refl;
+    texts = texts;
   }
 
-  broken_run : (old new : Kept D) (command : Command) (answer : Result Reply RunFault) → old.session.broken ≡ true → RunsOver files moment left_since old command answer new → Keeps old new
-  broken_run old new command answer fell ran =
-      let any : Session → Type 0 = λ s. Unit {0} in
-      let course : Goes old new any =
-      course_run files moment left_since old new new command answer any any ran (course_none files moment left_since new any tt) tt (λ fine s later. tt) tt (λ texts failed accepted full. tt) in
-      keeps_same old new (course.stays fell)
+  kept_broken : (old new : Past D) → Keeps old new → new.store.session.broken ≡ old.store.session.broken
+  kept_broken old new keeps = ap (λ (k : Kept D). k.session.broken) keeps.store
 
-  broken_call : (old new : Kept D) (call : Call) → old.session.broken ≡ true → CallOver files moment left_since old call new → Keeps old new
-  broken_call old new (Ran command answer) fell ran = broken_run old new command answer fell ran
-  broken_call old new (Settled answer) fell ran = broken_run old new Settle (reply_of old.session.accepted answer) fell (settling_runs old new answer ran)
-  broken_call old new (Grouped group) fell set = record {
-    disk = ap (λ (k : Kept D). k.disk) set;
-    accepted = ap (λ (k : Kept D). k.session.accepted) set;
-    broken = ap (λ (k : Kept D). k.session.broken) set;
-  }
+  broken_call : (old new : Past D) (call : Call) → old.store.session.broken ≡ true → Made old call new → Keeps old new
+  broken_call old new (Ran command answer) fell made =
+      let same = made.0.untouched (answers_broken old.store.session new.store.session command answer made.0.step fell) in
+      keeps_same old new same
+      (none_added (outcome old.store.session command) old.store.session.accepted new.store.session.accepted old.texts new.texts made.1 (ap (λ (k : Kept D). k.session.accepted) same))
+  broken_call old new (Settled answer) fell made =
+      keeps_same old new (made.0.untouched ((settling_ends old.store.session new.store.session answer made.0.step).2 fell)) made.1
+  broken_call old new (Grouped group) fell made =
+      record { store = subst (λ (k : Kept D). k ≡ grouped k.session.group old.store) (sym made.0) refl; texts = made.1 }
 
-  pub broken_calls : (old new : Kept D) (calls : List Call) → old.session.broken ≡ true → CallsOver files moment left_since old calls new → Keeps old new
-  broken_calls old new [] fell run = keeps_same old new run
+  pub broken_calls : (old new : Past D) (calls : List Call) → old.store.session.broken ≡ true → AllMade old calls new → Keeps old new
+  broken_calls old new [] fell run = keeps_same old new (ap (λ (p : Past D). p.store) run) (ap (λ (p : Past D). p.texts) run)
   broken_calls old new (call ∷ calls) fell run =
       let first = broken_call old run.0 call fell run.1 in
-      let rest = broken_calls run.0 new calls (first.broken ∙ fell) run.2 in
-      record { disk = rest.disk ∙ first.disk; accepted = rest.accepted ∙ first.accepted; broken = rest.broken ∙ first.broken }
+      let rest = broken_calls run.0 new calls (kept_broken old run.0 first ∙ fell) run.2 in
+      record { store = rest.store ∙ ap (grouped new.store.session.group) first.store; texts = rest.texts ∙ first.texts }
+
+  -- What the disk is after the calls.
+
+  rest_call : (old new : Past D) (call : Call) → new.store.session.broken ≡ false → IsAtRest (files old.store.disk) → Made old call new → IsAtRest (files new.store.disk)
+  rest_call old new (Ran command answer) sound rest made =
+      made.0.disk.rest
+      (λ failed. false≢true (sym sound ∙ falls old.store.session new.store.session command (subst (λ a. Step old.store.session command a new.store.session) failed made.0.step)))
+      rest
+  rest_call old new (Settled answer) sound rest made = made.0.disk.rest ((settling_ends old.store.session new.store.session answer made.0.step).1 sound).0 rest
+  rest_call old new (Grouped group) sound rest made = subst (λ (k : Kept D). IsAtRest (files k.disk)) (sym made.0) rest
+
+  fit_call : (old new : Past D) (call : Call) → IsAtRest (files old.store.disk) → Made old call new → IsFit (files new.store.disk)
+  fit_call old new (Ran command answer) rest made = made.0.disk.fit rest
+  fit_call old new (Settled answer) rest made = made.0.disk.fit rest
+  fit_call old new (Grouped group) rest made = subst (λ (k : Kept D). IsFit (files k.disk)) (sym made.0) (inl (λ name not. rest.stable name))
+
+  same_disk : (old new : Past D) → Keeps old new → new.store.disk ≡ old.store.disk
+  same_disk old new keeps = ap (λ (k : Kept D). k.disk) keeps.store
+
+  pub calls_fit : (old new : Past D) (calls : List Call) → IsAtRest (files old.store.disk) → AllMade old calls new → IsFit (files new.store.disk)
+  calls_fit old new [] rest run = subst (λ (p : Past D). IsFit (files p.store.disk)) (sym run) (inl (λ name not. rest.stable name))
+  calls_fit old new (call ∷ calls) rest run = ⊎_elim
+      (λ fell. subst (λ d. IsFit (files d)) (sym (same_disk run.0 new (broken_calls run.0 new calls fell run.2))) (fit_call old run.0 call rest run.1))
+      (λ sound. calls_fit run.0 new calls (rest_call old run.0 call sound rest run.1) run.2)
+      (cases_Bool run.0.store.session.broken)
+
+  pub calls_rest : (old new : Past D) (calls : List Call) → new.store.session.broken ≡ false → IsAtRest (files old.store.disk) → AllMade old calls new → IsAtRest (files new.store.disk)
+  calls_rest old new [] sound rest run = subst (λ (p : Past D). IsAtRest (files p.store.disk)) (sym run) rest
+  calls_rest old new (call ∷ calls) sound rest run = ⊎_elim
+      (λ fell. absurd (false≢true (sym sound ∙ kept_broken run.0 new (broken_calls run.0 new calls fell run.2) ∙ fell)))
+      (λ still. calls_rest run.0 new calls sound (rest_call old run.0 call still rest run.1) run.2)
+      (cases_Bool run.0.store.session.broken)
 
   -- the group is set, and a run after it
   course_group : (old new : Kept D) (group : ℕ) (P Later : Session → Type 0) → old.session.broken ≡ false → Goes (grouped group old) new Later → ((s : Session) → Later s → P s) → Goes old new P
@@ -125,106 +182,91 @@ module _ {D : Type 0} (files : D → List ℕ → FileState) (moment : D → ℕ
   }
 
   -- A run of calls as far as a call at which the disk failed; behind it the disk stays.
-  pub record CourseTo (old new : Kept D) (P : Session → Type 0) : Type 0 where
+  pub record CourseTo (old new : Past D) : Type 0 where
     pub last : Kept D
-    pub course : Goes old last P
-    pub keeps : Keeps last new
-
-  abbrev Leads : Kept D → List Call → Kept D → Type 0
-  Leads old calls new = CourseTo old new (ReachesBy old.session calls)
+    pub course : Goes old.store last (Counts new old)
+    pub disk : new.store.disk ≡ last.disk
+    pub accepted : new.store.session.accepted ≡ last.session.accepted
 
   -- one call, and a run after it
-  course_call : (old mid new : Kept D) (call : Call) (calls : List Call) → old.session.broken ≡ false → CallOver files moment left_since old call mid → Leads mid calls new → Leads old (call ∷ calls) new
-  course_call old mid new (Ran command answer) calls sound ran to = record {
-    last = to.last;
-    course = course_run files moment left_since old mid to.last command answer (ReachesBy old.session (Ran command answer ∷ calls)) (ReachesBy mid.session calls) ran to.course (inl refl)
-        (λ fine s later. inr (mid.session, goes_on old.session mid.session (outcome old.session command) answer fine ran.step, later))
-        (reaches_itself mid.session calls)
-        (λ texts failed accepted full. inr (
-          done old.session texts,
-          subst (λ a. GoesOn old.session (outcome old.session command) a (done old.session texts)) (sym failed) (texts, accepted, full, refl),
-          reaches_itself (done old.session texts) calls,
-        ));
-    keeps = to.keeps;
-  }
-  course_call old mid new (Settled answer) calls sound ran to = record {
-    last = to.last;
-    course = course_run files moment left_since old mid to.last Settle (reply_of old.session.accepted answer) (ReachesBy old.session (Settled answer ∷ calls)) (ReachesBy mid.session calls)
-        (settling_runs old mid answer ran) to.course (inl refl)
-        (λ fine s later. inr (mid.session, (λ failed. fine (ap (reply_of old.session.accepted) failed), ran.step), later))
-        (reaches_itself mid.session calls)
-        (λ texts failed (accepted : AsksToSettle ≡ Accepts texts) full. absurd (cc));
-    keeps = to.keeps;
-  }
-  course_call old mid new (Grouped group) calls sound set to = record {
-    last = to.last;
-    course = course_group old to.last group (ReachesBy old.session (Grouped group ∷ calls)) (ReachesBy (grouped group old).session calls) sound
-        (subst (λ (k : Kept D). Goes k to.last (ReachesBy k.session calls)) set to.course) (λ s later. inr ((grouped group old).session, refl, later));
-    keeps = to.keeps;
-  }
+  module _ (old mid new : Past D) (lists : Lists old.store.session old.texts) (ends : Begin mid.texts new.texts) (sound : old.store.session.broken ≡ false) (to : CourseTo mid new) where
+    course_call : (call : Call) → Made old call mid → CourseTo old new
+    course_call (Ran command answer) made = record {
+      last = to.last;
+      course = course_run files moment left_since old.store mid.store to.last command answer (Counts new old) (Counts new mid) made.0 to.course (inl refl)
+          (λ fine s later.
+          further old mid new (call_lists old mid (Ran command answer) made lists) ends (same_or_sound old.store.session mid.store.session command answer fine made.0.step) s later)
+          (inl refl)
+          (λ texts failed accepted full.
+          let fell = falls old.store.session mid.store.session command (subst (λ a. Step old.store.session command a mid.store.session) failed made.0.step) in
+          torn old mid new command texts lists ends (to.accepted ∙ ap (λ (k : Kept D). k.session.accepted) (to.course.stays fell)) made.1 accepted);
+      disk = to.disk;
+      accepted = to.accepted;
+    }
+    course_call (Settled answer) made =
+        let n = old.store.session.accepted in
+        record {
+          last = to.last;
+          course = course_run files moment left_since old.store mid.store to.last Settle (reply_of n answer) (Counts new old) (Counts new mid) (settling_runs old.store mid.store answer made.0) to.course (inl refl)
+              (λ fine s later.
+              further old mid new (call_lists old mid (Settled answer) made lists) ends
+              (same_or_sound old.store.session mid.store.session Settle (reply_of n answer) fine (settle_steps old.store.session mid.store.session answer made.0.step)) s later)
+              (inl refl)
+              (λ texts failed (accepted : AsksToSettle ≡ Accepts texts) full. absurd (cc));
+          disk = to.disk;
+          accepted = to.accepted;
+        }
+    course_call (Grouped group) made = record {
+      last = to.last;
+      course = course_group old.store to.last group (Counts new old) (Counts new mid) sound (subst (λ (k : Kept D). Goes k to.last (Counts new mid)) made.0 to.course)
+          (λ s later. further old mid new (call_lists old mid (Grouped group) made lists) ends (inr (ap (λ (k : Kept D). k.session.broken) made.0 ∙ sound)) s later);
+      disk = to.disk;
+      accepted = to.accepted;
+    }
 
-  course_to : (old new : Kept D) (calls : List Call) → CallsOver files moment left_since old calls new → Leads old calls new
-  course_to old new [] run = record { last = old; course = course_none files moment left_since old (ReachesBy old.session []) refl; keeps = keeps_same old new run }
-  course_to old new (call ∷ calls) run = ⊎_elim
-      (λ fell. record {
-        last = old;
-        course = course_none files moment left_since old (ReachesBy old.session (call ∷ calls)) (inl refl);
-        keeps = broken_calls old new (call ∷ calls) fell run;
+  course_to : (old new : Past D) (calls : List Call) → Lists old.store.session old.texts → AllMade old calls new → CourseTo old new
+  course_to old new [] lists run = record {
+    last = old.store;
+    course = course_none files moment left_since old.store (Counts new old) (inl refl);
+    disk = ap (λ (p : Past D). p.store.disk) run;
+    accepted = ap (λ (p : Past D). p.store.session.accepted) run;
+  }
+  course_to old new (call ∷ calls) lists run = ⊎_elim
+      (λ fell.
+      let keeps = broken_calls old new (call ∷ calls) fell run in
+      record {
+        last = old.store;
+        course = course_none files moment left_since old.store (Counts new old) (inl refl);
+        disk = same_disk old new keeps;
+        accepted = ap (λ (k : Kept D). k.session.accepted) keeps.store;
       })
-      (λ sound. course_call old run.0 new call calls sound run.1 (course_to run.0 new calls run.2))
-      (cases_Bool old.session.broken)
+      (λ sound.
+      course_call old run.0 new lists (begin_calls run.0 new calls run.2) sound
+      (course_to run.0 new calls (call_lists old run.0 call run.1 lists) run.2) call run.1)
+      (cases_Bool old.store.session.broken)
 
-  pub calls_leave : (old new : Kept D) (calls : List Call) → ((image : Image) → left_since old.disk (moment old.disk) image → AreImages (files old.disk) image) → IsAtRest (files old.disk)
-      → IsOnDisk old.session (contents (files old.disk)) → old.session.broken ≡ false → CallsOver files moment left_since old calls new
-      → LeavesOnly (moment old.disk) (moment new.disk) (left_since old.disk) (left_since new.disk)
-      (IsLeftOf old.session (contents (files old.disk)) (λ mid. ReachesBy old.session calls mid × IsBetween old.session new.session mid))
-  calls_leave old new calls start rest disk sound run =
-      let to = course_to old new calls run in
-      subst (λ d. LeavesOnly (moment old.disk) (moment d) (left_since old.disk) (left_since d)
-      (IsLeftOf old.session (contents (files old.disk)) (λ mid. ReachesBy old.session calls mid × IsBetween old.session new.session mid)))
-      (sym to.keeps.disk)
-      (leaves_as (course_leaves files moment left_since old to.last (ReachesBy old.session calls) to.course rest disk sound start) (λ image left. ⊎_elim
-      (λ held. inl held)
-      (λ reached. inr (
-        reached.0,
-        (reached.1.0, record { no_fewer = reached.1.1.no_fewer; no_more = omega (arith, reached.1.1.no_more, to.keeps.accepted) }),
-        reached.2,
-      ))
-      left))
+  -- What a stop leaves.
+  module _ (first last : Past D) (calls : List Call) (lists : Lists first.store.session first.texts) (run : AllMade first calls last) (sound : first.store.session.broken ≡ false) where
+    abbrev others : Image
+    others = contents (files first.store.disk)
 
-  pub calls_fit : (old new : Kept D) (calls : List Call) → IsAtRest (files old.disk) → CallsOver files moment left_since old calls new → IsFit (files new.disk)
-  calls_fit old new calls rest run =
-      let to = course_to old new calls run in
-      subst (λ d. IsFit (files d)) (sym to.keeps.disk) (to.course.fit rest)
+    abbrev IsLeftOf : Image → Type 0
+    IsLeftOf image = Holds first.store.session others first.store.session.settled image ⊎ HoldsPrefix first.store.session others last.texts first.store.session.accepted image
 
-  pub calls_rest : (old new : Kept D) (calls : List Call) → new.session.broken ≡ false → IsAtRest (files old.disk) → CallsOver files moment left_since old calls new → IsAtRest (files new.disk)
-  calls_rest old new calls sound rest run =
-      let to = course_to old new calls run in
-      subst (λ d. IsAtRest (files d)) (sym to.keeps.disk) (to.course.rest (sym to.keeps.broken ∙ sound) rest)
+    stands : (s : Session) → Counts last first s → s.accepted ≤ last.store.session.accepted → slice_get last.texts s.accepted ≡ Some s.files
+    stands s counts within = ⊎_elim
+        (λ same.
+        subst (λ (t : Session). slice_get last.texts t.accepted ≡ Some t.files) (sym same)
+        (begin_calls first last calls run first.store.session.accepted first.store.session.files (lists.files sound)))
+        (λ more. ⊎_elim (λ is. is) (λ past. absurd (omega (arith, past, within))) more)
+        counts
 
--- Texts that are small stay small.
-
-call_small : (old new : Session) (call : Call) → AreSmall old.names old.files → CallGoesOn old call new → StaysSmall old new
-call_small old new (Ran command answer) are on = goes_small old new command answer are on
-call_small old new (Settled answer) are on =
-    let n = old.accepted in
-    goes_small old new Settle (reply_of n answer) are
-    (goes_on old new AsksToSettle (reply_of n answer) (λ failed. on.0 (fault_of_reply n answer Device failed)) (settle_steps old new answer on.1))
-call_small old new (Grouped group) are set = subst (StaysSmall old) (sym set) (refl, are)
-
-calls_small : (old mid : Session) (calls : List Call) → AreSmall old.names old.files → ReachesBy old calls mid → StaysSmall old mid
-calls_small old mid [] are is = subst (StaysSmall old) (sym is) (refl, are)
-calls_small old mid (call ∷ calls) are reaches = ⊎_elim
-    (λ is. subst (StaysSmall old) (sym is) (refl, are))
-    (λ on.
-    let next = call_small old on.0 call are on.1 in
-    let last = calls_small on.0 mid calls (subst (λ names. AreSmall names on.0.files) (sym next.0) next.1) on.2 in
-    (last.0 ∙ next.0, subst (λ names. AreSmall names mid.files) next.0 last.1))
-    reaches
-
-pub calls_open : (given : List (List ℕ)) (old new : Session) (others image : Image) (calls : List Call) → AreFew given → AreSorted (with_archives given) old.names
-    → AreSmall old.names old.settled → AreSmall old.names old.files
-    → IsLeftOf old others (λ mid. ReachesBy old calls mid × IsBetween old new mid) image → IsOpenable given image
-calls_open given old new others image calls few sorted before are = ⊎_elim
-    (λ holds. held_opens given old others image old.settled few sorted before holds)
-    (λ left. held_opens given old others image left.0.files few sorted (calls_small old left.0 calls are left.1.0).1 left.2)
+    pub calls_leave : ((image : Image) → left_since first.store.disk (moment first.store.disk) image → AreImages (files first.store.disk) image) → IsAtRest (files first.store.disk)
+        → IsOnDisk first.store.session others → LeavesOnly (moment first.store.disk) (moment last.store.disk) (left_since first.store.disk) (left_since last.store.disk) IsLeftOf
+    calls_leave start rest disk =
+        let to = course_to first last calls lists run in
+        subst (λ d. LeavesOnly (moment first.store.disk) (moment d) (left_since first.store.disk) (left_since d) IsLeftOf) (sym to.disk)
+        (leaves_as (course_leaves files moment left_since first.store to.last (Counts last first) to.course rest disk sound start) (λ image left. ⊎_elim
+        (λ held. inl held)
+        (λ reached. inr (reached.0.accepted, reached.1.1.no_fewer, rw (stands reached.0 reached.1.0 (omega (arith, reached.1.1.no_more, to.accepted))) reached.2))
+        left))

@@ -22,9 +22,11 @@ pub mod Accepted
 pub mod Follows
 pub mod Sortings
 pub mod Runs
+pub mod History
 pub mod Reopening
 pub mod NodeCounts
 pub mod ArchivedCounts
 pub mod Calls
 pub mod OnePlace
+pub mod Listed
 pub mod MovedCounts

@@ -1,39 +1,35 @@
 -- Refiles and archivings, one after another, keep how often each node is there over all files of a store, but for the
 -- sections of the entries that are archived and for the headings that are made.
-use Rattle.std.proofs.Common.{◌≡◌, ◌⊎◌, inl, inr, ⊎_elim, ℕ, ◌+◌, ◌≤◌, ◌==◌, Bool, true, false, List, [], ◌∷◌, ◌++◌, length, Option, Some, None, Result, Ok, Err, refl, sym, ◌∙◌, ap, subst, if◌then◌else◌, arith, length-append}
-use Rattle.std.specs.List.{IsDistinct, sum_by}
+use Rattle.std.proofs.Common.{◌≡◌, ◌⊎◌, inl, inr, ⊎_elim, ℕ, zero, suc, ◌+◌, ◌≤◌, ◌==◌, false, List, [], ◌∷◌, ◌++◌, length, Option, Some, None, refl, sym, ◌∙◌, ap, subst, if◌then◌else◌, arith, length-append}
+use Rattle.std.specs.List.{All, AllByRecursion, IsDistinct, sum_by}
+use Rattle.std.specs.Prelude.{slice_get}
 use Rattle.std.specs.Str.{bytes_eq}
 use Rattle.std.proofs.lemmas.Bool.{cases_Bool}
+use Rattle.std.proofs.lemmas.List.Elements.{All-push}
 use Rattle.std.proofs.lemmas.List.Sums.{sum_by-append}
+use Rattle.std.proofs.lemmas.Option.{slice_get_within}
+use Rattle.org_disk.specs.Disk.{FileState}
+use Rattle.org_disk.specs.Names.{IsDiskName}
+use Rattle.org_journal.specs.Standing.{Image}
 use Rattle.org_stamp.specs.Calendar.{CivilMinute}
 use Rattle.org_outline.specs.Tree.{Node, node_at, tree}
 use Rattle.org_move.specs.Archive.{archived_section}
 use Rattle.org_move.specs.Counts.{count_over, made_count, one_of}
 use Rattle.org_move.specs.Location.{Destination}
 use Rattle.org_store.specs.declared.command.Command.{Command}
-use Rattle.org_store.specs.declared.command.Reply.{Reply}
-use Rattle.org_store.specs.declared.command.Reply.TheVariants.{Done, Safe, Text, Time}
-use Rattle.org_store.specs.declared.command.RunFault.{RunFault}
-use Rattle.org_store.specs.declared.command.RunFault.TheVariants.{Refused, OutOfMemory, Device, Broken}
-use Rattle.org_store.specs.OnePlace.{ArchivesOne, HaveNodesBut, IsArchiving, IsRefile, KeepsNodesBut, MayBeAccepted, NewSection, OnlyMoves}
+use Rattle.org_store.specs.declared.command.Command.TheVariants.{Archive}
+use Rattle.org_store.specs.Calls.{Call, CallsPast}
+use Rattle.org_store.specs.History.{Past, Adds, Lists}
+use Rattle.org_store.specs.OnePlace.{ArchivesOne, HaveNodesButFew, IsArchiving, IsRefile, MayMove, NewSection}
 use Rattle.org_store.specs.Outcome.{Accepts, outcome}
 use Rattle.org_store.specs.Reopening.{AreSmall}
-use Rattle.org_store.specs.Runs.{GoesOn, Reaches}
 use Rattle.org_store.specs.Session.{Session}
-use Rattle.org_store.specs.Step.{done, fills}
-use Rattle.org_store.proofs.ArchivedCounts.{archive_keeps, done_files}
+use Rattle.org_store.proofs.ArchivedCounts.{archive_keeps}
+use Rattle.org_store.proofs.History.{Texts, before_end}
+use Rattle.org_store.proofs.Listed.{each_at, has_calls, keeps_small}
 use Rattle.org_store.proofs.OnePlace.{accepted_keeps}
-use Rattle.org_store.proofs.Reopening.{goes_small}
 
 -- ---- one command
-
--- what an accepted command makes of the nodes
-pub record Changes (texts others : List (List ℕ)) : Type 0 where
-  pub roots : List NewSection
-  pub made : List (List ℕ)
-  pub few_roots : length roots ≤ 1
-  pub few_made : length made ≤ length roots
-  pub counts : HaveNodesBut roots made texts others
 
 -- the heading made, if there is one
 abbrev lines_made : Destination → Option ℕ → List (List ℕ)
@@ -48,7 +44,7 @@ made_few : (to : Destination) (up : Option ℕ) → length (lines_made to up) �
 made_few to (Some up) = omega arith
 made_few to None = elim (cases_Bool (to.level == 0)) [ inl e ↦ rw e (omega arith) | inr e ↦ rw e (omega arith) ]
 
-archived_changes : (s : Session) (file : List ℕ) (path : List (List ℕ)) (now : CivilMinute) (files : List (List ℕ)) → ArchivesOne s file path now files → Changes files s.files
+archived_changes : (s : Session) (file : List ℕ) (path : List (List ℕ)) (now : CivilMinute) (files : List (List ℕ)) → ArchivesOne s file path now files → HaveNodesButFew 1 files s.files
 archived_changes s file path now files a =
     let own : Node = (node_at (tree a.text) a.entry).node in
     let root : NewSection = record { rest = own.rest; old = own.section; new = archived_section s.states file now (tree a.text) a.entry } in
@@ -61,57 +57,23 @@ archived_changes s file path now files a =
     }
 
 accepted_changes : (s : Session) (command : Command) (files : List (List ℕ)) → IsDistinct bytes_eq s.names → AreSmall s.names s.files → IsRefile command ⊎ IsArchiving command → outcome s command ≡ Accepts files
-    → Changes files s.files
+    → HaveNodesButFew 1 files s.files
 accepted_changes s command files apart small (inl is) accepts =
     record { roots = []; made = []; few_roots = omega arith; few_made = omega arith; counts = λ rest section. omega (arith, accepted_keeps s command files apart small is accepts rest section) }
 accepted_changes s command files apart small (inr is) accepts =
     archived_changes s is.0 is.1 is.2 files (archive_keeps s apart small.one_each is.0 is.3 is.1 is.2 files (subst (λ (c : Command). outcome s c ≡ Accepts files) is.4 accepts))
 
-done_counts : (s : Session) (files : List (List ℕ)) → (done s files).accepted ≡ s.accepted + 1
-done_counts s files = go (fills s)
-  where
-    go : (full : Bool) → (if full then record s { files = files; settled = files; accepted = s.accepted + 1; acknowledged = s.accepted + 1 } else record s { files = files; accepted = s.accepted + 1 }).accepted ≡ s.accepted + 1
-    go true = refl
-    go false = refl
-
-done_moves : (old new : Session) (command : Command) (files : List (List ℕ)) → IsDistinct bytes_eq old.names → AreSmall old.names old.files → IsRefile command ⊎ IsArchiving command
-    → outcome old command ≡ Accepts files → new ≡ done old files → KeepsNodesBut old new
-done_moves old new command files apart small is accepts goes =
-    let c = accepted_changes old command files apart small is accepts in
-    let same : new.files ≡ files = ap (λ (s : Session). s.files) goes ∙ done_files old files in
-    record {
-      roots = c.roots;
-      made = c.made;
-      few_roots = omega (arith, c.few_roots, ap (λ (s : Session). s.accepted) goes, done_counts old files);
-      few_made = c.few_made;
-      counts = subst (λ (texts : List (List ℕ)). HaveNodesBut c.roots c.made texts old.files) (sym same) c.counts;
-    }
-
-stays : (old new : Session) → new.files ≡ old.files → new.accepted ≡ old.accepted → KeepsNodesBut old new
-stays old new files accepted =
-    record { roots = []; made = []; few_roots = omega (arith, accepted); few_made = omega arith; counts = λ rest section. omega (arith, ap (count_over rest section) files) }
-
-as_before : (old new : Session) → new ≡ old → KeepsNodesBut old new
-as_before old new is = stays old new (ap (λ (s : Session). s.files) is) (ap (λ (s : Session). s.accepted) is)
-
-goes_moves : (old new : Session) (command : Command) (answer : Result Reply RunFault) → IsDistinct bytes_eq old.names → AreSmall old.names old.files → (MayBeAccepted answer → IsRefile command ⊎ IsArchiving command)
-    → GoesOn old (outcome old command) answer new → KeepsNodesBut old new
-goes_moves old new command (Ok (Done n)) apart small is on = done_moves old new command on.1.0 apart small (is tt) on.1.1 on.1.3
-goes_moves old new command (Ok (Text text)) apart small is on = as_before old new on.2
-goes_moves old new command (Ok (Time minutes)) apart small is on = as_before old new on.2
-goes_moves old new command (Ok (Safe n)) apart small is on = stays old new (ap (λ (s : Session). s.files) on.3) (ap (λ (s : Session). s.accepted) on.3)
-goes_moves old new command (Err (Refused why)) apart small is on = as_before old new on.2
-goes_moves old new command (Err OutOfMemory) apart small is on = as_before old new on.1
-goes_moves old new command (Err Device) apart small is on = done_moves old new command on.0 apart small (is tt) on.1 on.3
-goes_moves old new command (Err Broken) apart small is on = as_before old new on.1
-
 -- ---- commands, one after another
 
-then_moves : (old mid new : Session) → KeepsNodesBut mid new → KeepsNodesBut old mid → KeepsNodesBut old new
-then_moves old mid new later first = record {
+moved_none : (most : ℕ) (texts others : List (List ℕ)) → texts ≡ others → HaveNodesButFew most texts others
+moved_none most texts others same =
+    record { roots = []; made = []; few_roots = omega arith; few_made = omega arith; counts = λ rest section. omega (arith, ap (count_over rest section) same) }
+
+then_moves : (before most : ℕ) (old mid new : List (List ℕ)) → before + 1 ≤ most → HaveNodesButFew 1 new mid → HaveNodesButFew before mid old → HaveNodesButFew most new old
+then_moves before most old mid new few later first = record {
   roots = later.roots ++ first.roots;
   made = later.made ++ first.made;
-  few_roots = omega (arith, later.few_roots, first.few_roots, length-append later.roots first.roots);
+  few_roots = omega (arith, few, later.few_roots, first.few_roots, length-append later.roots first.roots);
   few_made = omega (arith, later.few_made, first.few_made, length-append later.roots first.roots, length-append later.made first.made);
   counts = λ rest section. omega (
     arith,
@@ -123,15 +85,80 @@ then_moves old mid new later first = record {
   );
 }
 
-pub reached_moves : (old mid : Session) (commands : List Command) (answers : List (Result Reply RunFault)) → IsDistinct bytes_eq old.names → AreSmall old.names old.files → OnlyMoves commands answers
-    → Reaches old commands answers mid → KeepsNodesBut old mid
-reached_moves old mid [] answers apart small only is = as_before old mid is
-reached_moves old mid (command ∷ commands) [] apart small only is = as_before old mid is
-reached_moves old mid (command ∷ commands) (answer ∷ answers) apart small only reaches = ⊎_elim
-    (λ is. as_before old mid is)
-    (λ on.
-    let next = goes_small old on.0 command answer small on.1 in
-    then_moves old on.0 mid
-    (reached_moves on.0 mid commands answers (subst (IsDistinct bytes_eq) (sym next.0) apart) (subst (λ names. AreSmall names on.0.files) (sym next.0) next.1) only.1 on.2)
-    (goes_moves old on.0 command answer apart small only.0 on.1))
-    reaches
+-- From one text of the list to a later one there are at most as many new sections as commands between.
+abbrev pub Moved : ℕ → Texts → Type 0
+Moved base texts = (i k : ℕ) (one other : List (List ℕ)) → base ≤ i → slice_get texts i ≡ Some one → slice_get texts (i + k) ≡ Some other → HaveNodesButFew k other one
+
+-- the last text of the list
+moved_last : (base n : ℕ) (texts : Texts) (last files : List (List ℕ)) → length texts ≡ n + 1 → slice_get texts n ≡ Some last → HaveNodesButFew 1 files last → Moved base texts
+    → (i k : ℕ) (one : List (List ℕ)) → base ≤ i → slice_get texts i ≡ Some one → i + k ≡ n + 1 → HaveNodesButFew k files one
+moved_last base n texts last files size at_end new moved i zero one low at place = absurd (omega (arith, slice_get_within texts i one at, size, place))
+moved_last base n texts last files size at_end new moved i (suc k) one low at place =
+    let here : i + k ≡ n = omega (arith, place) in
+    then_moves k (suc k) one last files (omega arith) new (moved i k one last low at (subst (λ (j : ℕ). slice_get texts j ≡ Some last) (sym here) at_end))
+
+push_moved : (base n : ℕ) (texts : Texts) (last files : List (List ℕ)) → length texts ≡ n + 1 → slice_get texts n ≡ Some last → HaveNodesButFew 1 files last → Moved base texts → Moved base (texts ++ files ∷ [])
+push_moved base n texts last files size at_end new moved i k one other low at later = elim (before_end texts files i one at) [
+  | inl old ↦ elim (before_end texts files (i + k) other later) [
+    | inl both ↦ moved i k one other low old both
+    | inr end ↦
+        let same = end.1 in
+        subst (λ (t : List (List ℕ)). HaveNodesButFew k t one) (sym same) (moved_last base n texts last files size at_end new moved i k one low old (end.0 ∙ size))
+  ]
+  | inr first ↦ elim (before_end texts files (i + k) other later) [
+    | inl both ↦ absurd (omega (arith, first.0, slice_get_within texts (i + k) other both))
+    | inr end ↦ moved_none k other one (end.1 ∙ sym first.1)
+  ]
+]
+
+-- a list that ends where it begins
+moved_first : (n : ℕ) (texts : Texts) → length texts ≡ n + 1 → Moved n texts
+moved_first n texts size i k one other low at later =
+    let none : k ≡ 0 = omega (arith, low, size, slice_get_within texts (i + k) other later) in
+    let place : i + k ≡ i = omega (arith, none) in
+    let same : Some one ≡ Some other = sym at ∙ sym (ap (slice_get texts) place) ∙ later in
+    let texts_same : one ≡ other = cc in
+    moved_none k other one (sym texts_same)
+
+module _ {D : Type 0} (files : D → List ℕ → FileState) (moment : D → ℕ) (left_since : D → ℕ → Image → Type 0) (first last : Past D) (calls : List Call)
+    (run : CallsPast files moment left_since first calls last) (lists : Lists first.store.session first.texts) (small : All (AreSmall first.store.session.names) first.texts)
+    (apart : IsDistinct bytes_eq first.store.session.names) where
+  abbrev names : List (List ℕ)
+  names = first.store.session.names
+
+  abbrev base : ℕ
+  base = first.store.session.accepted
+
+  abbrev SmallMoved : Texts → Type 0
+  SmallMoved texts = All (AreSmall names) texts × Moved base texts
+
+  pub calls_move : AllByRecursion MayMove calls → Moved base last.texts
+  calls_move only =
+      (has_calls names SmallMoved MayMove
+      (λ s command answer texts made is listed sound may accepted accepts had.
+      let here = listed.files sound in
+      let fits = each_at (AreSmall names) texts s.accepted s.files had.0 here in
+      let new = accepted_changes s command made (subst (IsDistinct bytes_eq) (sym is) apart) (subst (λ ns. AreSmall ns s.files) (sym is) fits) (may accepted) accepts in (
+        All-push (AreSmall names) texts made had.0 (keeps_small names s command made is fits accepts),
+        push_moved base s.accepted texts s.files made listed.size here new had.1,
+      ))
+      files moment left_since first last calls only run (record { same_names = refl; lists = lists; has = (small, moved_first base first.texts lists.size) })).1
+
+-- what an archiving adds to the list
+pub archive_moves : {D : Type 0} (first last : Past D) → Lists first.store.session first.texts → IsDistinct bytes_eq first.store.session.names → (file : List ℕ) (path : List (List ℕ)) (now : CivilMinute)
+    → IsDiskName file → length first.store.session.files ≡ length first.store.session.names → first.store.session.broken ≡ false
+    → Adds (outcome first.store.session (Archive file path now)) first.store.session.accepted last.store.session.accepted first.texts last.texts
+    → (k : ℕ) (texts : List (List ℕ)) → first.store.session.accepted ≤ k → slice_get last.texts k ≡ Some texts → (texts ≡ first.store.session.files) ⊎ ArchivesOne first.store.session file path now texts
+archive_moves first last lists apart file path now named each sound added k texts low at = ⊎_elim
+    (λ none. inl (as_first (subst (λ (l : Texts). slice_get l k ≡ Some texts) none.1 at)))
+    (λ one. ⊎_elim
+    (λ old. inl (as_first old))
+    (λ end. inr (subst (ArchivesOne first.store.session file path now) (sym end.1) (archive_keeps first.store.session apart each file named path now one.1.0 one.1.1)))
+    (before_end first.texts one.1.0 k texts (subst (λ (l : Texts). slice_get l k ≡ Some texts) one.1.2 at)))
+    added
+  where
+    as_first : slice_get first.texts k ≡ Some texts → texts ≡ first.store.session.files
+    as_first is =
+        let place : k ≡ first.store.session.accepted = omega (arith, low, lists.size, slice_get_within first.texts k texts is) in
+        let same : Some texts ≡ Some first.store.session.files = sym is ∙ (ap (slice_get first.texts) place ∙ lists.files sound) in
+        cc

@@ -1,5 +1,5 @@
--- What a stop leaves of a run of refiles has each node as often as it was there before.
-use Rattle.std.proofs.Common.{◌≡◌, inl, inr, ⊎_elim, ℕ, ◌+◌, Bool, true, false, List, [], ◌∷◌, length, Option, Some, None, Result, Ok, Err, refl, sym, ◌∙◌, ap, subst, if◌then◌else◌, arith}
+-- What an image that holds a store's texts has of each node, and what refiles make of it.
+use Rattle.std.proofs.Common.{◌≡◌, inl, inr, ℕ, ◌+◌, Bool, true, false, List, [], ◌∷◌, length, Option, Some, None, Result, Ok, Err, refl, sym, ◌∙◌, ap, subst, if◌then◌else◌, arith}
 use Rattle.std.specs.Prelude.{IsSomeAnd}
 use Rattle.std.specs.List.{IsDistinct}
 use Rattle.std.specs.List.Sorted.{IsStrictlySortedBy}
@@ -10,8 +10,6 @@ use Rattle.std.proofs.lemmas.Bool.{cases_Bool, false≢true}
 use Rattle.std.proofs.lemmas.Map.Keys.{IsDistinct-from_sorted, IsDistinct-head, IsDistinct-tail}
 use Rattle.std.proofs.lemmas.Map.Text.{is_eq-slice_cmp}
 use Rattle.std.proofs.lemmas.Slice.Eq.{bytes_eq-Decides}
-use Rattle.org_disk.specs.Disk.{LeavesOnly}
-use Rattle.org_disk.proofs.Moments.{passes_as}
 use Rattle.org_disk.proofs.Names.{name_cases}
 use Rattle.org_journal.specs.Standing.{Image, SameFiles, stands}
 use Rattle.org_move.specs.Counts.{count_over}
@@ -21,15 +19,14 @@ use Rattle.org_store.specs.declared.command.Reply.TheVariants.{Done, Safe, Text,
 use Rattle.org_store.specs.declared.command.RunFault.{RunFault}
 use Rattle.org_store.specs.declared.command.RunFault.TheVariants.{Refused, OutOfMemory, Device, Broken}
 use Rattle.org_store.specs.InOrder.{is_name, text_at, texts_of, with_texts}
-use Rattle.org_store.specs.OnePlace.{HaveSameNodes, HasNodesOf, HasNodesOfOne, IsSessionOf, IsRefile, MayBeAccepted, OnlyRefiles}
+use Rattle.org_store.specs.OnePlace.{HaveSameNodes, HasNodesOf, IsSessionOf, IsRefile, MayBeAccepted, OnlyRefiles}
 use Rattle.org_store.specs.Outcome.{Accepts, outcome}
 use Rattle.org_store.specs.Reopening.{AreSmall}
-use Rattle.org_store.specs.Runs.{GoesOn, Reaches, IsLeftOf}
 use Rattle.org_store.specs.Session.{Session, Holds}
 use Rattle.org_store.specs.Step.{Step, Run, done, fills, settled}
 use Rattle.org_store.proofs.InOrder.{apart_from, texts_same}
 use Rattle.org_store.proofs.NodeCounts.{not_again, refile_keeps}
-use Rattle.org_store.proofs.Reopening.{StaysSmall, apart_names, goes_small}
+use Rattle.org_store.proofs.Reopening.{StaysSmall, apart_names, step_small}
 use Rattle.org_store.proofs.Runs.{falls}
 
 -- ---- the files of a store's names
@@ -56,10 +53,6 @@ texts_back (one ∷ names) (text ∷ texts) others apart size =
 
 -- ---- what an image stands for
 
--- what a stop leaves has Q too
-pub leaves_as : {m n : ℕ} {s u : ℕ → Image → Type 0} {P Q : Image → Type 0} → LeavesOnly m n s u P → ((image : Image) → P image → Q image) → LeavesOnly m n s u Q
-leaves_as leaves weaker = record { each = λ image left. weaker image (leaves.each image left); passes = passes_as leaves.passes weaker }
-
 over_some : {A : Type 0} (P Q : A → Type 0) (found : Option A) → ((a : A) → P a → Q a) → IsSomeAnd found P → IsSomeAnd found Q
 over_some P Q None weaker has = absurd has
 over_some P Q (Some a) weaker has = weaker a has
@@ -81,28 +74,7 @@ module _ (given : List (List ℕ)) (s : Session) (of : IsSessionOf given s) wher
       (texts_same files found s.names (λ name there. same name (apart_from s.names (apart_names given s.names of.org of.sorted) name there))
       ∙ texts_back s.names texts others names_apart small.one_each))
 
-  pub left_has_nodes : (others : Image) (IsReached : Session → Type 0) (image : Image) → ((mid : Session) → IsReached mid → AreSmall s.names mid.files) → IsLeftOf s others IsReached image
-      → HasNodesOfOne s IsReached image
-  left_has_nodes others IsReached image small left = ⊎_elim
-      (λ held. inl (holds_nodes others s.settled image of.settled held))
-      (λ reached. inr (reached.0, reached.1, holds_nodes others reached.0.files image (small reached.0 reached.1) reached.2))
-      left
-
-  pub same_nodes_left : (IsReached : Session → Type 0) (image : Image) → HaveSameNodes s.settled s.files → ((mid : Session) → IsReached mid → HaveSameNodes mid.files s.files)
-      → HasNodesOfOne s IsReached image → HasNodesOf s.names s.files image
-  same_nodes_left IsReached image same kept left = ⊎_elim
-      (λ settled. nodes_as s.names s.settled s.files image same settled)
-      (λ reached. nodes_as s.names reached.0.files s.files image (kept reached.0 reached.1) reached.2)
-      left
-
--- what is known of each session that was reached
-pub reached_as : (s : Session) (P Q : Session → Type 0) (image : Image) → ((mid : Session) → P mid → Q mid) → HasNodesOfOne s P image → HasNodesOfOne s Q image
-reached_as s P Q image weaker left = ⊎_elim (λ held. inl held) (λ reached. inr (reached.0, weaker reached.0 reached.1, reached.2)) left
-
--- ---- a run of refiles
-
-same_nodes : (texts others : List (List ℕ)) → texts ≡ others → HaveSameNodes texts others
-same_nodes texts others is rest section = ap (count_over rest section) is
+-- ---- refiles
 
 pub accepted_keeps : (s : Session) (command : Command) (files : List (List ℕ)) → IsDistinct bytes_eq s.names → AreSmall s.names s.files → IsRefile command → outcome s command ≡ Accepts files
     → HaveSameNodes files s.files
@@ -110,49 +82,8 @@ accepted_keeps s command files apart small is accepts rest section =
     let told = subst (λ (c : Command). outcome s c ≡ Accepts files) is.5 accepts in
     refile_keeps s apart small.one_each rest section is.0 is.1 is.2 is.3 is.4 (text_at s.names s.files is.0) (text_at s.names s.files is.2) files refl refl told
 
-done_keeps : (old new : Session) (command : Command) (files : List (List ℕ)) → IsDistinct bytes_eq old.names → AreSmall old.names old.files → IsRefile command
-    → outcome old command ≡ Accepts files → new ≡ done old files → HaveSameNodes new.files old.files
-done_keeps old new command files apart small is accepts goes =
-    subst (λ (s : Session). HaveSameNodes s.files old.files) (sym goes) (go (fills old))
-  where
-    kept : HaveSameNodes files old.files
-    kept = accepted_keeps old command files apart small is accepts
-
-    go : (full : Bool) → HaveSameNodes
-        (if full then record old { files = files; settled = files; accepted = old.accepted + 1; acknowledged = old.accepted + 1 } else record old { files = files; accepted = old.accepted + 1 }).files
-        old.files
-    go true = kept
-    go false = kept
-
-as_before : (old new : Session) → new ≡ old → HaveSameNodes new.files old.files
-as_before old new is = same_nodes new.files old.files (ap (λ (s : Session). s.files) is)
-
-goes_keeps : (old new : Session) (command : Command) (answer : Result Reply RunFault) → IsDistinct bytes_eq old.names → AreSmall old.names old.files → (MayBeAccepted answer → IsRefile command)
-    → GoesOn old (outcome old command) answer new → HaveSameNodes new.files old.files
-goes_keeps old new command (Ok (Done n)) apart small is on = done_keeps old new command on.1.0 apart small (is tt) on.1.1 on.1.3
-goes_keeps old new command (Ok (Text text)) apart small is on = as_before old new on.2
-goes_keeps old new command (Ok (Time minutes)) apart small is on = as_before old new on.2
-goes_keeps old new command (Ok (Safe n)) apart small is on = same_nodes new.files old.files (ap (λ (s : Session). s.files) on.3)
-goes_keeps old new command (Err (Refused why)) apart small is on = as_before old new on.2
-goes_keeps old new command (Err OutOfMemory) apart small is on = as_before old new on.1
-goes_keeps old new command (Err Device) apart small is on = done_keeps old new command on.0 apart small (is tt) on.1 on.3
-goes_keeps old new command (Err Broken) apart small is on = as_before old new on.1
-
 then_keeps : (old mid new : Session) → HaveSameNodes new.files mid.files → HaveSameNodes mid.files old.files → HaveSameNodes new.files old.files
 then_keeps old mid new later first rest section = later rest section ∙ first rest section
-
-pub reached_keeps : (old mid : Session) (commands : List Command) (answers : List (Result Reply RunFault)) → IsDistinct bytes_eq old.names → AreSmall old.names old.files → OnlyRefiles commands answers
-    → Reaches old commands answers mid → HaveSameNodes mid.files old.files
-reached_keeps old mid [] answers apart small only is = as_before old mid is
-reached_keeps old mid (command ∷ commands) [] apart small only is = as_before old mid is
-reached_keeps old mid (command ∷ commands) (answer ∷ answers) apart small only reaches = ⊎_elim
-    (λ is. as_before old mid is)
-    (λ on.
-    let next = goes_small old on.0 command answer small on.1 in
-    then_keeps old on.0 mid
-    (reached_keeps on.0 mid commands answers (subst (IsDistinct bytes_eq) (sym next.0) apart) (subst (λ names. AreSmall names on.0.files) (sym next.0) next.1) only.1 on.2)
-    (goes_keeps old on.0 command answer apart small only.0 on.1))
-    reaches
 
 -- ---- runs, one after another
 
@@ -178,18 +109,18 @@ keeps_done old new command files apart small is accepts goes = subst (KeepsNodes
 keeps_step : (old new : Session) (command : Command) (answer : Result Reply RunFault) → IsDistinct bytes_eq old.names → AreSmall old.names old.files → (MayBeAccepted answer → IsRefile command)
     → new.broken ≡ false → Step old command answer new → StaysSmall old new × KeepsNodes old new
 keeps_step old new command (Ok (Done n)) apart small is whole step =
-    (goes_small old new command (Ok (Done n)) small step, keeps_done old new command step.1.0 apart small (is tt) step.1.1 step.1.3)
-keeps_step old new command (Ok (Text text)) apart small is whole step = (goes_small old new command (Ok (Text text)) small step, keeps_none old new step.2)
-keeps_step old new command (Ok (Time minutes)) apart small is whole step = (goes_small old new command (Ok (Time minutes)) small step, keeps_none old new step.2)
+    (step_small old new command (Ok (Done n)) small whole step, keeps_done old new command step.1.0 apart small (is tt) step.1.1 step.1.3)
+keeps_step old new command (Ok (Text text)) apart small is whole step = (step_small old new command (Ok (Text text)) small whole step, keeps_none old new step.2)
+keeps_step old new command (Ok (Time minutes)) apart small is whole step = (step_small old new command (Ok (Time minutes)) small whole step, keeps_none old new step.2)
 keeps_step old new command (Ok (Safe n)) apart small is whole step = (
-  goes_small old new command (Ok (Safe n)) small step,
+  step_small old new command (Ok (Safe n)) small whole step,
   let goes : new ≡ settled old = step.3 in
       subst (KeepsNodes old) (sym goes) (λ rest section. refl, λ same rest section. refl),
 )
-keeps_step old new command (Err (Refused why)) apart small is whole step = (goes_small old new command (Err (Refused why)) small step, keeps_none old new step.2)
-keeps_step old new command (Err OutOfMemory) apart small is whole step = (goes_small old new command (Err OutOfMemory) small step, keeps_none old new step.1)
+keeps_step old new command (Err (Refused why)) apart small is whole step = (step_small old new command (Err (Refused why)) small whole step, keeps_none old new step.2)
+keeps_step old new command (Err OutOfMemory) apart small is whole step = (step_small old new command (Err OutOfMemory) small whole step, keeps_none old new step.1)
 keeps_step old new command (Err Device) apart small is whole step = absurd (false≢true (sym whole ∙ falls old new command step))
-keeps_step old new command (Err Broken) apart small is whole step = (goes_small old new command (Err Broken) small step, keeps_none old new step.1)
+keeps_step old new command (Err Broken) apart small is whole step = (step_small old new command (Err Broken) small whole step, keeps_none old new step.1)
 
 -- a store that is broken stays so
 broken_stays : (old new : Session) (commands : List Command) (answers : List (Result Reply RunFault)) → old.broken ≡ true → Run old commands answers new → new.broken ≡ true

@@ -3,6 +3,7 @@ use Rattle.std.proofs.Common.{◌≡◌, ◌≢◌, ◌⊎◌, inl, inr, ⊎_eli
 use Rattle.std.specs.Prelude.{IsSomeAnd}
 use Rattle.std.specs.List.{All, AllByRecursion, Contains}
 use Rattle.std.specs.Str.{bytes_eq}
+use Rattle.std.proofs.lemmas.Bool.{false≢true}
 use Rattle.std.proofs.lemmas.Bool.Decides.{nat_tests}
 use Rattle.std.proofs.lemmas.List.Elements.{All-from_recursion, recursion_from_All}
 use Rattle.org_disk.specs.Names.{journal_name, IsOrgFile}
@@ -22,11 +23,11 @@ use Rattle.org_store.specs.declared.command.RunFault.TheVariants as run
 use Rattle.org_store.specs.InOrder.{texts_of, with_all, with_text, with_texts}
 use Rattle.org_store.specs.Session.{Session, Holds}
 use Rattle.org_store.specs.Outcome.{Outcome, Accepts, Shows, Tells, AsksToSettle, Refuses, outcome}
-use Rattle.org_store.specs.Step.{fills, done, settled}
+use Rattle.org_store.specs.Step.{Step, fills, done, settled}
 use Rattle.org_store.specs.Left.{IsLeft, PutsOnDisk}
-use Rattle.org_store.specs.Runs.{GoesOn, Reaches, IsBetween, IsLeftOf}
 use Rattle.org_store.specs.Reopening.{AreSameNames, IsOpenable, AreSmall}
 use Rattle.org_store.proofs.Accepted.{AreWithin, accepted_puts}
+use Rattle.org_store.proofs.Runs.{falls}
 use Rattle.org_store.proofs.Sortings.{one_sorting}
 
 never_both : (given : List (List ℕ)) → AreFew given → AreTooMany given → ⊥
@@ -202,30 +203,12 @@ done_small old new files are is = subst (StaysSmall old) (sym is) (go (fills old
     go true = (refl, are)
     go false = (refl, are)
 
-pub goes_small : (old new : Session) (command : Command) (answer : Result Reply RunFault) → AreSmall old.names old.files → GoesOn old (outcome old command) answer new → StaysSmall old new
-goes_small old new command (Ok (Done n)) are on = done_small old new on.1.0 (accepted_small old command on.1.0 are on.1.1) on.1.3
-goes_small old new command (Ok (Text text)) are on = stays_same old new are on.2
-goes_small old new command (Ok (Time minutes)) are on = stays_same old new are on.2
-goes_small old new command (Ok (Safe n)) are on = let is : new ≡ settled old = on.3 in subst (StaysSmall old) (sym is) (refl, are)
-goes_small old new command (Err (run.Refused why)) are on = stays_same old new are on.2
-goes_small old new command (Err run.OutOfMemory) are on = stays_same old new are on.1
-goes_small old new command (Err run.Device) are on = done_small old new on.0 (accepted_small old command on.0 are on.1) on.3
-goes_small old new command (Err run.Broken) are on = stays_same old new are on.1
-
-pub reached_small : (old mid : Session) (commands : List Command) (answers : List (Result Reply RunFault)) → AreSmall old.names old.files → Reaches old commands answers mid → StaysSmall old mid
-reached_small old mid [] answers are is = stays_same old mid are is
-reached_small old mid (command ∷ commands) [] are is = stays_same old mid are is
-reached_small old mid (command ∷ commands) (answer ∷ answers) are reaches = ⊎_elim
-    (λ is. stays_same old mid are is)
-    (λ on.
-    let next = goes_small old on.0 command answer are on.1 in
-    let last = reached_small on.0 mid commands answers (subst (λ names. AreSmall names on.0.files) (sym next.0) next.1) on.2 in
-    (last.0 ∙ next.0, subst (λ names. AreSmall names mid.files) next.0 last.1))
-    reaches
-
-pub run_opens : (given : List (List ℕ)) (old new : Session) (others image : Image) (commands : List Command) (answers : List (Result Reply RunFault)) → AreFew given
-    → AreSorted (with_archives given) old.names → AreSmall old.names old.settled → AreSmall old.names old.files
-    → IsLeftOf old others (λ mid. Reaches old commands answers mid × IsBetween old new mid) image → IsOpenable given image
-run_opens given old new others image commands answers few sorted before are = ⊎_elim
-    (λ holds. held_opens given old others image old.settled few sorted before holds)
-    (λ left. held_opens given old others image left.0.files few sorted (reached_small old left.0 commands answers are left.1.0).1 left.2)
+pub step_small : (old new : Session) (command : Command) (answer : Result Reply RunFault) → AreSmall old.names old.files → new.broken ≡ false → Step old command answer new → StaysSmall old new
+step_small old new command (Ok (Done n)) are sound step = done_small old new step.1.0 (accepted_small old command step.1.0 are step.1.1) step.1.3
+step_small old new command (Ok (Text text)) are sound step = stays_same old new are step.2
+step_small old new command (Ok (Time minutes)) are sound step = stays_same old new are step.2
+step_small old new command (Ok (Safe n)) are sound step = let is : new ≡ settled old = step.3 in subst (StaysSmall old) (sym is) (refl, are)
+step_small old new command (Err (run.Refused why)) are sound step = stays_same old new are step.2
+step_small old new command (Err run.OutOfMemory) are sound step = stays_same old new are step.1
+step_small old new command (Err run.Device) are sound step = absurd (false≢true (sym sound ∙ falls old new command step))
+step_small old new command (Err run.Broken) are sound step = stays_same old new are step.1

@@ -20,7 +20,7 @@ use Rattle.org_store.specs.Outcome.{Outcome, Accepts, Shows, Tells, AsksToSettle
 use Rattle.org_store.specs.Step.{Does, Step, Settles, fills, done, settled}
 use Rattle.org_store.specs.Left.{IsLeft, PutsOnDisk}
 use Rattle.org_store.proofs.Accepted.{accepted_puts}
-use Rattle.org_store.specs.Runs.{RunsOver, SettlesOver, RunsAllOver, IsOnDisk, GoesOn, Reaches, IsBetween, IsLeftOf}
+use Rattle.org_store.specs.Runs.{RunsOver, SettlesOver, IsOnDisk}
 
 -- The files with the texts of some names depend on the other files alone.
 
@@ -141,6 +141,22 @@ falls old new command step = elim step.1 [
   ]
 ]
 
+-- Sessions that are reached by calls.
+
+-- The session has no fewer accepted commands than the one before a run, and no more than the one after it.
+pub record IsBetween (old new mid : Session) : Type 0 where
+  pub no_fewer : old.accepted ≤ mid.accepted
+  pub no_more : mid.accepted ≤ new.accepted
+
+-- What a stop leaves stands for the files after the commands that were acknowledged, or for those of a session that was
+-- reached; `others` are the files that aren't the store's.
+abbrev pub IsLeftOf : Session → Image → (Session → Type 0) → Image → Type 0
+IsLeftOf old others IsReached image = Holds old others old.settled image ⊎ ((mid : Session) × IsReached mid × Holds old others mid.files image)
+
+-- what a stop leaves has Q too
+pub leaves_as : {m n : ℕ} {s u : ℕ → Image → Type 0} {P Q : Image → Type 0} → LeavesOnly m n s u P → ((image : Image) → P image → Q image) → LeavesOnly m n s u Q
+leaves_as leaves weaker = record { each = λ image left. weaker image (leaves.each image left); passes = passes_as leaves.passes weaker }
+
 -- What is left of one call: the files that were settled, or those of a session that was reached.
 
 left_of : {A : Type 0} (old : Session) (others : Image) (outcome : Outcome) (answer : Result A RunFault) (accepted : ℕ) (image : Image) (IsReached : Session → Type 0) → IsReached old
@@ -231,7 +247,7 @@ device_or_not (Err Device) = inl refl
 device_or_not (Err Broken) = inr (λ (e : ◌≡◌ {A = Result Reply RunFault} (Err Broken) (Err Device)). absurd (cc))
 
 -- a broken store answers that it is
-answers_broken : (old new : Session) (command : Command) (answer : Result Reply RunFault) → Step old command answer new → old.broken ≡ true → IsErrOf answer Broken
+pub answers_broken : (old new : Session) (command : Command) (answer : Result Reply RunFault) → Step old command answer new → old.broken ≡ true → IsErrOf answer Broken
 answers_broken old new command (Ok (Done n)) step fell = absurd (false≢true (sym step.0 ∙ fell))
 answers_broken old new command (Ok (Text bytes)) step fell = absurd (false≢true (sym step.0 ∙ fell))
 answers_broken old new command (Ok (Time minutes)) step fell = absurd (false≢true (sym step.0 ∙ fell))
@@ -241,15 +257,8 @@ answers_broken old new command (Err OutOfMemory) step fell = absurd (false≢tru
 answers_broken old new command (Err Device) step fell = absurd (false≢true (sym step.0 ∙ fell))
 answers_broken old new command (Err Broken) step fell = refl
 
-pub goes_on : (old new : Session) (outcome : Outcome) (answer : Result Reply RunFault) → (IsErrOf answer Device → ⊥) → Does old outcome answer new → GoesOn old outcome answer new
-goes_on old new outcome (Ok reply) fine does = does
-goes_on old new outcome (Err (Refused why)) fine does = does
-goes_on old new outcome (Err OutOfMemory) fine does = does
-goes_on old new outcome (Err Device) fine does = absurd (fine refl)
-goes_on old new outcome (Err Broken) fine does = does
-
 -- what a settling does to the session
-settling_ends : (old new : Session) (answer : Result (Unit {0}) RunFault) → Settles old answer new
+pub settling_ends : (old new : Session) (answer : Result (Unit {0}) RunFault) → Settles old answer new
     → (old.accepted ≤ new.accepted) × (new.broken ≡ false → (IsErrOf answer Device → ⊥) × Onward old new) × (old.broken ≡ true → IsErrOf answer Broken)
 settling_ends old new (Ok _) step = (
   subst (λ s. old.accepted ≤ s.accepted) (sym step.1) (omega arith),
@@ -431,24 +440,3 @@ module _ {D : Type 0} (files : D → List ℕ → FileState) (moment : D → ℕ
       (passes_as (course.passes rest disk sound) (λ image left. ⊎_elim (λ held. inl held) (λ reached. inr (reached.0, (reached.1.2, reached.1.1), reached.2)) left))
       (λ image left. inl (stands_as (contents (files old.disk)) (with_texts old.session.names old.session.settled (contents (files old.disk))) image disk
       (at_rest_stands (files old.disk) rest image (start image left))))
-
-  reaches_self : (s : Session) (commands : List Command) (answers : List (Result Reply RunFault)) → Reaches s commands answers s
-  reaches_self s [] answers = refl
-  reaches_self s (command ∷ commands) [] = refl
-  reaches_self s (command ∷ commands) (answer ∷ answers) = inl refl
-
-  pub course_all : (old new : Kept D) (commands : List Command) (answers : List (Result Reply RunFault)) → RunsAllOver files moment left_since old commands answers new
-      → Goes old new (Reaches old.session commands answers)
-  course_all old new [] [] run = subst (λ k. Goes old k (Reaches old.session [] [])) (sym run) (course_none old (Reaches old.session [] []) refl)
-  course_all old new [] (answer ∷ answers) run = absurd run
-  course_all old new (command ∷ commands) [] run = absurd run
-  course_all old new (command ∷ commands) (answer ∷ answers) run =
-      course_run old run.0 new command answer (Reaches old.session (command ∷ commands) (answer ∷ answers)) (Reaches run.0.session commands answers) run.1
-      (course_all run.0 new commands answers run.2) (inl refl)
-      (λ fine s later. inr (run.0.session, goes_on old.session run.0.session (outcome old.session command) answer fine run.1.step, later))
-      (reaches_self run.0.session commands answers)
-      (λ texts failed accepted full. inr (
-        done old.session texts,
-        subst (λ a. GoesOn old.session (outcome old.session command) a (done old.session texts)) (sym failed) (texts, accepted, full, refl),
-        reaches_self (done old.session texts) commands answers,
-      ))

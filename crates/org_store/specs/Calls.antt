@@ -1,15 +1,15 @@
--- Runs of all the calls that change a store over a disk: commands, settlings, and new sizes of the group.
-use Rattle.std.specs.Prelude.{◌≡◌, ◌⊎◌, ℕ, List, [], ◌∷◌, Result, IsErrOf}
+-- Runs of all the calls that change a store over a disk, commands, settlings, and new sizes of the group, told with the
+-- list of texts. `files`, `moment` and `left_since` are what is seen of a disk of the type D.
+use Rattle.std.specs.Prelude.{◌≡◌, ℕ, List, [], ◌∷◌, Result}
 use Rattle.org_disk.specs.Disk.{FileState}
 use Rattle.org_journal.specs.Standing.{Image}
 use Rattle.org_store.specs.declared.command.Command.{Command}
 use Rattle.org_store.specs.declared.command.Reply.{Reply}
 use Rattle.org_store.specs.declared.command.RunFault.{RunFault}
-use Rattle.org_store.specs.declared.command.RunFault.TheVariants.{Device}
+use Rattle.org_store.specs.History.{Past, Adds}
 use Rattle.org_store.specs.Outcome.{outcome}
-use Rattle.org_store.specs.Runs.{RunsOver, SettlesOver, GoesOn}
+use Rattle.org_store.specs.Runs.{RunsOver, SettlesOver}
 use Rattle.org_store.specs.Session.{Session, Kept}
-use Rattle.org_store.specs.Step.{Settles}
 
 -- A call of a store, with its answer.
 pub data Call : Type 0 where
@@ -30,19 +30,19 @@ CallOver files moment left_since old (Ran command answer) new = RunsOver files m
 CallOver files moment left_since old (Settled answer) new = SettlesOver files moment left_since old answer new
 CallOver files moment left_since old (Grouped group) new = new ≡ grouped group old
 
--- These calls were made over a disk, one after another.
-abbrev pub CallsOver : {D : Type 0} → (D → List ℕ → FileState) → (D → ℕ) → (D → ℕ → Image → Type 0) → Kept D → List Call → Kept D → Type 0
-CallsOver files moment left_since old [] new = new ≡ old
-CallsOver {D = D} files moment left_since old (call ∷ calls) new = (mid : Kept D) × CallOver files moment left_since old call mid × CallsOver files moment left_since mid calls new
+-- What a call adds to the list: a command that is accepted its texts, and no other call anything.
+abbrev pub CallAdds : Session → Call → Session → List (List (List ℕ)) → List (List (List ℕ)) → Type 0
+CallAdds old (Ran command answer) new texts more = Adds (outcome old command) old.accepted new.accepted texts more
+CallAdds old (Settled answer) new texts more = more ≡ texts
+CallAdds old (Grouped group) new texts more = more ≡ texts
 
--- A call took the store on from old to new: one at which the disk didn't fail, or a command that was to be accepted, and
--- counts as done although the disk failed at its settling.
-abbrev pub CallGoesOn : Session → Call → Session → Type 0
-CallGoesOn old (Ran command answer) new = GoesOn old (outcome old command) answer new
-CallGoesOn old (Settled answer) new = (IsErrOf answer Device → ⊥) × Settles old answer new
-CallGoesOn old (Grouped group) new = new ≡ record old { group = group }
+-- A call was made, and the list goes on with it.
+abbrev pub CallPast : {D : Type 0} → (D → List ℕ → FileState) → (D → ℕ) → (D → ℕ → Image → Type 0) → Past D → Call → Past D → Type 0
+CallPast files moment left_since old call new =
+    CallOver files moment left_since old.store call new.store × CallAdds old.store.session call new.store.session old.texts new.texts
 
--- Some of the calls, from the first on, lead from the one session to the other.
-abbrev pub ReachesBy : Session → List Call → Session → Type 0
-ReachesBy old [] new = new ≡ old
-ReachesBy old (call ∷ calls) new = (new ≡ old) ⊎ ((mid : Session) × CallGoesOn old call mid × ReachesBy mid calls new)
+-- These calls were made, one after another.
+abbrev pub CallsPast : {D : Type 0} → (D → List ℕ → FileState) → (D → ℕ) → (D → ℕ → Image → Type 0) → Past D → List Call → Past D → Type 0
+CallsPast files moment left_since old [] new = new ≡ old
+CallsPast {D = D} files moment left_since old (call ∷ calls) new =
+    (mid : Past D) × CallPast files moment left_since old call mid × CallsPast files moment left_since mid calls new

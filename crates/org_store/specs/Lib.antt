@@ -11,6 +11,7 @@ pub mod Clocking
 pub mod Outcome
 pub mod Step
 pub mod Left
+pub mod History
 pub mod Counts
 pub mod Runs
 pub mod Calls

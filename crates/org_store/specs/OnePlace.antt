@@ -1,5 +1,5 @@
 -- Each node in one place: how often it is there over all files of a store, in what a stop leaves.
-use Rattle.std.specs.Prelude.{◌≡◌, ◌⊎◌, ℕ, ◌+◌, ◌≤◌, List, [], ◌∷◌, length, Option, Some, Result, Ok, Err, IsSomeAnd}
+use Rattle.std.specs.Prelude.{◌≡◌, ◌⊎◌, ℕ, ◌+◌, ◌≤◌, List, [], ◌∷◌, length, slice_get, Option, Some, Result, Ok, Err, IsSomeAnd}
 use Rattle.std.specs.List.{All, sum_by}
 use Rattle.org_disk.specs.Names.{IsDiskName, IsOrgFile}
 use Rattle.org_stamp.specs.Calendar.{CivilMinute}
@@ -17,6 +17,8 @@ use Rattle.org_store.specs.declared.command.Reply.{Reply}
 use Rattle.org_store.specs.declared.command.Reply.TheVariants.{Done, Safe, Text, Time}
 use Rattle.org_store.specs.declared.command.RunFault.{RunFault}
 use Rattle.org_store.specs.declared.command.RunFault.TheVariants.{Refused, OutOfMemory, Device, Broken}
+use Rattle.org_store.specs.Calls.{Call}
+use Rattle.org_store.specs.Calls.Call.{Ran, Settled, Grouped}
 use Rattle.org_store.specs.InOrder.{text_at, texts_of}
 use Rattle.org_store.specs.Reopening.{AreSmall}
 use Rattle.org_store.specs.Session.{Session}
@@ -30,9 +32,10 @@ HaveSameNodes texts others = (rest : List ℕ) (section : List (List ℕ)) → c
 abbrev pub HasNodesOf : List (List ℕ) → List (List ℕ) → Image → Type 0
 HasNodesOf names texts image = IsSomeAnd (stands image) (λ files. HaveSameNodes (texts_of files names) texts)
 
--- .. as often as over the settled texts, or as over the texts of a session that was reached
-abbrev pub HasNodesOfOne : Session → (Session → Type 0) → Image → Type 0
-HasNodesOfOne old IsReached image = HasNodesOf old.names old.settled image ⊎ ((mid : Session) × IsReached mid × HasNodesOf old.names mid.files image)
+-- The image stands for files, and over those of these names each node is as often as after one prefix of the accepted
+-- commands, which has at least so many of them.
+abbrev pub HasNodesOfPrefix : List (List ℕ) → List (List (List ℕ)) → ℕ → Image → Type 0
+HasNodesOfPrefix names texts least image = (k : ℕ) × (least ≤ k) × IsSomeAnd (slice_get texts k) (λ files. HasNodesOf names files image)
 
 -- a session of a store that was opened with these names
 pub record IsSessionOf (given : List (List ℕ)) (s : Session) : Type 0 where
@@ -62,6 +65,12 @@ OnlyRefiles (command ∷ commands) (answer ∷ answers) = (MayBeAccepted answer 
 OnlyRefiles [] answers = Unit {0}
 OnlyRefiles (command ∷ commands) [] = Unit {0}
 
+-- A call that changes files as a refile alone, where it may be accepted.
+abbrev pub MayRefile : Call → Type 0
+MayRefile (Ran command answer) = MayBeAccepted answer → IsRefile command
+MayRefile (Settled answer) = Unit {0}
+MayRefile (Grouped group) = Unit {0}
+
 -- These texts of all files have one entry archived, the one at a path of a session's file, and each other node as often
 -- (Org manual, "Moving a tree to an archive file").
 pub record ArchivesOne (s : Session) (file : List ℕ) (path : List (List ℕ)) (now : CivilMinute) (files : List (List ℕ)) : Type 0 where
@@ -86,11 +95,11 @@ pub record ArchivesOne (s : Session) (file : List ℕ) (path : List (List ℕ)) 
 abbrev pub IsArchiving : Command → Type 0
 IsArchiving command = (file : List ℕ) × (path : List (List ℕ)) × (now : CivilMinute) × IsDiskName file × (command ≡ Archive file path now)
 
--- These commands got these answers, and none but refiles and archivings were accepted.
-abbrev pub OnlyMoves : List Command → List (Result Reply RunFault) → Type 0
-OnlyMoves (command ∷ commands) (answer ∷ answers) = (MayBeAccepted answer → IsRefile command ⊎ IsArchiving command) × OnlyMoves commands answers
-OnlyMoves [] answers = Unit {0}
-OnlyMoves (command ∷ commands) [] = Unit {0}
+-- A call that changes files as a refile or an archiving alone, where it may be accepted.
+abbrev pub MayMove : Call → Type 0
+MayMove (Ran command answer) = MayBeAccepted answer → IsRefile command ⊎ IsArchiving command
+MayMove (Settled answer) = Unit {0}
+MayMove (Grouped group) = Unit {0}
 
 -- a node whose section became another one; the rest of its heading line stays
 pub record NewSection : Type 0 where
@@ -105,11 +114,10 @@ HaveNodesBut roots made texts others = (rest : List ℕ) (section : List (List �
     count_over rest section texts + sum_by (λ root. one_of rest section root.rest root.old) roots
     ≡ count_over rest section others + sum_by (λ root. one_of rest section root.rest root.new) roots + sum_by (λ line. one_of rest section line []) made
 
--- So it is between two sessions, with at most one new section for each command that was accepted since, and with at most
--- one heading made for each of these.
-pub record KeepsNodesBut (old new : Session) : Type 0 where
+-- .. with at most so many new sections, and at most one heading made for each of these.
+pub record HaveNodesButFew (most : ℕ) (texts others : List (List ℕ)) : Type 0 where
   pub roots : List NewSection
   pub made : List (List ℕ)
-  pub few_roots : old.accepted + length roots ≤ new.accepted
+  pub few_roots : length roots ≤ most
   pub few_made : length made ≤ length roots
-  pub counts : HaveNodesBut roots made new.files old.files
+  pub counts : HaveNodesBut roots made texts others

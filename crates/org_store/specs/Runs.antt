@@ -1,5 +1,5 @@
--- Runs of commands over a disk: what each call promises of it, and what a stop leaves meanwhile.
-use Rattle.std.specs.Prelude.{◌≡◌, ◌⊎◌, ℕ, ◌≤◌, List, [], ◌∷◌, Result, Ok, Err, IsErrOf, IsTrue}
+-- Calls of a store over a disk: what each of them promises of it, and what a stop leaves meanwhile.
+use Rattle.std.specs.Prelude.{◌≡◌, ℕ, List, Result, IsErrOf}
 use Rattle.org_disk.specs.Disk.{FileState, LeavesOnly}
 use Rattle.org_journal.specs.Standing.{Image, SameFiles, IsFit, contents}
 use Rattle.org_fileset.specs.Replay.{IsAtRest}
@@ -7,11 +7,11 @@ use Rattle.org_store.specs.declared.command.Command.{Command}
 use Rattle.org_store.specs.declared.command.Command.TheVariants.{Settle}
 use Rattle.org_store.specs.declared.command.Reply.{Reply}
 use Rattle.org_store.specs.declared.command.RunFault.{RunFault}
-use Rattle.org_store.specs.declared.command.RunFault.TheVariants.{Refused, OutOfMemory, Device, Broken}
+use Rattle.org_store.specs.declared.command.RunFault.TheVariants.{Device, Broken}
 use Rattle.org_store.specs.InOrder.{with_texts}
-use Rattle.org_store.specs.Session.{Session, Kept, Holds}
-use Rattle.org_store.specs.Outcome.{Outcome, Accepts, AsksToSettle, outcome}
-use Rattle.org_store.specs.Step.{Does, Step, Settles, fills, done}
+use Rattle.org_store.specs.Session.{Session, Kept}
+use Rattle.org_store.specs.Outcome.{AsksToSettle, outcome}
+use Rattle.org_store.specs.Step.{Step, Settles}
 use Rattle.org_store.specs.Left.{IsLeft}
 
 -- What a call of a store leaves of its disk, where the disk is honest after it. `files`, `moment` and `left_since` are
@@ -42,40 +42,6 @@ pub record SettlesOver {D : Type 0} (files : D → List ℕ → FileState) (mome
   pub untouched : IsErrOf answer Broken → new ≡ old
   pub nothing : old.session.acknowledged ≡ old.session.accepted → new ≡ old
 
--- Commands were run over a disk, one after another, and got these answers.
-abbrev pub RunsAllOver : {D : Type 0} → (D → List ℕ → FileState) → (D → ℕ) → (D → ℕ → Image → Type 0) → Kept D → List Command → List (Result Reply RunFault) → Kept D → Type 0
-RunsAllOver files moment left_since old [] [] new = new ≡ old
-RunsAllOver {D = D} files moment left_since old (command ∷ commands) (answer ∷ answers) new =
-    (mid : Kept D) × RunsOver files moment left_since old command answer mid × RunsAllOver files moment left_since mid commands answers new
-RunsAllOver files moment left_since old [] (answer ∷ answers) new = ⊥
-RunsAllOver files moment left_since old (command ∷ commands) [] new = ⊥
-
 -- The texts that are settled are those of the disk's files.
 abbrev pub IsOnDisk : Session → Image → Type 0
 IsOnDisk s files = SameFiles files (with_texts s.names s.settled files)
-
--- A command with this outcome got this answer, and the store went on from old to new. One that was to be accepted, and
--- at whose settling the disk failed, counts as done.
-abbrev pub GoesOn : Session → Outcome → Result Reply RunFault → Session → Type 0
-GoesOn old outcome (Err Device) new = (files : List (List ℕ)) × (outcome ≡ Accepts files) × IsTrue (fills old) × (new ≡ done old files)
-GoesOn old outcome (Ok reply) new = Does old outcome (Ok reply) new
-GoesOn old outcome (Err (Refused why)) new = Does old outcome (Err (Refused why)) new
-GoesOn old outcome (Err OutOfMemory) new = Does old outcome (Err OutOfMemory) new
-GoesOn old outcome (Err Broken) new = Does old outcome (Err Broken) new
-
--- Some of the commands, from the first on, lead from the one session to the other, where they get these answers.
-abbrev pub Reaches : Session → List Command → List (Result Reply RunFault) → Session → Type 0
-Reaches old (command ∷ commands) (answer ∷ answers) new =
-    (new ≡ old) ⊎ ((mid : Session) × GoesOn old (outcome old command) answer mid × Reaches mid commands answers new)
-Reaches old [] answers new = new ≡ old
-Reaches old (command ∷ commands) [] new = new ≡ old
-
--- The session has no fewer accepted commands than the one before a run, and no more than the one after it.
-pub record IsBetween (old new mid : Session) : Type 0 where
-  pub no_fewer : old.accepted ≤ mid.accepted
-  pub no_more : mid.accepted ≤ new.accepted
-
--- What a stop leaves stands for the files after the commands that were acknowledged, or for those of a session that was
--- reached; `others` are the files that aren't the store's.
-abbrev pub IsLeftOf : Session → Image → (Session → Type 0) → Image → Type 0
-IsLeftOf old others IsReached image = Holds old others old.settled image ⊎ ((mid : Session) × IsReached mid × Holds old others mid.files image)

@@ -1,5 +1,5 @@
 //! What follows from the relation between a store before and after a call.
-ghost use Rattle.std.specs.Prelude.{◌≡◌, ◌<◌, ◌+◌, ◌++◌, ◌⊎◌, List, ℕ, length, None, Result, Ok, IsTrue, IsFalse, IsErrOf};
+ghost use Rattle.std.specs.Prelude.{◌≡◌, ◌<◌, ◌≤◌, ◌+◌, ◌++◌, ◌⊎◌, List, [], ◌∷◌, ℕ, length, slice_get, None, Some, Result, Ok, IsTrue, IsFalse, IsErrOf};
 ghost use Rattle.std.specs.List.{All, IsDistinct};
 ghost use Rattle.std.specs.Str.{bytes_eq};
 ghost use Rattle.org_disk.specs.Disk.{HasRisen};
@@ -21,13 +21,15 @@ ghost use Rattle.org_store.specs.declared.command.Reply.{Reply};
 ghost use Rattle.org_store.specs.declared.command.Reply.TheVariants.{Done};
 ghost use Rattle.org_store.specs.declared.command.RunFault.{RunFault};
 ghost use Rattle.org_store.specs.declared.command.RunFault.TheVariants as run_fault;
-ghost use Rattle.org_store.specs.Calls.{Call, CallsOver, ReachesBy};
+ghost use Rattle.org_store.specs.Calls.{Call, CallOver, CallPast, CallsPast, grouped};
+ghost use Rattle.org_store.specs.Calls.Call.{Ran};
+ghost use Rattle.org_store.specs.History.{Past, Lists, HoldsPrefix};
 ghost use Rattle.org_store.specs.Left.{IsLeft};
-ghost use Rattle.org_store.specs.OnePlace.{ArchivesOne, HaveSameNodes, HasNodesOf, HasNodesOfOne, IsSessionOf, KeepsNodesBut, OnlyMoves, OnlyRefiles};
+ghost use Rattle.org_store.specs.OnePlace.{ArchivesOne, HaveNodesButFew, HaveSameNodes, HasNodesOf, HasNodesOfPrefix, IsSessionOf, MayMove, MayRefile, OnlyRefiles};
 ghost use Rattle.org_store.specs.Outcome.{Accepts, outcome};
 ghost use Rattle.org_store.specs.Reopening.{AreSameNames, AreSmall, IsOpenable};
 ghost use Rattle.org_store.specs.Opening.{opened};
-ghost use Rattle.org_store.specs.Runs.{RunsAllOver, RunsOver, SettlesOver, IsOnDisk, Reaches, IsBetween, IsLeftOf};
+ghost use Rattle.org_store.specs.Runs.{RunsOver, SettlesOver, IsOnDisk};
 ghost use Rattle.org_store.specs.InOrder.{texts_of};
 ghost use Rattle.org_store.specs.Session.{Session, Kept, Holds};
 ghost use Rattle.org_store.specs.Step.{Step, Run, IsReply};
@@ -78,98 +80,110 @@ pub fn settled_is_on_disk<D: Disk>()
         → IsOnDisk new.session (contents (D.files new.disk)) }
 {}
 
-/// Since a run of commands began, on a disk that was at rest and honest then, under a store that wasn't broken, a stop
-/// leaves the files as they were after the commands that were acknowledged then, or after some of the commands of the
-/// run, from the first on: no fewer are accepted then than when it began, and no more than at its end. What is settled is
-/// on the disk between calls (`settled_is_on_disk`); `RunsAllOver` is what `run` promises of each call where the disk is
-/// honest after it.
-pub fn stops_leave_a_prefix<D: Disk>()
-    ensures any_moment { (old new : Kept D) (commands : List Command)
-        (answers : List (Result Reply RunFault)) → D.honest old.disk → IsAtRest (D.files old.disk)
-        → IsOnDisk old.session (contents (D.files old.disk)) → IsFalse old.session.broken
-        → RunsAllOver D.files D.moment D.left_since old commands answers new
-        → LeavesOver D.moment D.left_since old.disk new.disk
-        (IsLeftOf old.session (contents (D.files old.disk))
-        (λ mid. Reaches old.session commands answers mid × IsBetween old.session new.session mid)) }
-    // A broken store leaves its disk as it is.
-    ensures broken { (old new : Kept D) (commands : List Command)
-        (answers : List (Result Reply RunFault)) → IsTrue old.session.broken
-        → RunsAllOver D.files D.moment D.left_since old commands answers new → new ≡ old }
-{}
-
-/// The same of a run of all calls that change a store: commands, settlings and new sizes of the group. A stop leaves the
-/// files as they were after the commands that were acknowledged when it began, or after some of its calls, from the first
-/// on. The disk is fit to be opened then, and at rest where the store isn't broken; and each image opens again.
+/// What a stop leaves of a run of the calls that change a store: commands, settlings and new sizes of the group. A run
+/// is told with one list, of the texts of all files after each accepted command. On a disk that was at rest and honest
+/// when it began, under a store that wasn't broken, a stop since then leaves the files as they were settled then, or as
+/// they were after one prefix of the accepted commands, which has all that were accepted then; a command in which the
+/// disk failed may be the last of them. What is settled is on the disk between calls (`settled_is_on_disk`).
+///
+/// `CallPast` is what a call promises where the disk is honest after it, with what it adds to the list. The list needs
+/// the texts only where the session tells them: others may be any.
 pub fn calls_leave_a_prefix<D: Disk>()
-    ensures any_moment { (old new : Kept D) (calls : List Call) → D.honest old.disk
-        → IsAtRest (D.files old.disk) → IsOnDisk old.session (contents (D.files old.disk))
-        → IsFalse old.session.broken → CallsOver D.files D.moment D.left_since old calls new
-        → LeavesOver D.moment D.left_since old.disk new.disk
-        (IsLeftOf old.session (contents (D.files old.disk))
-        (λ mid. ReachesBy old.session calls mid × IsBetween old.session new.session mid)) }
-    // A broken store leaves its disk as it is.
-    ensures broken { (old new : Kept D) (calls : List Call) → IsTrue old.session.broken
-        → CallsOver D.files D.moment D.left_since old calls new → new.disk ≡ old.disk }
-    ensures fit { (old new : Kept D) (calls : List Call) → IsAtRest (D.files old.disk)
-        → CallsOver D.files D.moment D.left_since old calls new → IsFit (D.files new.disk) }
-    ensures rest { (old new : Kept D) (calls : List Call) → IsFalse new.session.broken
-        → IsAtRest (D.files old.disk)
-        → CallsOver D.files D.moment D.left_since old calls new → IsAtRest (D.files new.disk) }
+    // a store that was just opened has such a list
+    ensures opened { (states : Keywords) (names texts : List (List ℕ))
+        → Lists (opened states names texts) (texts ∷ []) }
+    // with each call it goes on
+    ensures goes_on { (old : Past D) (new : Kept D) (call : Call)
+        → CallOver D.files D.moment D.left_since old.store call new
+        → (now : Past D) × (now.store ≡ new)
+        × CallPast D.files D.moment D.left_since old call now }
+    ensures lists { (first last : Past D) (calls : List Call)
+        → Lists first.store.session first.texts
+        → CallsPast D.files D.moment D.left_since first calls last
+        → Lists last.store.session last.texts }
+    ensures any_moment { (first last : Past D) (calls : List Call) → D.honest first.store.disk
+        → IsAtRest (D.files first.store.disk)
+        → IsOnDisk first.store.session (contents (D.files first.store.disk))
+        → IsFalse first.store.session.broken → Lists first.store.session first.texts
+        → CallsPast D.files D.moment D.left_since first calls last
+        → let begin = first.store.session in let others = contents (D.files first.store.disk) in
+        LeavesOver D.moment D.left_since first.store.disk last.store.disk
+        (λ image. Holds begin others begin.settled image
+        ⊎ HoldsPrefix begin others last.texts begin.accepted image) }
+    // A broken store leaves its disk as it is, and all else but the size of the group.
+    ensures broken { (first last : Past D) (calls : List Call)
+        → IsTrue first.store.session.broken
+        → CallsPast D.files D.moment D.left_since first calls last
+        → (last.store ≡ grouped last.store.session.group first.store)
+        × (last.texts ≡ first.texts) }
+    // the disk is fit to be opened then, and at rest where the store isn't broken
+    ensures fit { (first last : Past D) (calls : List Call) → IsAtRest (D.files first.store.disk)
+        → CallsPast D.files D.moment D.left_since first calls last
+        → IsFit (D.files last.store.disk) }
+    ensures rest { (first last : Past D) (calls : List Call) → IsFalse last.store.session.broken
+        → IsAtRest (D.files first.store.disk)
+        → CallsPast D.files D.moment D.left_since first calls last
+        → IsAtRest (D.files last.store.disk) }
     // what a stop leaves of such a run is opened again, as in `every_image_opens`
-    ensures opens { (given : List (List ℕ)) (old new : Session) (others image : Image)
-        (calls : List Call) → AreFew given → AreSorted (with_archives given) old.names
-        → AreSmall old.names old.settled → AreSmall old.names old.files
-        → IsLeftOf old others (λ mid. ReachesBy old calls mid × IsBetween old new mid) image
+    ensures opens { (given : List (List ℕ)) (first last : Past D) (calls : List Call)
+        (others image : Image) (least : ℕ) → AreFew given
+        → AreSorted (with_archives given) first.store.session.names
+        → Lists first.store.session first.texts
+        → All (AreSmall first.store.session.names) first.texts
+        → CallsPast D.files D.moment D.left_since first calls last
+        → HoldsPrefix first.store.session others last.texts least image
         → IsOpenable given image }
 {}
 
-/// Each node in one place. Where a run of commands began as for `stops_leave_a_prefix`, each node is in what a stop leaves
-/// as often, over all files of the store, as after the commands that were acknowledged then, or after some of the commands
-/// of the run, from the first on. Where no command but refiles is accepted, that is as often as when the run began: a stop
-/// within a refile loses no node of the subtree and doubles none, in the old place or the new. A stop within an archiving
-/// leaves each node as often as after the commands that were acknowledged then, as before it, or as after it.
+/// Each node in one place. What a stop leaves of a run of calls (`calls_leave_a_prefix`) has each node as often, over
+/// all files of the store, as the texts that it stands for: as after the commands that were acknowledged when the run
+/// began, or after one prefix of the accepted commands. Where no command but refiles is accepted, that is as often as
+/// when the run began: a stop within a refile loses no node of the subtree and doubles none, in the old place or the new.
 pub fn one_place<D: Disk>()
-    ensures any_moment { (given : List (List ℕ)) (old new : Kept D) (commands : List Command)
-        (answers : List (Result Reply RunFault)) → D.honest old.disk → IsAtRest (D.files old.disk)
-        → IsOnDisk old.session (contents (D.files old.disk)) → IsFalse old.session.broken
-        → IsSessionOf given old.session
-        → RunsAllOver D.files D.moment D.left_since old commands answers new
-        → LeavesOver D.moment D.left_since old.disk new.disk (HasNodesOfOne old.session
-        (λ mid. Reaches old.session commands answers mid × IsBetween old.session new.session mid)) }
-    ensures refiles { (given : List (List ℕ)) (old new : Kept D) (commands : List Command)
-        (answers : List (Result Reply RunFault)) → D.honest old.disk → IsAtRest (D.files old.disk)
-        → IsOnDisk old.session (contents (D.files old.disk)) → IsFalse old.session.broken
-        → IsSessionOf given old.session
-        → RunsAllOver D.files D.moment D.left_since old commands answers new
-        → OnlyRefiles commands answers → HaveSameNodes old.session.settled old.session.files
-        → LeavesOver D.moment D.left_since old.disk new.disk
-        (HasNodesOf old.session.names old.session.files) }
+    ensures held { (given : List (List ℕ)) (s : Session) (others image : Image)
+        (texts : List (List ℕ)) → IsSessionOf given s → AreSmall s.names texts
+        → Holds s others texts image → HasNodesOf s.names texts image }
+    ensures any_moment { (given : List (List ℕ)) (first last : Past D) (calls : List Call)
+        (others image : Image) (least : ℕ) → IsSessionOf given first.store.session
+        → Lists first.store.session first.texts
+        → All (AreSmall first.store.session.names) first.texts
+        → CallsPast D.files D.moment D.left_since first calls last
+        → HoldsPrefix first.store.session others last.texts least image
+        → HasNodesOfPrefix first.store.session.names last.texts least image }
+    ensures refiles { (given : List (List ℕ)) (first last : Past D) (calls : List Call)
+        (others image : Image) (least : ℕ) → IsSessionOf given first.store.session
+        → Lists first.store.session first.texts
+        → All (AreSmall first.store.session.names) first.texts
+        → CallsPast D.files D.moment D.left_since first calls last → All MayRefile calls
+        → All (λ texts. HaveSameNodes texts first.store.session.files) first.texts
+        → HoldsPrefix first.store.session others last.texts least image
+        → HasNodesOf first.store.session.names first.store.session.files image }
     // after such a run, so it is of the next one
     ensures kept { (given : List (List ℕ)) (old new : Session) (commands : List Command)
         (answers : List (Result Reply RunFault)) → IsSessionOf given old
         → Run old commands answers new → IsFalse new.broken → OnlyRefiles commands answers
         → HaveSameNodes new.files old.files
         × (HaveSameNodes old.settled old.files → HaveSameNodes new.settled new.files) }
-    // One archiving: each node of its subtree is in the old place or the new, the root there with its properties.
-    ensures archive { (given : List (List ℕ)) (old new : Kept D) (file : List ℕ)
+    // One archiving: what may be on the disk then is as before, or each node of its subtree is in the old place or the
+    // new, the root there with its properties.
+    ensures archive { (given : List (List ℕ)) (first last : Past D) (file : List ℕ)
         (path : List (List ℕ)) (now : CivilMinute) (answer : Result Reply RunFault)
-        → D.honest old.disk → IsAtRest (D.files old.disk)
-        → IsOnDisk old.session (contents (D.files old.disk)) → IsFalse old.session.broken
-        → IsSessionOf given old.session → IsDiskName file
-        → RunsOver D.files D.moment D.left_since old (Archive file path now) answer new
-        → LeavesOver D.moment D.left_since old.disk new.disk (HasNodesOfOne old.session
-        (λ mid. (mid.files ≡ old.session.files)
-        ⊎ ArchivesOne old.session file path now mid.files)) }
-    // Where none but refiles and archivings are accepted: as often as when the run began, but that for each accepted
-    // command at most one node has another section under the same heading line, and at most one heading is made.
-    ensures moves { (given : List (List ℕ)) (old new : Kept D) (commands : List Command)
-        (answers : List (Result Reply RunFault)) → D.honest old.disk → IsAtRest (D.files old.disk)
-        → IsOnDisk old.session (contents (D.files old.disk)) → IsFalse old.session.broken
-        → IsSessionOf given old.session
-        → RunsAllOver D.files D.moment D.left_since old commands answers new
-        → OnlyMoves commands answers
-        → LeavesOver D.moment D.left_since old.disk new.disk
-        (HasNodesOfOne old.session (KeepsNodesBut old.session)) }
+        → IsSessionOf given first.store.session → IsFalse first.store.session.broken
+        → Lists first.store.session first.texts → IsDiskName file
+        → CallPast D.files D.moment D.left_since first (Ran (Archive file path now) answer) last
+        → (k : ℕ) (texts : List (List ℕ)) → first.store.session.accepted ≤ k
+        → slice_get last.texts k ≡ Some texts → (texts ≡ first.store.session.files)
+        ⊎ ArchivesOne first.store.session file path now texts }
+    // Where none but refiles and archivings are accepted: from one text of the list to another, which is k commands
+    // later, as often, but that for each of these at most one node has another section under the same heading line, and
+    // at most one heading is made.
+    ensures moves { (given : List (List ℕ)) (first last : Past D) (calls : List Call)
+        → IsSessionOf given first.store.session → Lists first.store.session first.texts
+        → All (AreSmall first.store.session.names) first.texts
+        → CallsPast D.files D.moment D.left_since first calls last → All MayMove calls
+        → (i k : ℕ) (one other : List (List ℕ)) → first.store.session.accepted ≤ i
+        → slice_get last.texts i ≡ Some one → slice_get last.texts (i + k) ≡ Some other
+        → HaveNodesButFew k other one }
 {}
 
 /// There is one way to put names in order, each once. So the given names are few or too many, and never both.
@@ -219,19 +233,12 @@ pub fn every_image_opens<D: Disk>()
     ensures held { (given : List (List ℕ)) (s : Session) (others image : Image)
         (texts : List (List ℕ)) → AreFew given → AreSorted (with_archives given) s.names
         → AreSmall s.names texts → Holds s others texts image → IsOpenable given image }
-    // so is what a stop leaves while a command runs
+    // so is what a stop leaves while a command runs; of a run of calls: `calls_leave_a_prefix`
     ensures left { (given : List (List ℕ)) (s : Session) (others image : Image) (command : Command)
         (answer : Result Reply RunFault) (accepted : ℕ) → AreFew given
         → AreSorted (with_archives given) s.names
         → AreSmall s.names s.settled → AreSmall s.names s.files
         → IsLeft s others (outcome s command) answer accepted image → IsOpenable given image }
-    // and what a stop leaves of a whole run of commands
-    ensures run { (given : List (List ℕ)) (old new : Session) (others image : Image)
-        (commands : List Command) (answers : List (Result Reply RunFault)) → AreFew given
-        → AreSorted (with_archives given) old.names → AreSmall old.names old.settled
-        → AreSmall old.names old.files
-        → IsLeftOf old others (λ mid. Reaches old commands answers mid × IsBetween old new mid)
-        image → IsOpenable given image }
     // the names may be given in another order, and repeated
     ensures names { (given more : List (List ℕ)) (image : Image) → AreSameNames given more
         → IsOpenable given image → IsOpenable more image }

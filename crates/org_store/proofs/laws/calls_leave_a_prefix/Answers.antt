@@ -1,19 +1,33 @@
-use Rattle.org_store.proofs.Calls.{broken_calls, calls_fit, calls_leave, calls_open, calls_rest}
+use Rattle.std.proofs.Common.{refl, arith}
+use Rattle.org_store.proofs.Calls.{broken_calls, call_listed, calls_fit, calls_leave, calls_list, calls_rest}
+use Rattle.org_store.proofs.Listed.{calls_small, prefix_opens}
 use Rattle.org_store.proofs.laws.calls_leave_a_prefix.Goals as goal
 
+pub returns-clause-opened : goal.returns-clause-opened
+returns-clause-opened g c = λ states names texts. record { size = refl; order = omega arith; files = λ sound. refl; settled = λ sound. refl }
+
+pub returns-clause-goes_on : goal.returns-clause-goes_on
+returns-clause-goes_on g c = λ old new call made. call_listed g.D.Disk.files g.D.Disk.moment g.D.Disk.left_since old new call made
+
+pub returns-clause-lists : goal.returns-clause-lists
+returns-clause-lists g c = λ first last calls lists run. calls_list g.D.Disk.files g.D.Disk.moment g.D.Disk.left_since first last calls lists run
+
 pub returns-clause-any_moment : goal.returns-clause-any_moment
-returns-clause-any_moment g c = λ old new calls honest rest disk sound run.
+returns-clause-any_moment g c = λ first last calls honest rest disk sound lists run.
     let d = g.D.Disk in
-    calls_leave d.files d.moment d.left_since old new calls (λ image left. g.met.D.Disk.only_now old.disk image honest left) rest disk sound run
+    calls_leave d.files d.moment d.left_since first last calls lists run sound (λ image left. g.met.D.Disk.only_now first.store.disk image honest left) rest disk
 
 pub returns-clause-broken : goal.returns-clause-broken
-returns-clause-broken g c = λ old new calls fell run. (broken_calls g.D.Disk.files g.D.Disk.moment g.D.Disk.left_since old new calls fell run).disk
+returns-clause-broken g c = λ first last calls fell run.
+    let keeps = broken_calls g.D.Disk.files g.D.Disk.moment g.D.Disk.left_since first last calls fell run in (keeps.store, keeps.texts)
 
 pub returns-clause-fit : goal.returns-clause-fit
-returns-clause-fit g c = λ old new calls rest run. calls_fit g.D.Disk.files g.D.Disk.moment g.D.Disk.left_since old new calls rest run
+returns-clause-fit g c = λ first last calls rest run. calls_fit g.D.Disk.files g.D.Disk.moment g.D.Disk.left_since first last calls rest run
 
 pub returns-clause-rest : goal.returns-clause-rest
-returns-clause-rest g c = λ old new calls sound rest run. calls_rest g.D.Disk.files g.D.Disk.moment g.D.Disk.left_since old new calls sound rest run
+returns-clause-rest g c = λ first last calls sound rest run. calls_rest g.D.Disk.files g.D.Disk.moment g.D.Disk.left_since first last calls sound rest run
 
 pub returns-clause-opens : goal.returns-clause-opens
-returns-clause-opens g c = calls_open
+returns-clause-opens g c = λ given first last calls others image least few sorted lists small run.
+    let d = g.D.Disk in
+    prefix_opens given first.store.session others last.texts least image few sorted (calls_small d.files d.moment d.left_since first last calls run lists small)
