@@ -10,18 +10,21 @@ use org_disk::{DiskFault, FileName};
 pub struct Opened<F> {
     pub(crate) name: FileName,
     pub(crate) file: F,
+    // it was found in the folder itself: no link led to it, and it wasn't made
+    pub(crate) is_own: bool,
     // its entry in the folder is known to be on the device
     pub(crate) is_entered: bool,
 }
 
 impl<F: Drop> Opened<F> {
-    pub(crate) fn new(name: &FileName, file: F) -> Result<Opened<F>, DiskFault>
+    pub(crate) fn new(name: &FileName, file: F, is_own: bool) -> Result<Opened<F>, DiskFault>
         ensures { IfOk result (λ opened. opened.name ≡ name.now) }
     {
         match name.clone() {
             Ok(name) => Ok(Opened {
                 name,
                 file,
+                is_own,
                 is_entered: false,
             }),
             Err(_) => Err(DiskFault),

@@ -15,8 +15,8 @@ use std::os::unix::fs::FileExt;
 
 /// The files of a folder, as a disk over the calls of a system. An absent file and an empty one are the same: a file
 /// is made by its first write of at least one byte, and none is ever removed or renamed. A file stays open from its
-/// first use on; the first sync of a file also syncs the folder that holds it. A call of the system that fails, and
-/// want of memory, is a counted failure.
+/// first use on; the first sync of a file also puts its entry in the folder on the device. A call of the system that
+/// fails, and want of memory, is a counted failure.
 ///
 /// Its files are those that the record of its calls stands for. It is an honest disk as long as each answer in that
 /// record was right, and a wrong one ends it for good; no contract says that a system's answers are right.
@@ -27,7 +27,8 @@ pub struct CallsDisk<C: Calls> {
 }
 
 /// The files of a folder of the operating system, as a disk. Links are followed, and permissions stay as they are. A
-/// call that a signal interrupted is made again.
+/// call that a signal interrupted is made again. Files that were found in the folder itself share one sync of it, which
+/// the first sync of one of them makes, until a file is made.
 ///
 /// That each answer in its record was right is a premise: no contract says what a real file gives. The record stands in
 /// proofs alone and takes no memory. `S` says what the files held at first, which no code can read.

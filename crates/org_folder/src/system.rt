@@ -23,6 +23,8 @@ use std::{fs, io};
 pub struct SystemCalls<R: Files, S: Start> {
     rt: R,
     path: String,
+    // the folder was synced, and this has made no file since
+    is_synced: bool,
     pub(crate) log: Record,
     start: PhantomData<S>,
 }
@@ -37,24 +39,28 @@ where
         Ok(SystemCalls {
             rt,
             path: String::from_str(alloc, path)?,
+            is_synced: false,
             log: Record::new(),
             start: PhantomData,
         })
     }
 
-    // A file that may not be written is opened for reading alone: writes to it fail then. What is no plain file isn't
-    // opened: a pipe would wait for its other end.
-    fn find(&self, name: &FileName) -> io::Result<R::File> {
+    // The file of a name, and whether it stands in the folder itself, so that no link leads to it. What is no plain file
+    // isn't opened: a pipe would wait for its other end.
+    fn find(&self, name: &FileName) -> io::Result<(R::File, bool)> {
         let path = self.path_of(name)?;
-        if !fs::metadata(&self.rt, path.as_path())?.is_file() {
+        let path = path.as_path();
+        let is_own = fs::symlink_metadata(&self.rt, path)?.is_file();
+        if !is_own && !fs::metadata(&self.rt, path)?.is_file() {
             return Err(Error::from(ErrorKind::Unsupported));
         }
-        match File::options()
-            .read(true)
-            .write(true)
-            .open(&self.rt, path.as_path())
-        {
-            Err(error) if is_refused(error.kind()) => File::open(&self.rt, path.as_path()),
+        Ok((self.open_file(path)?, is_own))
+    }
+
+    // A file that may not be written is opened for reading alone: writes to it fail then.
+    fn open_file(&self, path: Path<'_>) -> io::Result<R::File> {
+        match File::options().read(true).write(true).open(&self.rt, path) {
+            Err(error) if is_refused(error.kind()) => File::open(&self.rt, path),
             found => found,
         }
     }
@@ -115,7 +121,7 @@ where
 
     fn open(&mut self, name: &FileName) -> Result<Option<Opened<R::File>>, DiskFault> {
         match self.find(name) {
-            Ok(file) => Ok(Some(Opened::new(name, file)?)),
+            Ok((file, is_own)) => Ok(Some(Opened::new(name, file, is_own)?)),
             Err(error) if error.kind() == ErrorKind::NotFound => {
                 self.note(Call::Absent, name, &[]);
                 Ok(None)
@@ -125,8 +131,9 @@ where
     }
 
     fn make(&mut self, name: &FileName) -> Result<Opened<R::File>, DiskFault> {
+        self.is_synced = false;
         let file = answered(self.find_or_make(name))?;
-        Opened::new(name, file)
+        Opened::new(name, file, false)
     }
 
     fn length(&mut self, opened: &Opened<R::File>) -> Result<u64, DiskFault> {
@@ -169,8 +176,12 @@ where
         answer
     }
 
+    // A file that was found in the folder itself was there when the folder was synced: nobody else makes any.
     fn sync_entry(&mut self, opened: &mut Opened<R::File>) -> Result<(), DiskFault> {
-        answered(self.sync_folder_of(&opened.name))?;
+        if !(opened.is_own && self.is_synced) {
+            answered(self.sync_folder_of(&opened.name))?;
+            self.is_synced = self.is_synced || opened.is_own;
+        }
         opened.is_entered = true;
         Ok(())
     }

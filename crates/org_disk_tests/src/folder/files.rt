@@ -167,11 +167,46 @@ fn assert_entered(rt: &impl Abort, system: &HostRuntime, disk: &mut Folder) -> R
     Ok(assert_syncs(rt, disk, &a, &b)?)
 }
 
-// The first sync of a file looks for its folder, which it syncs, and a later one doesn't.
+// The first sync of a file that was made looks for its folder, which it syncs, and a later one doesn't.
 #[test]
 fn first_sync_takes_the_folder(rt: HostRuntime) -> Result<(), Fail> {
     empty(&rt, "entered")?;
     let mut disk = disk(&rt, "entered")?;
     assert_entered(&rt, &rt, &mut disk)?;
     remove(&rt, "entered")
+}
+
+fn make_found(rt: &HostRuntime) -> io::Result<()> {
+    make_empty(rt, "found")?;
+    put(rt, "found/a.org", b"* A\n")?;
+    put(rt, "found/b.org", b"* B\n")?;
+    put(rt, "found/c.org", b"* C\n")
+}
+
+// Syncs one file. Two others are opened, and taken out of the folder then.
+fn sync_and_take(rt: &HostRuntime, disk: &mut Folder) -> Result<(), Fail> {
+    sync(disk, &name(rt, "a.org")?)?;
+    length(disk, &name(rt, "b.org")?)?;
+    length(disk, &name(rt, "c.org")?)?;
+    done(take(rt, "found/b.org"))?;
+    done(take(rt, "found/c.org"))
+}
+
+// The first of these is synced without a look for its folder; the second isn't, since a file was made.
+fn assert_found(rt: &(impl Abort + AllocGlobal), disk: &mut Folder) -> Result<(), Fail> {
+    sync(disk, &name(rt, "b.org")?)?;
+    write(disk, &name(rt, "d.org")?, b"* D\n")?;
+    assert!(rt; sync(disk, &name(rt, "c.org")?).is_err());
+    assert!(rt; disk.failures() == 1);
+    Ok(())
+}
+
+// Of files that were found the first sync takes the folder, for all of them, until a file is made.
+#[test]
+fn one_sync_takes_the_folder(rt: HostRuntime) -> Result<(), Fail> {
+    done(make_found(&rt))?;
+    let mut disk = disk(&rt, "found")?;
+    sync_and_take(&rt, &mut disk)?;
+    assert_found(&rt, &mut disk)?;
+    remove(&rt, "found")
 }
