@@ -1,7 +1,6 @@
 pub mod Images
 pub mod Moments
 pub mod Names
-pub mod Laid
 pub mod Back
 pub mod Ranges
 mod Calls

@@ -2,7 +2,8 @@
 use Rattle.std.proofs.Common.{◌≡◌, ◌⊎◌, inl, inr, ⊎_elim, ℕ, ◌+◌, ◌<◌, ◌≤◌, ◌++◌, List, [], ◌∷◌, length, take, drop, max, ◌∙◌, ap, append-nil, arith}
 use Rattle.std.proofs.lemmas.Bool.{cases_lt}
 use Rattle.std.proofs.lemmas.List.{take-append-drop}
-use Rattle.org_disk.specs.Disk.{FileState, IsImage, IsOutside, laid, with_range, write}
+use Rattle.org_splice.specs.Overwritten.{overwritten}
+use Rattle.org_disk.specs.Disk.{FileState, IsImage, IsOutside, with_range, write}
 
 -- outside the range of the write, and outside those before it
 pub outside_range : (from : ℕ) (bytes : List ℕ) (ranges : List (ℕ × ℕ)) (i : ℕ) → IsOutside (with_range from bytes ranges) i → ((i < from) ⊎ (from + length bytes ≤ i)) × IsOutside ranges i
@@ -22,7 +23,7 @@ nothing_written from file le own j = record {
   written = file.written;
 }
   where
-    same_content : laid from [] file.content ≡ file.content
+    same_content : overwritten from [] file.content ≡ file.content
     same_content = ap (λ (l : List ℕ). l ++ drop (from + 0) file.content) (append-nil (take from file.content)) ∙ ap (λ (n : ℕ). take from file.content ++ drop n file.content) (omega arith)
         ∙ take-append-drop from file.content
 

@@ -4,8 +4,8 @@
 //! or within the call, may leave of it. `MemoryDisk` meets it, and can be told to fail or to stop; `Fuse` fails from
 //! some call on. What every call over a disk says is said once, in `specs/Accounts`. Lemmas for callers are public in
 //! `proofs/`: `Moments` (one run after another), `Accounting` (their accounts), `Images` and `Back` (what a call
-//! leaves), `Laid` (bytes laid over a text), `Ranges` (what was written), `Names`. `laws` has what follows for all
-//! values.
+//! leaves), `Ranges` (what was written), `Names`; bytes written over a text are org_splice's. `laws` has what
+//! follows for all values.
 #![tactic(auto)]
 
 mod disk;

@@ -2,7 +2,8 @@
 ghost use Rattle.std.specs.Prelude.{◌≡◌, ◌≢◌, ◌⊎◌, List, ℕ, [], ◌∷◌, ◌++◌, ◌≤◌, length, IsTrue, IsFalse, IfOk, IfSome, OnOk, OnErr, IsNone};
 ghost use Rattle.std.specs.Str.{bytes_eq};
 ghost use Rattle.indexmap.specs.IndexMap.{get};
-ghost use Rattle.org_disk.specs.Disk.{FileState, IsCounted, IsImage, laid};
+ghost use Rattle.org_splice.specs.Overwritten.{overwritten};
+ghost use Rattle.org_disk.specs.Disk.{FileState, IsCounted, IsImage};
 ghost use Rattle.org_disk.specs.Record.{effect_of, files_after, content_in, is_call, Keeps, KeepsCutImage, KeepsImage};
 
 use crate::{Disk, DiskFault, FileName};
@@ -598,7 +599,7 @@ fn act(alloc: Global, content: &mut Vec<u8>, effect: &Effect) -> Result<(), Allo
 
 // Lays bytes over a content; where memory is refused, nothing changes.
 fn lay(content: &mut Vec<u8>, from: usize, bytes: &[u8]) -> Result<(), AllocError>
-    ensures ok { OnOk result (content.new.items ≡ laid from bytes.now content.old.items) }
+    ensures ok { OnOk result (content.new.items ≡ overwritten from bytes.now content.old.items) }
     ensures err { OnErr result (content.new.items ≡ content.old.items) }
 {
     let start = from.min(content.len());

@@ -2,7 +2,8 @@
 use Rattle.std.proofs.Common.{◌≡◌, ◌≢◌, inl, inr, ℕ, ◌+◌, ◌≤◌, ◌++◌, List, [], ◌∷◌, length, drop, true, false, Some, refl, sym, ◌∙◌, ap, subst, arith, length-append}
 use Rattle.std.specs.Prelude.{nat_le, slice_index, ◌==◌}
 use Rattle.std.proofs.lemmas.Bool.{cases_Bool, and_right, and_from, le-leb, ne_eqb}
-use Rattle.org_disk.specs.Disk.{FileState, IsImage, IsStable, AreImages, laid}
+use Rattle.org_splice.specs.Overwritten.{overwritten}
+use Rattle.org_disk.specs.Disk.{FileState, IsImage, IsStable, AreImages}
 use Rattle.org_disk.specs.Names.{journal_name}
 use Rattle.org_disk.proofs.Images.{only_image}
 use Rattle.org_journal.specs.declared.record.Entry.{Entry}
@@ -16,7 +17,7 @@ pub shut : (journal : List ℕ) → slice_index journal 0 ≢ 1 → is_open jour
 shut journal not = and_right (nat_le 16 (length journal)) (slice_index journal 0 == 1) (ne_eqb (slice_index journal 0) 1 not)
 
 -- behind the first byte stands what was laid there, and then whatever was there
-drop-laid : (body text : List ℕ) → 1 ≤ length text → drop 1 (laid 1 body text) ≡ body ++ drop (1 + length body) text
+drop-laid : (body text : List ℕ) → 1 ≤ length text → drop 1 (overwritten 1 body text) ≡ body ++ drop (1 + length body) text
 drop-laid body [] long = absurd (omega arith)
 drop-laid body (x ∷ text) long = refl
 
@@ -42,7 +43,7 @@ module _ (entries : List Entry) (files : List ℕ → FileState) (layable : AreL
   while_arming rest image left = inl (stands_closed (contents files) image left.closed (λ name not. only_image (rest.stable name) (image name) (left.others name not)))
 
   -- the body stands behind the gate
-  module _ (mid : List ℕ → FileState) (armed : (mid journal_name).content ≡ laid 1 body (contents files journal_name))
+  module _ (mid : List ℕ → FileState) (armed : (mid journal_name).content ≡ overwritten 1 body (contents files journal_name))
       (same : (other : List ℕ) → other ≢ journal_name → mid other ≡ files other) where
     behind : drop 1 (mid journal_name).content ≡ body ++ drop (1 + length body) (contents files journal_name)
     behind = ap (λ (l : List ℕ). drop 1 l) armed ∙ drop-laid body (contents files journal_name) gate.nonempty

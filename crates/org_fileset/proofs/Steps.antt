@@ -4,7 +4,8 @@ use Rattle.std.specs.Prelude.{slice_get}
 use Rattle.std.specs.Option.{option_map}
 use Rattle.std.proofs.lemmas.List.{take_more, take_all, length-map}
 use Rattle.std.proofs.lemmas.Option.{slice_get_read, slice_get-map, get_or_from_slice_get, slice_get_within}
-use Rattle.org_splice.specs.Patches.{lay_at, lay_each, lay, end_of, last_end, Rise, BeginWithin, Fit, AreWellFormed}
+use Rattle.org_splice.specs.Overwritten.{overwritten}
+use Rattle.org_splice.specs.Patches.{lay_each, lay, end_of, last_end, Rise, BeginWithin, Fit, AreWellFormed}
 use Rattle.org_splice.proofs.Laying.{length-lay_each, last_end-place, length-lay}
 use Rattle.org_journal.specs.declared.record.Patch.{Patch}
 use Rattle.org_journal.specs.Record.{pairs}
@@ -20,11 +21,11 @@ pair_at items patches k patch bytes same within is of =
 
 lay_each-append : (first later : List (ℕ × List ℕ)) (text : List ℕ) → lay_each (first ++ later) text ≡ lay_each later (lay_each first text)
 lay_each-append [] later text = refl
-lay_each-append (patch ∷ first) later text = lay_each-append first later (lay_at patch.0 patch.1 text)
+lay_each-append (patch ∷ first) later text = lay_each-append first later (overwritten patch.0 patch.1 text)
 
 -- one patch more
 pub lay_each-more : (patches : List (ℕ × List ℕ)) (k from : ℕ) (bytes text : List ℕ) → slice_get patches k ≡ Some (from, bytes)
-    → lay_each (take (k + 1) patches) text ≡ lay_at from bytes (lay_each (take k patches) text)
+    → lay_each (take (k + 1) patches) text ≡ overwritten from bytes (lay_each (take k patches) text)
 lay_each-more patches k from bytes text is =
     ap (λ (l : List (ℕ × List ℕ)). lay_each l text)
     (take_more patches k (from, bytes) (slice_get_within patches k (from, bytes) is)

@@ -2,12 +2,13 @@
 use Rattle.std.proofs.Common.{◌≡◌, ◌≢◌, inr, ⊎_elim, ℕ, ◌+◌, ◌-◌, ◌<◌, ◌≤◌, ◌∷◌, List, [], length, drop, refl, sym, ◌∙◌, ap, subst, arith}
 use Rattle.std.specs.Prelude.{IsFalse}
 use Rattle.std.proofs.lemmas.List.{same_lists, get_or-drop, length-drop, get_or_default}
-use Rattle.org_disk.specs.Disk.{FileState, IsImage, IsStable, AreLeftBy, stable, write, sync, laid}
+use Rattle.org_splice.specs.Overwritten.{overwritten}
+use Rattle.org_disk.specs.Disk.{FileState, IsImage, IsStable, AreLeftBy, stable, write, sync}
 use Rattle.org_disk.proofs.Images.{only_image, stable_is, fixed_after_write}
 use Rattle.org_journal.specs.Gate.{front_size, is_open, LeavesBody, LeavesClosed}
 
 -- the gate alone
-pub laid_gate : (gate : ℕ) (text : List ℕ) → laid 0 (gate ∷ []) text ≡ gate ∷ drop 1 text
+pub laid_gate : (gate : ℕ) (text : List ℕ) → overwritten 0 (gate ∷ []) text ≡ gate ∷ drop 1 text
 laid_gate gate [] = refl
 laid_gate gate (x ∷ text) = refl
 

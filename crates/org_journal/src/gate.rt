@@ -1,7 +1,8 @@
 //! The writes of the journal, in the order that lets a stop at any moment leave it whole: while its bytes are written
 //! the gate is closed on the disk, and the gate alone opens and closes it.
 ghost use Rattle.std.specs.Prelude.{◌≤◌, ◌<◌, length, drop, ◌∷◌, OnOk, IsErr, IsTrue, is_some};
-ghost use Rattle.org_disk.specs.Disk.{IsStable, laid};
+ghost use Rattle.org_splice.specs.Overwritten.{overwritten};
+ghost use Rattle.org_disk.specs.Disk.{IsStable};
 ghost use Rattle.org_disk.specs.Accounts.{Accounts, PassesOver};
 ghost use Rattle.org_journal.specs.Reading.{journal_at};
 ghost use Rattle.org_journal.specs.Gate.{front_size, is_open, HasClosedGate, LeavesClosed, LeavesBody, Puts};
@@ -36,7 +37,7 @@ pub fn arm<D: Disk>(disk: &mut D, journal: &FileName, body: &[u8]) -> Result<(),
     ensures any_moment { D.honest disk.new → PassesOver D.moment D.left_since disk.old disk.new
         (LeavesClosed journal.now (D.files disk.old)) }
     ensures puts { D.honest disk.new → Puts journal.now
-        (laid 1 body.now (D.files disk.old journal.now).content)
+        (overwritten 1 body.now (D.files disk.old journal.now).content)
         (D.files disk.old) (D.files disk.new) result }
     ensures accounts { Accounts D.steady D.honest D.failures disk.old disk.new (IsErr result) }
 {

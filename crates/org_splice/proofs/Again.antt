@@ -3,8 +3,10 @@ use Rattle.std.proofs.Common.{◌≡◌, ◌⊎◌, inl, inr, ⊎_elim, ℕ, zer
 use Rattle.std.specs.Prelude.{slice_get}
 use Rattle.std.proofs.lemmas.Bool.{cases_lt}
 use Rattle.std.proofs.lemmas.List.{get_or-drop, get_or-take}
-use Rattle.org_splice.specs.Patches.{lay_at, end_of, last_end, Rise, AreWellFormed, BeginWithin, Fit, LayTo, IsOutside, IsPartlyLaid}
-use Rattle.org_splice.proofs.Laying.{length-lay_at, lay_at-outside, last_end-place, length-lay, lay-outside, lay-same}
+use Rattle.org_splice.specs.Overwritten.{overwritten}
+use Rattle.org_splice.specs.Patches.{end_of, last_end, Rise, AreWellFormed, BeginWithin, Fit, LayTo, IsOutside, IsPartlyLaid}
+use Rattle.org_splice.proofs.Overwritten.{length-overwritten, overwritten-outside}
+use Rattle.org_splice.proofs.Laying.{last_end-place, length-lay, lay-outside, lay-same}
 
 -- Patches that fit a text of one size, and another size
 
@@ -85,15 +87,15 @@ pub LayTo-twice : (patches : List (ℕ × List ℕ)) (final : ℕ) (text to : Li
 LayTo-twice patches final text to formed lays = LayTo-partly patches final text to to formed (IsPartlyLaid-lay patches final text to formed lays) lays
 
 -- one of the patches written, at a place within the text
-pub IsPartlyLaid-lay_at : (patches : List (ℕ × List ℕ)) (final : ℕ) (text part : List ℕ) (k from : ℕ) (bytes : List ℕ) → AreWellFormed patches final → slice_get patches k ≡ Some (from, bytes) → from ≤ length part
-    → IsPartlyLaid patches final text part → IsPartlyLaid patches final text (lay_at from bytes part)
-IsPartlyLaid-lay_at patches final text part k from bytes formed is fits partly =
-    let long = length-lay_at from bytes part fits in
+pub IsPartlyLaid-overwritten : (patches : List (ℕ × List ℕ)) (final : ℕ) (text part : List ℕ) (k from : ℕ) (bytes : List ℕ) → AreWellFormed patches final → slice_get patches k ≡ Some (from, bytes) → from ≤ length part
+    → IsPartlyLaid patches final text part → IsPartlyLaid patches final text (overwritten from bytes part)
+IsPartlyLaid-overwritten patches final text part k from bytes formed is fits partly =
+    let long = length-overwritten from bytes part fits in
     let within : from + length bytes ≤ last_end 0 patches = (inside_all 0 patches k from bytes formed.rise is).1 in
     record {
       no_shorter = omega (arith, long, partly.no_shorter);
       no_longer = omega (arith, long, partly.no_longer, within, formed.within);
-      same = λ i below outside. lay_at-outside from bytes part i fits (outside_one patches k from bytes i is outside) ∙ partly.same i below outside;
+      same = λ i below outside. overwritten-outside from bytes part i fits (outside_one patches k from bytes i is outside) ∙ partly.same i below outside;
     }
 
 -- a cut to the final length

@@ -6,7 +6,7 @@ use Rattle.std.proofs.lemmas.Option.{slice_get-get_or}
 use Rattle.org_splice.specs.declared.Span.{Span}
 use Rattle.org_splice.specs.Ranges.{AreChanged, IsUnchanged, cut_at, own_range, changed_by}
 use Rattle.org_splice.specs.Texts.{EditedText, IsEditOf, spliced}
-use Rattle.org_splice.proofs.Laying.{lay_at-outside}
+use Rattle.org_splice.proofs.Overwritten.{overwritten-outside}
 use Rattle.org_splice.proofs.Apart.{LieApart-cut_at, IsUnchanged-cut_at, length-cut_at, LieApart-with_range, IsUnchanged-with_range, length-with_range}
 
 module _ (at removed added old_size : ℕ) (within : at + removed ≤ old_size) where
@@ -59,7 +59,7 @@ spliced-same at removed bytes text i within (inl before) =
     ∙ get_or_append_left (take at text) bytes 0 i (omega (arith, before, within, length-take at text))
     ∙ get_or-take at text i 0 before
 spliced-same at removed bytes text i within (inr behind) =
-    ap (λ (n : ℕ). get_or (take at text ++ bytes ++ drop (at + n) text) i 0) behind.0 ∙ lay_at-outside at bytes text i (omega (arith, within)) (inr behind.1)
+    ap (λ (n : ℕ). get_or (take at text ++ bytes ++ drop (at + n) text) i 0) behind.0 ∙ overwritten-outside at bytes text i (omega (arith, within)) (inr behind.1)
 
 pub IsEditOf-spliced : (old : List ℕ) (at removed : ℕ) (bytes : List ℕ) (text : EditedText) → at + removed ≤ length text.bytes → AreChanged (length text.bytes) text.changed → IsEditOf old text → IsEditOf old (spliced at removed bytes text)
 IsEditOf-spliced old at removed bytes text within are edit = record {

@@ -1,32 +1,11 @@
 -- Patches laid over texts: what stands where afterwards, and that a text on which a part of the work was done takes
 -- the same patches to the same text.
-use Rattle.std.proofs.Common.{◌≡◌, ◌⊎◌, inl, inr, ⊎_elim, ℕ, ◌+◌, ◌-◌, ◌<◌, ◌≤◌, ◌++◌, max, List, [], ◌∷◌, length, get_or, take, drop, refl, sym, ◌∙◌, ap, arith, length-append, length-drop, length-take}
+use Rattle.std.proofs.Common.{◌≡◌, inl, inr, ⊎_elim, ℕ, ◌<◌, ◌≤◌, max, List, [], ◌∷◌, length, get_or, refl, sym, ◌∙◌, arith, length-take}
 use Rattle.std.proofs.lemmas.Bool.{cases_lt}
-use Rattle.std.proofs.lemmas.List.{get_or-drop, get_or-take, get_or_append_left, get_or-append_right, length-take-le, ext_get_or}
-use Rattle.org_splice.specs.Patches.{lay_at, lay_each, lay, end_of, last_end, Rise, BeginWithin, Fit, IsOutside}
-
--- One patch
-
-pub length-lay_at : (from : ℕ) (bytes text : List ℕ) → from ≤ length text → length (lay_at from bytes text) ≡ max (length text) (from + length bytes)
-length-lay_at from bytes text le =
-    omega (arith, length-append (take from text ++ bytes) (drop (from + length bytes) text), length-append (take from text) bytes, length-drop (from + length bytes) text, length-take-le from text le)
-
--- outside the range nothing changes
-pub lay_at-outside : (from : ℕ) (bytes text : List ℕ) (i : ℕ) → from ≤ length text → (i < from) ⊎ (from + length bytes ≤ i) → get_or (lay_at from bytes text) i 0 ≡ get_or text i 0
-lay_at-outside from bytes text i le (inl before) =
-    get_or_append_left (take from text ++ bytes) (drop (from + length bytes) text) 0 i (omega (arith, before, length-append (take from text) bytes, length-take-le from text le))
-    ∙ get_or_append_left (take from text) bytes 0 i (omega (arith, before, length-take-le from text le))
-    ∙ get_or-take from text i 0 before
-lay_at-outside from bytes text i le (inr after) =
-    get_or-append_right (take from text ++ bytes) (drop (from + length bytes) text) (from + length bytes) i 0 (omega (arith, length-append (take from text) bytes, length-take-le from text le)) after
-    ∙ get_or-drop (from + length bytes) text (i - (from + length bytes)) 0
-    ∙ ap (λ (k : ℕ). get_or text k 0) (omega (arith, after))
-
--- what was laid stands there
-pub lay_at-inside : (from : ℕ) (bytes text : List ℕ) (i : ℕ) → from ≤ length text → from ≤ i → i < from + length bytes → get_or (lay_at from bytes text) i 0 ≡ get_or bytes (i - from) 0
-lay_at-inside from bytes text i le after within =
-    get_or_append_left (take from text ++ bytes) (drop (from + length bytes) text) 0 i (omega (arith, within, length-append (take from text) bytes, length-take-le from text le))
-    ∙ get_or-append_right (take from text) bytes from i 0 (length-take-le from text le) after
+use Rattle.std.proofs.lemmas.List.{get_or-take, ext_get_or}
+use Rattle.org_splice.specs.Overwritten.{overwritten}
+use Rattle.org_splice.specs.Patches.{lay_each, lay, end_of, last_end, Rise, BeginWithin, Fit, IsOutside}
+use Rattle.org_splice.proofs.Overwritten.{length-overwritten, overwritten-outside, overwritten-inside}
 
 -- Patches, one after the other
 
@@ -39,15 +18,15 @@ last_end-place place (patch ∷ patches) rise = omega (arith, rise.0, last_end-p
 pub length-lay_each : (size place : ℕ) (patches : List (ℕ × List ℕ)) (text : List ℕ) → length text ≡ max size place → Rise place patches → BeginWithin size place patches → length (lay_each patches text) ≡ max size (last_end place patches)
 length-lay_each size place [] text long rise begin = long
 length-lay_each size place (patch ∷ patches) text long rise begin =
-    length-lay_each size (end_of patch) patches (lay_at patch.0 patch.1 text) (omega (arith, long, rise.0, begin.0, length-lay_at patch.0 patch.1 text (omega (arith, long, begin.0)))) rise.1 begin.1
+    length-lay_each size (end_of patch) patches (overwritten patch.0 patch.1 text) (omega (arith, long, rise.0, begin.0, length-overwritten patch.0 patch.1 text (omega (arith, long, begin.0)))) rise.1 begin.1
 
 pub lay_each-outside : (size place : ℕ) (patches : List (ℕ × List ℕ)) (text : List ℕ) (i : ℕ) → length text ≡ max size place → Rise place patches → BeginWithin size place patches → IsOutside patches i
     → get_or (lay_each patches text) i 0 ≡ get_or text i 0
 lay_each-outside size place [] text i long rise begin outside = refl
 lay_each-outside size place (patch ∷ patches) text i long rise begin outside =
     let fits : patch.0 ≤ length text = omega (arith, long, begin.0) in
-    lay_each-outside size (end_of patch) patches (lay_at patch.0 patch.1 text) i (omega (arith, long, rise.0, begin.0, length-lay_at patch.0 patch.1 text fits)) rise.1 begin.1 outside.1
-    ∙ lay_at-outside patch.0 patch.1 text i fits outside.0
+    lay_each-outside size (end_of patch) patches (overwritten patch.0 patch.1 text) i (omega (arith, long, rise.0, begin.0, length-overwritten patch.0 patch.1 text fits)) rise.1 begin.1 outside.1
+    ∙ overwritten-outside patch.0 patch.1 text i fits outside.0
 
 -- texts that agree at a place, if it is outside the patches, agree there after the patches
 pub lay_each-same : (size other place : ℕ) (patches : List (ℕ × List ℕ)) (a b : List ℕ) (i : ℕ)
@@ -57,13 +36,13 @@ lay_each-same size other place [] a b i long_a long_b rise begin_a begin_b same 
 lay_each-same size other place (patch ∷ patches) a b i long_a long_b rise begin_a begin_b same =
     let fits_a : patch.0 ≤ length a = omega (arith, long_a, begin_a.0) in
     let fits_b : patch.0 ≤ length b = omega (arith, long_b, begin_b.0) in
-    lay_each-same size other (end_of patch) patches (lay_at patch.0 patch.1 a) (lay_at patch.0 patch.1 b) i
-    (omega (arith, long_a, rise.0, begin_a.0, length-lay_at patch.0 patch.1 a fits_a)) (omega (arith, long_b, rise.0, begin_b.0, length-lay_at patch.0 patch.1 b fits_b)) rise.1 begin_a.1 begin_b.1
+    lay_each-same size other (end_of patch) patches (overwritten patch.0 patch.1 a) (overwritten patch.0 patch.1 b) i
+    (omega (arith, long_a, rise.0, begin_a.0, length-overwritten patch.0 patch.1 a fits_a)) (omega (arith, long_b, rise.0, begin_b.0, length-overwritten patch.0 patch.1 b fits_b)) rise.1 begin_a.1 begin_b.1
     (λ outside. ⊎_elim
-    (λ before. lay_at-outside patch.0 patch.1 a i fits_a (inl before) ∙ same (inl before, outside) ∙ sym (lay_at-outside patch.0 patch.1 b i fits_b (inl before)))
+    (λ before. overwritten-outside patch.0 patch.1 a i fits_a (inl before) ∙ same (inl before, outside) ∙ sym (overwritten-outside patch.0 patch.1 b i fits_b (inl before)))
     (λ behind. ⊎_elim
-    (λ inside. lay_at-inside patch.0 patch.1 a i fits_a behind inside ∙ sym (lay_at-inside patch.0 patch.1 b i fits_b behind inside))
-    (λ after. lay_at-outside patch.0 patch.1 a i fits_a (inr after) ∙ same (inr after, outside) ∙ sym (lay_at-outside patch.0 patch.1 b i fits_b (inr after)))
+    (λ inside. overwritten-inside patch.0 patch.1 a i fits_a behind inside ∙ sym (overwritten-inside patch.0 patch.1 b i fits_b behind inside))
+    (λ after. overwritten-outside patch.0 patch.1 a i fits_a (inr after) ∙ same (inr after, outside) ∙ sym (overwritten-outside patch.0 patch.1 b i fits_b (inr after)))
     (cases_lt i (end_of patch)))
     (cases_lt i patch.0))
 

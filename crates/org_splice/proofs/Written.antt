@@ -6,7 +6,8 @@ use Rattle.std.proofs.lemmas.Bool.{cases_lt}
 use Rattle.std.proofs.lemmas.List.{take-append-drop, drop-drop, length-map, take_all}
 use Rattle.std.proofs.lemmas.Option.{slice_get-get_or, slice_get_within, unwrap_or-slice_get}
 use Rattle.org_splice.specs.declared.Span.{Span}
-use Rattle.org_splice.specs.Patches.{lay_at, lay_each, lay, end_of, last_end, Rise, AreWellFormed, BeginWithin, Fit, LayTo, IsOutside}
+use Rattle.org_splice.specs.Overwritten.{overwritten}
+use Rattle.org_splice.specs.Patches.{lay_each, lay, end_of, last_end, Rise, AreWellFormed, BeginWithin, Fit, LayTo, IsOutside}
 use Rattle.org_splice.specs.Ranges.{AreChanged, LieApart, IsUnchanged}
 use Rattle.org_splice.specs.Texts.{IsEditOf, patch_of, patches_of}
 use Rattle.org_splice.proofs.Laying.{lay-same}
@@ -50,8 +51,8 @@ module _ (bytes : List ℕ) where
 
   -- They change nothing of their own text.
 
-  lay_at-own : (range : Span) → range.start < range.end → range.end ≤ length bytes → lay_at range.start (slice_range bytes range.start range.end) bytes ≡ bytes
-  lay_at-own range full within =
+  overwritten-own : (range : Span) → range.start < range.end → range.end ≤ length bytes → overwritten range.start (slice_range bytes range.start range.end) bytes ≡ bytes
+  overwritten-own range full within =
       ap (λ (n : ℕ). take range.start bytes ++ slice_range bytes range.start range.end ++ drop n bytes) (end_of-patch_of range full within)
       ∙ append_assoc (take range.start bytes) (slice_range bytes range.start range.end) (drop range.end bytes)
       ∙ ap (λ (t : List ℕ). take range.start bytes ++ (slice_range bytes range.start range.end ++ t))
@@ -61,7 +62,7 @@ module _ (bytes : List ℕ) where
 
   lay_each-own : (place : ℕ) (ranges : List Span) → LieApart place (length bytes) ranges → lay_each (map (patch_of bytes) ranges) bytes ≡ bytes
   lay_each-own place [] apart = refl
-  lay_each-own place (range ∷ ranges) apart = ap (lay_each (map (patch_of bytes) ranges)) (lay_at-own range apart.1 apart.2) ∙ lay_each-own (range.end + 1) ranges apart.3
+  lay_each-own place (range ∷ ranges) apart = ap (lay_each (map (patch_of bytes) ranges)) (overwritten-own range apart.1 apart.2) ∙ lay_each-own (range.end + 1) ranges apart.3
 
   begin-own : (place other : ℕ) (ranges : List Span) → LieApart place (length bytes) ranges → BeginWithin (length bytes) other (map (patch_of bytes) ranges)
   begin-own place other [] apart = tt

@@ -1,16 +1,13 @@
 -- Patches: bytes with the places where they stand in a text, laid over it in order. Here a patch is a pair, the byte
 -- position from which on its bytes stand, and the bytes.
-use Rattle.std.specs.Prelude.{◌≡◌, ◌⊎◌, ℕ, ◌+◌, ◌<◌, ◌≤◌, min, max, List, [], ◌∷◌, ◌++◌, length, take, drop, slice_index}
+use Rattle.std.specs.Prelude.{◌≡◌, ◌⊎◌, ℕ, ◌+◌, ◌<◌, ◌≤◌, min, max, List, [], ◌∷◌, length, take, slice_index}
 use Rattle.std.specs.List.{AllByRecursion}
-
--- bytes laid over a text from a place on: what stood there gives way, and the text grows where they reach past its end
-abbrev pub lay_at : ℕ → List ℕ → List ℕ → List ℕ
-lay_at from bytes text = take from text ++ bytes ++ drop (from + length bytes) text
+use Rattle.org_splice.specs.Overwritten.{overwritten}
 
 -- the patches laid over a text, one after the other
 abbrev pub lay_each : List (ℕ × List ℕ) → List ℕ → List ℕ
 lay_each [] text = text
-lay_each (patch ∷ patches) text = lay_each patches (lay_at patch.0 patch.1 text)
+lay_each (patch ∷ patches) text = lay_each patches (overwritten patch.0 patch.1 text)
 
 -- what the patches make of a text: they are laid over it, and `final` bytes are kept
 abbrev pub lay : List (ℕ × List ℕ) → ℕ → List ℕ → List ℕ

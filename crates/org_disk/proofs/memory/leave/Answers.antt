@@ -1,6 +1,7 @@
 use Rattle.std.proofs.Common.{◌≡◌, ◌≤◌, List, ℕ, length, Vec, Option, IfSome, subst, sym, ◌∙◌}
 use Rattle.std.specs.declared.alloc.Global.{Global}
-use Rattle.org_disk.specs.Disk.{IsImage, laid, write}
+use Rattle.org_splice.specs.Overwritten.{overwritten}
+use Rattle.org_disk.specs.Disk.{IsImage, write}
 use Rattle.org_disk.specs.Record.{effect_of}
 use Rattle.org_disk.specs.declared.memory.Effect.{Effect}
 use Rattle.org_disk.proofs.Outcomes.{write_piece, write_none}
@@ -16,7 +17,7 @@ returns-in_ok-lay-in-Write c file same own image =
     let short : length piece ≤ length bytes =
     subst (λ (b : List ℕ). length piece ≤ length b) c.deref-in-Write.ensures.value
     (subst (λ (o : Option (Vec ℕ Global)). IfSome o (λ p. length p.items ≤ length c.deref-in-Write.result.now)) c.in-Some.is c.in_ok-piece-in-Write.ensures) in
-    let made : next ≡ laid from piece left = c.in_ok-lay-in-Write.ensures.ok ∙ (λ j. laid from (c.deref-in-Some.ensures.value j) left) in
+    let made : next ≡ overwritten from piece left = c.in_ok-lay-in-Write.ensures.ok ∙ (λ j. overwritten from (c.deref-in-Some.ensures.value j) left) in
     subst (λ (e : Effect). IsImage (effect_of e file) next) (sym c.in-Write.is)
     (subst (λ (b : List ℕ). IsImage (write from bytes file) b) (sym made)
     (write_piece from bytes file left (subst (λ (b : List ℕ). IsImage file b) (sym same) own) image piece short))

@@ -1,6 +1,7 @@
 use Rattle.std.proofs.Common.{rules, ◌≡◌, ◌≢◌, inl, inr, ◌∷◌, ℕ, List, drop, Ok, IsErr, sym, ◌∙◌, subst}
 use Rattle.std.proofs.lemmas.Result.{on_ok_weaker}
-use Rattle.org_disk.specs.Disk.{IsStable, laid}
+use Rattle.org_splice.specs.Overwritten.{overwritten}
+use Rattle.org_disk.specs.Disk.{IsStable}
 use Rattle.org_disk.proofs.Moments.{passes_as, passes_then}
 use Rattle.org_journal.specs.Gate.{LeavesClosed, LeavesBody, Puts}
 use Rattle.org_journal.specs.Standing.{contents, replayed}
@@ -41,7 +42,7 @@ returns-in_err-open_gate-clause-commits g c ended =
     let armed = λ (rest : IsAtRest files). passes_as (c.arm.ensures.any_moment h1) (λ image left.
     while_arming entries files layable gate fit c.args.body.now c.requires.body c.requires.long rest image (subst (λ (n : List ℕ). LeavesClosed n files image) name_is left)) in
     let mid = g.D.Disk.files c.arm.new.disk in
-    let put = subst (λ (n : List ℕ). Puts n (laid 1 c.args.body.now (files n).content) files mid (Ok tt)) name_is (c.in_ok-arm.ensures.puts h1) in
+    let put = subst (λ (n : List ℕ). Puts n (overwritten 1 c.args.body.now (files n).content) files mid (Ok tt)) name_is (c.in_ok-arm.ensures.puts h1) in
     let opening = λ (rest : IsAtRest files). passes_then (armed rest) (c.open_gate.ensures.any_moment ended) (λ image left.
     while_opening entries files layable gate fit c.args.body.now c.requires.body c.requires.long mid put.is put.others rest image (subst (λ (n : List ℕ). LeavesBody n mid image) name_is left)) in
     let last = g.D.Disk.files c.open_gate.new.disk in
@@ -61,7 +62,7 @@ replay-requires-clause-opened g c ended =
     let mid = g.D.Disk.files c.arm.new.disk in
     let last = g.D.Disk.files c.open_gate.new.disk in
     let name_is = c.requires.journal in
-    let put = subst (λ (n : List ℕ). Puts n (laid 1 c.args.body.now (files n).content) files mid (Ok tt)) name_is (c.in_ok-arm.ensures.puts h1) in
+    let put = subst (λ (n : List ℕ). Puts n (overwritten 1 c.args.body.now (files n).content) files mid (Ok tt)) name_is (c.in_ok-arm.ensures.puts h1) in
     let opened = subst (λ (n : List ℕ). Puts n (1 ∷ drop 1 (mid n).content) mid last (Ok tt)) name_is (c.in_ok-open_gate.ensures.puts ended) in
     opened_over c.args.entries.now files (c.requires.layable honest) (c.requires.gate honest) (c.requires.fits honest) c.args.body.now c.requires.body c.requires.long
     mid put.is put.others last opened.stable opened.is
@@ -74,7 +75,7 @@ replay-requires-clause-fits g c ended =
     let mid = g.D.Disk.files c.arm.new.disk in
     let last = g.D.Disk.files c.open_gate.new.disk in
     let name_is = c.requires.journal in
-    let put = subst (λ (n : List ℕ). Puts n (laid 1 c.args.body.now (files n).content) files mid (Ok tt)) name_is (c.in_ok-arm.ensures.puts h1) in
+    let put = subst (λ (n : List ℕ). Puts n (overwritten 1 c.args.body.now (files n).content) files mid (Ok tt)) name_is (c.in_ok-arm.ensures.puts h1) in
     let opened = subst (λ (n : List ℕ). Puts n (1 ∷ drop 1 (mid n).content) mid last (Ok tt)) name_is (c.in_ok-open_gate.ensures.puts ended) in
     opened_fits c.args.entries.now files (c.requires.layable honest) (c.requires.gate honest) (c.requires.fits honest) c.args.body.now c.requires.body c.requires.long
     mid put.is put.others last opened.others
@@ -96,7 +97,7 @@ returns-clause-commits g c ended =
     let armed = λ (rest : IsAtRest files). passes_as (c.arm.ensures.any_moment h1) (λ image left.
     while_arming entries files layable gate fit c.args.body.now c.requires.body c.requires.long rest image (subst (λ (n : List ℕ). LeavesClosed n files image) name_is left)) in
     let mid = g.D.Disk.files c.arm.new.disk in
-    let put = subst (λ (n : List ℕ). Puts n (laid 1 c.args.body.now (files n).content) files mid (Ok tt)) name_is (c.in_ok-arm.ensures.puts h1) in
+    let put = subst (λ (n : List ℕ). Puts n (overwritten 1 c.args.body.now (files n).content) files mid (Ok tt)) name_is (c.in_ok-arm.ensures.puts h1) in
     let opening = λ (rest : IsAtRest files). passes_then (armed rest) (c.open_gate.ensures.any_moment h2) (λ image left.
     while_opening entries files layable gate fit c.args.body.now c.requires.body c.requires.long mid put.is put.others rest image (subst (λ (n : List ℕ). LeavesBody n mid image) name_is left)) in
     let last = g.D.Disk.files c.open_gate.new.disk in
