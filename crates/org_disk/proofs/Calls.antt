@@ -181,7 +181,7 @@ module _ (name : List ℕ) (calls later : List Call) where
 -- A call that failed without effect.
 pub no_effect : (name : List ℕ) (old new : MemoryDisk) (r : Result (Unit {0}) DiskFault) → OnErr r (IsTried name Nothing old.calls.items new.calls.items) → OnErr r (HasNoEffect old new)
 no_effect name old new (Ok tt) tried = tt
-no_effect name old new (Err fault) tried = record { files = files_tried name old.calls.items new.calls.items tried; images = reads_tried name old.calls.items new.calls.items tried }
+no_effect name old new (Err fault) tried = record { same = files_tried name old.calls.items new.calls.items tried; time = reads_tried name old.calls.items new.calls.items tried }
 
 -- The contents that are kept, after a call that was recorded.
 pub nothing_kept : (o : Option (Vec ℕ Global)) → IsNone o → option_map_or (λ content. content.items) o [] ≡ []

@@ -1,6 +1,8 @@
 -- A disk in memory, as callers see it.
-use Rattle.std.specs.Prelude.{◌≡◌, ℕ, ◌-◌, ◌==◌, List, length, Bool, true, false, ◌||◌, if◌then◌else◌, IsTrue, count_by}
-use Rattle.org_disk.specs.Disk.{FileState, IsImage, AreImages, Passes}
+use Rattle.std.specs.Prelude.{◌≡◌, ℕ, ◌-◌, ◌==◌, List, length, Bool, true, false, ◌||◌, if◌then◌else◌, IsTrue, IsFalse, Result, IsErr, OnOk, OnErr, count_by}
+use Rattle.org_disk.specs.Accounts.{Looks}
+use Rattle.org_disk.specs.Disk.{FileState, IsCounted, IsImage}
+use Rattle.org_disk.specs.declared.disk.DiskFault.{DiskFault}
 use Rattle.org_disk.specs.Record.{files_after, is_call, LeftSince}
 use Rattle.org_disk.specs.declared.memory.MemoryDisk.{MemoryDisk}
 use Rattle.org_disk.specs.declared.memory.Outcome.{Outcome}
@@ -11,6 +13,18 @@ use Rattle.org_disk.specs.declared.memory.Stop.TheVariants.{Never, In, Came}
 -- the files of a disk in memory
 abbrev pub memory_files : MemoryDisk → List ℕ → FileState
 memory_files disk = files_after disk.calls.items
+
+-- its clock: how many calls it was given, `set` among them
+abbrev pub memory_moment : MemoryDisk → ℕ
+memory_moment disk = length disk.calls.items
+
+-- what a stop might have left of it since a moment
+abbrev pub memory_left_since : MemoryDisk → ℕ → (List ℕ → List ℕ) → Type 0
+memory_left_since disk = LeftSince disk.calls.items
+
+-- a call without effect: each file is as it was, and a stop within the call leaves an image from before it
+abbrev pub HasNoEffect : MemoryDisk → MemoryDisk → Type 0
+HasNoEffect old new = Looks memory_files memory_moment memory_left_since old new
 
 -- how many calls of `Disk` are in the record
 abbrev pub call_count : MemoryDisk → ℕ
@@ -46,11 +60,6 @@ stops_within Never = false
 stops_within (In k outcome) = k == 1
 stops_within (Came outcome) = false
 
--- a call without effect: each file is as it was, and a stop within the call leaves an image from before it
-pub record HasNoEffect (old new : MemoryDisk) : Type 0 where
-  pub files : memory_files new ≡ memory_files old
-  pub images : Passes (length old.calls.items) (length new.calls.items) (LeftSince old.calls.items) (LeftSince new.calls.items) (AreImages (memory_files old))
-
 abbrev pub stop_after_call : Stop → Stop
 stop_after_call Never = Never
 stop_after_call (In k outcome) = if k == 1 then Came outcome else In (k - 1) outcome
@@ -70,3 +79,12 @@ pub record CountsDown (old new : MemoryDisk) : Type 0 where
 pub record KeepsPlan (old new : MemoryDisk) : Type 0 where
   pub fail_in : new.fail_in ≡ old.fail_in
   pub stop : new.stop ≡ old.stop
+
+-- A call begins and ends: what is due to fail does, both numbers are counted down, and a call that failed is counted.
+pub record TakesTurn {A : Type 0} (old new : MemoryDisk) (result : Result A DiskFault) : Type 0 where
+  pub due : IsTrue (is_due old) → IsErr result
+  -- a call that fails and wasn't to is none of the record
+  pub unasked : IsFalse (is_due old) → OnErr result (new.calls.items ≡ old.calls.items)
+  pub counts : CountsDown old new
+  pub kept : OnOk result (new.failures ≡ old.failures)
+  pub counted : OnErr result (IsCounted old.failures new.failures)

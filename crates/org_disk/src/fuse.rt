@@ -57,7 +57,7 @@ impl<D: Disk> Disk for Fuse<D> {
     ghost use Rattle.std.specs.Prelude.{◌<◌, ◌≤◌, length, take, drop, IfOk};
     ghost use Rattle.org_disk.specs.Disk.{AreLeftBy, Changes, cut, sync, write};
     ghost use Rattle.org_disk.specs.Accounts.{AccountsOfCall, Looks, PassesOver};
-    ghost use Rattle.org_disk.specs.Fuse.{fuse_failures};
+    ghost use Rattle.org_disk.specs.Fuse.{fuse_failures, Burns};
 
     ghost honest = { λ fuse. D.honest fuse.disk };
 
@@ -84,9 +84,7 @@ impl<D: Disk> Disk for Fuse<D> {
             Looks D.files D.moment D.left_since self.old.disk self.new.disk }
         ensures accounts { AccountsOfCall D.steady (λ fuse. D.honest fuse.disk)
             (λ fuse. fuse_failures fuse.failures (D.failures fuse.disk)) self.old self.new result }
-        ensures spent { self.new.passes ≡ self.old.passes - 1 }
-        ensures blown { self.old.passes ≡ 0 → IsErr result × (self.new.disk ≡ self.old.disk) }
-        ensures passed { 0 < self.old.passes → self.new.failures ≡ self.old.failures }
+        ensures burns { Burns self.old self.new result }
     {
         self.burn()?;
         self.disk.length(name)
@@ -101,9 +99,7 @@ impl<D: Disk> Disk for Fuse<D> {
             Looks D.files D.moment D.left_since self.old.disk self.new.disk }
         ensures accounts { AccountsOfCall D.steady (λ fuse. D.honest fuse.disk)
             (λ fuse. fuse_failures fuse.failures (D.failures fuse.disk)) self.old self.new result }
-        ensures spent { self.new.passes ≡ self.old.passes - 1 }
-        ensures blown { self.old.passes ≡ 0 → IsErr result × (self.new.disk ≡ self.old.disk) }
-        ensures passed { 0 < self.old.passes → self.new.failures ≡ self.old.failures }
+        ensures burns { Burns self.old self.new result }
     {
         self.burn()?;
         self.disk.read_at(name, from, into)
@@ -121,9 +117,7 @@ impl<D: Disk> Disk for Fuse<D> {
             (AreLeftBy (write from bytes.now) name.now (D.files self.old.disk)) }
         ensures accounts { AccountsOfCall D.steady (λ fuse. D.honest fuse.disk)
             (λ fuse. fuse_failures fuse.failures (D.failures fuse.disk)) self.old self.new result }
-        ensures spent { self.new.passes ≡ self.old.passes - 1 }
-        ensures blown { self.old.passes ≡ 0 → IsErr result × (self.new.disk ≡ self.old.disk) }
-        ensures passed { 0 < self.old.passes → self.new.failures ≡ self.old.failures }
+        ensures burns { Burns self.old self.new result }
     {
         self.burn()?;
         self.disk.write_at(name, from, bytes)
@@ -138,9 +132,7 @@ impl<D: Disk> Disk for Fuse<D> {
             (AreLeftBy (cut to) name.now (D.files self.old.disk)) }
         ensures accounts { AccountsOfCall D.steady (λ fuse. D.honest fuse.disk)
             (λ fuse. fuse_failures fuse.failures (D.failures fuse.disk)) self.old self.new result }
-        ensures spent { self.new.passes ≡ self.old.passes - 1 }
-        ensures blown { self.old.passes ≡ 0 → IsErr result × (self.new.disk ≡ self.old.disk) }
-        ensures passed { 0 < self.old.passes → self.new.failures ≡ self.old.failures }
+        ensures burns { Burns self.old self.new result }
     {
         self.burn()?;
         self.disk.cut(name, to)
@@ -154,9 +146,7 @@ impl<D: Disk> Disk for Fuse<D> {
             (AreLeftBy sync name.now (D.files self.old.disk)) }
         ensures accounts { AccountsOfCall D.steady (λ fuse. D.honest fuse.disk)
             (λ fuse. fuse_failures fuse.failures (D.failures fuse.disk)) self.old self.new result }
-        ensures spent { self.new.passes ≡ self.old.passes - 1 }
-        ensures blown { self.old.passes ≡ 0 → IsErr result × (self.new.disk ≡ self.old.disk) }
-        ensures passed { 0 < self.old.passes → self.new.failures ≡ self.old.failures }
+        ensures burns { Burns self.old self.new result }
     {
         self.burn()?;
         self.disk.sync(name)

@@ -185,10 +185,10 @@ fn is_call(call: &Call) -> bool
 }
 
 impl MemoryDisk {
-    ghost use Rattle.std.specs.Prelude.{◌≡◌, ◌≢◌, ◌+◌, [], ◌∷◌, ◌++◌, false, length, IsTrue, IsFalse, IsErr, IfOk, OnOk, OnErr};
-    ghost use Rattle.org_disk.specs.Disk.{AreImages, IsCounted, IsImage, Passes};
-    ghost use Rattle.org_disk.specs.Record.{IsTried, LeftSince};
-    ghost use Rattle.org_disk.specs.Memory.{call_count, is_due, leaves_all, memory_files, stops_within, CountsDown, KeepsPlan};
+    ghost use Rattle.std.specs.Prelude.{◌≡◌, ◌≢◌, ◌+◌, [], ◌∷◌, ◌++◌, false, IsTrue, IsFalse, IfOk, OnOk, OnErr};
+    ghost use Rattle.org_disk.specs.Disk.{IsCounted, IsImage};
+    ghost use Rattle.org_disk.specs.Record.{IsTried};
+    ghost use Rattle.org_disk.specs.Memory.{call_count, is_due, leaves_all, memory_files, stops_within, CountsDown, HasNoEffect, KeepsPlan, TakesTurn};
 
     // What a file holds.
     fn content(&self, name: &FileName) -> &[u8]
@@ -258,12 +258,7 @@ impl MemoryDisk {
         ensures sync { effect ≡ Effect.Sync →
             OnErr result (IsTried name.now Effect.Nothing self.old.calls.items
             self.new.calls.items) }
-        ensures count_ok { OnOk result (self.new.failures ≡ self.old.failures) }
-        ensures count_err { OnErr result (IsCounted self.old.failures self.new.failures) }
-        ensures due { IsTrue (is_due self.old) → IsErr result }
-        ensures unasked { IsFalse (is_due self.old) →
-            OnErr result (self.new.calls.items ≡ self.old.calls.items) }
-        ensures counts { CountsDown self.old self.new }
+        ensures turn { TakesTurn self.old self.new result }
     {
         match self.turn() {
             Turn::Made => match self.record(name, effect, false) {
@@ -283,18 +278,10 @@ impl MemoryDisk {
 
     // A call that changes nothing.
     fn look(&mut self, name: &FileName) -> Result<(), DiskFault>
-        ensures same { memory_files self.new ≡ memory_files self.old }
+        ensures looks { HasNoEffect self.old self.new }
         ensures content { (memory_files self.new name.now).content ≡
             (memory_files self.old name.now).content }
-        ensures time { Passes (length self.old.calls.items) (length self.new.calls.items)
-            (LeftSince self.old.calls.items) (LeftSince self.new.calls.items)
-            (AreImages (memory_files self.old)) }
-        ensures count_ok { OnOk result (self.new.failures ≡ self.old.failures) }
-        ensures count_err { OnErr result (IsCounted self.old.failures self.new.failures) }
-        ensures due { IsTrue (is_due self.old) → IsErr result }
-        ensures unasked { IsFalse (is_due self.old) →
-            OnErr result (self.new.calls.items ≡ self.old.calls.items) }
-        ensures counts { CountsDown self.old self.new }
+        ensures turn { TakesTurn self.old self.new result }
         ensures recorded { OnOk result (call_count self.new ≡ call_count self.old + 1) }
     {
         self.call(name, Effect::Nothing)
@@ -321,10 +308,10 @@ impl MemoryDisk {
 }
 
 impl Disk for MemoryDisk {
-    ghost use Rattle.std.specs.Prelude.{◌≡◌, ◌+◌, ◌^◌, ◌<◌, ◌≤◌, length, take, drop, IfOk, IsTrue, IsFalse, IsErr, OnOk, OnErr};
-    ghost use Rattle.org_disk.specs.Disk.{AreImages, AreLeftBy, Changes, IsCounted, Passes, cut, sync, write};
-    ghost use Rattle.org_disk.specs.Memory.{call_count, is_due, memory_files, stops_within, CountsDown, HasNoEffect};
-    ghost use Rattle.org_disk.specs.Record.{LeftSince};
+    ghost use Rattle.std.specs.Prelude.{◌≡◌, ◌+◌, ◌^◌, ◌<◌, ◌≤◌, length, take, drop, IfOk, IsFalse, OnOk, OnErr};
+    ghost use Rattle.org_disk.specs.Disk.{AreLeftBy, Changes, cut, sync, write};
+    ghost use Rattle.org_disk.specs.Accounts.{PassesOver};
+    ghost use Rattle.org_disk.specs.Memory.{call_count, memory_files, memory_left_since, memory_moment, stops_within, HasNoEffect, TakesTurn};
     ghost use Rattle.org_disk.specs.RecordLaws.{own_image, now_counts, now_alone};
 
     ghost honest = { λ _. Unit {0} };
@@ -333,9 +320,9 @@ impl Disk for MemoryDisk {
 
     ghost files = { memory_files };
 
-    ghost moment = { λ disk. length disk.calls.items };
+    ghost moment = { memory_moment };
 
-    ghost left_since = { λ disk. LeftSince disk.calls.items };
+    ghost left_since = { memory_left_since };
 
     ghost failures = { λ disk. disk.failures };
 
@@ -347,16 +334,8 @@ impl Disk for MemoryDisk {
 
     fn length(&mut self, name: &FileName) -> Result<u64, DiskFault>
         ensures value { IfOk result (λ n. n ≡ length (memory_files self.old name.now).content) }
-        ensures same { memory_files self.new ≡ memory_files self.old }
-        ensures time { Passes (length self.old.calls.items) (length self.new.calls.items)
-            (LeftSince self.old.calls.items) (LeftSince self.new.calls.items)
-            (AreImages (memory_files self.old)) }
-        ensures count_ok { OnOk result (self.new.failures ≡ self.old.failures) }
-        ensures count_err { OnErr result (IsCounted self.old.failures self.new.failures) }
-        ensures due { IsTrue (is_due self.old) → IsErr result }
-        ensures unasked { IsFalse (is_due self.old) →
-            OnErr result (self.new.calls.items ≡ self.old.calls.items) }
-        ensures counts { CountsDown self.old self.new }
+        ensures looks { HasNoEffect self.old self.new }
+        ensures turn { TakesTurn self.old self.new result }
         ensures recorded { OnOk result (call_count self.new ≡ call_count self.old + 1) }
     {
         self.look(name)?;
@@ -367,16 +346,8 @@ impl Disk for MemoryDisk {
         requires { from + length into.old ≤ length (memory_files self.old name.now).content }
         ensures bytes { OnOk result (into.new ≡
             take (length into.old) (drop from (memory_files self.old name.now).content)) }
-        ensures same { memory_files self.new ≡ memory_files self.old }
-        ensures time { Passes (length self.old.calls.items) (length self.new.calls.items)
-            (LeftSince self.old.calls.items) (LeftSince self.new.calls.items)
-            (AreImages (memory_files self.old)) }
-        ensures count_ok { OnOk result (self.new.failures ≡ self.old.failures) }
-        ensures count_err { OnErr result (IsCounted self.old.failures self.new.failures) }
-        ensures due { IsTrue (is_due self.old) → IsErr result }
-        ensures unasked { IsFalse (is_due self.old) →
-            OnErr result (self.new.calls.items ≡ self.old.calls.items) }
-        ensures counts { CountsDown self.old self.new }
+        ensures looks { HasNoEffect self.old self.new }
+        ensures turn { TakesTurn self.old self.new result }
         ensures recorded { OnOk result (call_count self.new ≡ call_count self.old + 1) }
     {
         self.look(name)?;
@@ -390,17 +361,11 @@ impl Disk for MemoryDisk {
         requires fits { from + length bytes.now < 2 ^ 64 }
         ensures effect { Changes (write from bytes.now) name.now
             (memory_files self.old) (memory_files self.new) result }
-        ensures time { Passes (length self.old.calls.items) (length self.new.calls.items)
-            (LeftSince self.old.calls.items) (LeftSince self.new.calls.items)
+        ensures time { PassesOver memory_moment memory_left_since self.old self.new
             (AreLeftBy (write from bytes.now) name.now (memory_files self.old)) }
-        ensures count_ok { OnOk result (self.new.failures ≡ self.old.failures) }
-        ensures count_err { OnErr result (IsCounted self.old.failures self.new.failures) }
         ensures no_effect { IsFalse (stops_within self.old.stop) →
             OnErr result (HasNoEffect self.old self.new) }
-        ensures due { IsTrue (is_due self.old) → IsErr result }
-        ensures unasked { IsFalse (is_due self.old) →
-            OnErr result (self.new.calls.items ≡ self.old.calls.items) }
-        ensures counts { CountsDown self.old self.new }
+        ensures turn { TakesTurn self.old self.new result }
         ensures recorded { OnOk result (call_count self.new ≡ call_count self.old + 1) }
     {
         match bytes.to_vec(self.alloc) {
@@ -416,17 +381,11 @@ impl Disk for MemoryDisk {
         requires { to ≤ length (memory_files self.old name.now).content }
         ensures effect { Changes (cut to) name.now
             (memory_files self.old) (memory_files self.new) result }
-        ensures time { Passes (length self.old.calls.items) (length self.new.calls.items)
-            (LeftSince self.old.calls.items) (LeftSince self.new.calls.items)
+        ensures time { PassesOver memory_moment memory_left_since self.old self.new
             (AreLeftBy (cut to) name.now (memory_files self.old)) }
-        ensures count_ok { OnOk result (self.new.failures ≡ self.old.failures) }
-        ensures count_err { OnErr result (IsCounted self.old.failures self.new.failures) }
         ensures no_effect { IsFalse (stops_within self.old.stop) →
             OnErr result (HasNoEffect self.old self.new) }
-        ensures due { IsTrue (is_due self.old) → IsErr result }
-        ensures unasked { IsFalse (is_due self.old) →
-            OnErr result (self.new.calls.items ≡ self.old.calls.items) }
-        ensures counts { CountsDown self.old self.new }
+        ensures turn { TakesTurn self.old self.new result }
         ensures recorded { OnOk result (call_count self.new ≡ call_count self.old + 1) }
     {
         self.call(name, Effect::Cut(to))
@@ -435,16 +394,10 @@ impl Disk for MemoryDisk {
     fn sync(&mut self, name: &FileName) -> Result<(), DiskFault>
         ensures effect { Changes sync name.now (memory_files self.old) (memory_files self.new)
             result }
-        ensures time { Passes (length self.old.calls.items) (length self.new.calls.items)
-            (LeftSince self.old.calls.items) (LeftSince self.new.calls.items)
+        ensures time { PassesOver memory_moment memory_left_since self.old self.new
             (AreLeftBy sync name.now (memory_files self.old)) }
-        ensures count_ok { OnOk result (self.new.failures ≡ self.old.failures) }
-        ensures count_err { OnErr result (IsCounted self.old.failures self.new.failures) }
         ensures no_effect { OnErr result (HasNoEffect self.old self.new) }
-        ensures due { IsTrue (is_due self.old) → IsErr result }
-        ensures unasked { IsFalse (is_due self.old) →
-            OnErr result (self.new.calls.items ≡ self.old.calls.items) }
-        ensures counts { CountsDown self.old self.new }
+        ensures turn { TakesTurn self.old self.new result }
         ensures recorded { OnOk result (call_count self.new ≡ call_count self.old + 1) }
     {
         self.call(name, Effect::Sync)

@@ -4,11 +4,11 @@ use Rattle.org_disk.specs.declared.memory.Effect.TheVariants.{Nothing}
 use Rattle.org_disk.proofs.Calls.{count_made, files_read, passes_read}
 use Rattle.org_disk.proofs.memory.MemoryDisk.look.Goals as goal
 
-pub returns-clause-same : goal.returns-clause-same
-returns-clause-same c = files_read c.args.name.now c.args.self.now.calls.items c.call.new.self.calls.items c.call.result c.call.ensures.ok c.call.ensures.err
-
-pub returns-clause-time : goal.returns-clause-time
-returns-clause-time c = passes_read c.args.name.now c.args.self.now.calls.items c.call.new.self.calls.items c.call.result c.call.ensures.ok c.call.ensures.err
+pub returns-clause-looks : goal.returns-clause-looks
+returns-clause-looks c = record {
+  same = files_read c.args.name.now c.args.self.now.calls.items c.call.new.self.calls.items c.call.result c.call.ensures.ok c.call.ensures.err;
+  time = passes_read c.args.name.now c.args.self.now.calls.items c.call.new.self.calls.items c.call.result c.call.ensures.ok c.call.ensures.err;
+}
 
 pub returns-clause-content : goal.returns-clause-content
 returns-clause-content c = ap (λ (files : List ℕ → FileState). (files c.args.name.now).content)
