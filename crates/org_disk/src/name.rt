@@ -154,7 +154,12 @@ fn is_name_byte(byte: u8) -> bool
 impl Clone for FileName {
     ghost is_clone = { λ name copy. copy ≡ name };
 
-    fn clone(&self) -> Result<FileName, AllocError> {
+    /// The same name, in memory of its own.
+    fn clone(&self) -> Result<FileName, AllocError>
+        ensures cases { IfOk result (λ copy. copy ≡ self.now) }
+        ensures utf8 { IsUtf8 self.now }
+        ensures valid { IsDiskName self.now }
+    {
         let text = self.text.clone()?;
         Ok(FileName { text })
     }
