@@ -17,7 +17,7 @@ use Rattle.org_disk.proofs.Moments.{passes_none, passes_as, leaves_only}
 use Rattle.org_disk.specs.Names.{journal_name}
 use Rattle.org_splice.specs.Texts.{EditedText, IsEditOf}
 use Rattle.org_journal.specs.declared.record.Entry.{Entry}
-use Rattle.org_journal.specs.declared.record.Patch.{Patch}
+use Rattle.org_splice.specs.declared.patch.Patch.{Patch}
 use Rattle.org_journal.specs.declared.record.Version.TheVariants.{Two}
 use Rattle.org_journal.specs.Record.{IsEntry, IsWellFormed, greatest_length, most_entries}
 use Rattle.org_journal.specs.Standing.{Image, contents, replayed}

@@ -10,13 +10,13 @@ use Rattle.org_disk.specs.declared.disk.DiskFault.{DiskFault}
 use Rattle.org_disk.proofs.Images.{only_image, stable_is, left_after}
 use Rattle.org_disk.proofs.Names.{name_cases}
 use Rattle.org_splice.specs.Patches.{AreWellFormed, Fit, LayTo, IsPartlyLaid, lay}
-use Rattle.org_splice.specs.Texts.{EditedText}
+use Rattle.org_splice.specs.Texts.{EditedText, pairs_of}
 use Rattle.org_splice.proofs.Again.{LayTo-twice, LayTo-partly}
 use Rattle.org_journal.specs.declared.record.Entry.{Entry}
-use Rattle.org_journal.specs.declared.record.Patch.{Patch}
+use Rattle.org_splice.specs.declared.patch.Patch.{Patch}
 use Rattle.org_journal.specs.Gate.{is_open}
 use Rattle.org_journal.specs.Reading.{journal_at}
-use Rattle.org_journal.specs.Record.{pairs, is_named}
+use Rattle.org_journal.specs.Record.{is_named}
 use Rattle.org_journal.specs.Standing.{Image, SameFiles, StandsFor, all_fit, stands, contents}
 use Rattle.org_fileset.specs.Entries.{changed}
 use Rattle.org_fileset.specs.Replay.{EachLaysTo, TakesTo, AreLayable, EachTakes, IsOpenOver}
@@ -65,14 +65,14 @@ module _ (entries : List Entry) (texts : Image) (files : List ℕ → FileState)
   takes = subst (λ (t : Image). EachTakes entries t files) is.same_texts (armed_takes files own entries layable over fit is.armed)
 
   -- of its file the entry makes one text, whatever a stop leaves of it
-  pub here : EachLaysTo (pairs entry.patches) entry.length (texts entry.name) (files entry.name)
+  pub here : EachLaysTo (pairs_of entry.patches) entry.length (texts entry.name) (files entry.name)
   here = entry_takes entries texts files member.0 entry layable at takes
 
-  pub formed_here : AreWellFormed (pairs entry.patches) entry.length
+  pub formed_here : AreWellFormed (pairs_of entry.patches) entry.length
   formed_here = (layable_at entries member.0 entry layable.each at).patches
 
   -- a call that keeps it so
-  module _ (effect : FileState → FileState) (after : EachLaysTo (pairs entry.patches) entry.length (texts entry.name) (effect (files entry.name))) where
+  module _ (effect : FileState → FileState) (after : EachLaysTo (pairs_of entry.patches) entry.length (texts entry.name) (effect (files entry.name))) where
     apart : entry.name ≢ journal_name
     apart = not_journal entries member.0 entry layable at
 
@@ -112,7 +112,7 @@ pub keeps_write : (entries : List Entry) (texts : Image) (files : List ℕ → F
     → Contains entries entry → Contains entry.patches patch → patch.from ≤ length (contents files entry.name) → KeepsTexts (write patch.from patch.bytes) entry.name entries texts files
 keeps_write entries texts files entry patch is own member among within =
     let pair : Patch → ℕ × List ℕ = λ p. (p.from, p.bytes) in
-    let found : slice_get (pairs entry.patches) among.0 ≡ Some (patch.from, patch.bytes) =
+    let found : slice_get (pairs_of entry.patches) among.0 ≡ Some (patch.from, patch.bytes) =
     slice_get-map pair entry.patches among.0 ∙ ap (λ (o : Option Patch). option_map pair o) (slice_get_read entry.patches (length entry.patches) among.0 patch refl among.1 (sym among.2)) in
     keeps entries texts files is own entry member (write patch.from patch.bytes)
     (takes_write (files entry.name) among.0 patch.from patch.bytes (formed_here entries texts files is own entry member) found within (own entry.name) (here entries texts files is own entry member))
@@ -128,7 +128,7 @@ pub keeps_sync : (entries : List Entry) (texts : Image) (files : List ℕ → Fi
 keeps_sync entries texts files entry is own member =
     let now = here entries texts files is own entry member in
     keeps entries texts files is own entry member sync
-    (λ text image. subst (λ (t : List ℕ). LayTo (pairs entry.patches) entry.length t (texts entry.name)) (sym (only_image (stable_is (files entry.name).content) text image))
+    (λ text image. subst (λ (t : List ℕ). LayTo (pairs_of entry.patches) entry.length t (texts entry.name)) (sym (only_image (stable_is (files entry.name).content) text image))
     (now (files entry.name).content (own entry.name)))
 
 -- Each file by itself

@@ -9,10 +9,10 @@ use Rattle.std.proofs.lemmas.Map.Keys.{IsDistinct-tail, IsDistinct-head}
 use Rattle.org_disk.specs.Names.{is_file_name, journal_name}
 use Rattle.org_disk.proofs.Names.{name_cases, same_name}
 use Rattle.org_splice.specs.Patches.{LayTo, lay}
-use Rattle.org_splice.specs.Texts.{EditedText, IsEditOf}
+use Rattle.org_splice.specs.Texts.{EditedText, IsEditOf, pairs_of}
 use Rattle.org_journal.specs.declared.record.Entry.{Entry}
 use Rattle.org_journal.specs.declared.record.Version.TheVariants.{Two}
-use Rattle.org_journal.specs.Record.{pairs, is_named, names_differ, greatest_length}
+use Rattle.org_journal.specs.Record.{is_named, names_differ, greatest_length}
 use Rattle.org_journal.specs.Standing.{Image, fits, all_fit, replayed}
 use Rattle.org_fileset.specs.Entries.{IsEntryOf, AreEntriesOf, changed}
 use Rattle.org_fileset.specs.Replay.{IsLayable, AreLayable}
@@ -71,10 +71,10 @@ changes_layable changes entries are distinct can = record { each = each_layable 
 pub changes_fit : (changes : List Change) (entries : List Entry) (files : Image) → AreEntriesOf changes entries → AllByRecursion (λ (change : Change). IsEditOf (files change.0) change.1) changes → all_fit entries files ≡ true
 changes_fit [] [] files are edits = refl
 changes_fit (change ∷ changes) (entry ∷ entries) files are edits =
-    let lays : LayTo (pairs entry.patches) entry.length (files entry.name) change.1.bytes =
-    subst (λ (n : List ℕ). LayTo (pairs entry.patches) entry.length (files n) change.1.bytes) (sym are.0.name) (are.0.laid (files change.0) edits.0) in
-    and_from (fits (pairs entry.patches) entry.length (length (files entry.name))) (all_fit entries files)
-    (fits-true (pairs entry.patches) entry.length (length (files entry.name)) lays.fit) (changes_fit changes entries files are.1 edits.1)
+    let lays : LayTo (pairs_of entry.patches) entry.length (files entry.name) change.1.bytes =
+    subst (λ (n : List ℕ). LayTo (pairs_of entry.patches) entry.length (files n) change.1.bytes) (sym are.0.name) (are.0.laid (files change.0) edits.0) in
+    and_from (fits (pairs_of entry.patches) entry.length (length (files entry.name))) (all_fit entries files)
+    (fits-true (pairs_of entry.patches) entry.length (length (files entry.name)) lays.fit) (changes_fit changes entries files are.1 edits.1)
 changes_fit [] (entry ∷ entries) files are edits = absurd are
 changes_fit (change ∷ changes) [] files are edits = absurd are
 
@@ -86,7 +86,7 @@ changes_made (change ∷ changes) (entry ∷ entries) files name are edits = eli
   | inl same ↦
       let e : bytes_eq entry.name name ≡ true = ap (λ (n : List ℕ). bytes_eq n name) are.0.name ∙ same.1 in
       let f : bytes_eq change.0 name ≡ true = same.1 in
-      rw (e, f) (ap (λ (n : List ℕ). lay (pairs entry.patches) entry.length (files n)) (sym same.0) ∙ (are.0.laid (files change.0) edits.0).makes)
+      rw (e, f) (ap (λ (n : List ℕ). lay (pairs_of entry.patches) entry.length (files n)) (sym same.0) ∙ (are.0.laid (files change.0) edits.0).makes)
   | inr other ↦
       let e : bytes_eq entry.name name ≡ false = ap (λ (n : List ℕ). bytes_eq n name) are.0.name ∙ other.1 in
       let f : bytes_eq change.0 name ≡ false = other.1 in

@@ -11,8 +11,9 @@ use Rattle.org_disk.proofs.Images.{only_image, stable_is}
 use Rattle.org_disk.proofs.Moments.{passes_none, passes_then}
 use Rattle.org_disk.proofs.Names.{name_cases}
 use Rattle.org_splice.specs.Patches.{LayTo}
+use Rattle.org_splice.specs.Texts.{pairs_of}
 use Rattle.org_journal.specs.declared.record.Entry.{Entry}
-use Rattle.org_journal.specs.Record.{pairs, is_named, names_differ}
+use Rattle.org_journal.specs.Record.{is_named, names_differ}
 use Rattle.org_journal.specs.Standing.{Image, contents}
 use Rattle.org_fileset.specs.Replay.{EachLaysTo, Lays, TakesTo, AreLayable, EachTakes, LeavesTaking, Replays}
 use Rattle.org_fileset.proofs.Laying.{lays_none, lays_call}
@@ -24,7 +25,7 @@ not_journal entries i entry layable is = λ same. named_apart entries i entry jo
 
 -- whatever a stop leaves of an entry's file takes its patches
 pub entry_takes : (entries : List Entry) (texts : Image) (files : List ℕ → FileState) (i : ℕ) (entry : Entry) → AreLayable entries → slice_get entries i ≡ Some entry
-    → EachTakes entries texts files → EachLaysTo (pairs entry.patches) entry.length (texts entry.name) (files entry.name)
+    → EachTakes entries texts files → EachLaysTo (pairs_of entry.patches) entry.length (texts entry.name) (files entry.name)
 entry_takes entries texts files i entry layable is takes text image =
     TakesTo-entry entries i entry text (texts entry.name) layable.apart is (takes.each entry.name (not_journal entries i entry layable is) text image)
 
@@ -38,7 +39,7 @@ replays_none {entries} {texts} m s files takes = record {
 -- calls on the file of one entry
 pub replays_entry : {entries : List Entry} {texts : Image} {m n k : ℕ} {s u v : ℕ → Image → Type 0} {old mid new : List ℕ → FileState} (i : ℕ) (entry : Entry)
     → AreLayable entries → slice_get entries i ≡ Some entry → IsStable (old journal_name)
-    → Replays entries texts m n s u old mid → Lays (pairs entry.patches) entry.length entry.name (texts entry.name) n k u v mid new → Replays entries texts m k s v old new
+    → Replays entries texts m n s u old mid → Lays (pairs_of entry.patches) entry.length entry.name (texts entry.name) n k u v mid new → Replays entries texts m k s v old new
 replays_entry {entries} {texts} {old = old} {mid = mid} {new = new} i entry layable is stable sofar lays = record {
   any_moment = passes_then sofar.any_moment lays.any_moment (λ image left. record {
     same_journal = only_image stable (image journal_name) (subst (λ f. IsImage f (image journal_name)) (sofar.others journal_name none) (left.others journal_name (λ same. apart (sym same))));

@@ -6,10 +6,11 @@ use Rattle.std.proofs.lemmas.Bool.{cases_Bool, and_parts, and_from, le-leb, leb-
 use Rattle.org_disk.specs.Names.{journal_name}
 use Rattle.org_disk.proofs.Names.{name_cases}
 use Rattle.org_splice.specs.Patches.{end_of, last_end, BeginWithin, Fit, LayTo, lay}
+use Rattle.org_splice.specs.Texts.{pairs_of}
 use Rattle.org_journal.specs.declared.record.Entry.{Entry}
 use Rattle.org_journal.specs.Gate.{is_open}
 use Rattle.org_journal.specs.Reading.{journal_at}
-use Rattle.org_journal.specs.Record.{pairs, is_named}
+use Rattle.org_journal.specs.Record.{is_named}
 use Rattle.org_journal.specs.Standing.{Image, begins_within, fits, all_fit, replayed, stands, SameFiles, StandsFor}
 use Rattle.org_fileset.specs.Replay.{TakesTo, AreLayable}
 use Rattle.org_fileset.proofs.Takes.{TakesTo-entry, TakesTo-other}
@@ -41,37 +42,37 @@ true-fits patches final size is =
 pub replayed-takes : (entries : List Entry) (image : Image) (name to : List ℕ) → TakesTo entries name (image name) to → replayed entries image name ≡ to
 replayed-takes [] image name to takes = takes
 replayed-takes (entry ∷ entries) image name to takes = elim (cases_Bool (bytes_eq entry.name name)) [
-  | inl same ↦ rw same (MatchBool-at_true (LayTo (pairs entry.patches) entry.length (image name) to) (TakesTo entries name (image name) to) same takes).makes
-  | inr other ↦ rw other (replayed-takes entries image name to (MatchBool-at_false (LayTo (pairs entry.patches) entry.length (image name) to) (TakesTo entries name (image name) to) other takes))
+  | inl same ↦ rw same (MatchBool-at_true (LayTo (pairs_of entry.patches) entry.length (image name) to) (TakesTo entries name (image name) to) same takes).makes
+  | inr other ↦ rw other (replayed-takes entries image name to (MatchBool-at_false (LayTo (pairs_of entry.patches) entry.length (image name) to) (TakesTo entries name (image name) to) other takes))
 ]
 
 -- and the other way, where each entry fits its file
 pub takes-replayed : (entries : List Entry) (image : Image) (name to : List ℕ) → all_fit entries image ≡ true → replayed entries image name ≡ to → TakesTo entries name (image name) to
 takes-replayed [] image name to fit is = is
 takes-replayed (entry ∷ entries) image name to fit is =
-    let parts = and_parts (fits (pairs entry.patches) entry.length (length (image entry.name))) (all_fit entries image) fit in
+    let parts = and_parts (fits (pairs_of entry.patches) entry.length (length (image entry.name))) (all_fit entries image) fit in
     elim (name_cases entry.name name) [
       | inl same ↦
           let t : bytes_eq entry.name name ≡ true = same.1 in
-          let made : lay (pairs entry.patches) entry.length (image name) ≡ to =
-          sym (ap (λ (b : Bool). if b then lay (pairs entry.patches) entry.length (image name) else replayed entries image name) t) ∙ is in
-          let fit_here : Fit (pairs entry.patches) entry.length (length (image name)) =
-          subst (λ (n : List ℕ). Fit (pairs entry.patches) entry.length (length (image n))) same.0 (true-fits (pairs entry.patches) entry.length (length (image entry.name)) parts.0) in
+          let made : lay (pairs_of entry.patches) entry.length (image name) ≡ to =
+          sym (ap (λ (b : Bool). if b then lay (pairs_of entry.patches) entry.length (image name) else replayed entries image name) t) ∙ is in
+          let fit_here : Fit (pairs_of entry.patches) entry.length (length (image name)) =
+          subst (λ (n : List ℕ). Fit (pairs_of entry.patches) entry.length (length (image n))) same.0 (true-fits (pairs_of entry.patches) entry.length (length (image entry.name)) parts.0) in
           rw t (record { fit = fit_here; makes = made })
       | inr other ↦
           let f : bytes_eq entry.name name ≡ false = other.1 in
           let rest : replayed entries image name ≡ to =
-          sym (ap (λ (b : Bool). if b then lay (pairs entry.patches) entry.length (image name) else replayed entries image name) f) ∙ is in
+          sym (ap (λ (b : Bool). if b then lay (pairs_of entry.patches) entry.length (image name) else replayed entries image name) f) ∙ is in
           rw f (takes-replayed entries image name to parts.1 rest)
     ]
 
 -- each entry fits its file
-all_fit-each : (entries : List Entry) (image : Image) → ((i : ℕ) (entry : Entry) → slice_get entries i ≡ Some entry → Fit (pairs entry.patches) entry.length (length (image entry.name)))
+all_fit-each : (entries : List Entry) (image : Image) → ((i : ℕ) (entry : Entry) → slice_get entries i ≡ Some entry → Fit (pairs_of entry.patches) entry.length (length (image entry.name)))
     → all_fit entries image ≡ true
 all_fit-each [] image each = refl
 all_fit-each (entry ∷ entries) image each =
-    and_from (fits (pairs entry.patches) entry.length (length (image entry.name))) (all_fit entries image)
-    (fits-true (pairs entry.patches) entry.length (length (image entry.name)) (each 0 entry refl)) (all_fit-each entries image (λ i e is. each (suc i) e is))
+    and_from (fits (pairs_of entry.patches) entry.length (length (image entry.name))) (all_fit entries image)
+    (fits-true (pairs_of entry.patches) entry.length (length (image entry.name)) (each 0 entry refl)) (all_fit-each entries image (λ i e is. each (suc i) e is))
 
 pub all_fit-takes : (entries : List Entry) (image texts : Image) → AreLayable entries → ((name : List ℕ) → name ≢ journal_name → TakesTo entries name (image name) (texts name)) → all_fit entries image ≡ true
 all_fit-takes entries image texts layable takes = all_fit-each entries image (λ i entry is.
@@ -98,7 +99,7 @@ open_stands entries texts image opened found stand name not = elim (cases_Bool (
 
 -- what the record makes of the file of an entry is what the entry makes
 pub replayed-entry : (entries : List Entry) (image : Image) (i : ℕ) (entry : Entry) → AreLayable entries → all_fit entries image ≡ true → slice_get entries i ≡ Some entry
-    → LayTo (pairs entry.patches) entry.length (image entry.name) (replayed entries image entry.name)
+    → LayTo (pairs_of entry.patches) entry.length (image entry.name) (replayed entries image entry.name)
 replayed-entry entries image i entry layable fit is =
     TakesTo-entry entries i entry (image entry.name) (replayed entries image entry.name) layable.apart is (takes-replayed entries image entry.name (replayed entries image entry.name) fit refl)
 

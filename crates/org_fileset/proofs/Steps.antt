@@ -5,16 +5,16 @@ use Rattle.std.specs.Option.{option_map}
 use Rattle.std.proofs.lemmas.List.{take_more, take_all, length-map}
 use Rattle.std.proofs.lemmas.Option.{slice_get_read, slice_get-map, get_or_from_slice_get, slice_get_within}
 use Rattle.org_splice.specs.Overwritten.{overwritten}
+use Rattle.org_splice.specs.Texts.{pairs_of}
 use Rattle.org_splice.specs.Patches.{lay_each, lay, end_of, last_end, Rise, BeginWithin, Fit, AreWellFormed}
 use Rattle.org_splice.proofs.Laying.{length-lay_each, last_end-place, length-lay}
-use Rattle.org_journal.specs.declared.record.Patch.{Patch}
-use Rattle.org_journal.specs.Record.{pairs}
+use Rattle.org_splice.specs.declared.patch.Patch.{Patch}
 
 -- the pair of an item
 pub pair_at : (items patches : List Patch) (k : ℕ) (patch : Patch) (bytes : List ℕ) → items ≡ patches → k < length items → patch ≡ get_or items k patch → bytes ≡ patch.bytes
-    → slice_get (pairs patches) k ≡ Some (patch.from, bytes)
+    → slice_get (pairs_of patches) k ≡ Some (patch.from, bytes)
 pair_at items patches k patch bytes same within is of =
-    ap (λ (l : List Patch). slice_get (pairs l) k) (sym same)
+    ap (λ (l : List Patch). slice_get (pairs_of l) k) (sym same)
     ∙ slice_get-map (λ (p : Patch). (p.from, p.bytes)) items k
     ∙ ap (λ (o : Option Patch). option_map (λ (p : Patch). (p.from, p.bytes)) o) (slice_get_read items (length items) k patch refl within is)
     ∙ ap (λ (b : List ℕ). let o : Option (ℕ × List ℕ) = Some (patch.from, b) in o) (sym of)
@@ -67,17 +67,17 @@ next_small patches final k from bytes text formed fit is =
     omega (arith, formed.within, (at_place patches (length text) 0 k from bytes formed.rise fit.begin is).1)
 
 -- all of them written, and the file cut
-pub all_laid : (items patches : List Patch) (k final : ℕ) (text now : List ℕ) → items ≡ patches → length items ≤ k → now ≡ lay_each (take k (pairs patches)) text
-    → take final now ≡ lay (pairs patches) final text
+pub all_laid : (items patches : List Patch) (k final : ℕ) (text now : List ℕ) → items ≡ patches → length items ≤ k → now ≡ lay_each (take k (pairs_of patches)) text
+    → take final now ≡ lay (pairs_of patches) final text
 all_laid items patches k final text now same done laid =
     let pair : Patch → ℕ × List ℕ = λ p. (p.from, p.bytes) in
     let long : length (map pair patches) ≡ length patches = length-map patches pair in
-    let enough : length (pairs patches) ≤ k = omega (arith, done, long, ap length same) in
-    ap (λ (l : List ℕ). take final l) (laid ∙ ap (λ (l : List (ℕ × List ℕ)). lay_each l text) (take_all k (pairs patches) enough))
+    let enough : length (pairs_of patches) ≤ k = omega (arith, done, long, ap length same) in
+    ap (λ (l : List ℕ). take final l) (laid ∙ ap (λ (l : List (ℕ × List ℕ)). lay_each l text) (take_all k (pairs_of patches) enough))
 
 -- as long as it is to be, or longer
-pub long_enough : (items patches : List Patch) (k final : ℕ) (text now : List ℕ) → AreWellFormed (pairs patches) final → Fit (pairs patches) final (length text)
-    → items ≡ patches → length items ≤ k → now ≡ lay_each (take k (pairs patches)) text → final ≤ length now
+pub long_enough : (items patches : List Patch) (k final : ℕ) (text now : List ℕ) → AreWellFormed (pairs_of patches) final → Fit (pairs_of patches) final (length text)
+    → items ≡ patches → length items ≤ k → now ≡ lay_each (take k (pairs_of patches)) text → final ≤ length now
 long_enough items patches k final text now formed fit same done laid =
     let cut_is = all_laid items patches k final text now same done laid in
-    omega (arith, ap length cut_is, length-take final now, length-lay (pairs patches) final text formed.rise fit)
+    omega (arith, ap length cut_is, length-take final now, length-lay (pairs_of patches) final text formed.rise fit)

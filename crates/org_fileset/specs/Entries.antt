@@ -3,16 +3,9 @@ use Rattle.std.specs.Prelude.{◌≡◌, ℕ, List, [], ◌∷◌, length, IsUtf
 use Rattle.std.specs.Str.{bytes_eq}
 use Rattle.org_disk.specs.Names.{IsDiskName}
 use Rattle.org_splice.specs.Patches.{AreWellFormed, LayTo}
-use Rattle.org_splice.specs.Texts.{EditedText, IsEditOf}
-use Rattle.org_splice.specs.declared.patch.Patch.{Patch as TextPatch}
+use Rattle.org_splice.specs.Texts.{EditedText, IsEditOf, pairs_of}
 use Rattle.org_journal.specs.declared.record.Entry.{Entry}
-use Rattle.org_journal.specs.declared.record.Patch.{Patch}
-use Rattle.org_journal.specs.Record.{pairs}
 use Rattle.org_journal.specs.Standing.{Image}
-
--- a patch of a text, as the journal has it
-abbrev pub moved_patch : TextPatch → Patch
-moved_patch patch = record { from = patch.from; bytes = patch.bytes }
 
 -- the entry makes the changed text of whatever it was made from
 pub record IsEntryOf (change : List ℕ × EditedText) (entry : Entry) : Type 0 where
@@ -20,8 +13,8 @@ pub record IsEntryOf (change : List ℕ × EditedText) (entry : Entry) : Type 0 
   pub text : IsUtf8 entry.name
   pub valid : IsDiskName entry.name
   pub length_is : entry.length ≡ length change.1.bytes
-  pub patches : AreWellFormed (pairs entry.patches) entry.length
-  pub laid : (old : List ℕ) → IsEditOf old change.1 → LayTo (pairs entry.patches) entry.length old change.1.bytes
+  pub patches : AreWellFormed (pairs_of entry.patches) entry.length
+  pub laid : (old : List ℕ) → IsEditOf old change.1 → LayTo (pairs_of entry.patches) entry.length old change.1.bytes
 
 abbrev pub AreEntriesOf : List (List ℕ × EditedText) → List Entry → Type 0
 AreEntriesOf [] [] = Unit {0}

@@ -7,9 +7,10 @@ use Rattle.org_disk.specs.Accounts.{PassesOver, LeavesOver}
 use Rattle.org_disk.specs.Names.{journal_name, is_file_name}
 use Rattle.org_disk.specs.declared.disk.DiskFault.{DiskFault}
 use Rattle.org_splice.specs.Patches.{AreWellFormed, LayTo}
+use Rattle.org_splice.specs.Texts.{pairs_of}
 use Rattle.org_journal.specs.declared.record.Entry.{Entry}
 use Rattle.org_journal.specs.declared.record.Version.TheVariants.{Two}
-use Rattle.org_journal.specs.Record.{pairs, is_named, names_differ, greatest_length}
+use Rattle.org_journal.specs.Record.{is_named, names_differ, greatest_length}
 use Rattle.org_journal.specs.Gate.{is_open, HasClosedGate}
 use Rattle.org_journal.specs.Reading.{journal_at}
 use Rattle.org_journal.specs.Standing.{Image, SameFiles, StandsFor, IsFit, contents, replayed}
@@ -34,12 +35,12 @@ pub record Lays (patches : List (ℕ × List ℕ)) (final : ℕ) (name to : List
 abbrev pub TakesTo : List Entry → List ℕ → List ℕ → List ℕ → Type 0
 TakesTo [] name text to = text ≡ to
 TakesTo (entry ∷ entries) name text to =
-    MatchBool (bytes_eq entry.name name) (LayTo (pairs entry.patches) entry.length text to) (TakesTo entries name text to)
+    MatchBool (bytes_eq entry.name name) (LayTo (pairs_of entry.patches) entry.length text to) (TakesTo entries name text to)
 
 -- an entry that can be laid over a file which it fits
 pub record IsLayable (entry : Entry) : Type 0 where
   pub name : IsTrue (is_file_name entry.name)
-  pub patches : AreWellFormed (pairs entry.patches) entry.length
+  pub patches : AreWellFormed (pairs_of entry.patches) entry.length
   pub small : entry.length ≤ greatest_length Two
 
 pub record AreLayable (entries : List Entry) : Type 0 where

@@ -1,42 +1,27 @@
 //! The record of a set of changed files.
-ghost use Rattle.std.specs.Prelude.{◌≡◌, map, OnOk, IfOk};
+ghost use Rattle.std.specs.Prelude.{OnOk, IfOk};
 ghost use Rattle.std.specs.List.{IsDistinct};
 ghost use Rattle.std.specs.Map.{keys_of};
 ghost use Rattle.std.specs.Str.{bytes_eq};
-ghost use Rattle.org_fileset.specs.Entries.{IsEntryOf, AreEntriesOf, moved_patch};
+ghost use Rattle.org_fileset.specs.Entries.{IsEntryOf, AreEntriesOf};
 
 use org_disk::FileName;
-use org_journal::{Entry, Patch, Patches};
+use org_journal::{Entry, Patches};
 use org_splice::{Changes, Editing};
 use std::alloc::{AllocError, Global};
 
 /// The entry of a changed file.
-fn entry_of(alloc: Global, name: &FileName, text: &Editing) -> Result<Entry, AllocError>
+fn entry_of(name: &FileName, text: &Editing) -> Result<Entry, AllocError>
     ensures { IfOk result (λ entry. IsEntryOf (name.now, text.now.text) entry) }
 {
     let name = name.clone()?;
-    // A record's names are UTF-8, as each file name is.
-    let _ = name.as_str();
     let length = text.bytes().len() as u64;
-    let patches = Patches::new(moved(alloc, text.patches()?)?);
+    let patches = Patches::new(text.patches()?);
     Ok(Entry {
         name,
         length,
         patches,
     })
-}
-
-// The same patches, as the journal has them.
-fn moved(alloc: Global, patches: Vec<org_splice::Patch>) -> Result<Vec<Patch>, AllocError>
-    ensures { IfOk result (λ moved. moved.items ≡ map moved_patch patches.items) }
-{
-    patches
-        .into_iter()
-        .map(|patch| Patch {
-            from: patch.from as u64,
-            bytes: patch.bytes,
-        })
-        .collect(alloc)
 }
 
 /// The entries of all changed files, in the order of the set.
@@ -50,7 +35,7 @@ pub fn entries_of<C: Changes<FileName>>(
     let mut entries = Vec::new(alloc);
     for index in 0..changes.len() {
         let (name, text) = changes.pair(index);
-        entries.push(entry_of(alloc, name, text)?)?;
+        entries.push(entry_of(name, text)?)?;
     }
     Ok(entries)
 }

@@ -5,7 +5,7 @@ ghost use Rattle.org_disk.specs.Disk.{FileState, AreImages, write, cut, sync};
 ghost use Rattle.org_splice.specs.Patches.{AreWellFormed, Fit, LayTo, IsPartlyLaid, lay};
 ghost use Rattle.org_splice.specs.Texts.{EditedText};
 ghost use Rattle.org_journal.specs.declared.record.Entry.{Entry};
-ghost use Rattle.org_journal.specs.declared.record.Patch.{Patch};
+ghost use Rattle.org_splice.specs.declared.patch.Patch.{Patch};
 ghost use Rattle.org_journal.specs.Standing.{Image, StandsFor, stands, contents};
 ghost use Rattle.org_fileset.specs.Entries.{changed};
 ghost use Rattle.org_fileset.specs.Recovery.{IsReopened, StandsAsBefore};

@@ -4,7 +4,8 @@ ghost use Rattle.org_disk.specs.Disk.{IsStable};
 ghost use Rattle.org_disk.specs.Accounts.{Accounts};
 ghost use Rattle.org_disk.specs.Names.{journal_name};
 ghost use Rattle.org_splice.specs.Patches.{AreWellFormed, Fit, lay};
-ghost use Rattle.org_journal.specs.Record.{pairs, is_named};
+ghost use Rattle.org_splice.specs.Texts.{pairs_of};
+ghost use Rattle.org_journal.specs.Record.{is_named};
 ghost use Rattle.org_journal.specs.Standing.{Image, contents, all_fit, replayed};
 ghost use Rattle.org_fileset.specs.Replay.{AreLayable, EachLaysTo, EachTakes, LaysOver, TakesOver};
 
@@ -14,16 +15,18 @@ use org_journal::Entry;
 /// Lays an entry's patches over its file, and cuts it to the entry's length. Before, within and after it, also where
 /// it fails, the entry makes the same text of whatever a stop leaves of the file.
 pub fn lay_entry<D: Disk>(disk: &mut D, entry: &Entry) -> Result<(), DiskFault>
-    requires formed { D.honest disk.old → AreWellFormed (pairs entry.now.patches) entry.now.length }
+    requires formed { D.honest disk.old →
+        AreWellFormed (pairs_of entry.now.patches) entry.now.length }
     requires small { D.honest disk.old → entry.now.length < 2 ^ 63 }
-    requires fits { D.honest disk.old → Fit (pairs entry.now.patches) entry.now.length
+    requires fits { D.honest disk.old → Fit (pairs_of entry.now.patches) entry.now.length
         (length (D.files disk.old entry.now.name).content) }
     ensures lays { D.honest disk.new → (to : List ℕ)
-        → EachLaysTo (pairs entry.now.patches) entry.now.length to (D.files disk.old entry.now.name)
+        → EachLaysTo (pairs_of entry.now.patches) entry.now.length to
+        (D.files disk.old entry.now.name)
         → LaysOver D.files D.moment D.left_since
-        (pairs entry.now.patches) entry.now.length entry.now.name to disk.old disk.new }
+        (pairs_of entry.now.patches) entry.now.length entry.now.name to disk.old disk.new }
     ensures content { OnOk result (D.honest disk.new → (D.files disk.new entry.now.name).content
-        ≡ lay (pairs entry.now.patches) entry.now.length
+        ≡ lay (pairs_of entry.now.patches) entry.now.length
         (D.files disk.old entry.now.name).content) }
     ensures others { D.honest disk.new → (other : List ℕ) → other ≢ entry.now.name
         → D.files disk.new other ≡ D.files disk.old other }

@@ -7,10 +7,11 @@ use Rattle.std.proofs.lemmas.List.{drop_all, drop-drop, length-append, length-dr
 use Rattle.byteorder.specs.Endian.{big_number}
 use Rattle.byteorder.specs.Numbers.{big_from-append}
 use Rattle.org_splice.specs.Patches.{end_of, last_end, Rise, AreWellFormed}
+use Rattle.org_splice.specs.Texts.{pairs_of}
 use Rattle.org_journal.specs.declared.record.Entry.{Entry}
-use Rattle.org_journal.specs.declared.record.Patch.{Patch}
+use Rattle.org_splice.specs.declared.patch.Patch.{Patch}
 use Rattle.org_journal.specs.declared.record.Version.{Version}
-use Rattle.org_journal.specs.Record.{pairs, IsEntry, BeginsWith}
+use Rattle.org_journal.specs.Record.{IsEntry, BeginsWith}
 use Rattle.org_journal.specs.Reading.{◌>>=◌, number_at, bytes_at, counted_at, version_at, record_at, header_at, journal_at}
 use Rattle.org_disk.specs.Names.{journal_name}
 use Rattle.org_journal.specs.declared.fault.FindFault.{FindFault}
@@ -21,9 +22,9 @@ use Rattle.org_journal.specs.Finding.{Finds, FindsSize, HaveWellFormedPatches, H
 
 -- the test of the patches that are left, from this place on, is that of all
 pub record FitSoFar (left : List Patch) (place final size : ℕ) (all : List Patch) : Type 0 where
-  pub rise : Rise place (pairs left)
-  pub within : last_end place (pairs left) ≤ final
-  pub same : (begins_within size place (pairs left) && nat_le final (max size (last_end place (pairs left)))) ≡ fits (pairs all) final size
+  pub rise : Rise place (pairs_of left)
+  pub within : last_end place (pairs_of left) ≤ final
+  pub same : (begins_within size place (pairs_of left) && nat_le final (max size (last_end place (pairs_of left)))) ≡ fits (pairs_of all) final size
 
 last_end_after : (place : ℕ) (patches : List (ℕ × List ℕ)) → Rise place patches → place ≤ last_end place patches
 last_end_after place [] rise = omega arith
@@ -36,7 +37,7 @@ none_left : {A : Type 0} (items : List A) (i : ℕ) → length items ≤ i → d
 none_left items i le = drop_all i items le
 
 -- nothing has been looked at
-pub fit_start : (patches : List Patch) (final size : ℕ) → AreWellFormed (pairs patches) final → FitSoFar patches 0 final size patches
+pub fit_start : (patches : List Patch) (final size : ℕ) → AreWellFormed (pairs_of patches) final → FitSoFar patches 0 final size patches
 fit_start patches final size is = record { rise = is.rise; within = is.within; same = refl }
 
 at_first : (patches : List Patch) (i place final size : ℕ) (patch : Patch) → i < length patches → patch ≡ get_or patches i patch → FitSoFar (drop i patches) place final size patches → FitSoFar (patch ∷ drop (i + 1) patches) place final size patches
@@ -45,13 +46,13 @@ at_first patches i place final size patch lt is so_far = subst (λ (left : List 
 pub fit_ends : (patches : List Patch) (i place final size : ℕ) (patch : Patch) → i < length patches → patch ≡ get_or patches i patch → FitSoFar (drop i patches) place final size patches → patch.from + length patch.bytes ≤ final
 fit_ends patches i place final size patch lt is so_far =
     let now = at_first patches i place final size patch lt is so_far in
-    omega (arith, now.within, last_end_after (patch.from + length patch.bytes) (pairs (drop (i + 1) patches)) now.rise.1)
+    omega (arith, now.within, last_end_after (patch.from + length patch.bytes) (pairs_of (drop (i + 1) patches)) now.rise.1)
 
 pub fit_next : (patches : List Patch) (i place final size : ℕ) (patch : Patch) → i < length patches → patch ≡ get_or patches i patch → patch.from ≤ max size place
     → FitSoFar (drop i patches) place final size patches → FitSoFar (drop (i + 1) patches) (patch.from + length patch.bytes) final size patches
 fit_next patches i place final size patch lt is begins so_far =
     let now = at_first patches i place final size patch lt is so_far in
-    let left = pairs (drop (i + 1) patches) in
+    let left = pairs_of (drop (i + 1) patches) in
     let place' = patch.from + length patch.bytes in
     record {
       rise = now.rise.1;
@@ -60,25 +61,25 @@ fit_next patches i place final size patch lt is begins so_far =
     }
 
 pub fit_stop : (patches : List Patch) (i place final size : ℕ) (patch : Patch) → i < length patches → patch ≡ get_or patches i patch → max size place < patch.from
-    → FitSoFar (drop i patches) place final size patches → false ≡ fits (pairs patches) final size
+    → FitSoFar (drop i patches) place final size patches → false ≡ fits (pairs_of patches) final size
 fit_stop patches i place final size patch lt is late so_far =
     let now = at_first patches i place final size patch lt is so_far in
-    let left = pairs (drop (i + 1) patches) in
+    let left = pairs_of (drop (i + 1) patches) in
     let place' = patch.from + length patch.bytes in
     ap (λ (b : Bool). (b && begins_within size place' left) && leb final (max size (last_end place' left))) (sym (lt-leb _ _ late)) ∙ now.same
 
-pub fit_end : (patches : List Patch) (i place final size : ℕ) → length patches ≤ i → FitSoFar (drop i patches) place final size patches → leb final (max size place) ≡ fits (pairs patches) final size
+pub fit_end : (patches : List Patch) (i place final size : ℕ) → length patches ≤ i → FitSoFar (drop i patches) place final size patches → leb final (max size place) ≡ fits (pairs_of patches) final size
 fit_end patches i place final size le so_far =
     let now = subst (λ (left : List Patch). FitSoFar left place final size patches) (none_left patches i le) so_far in
     now.same
 
 -- ---- entries
 
-pub patches_first : (entries : List Entry) (i : ℕ) (entry : Entry) → i < length entries → entry ≡ get_or entries i entry → HaveWellFormedPatches (drop i entries) → AreWellFormed (pairs entry.patches) entry.length × HaveWellFormedPatches (drop (i + 1) entries)
+pub patches_first : (entries : List Entry) (i : ℕ) (entry : Entry) → i < length entries → entry ≡ get_or entries i entry → HaveWellFormedPatches (drop i entries) → AreWellFormed (pairs_of entry.patches) entry.length × HaveWellFormedPatches (drop (i + 1) entries)
 patches_first entries i entry lt is formed = subst HaveWellFormedPatches (first_left entries i entry lt is) formed
 
 pub all_first : (entries : List Entry) (i : ℕ) (entry : Entry) (image : Image) → i < length entries → entry ≡ get_or entries i entry
-    → all_fit (drop i entries) image ≡ (fits (pairs entry.patches) entry.length (length (image entry.name)) && all_fit (drop (i + 1) entries) image)
+    → all_fit (drop i entries) image ≡ (fits (pairs_of entry.patches) entry.length (length (image entry.name)) && all_fit (drop (i + 1) entries) image)
 all_first entries i entry image lt is = ap (λ (left : List Entry). all_fit left image) (first_left entries i entry lt is)
 
 each_patches : (version : Version) (entries : List Entry) → AllByRecursion (IsEntry version) entries → HaveWellFormedPatches entries

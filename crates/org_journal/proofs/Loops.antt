@@ -3,7 +3,7 @@ use Rattle.std.proofs.Common.{◌≡◌, ℕ, suc, Bool, ◌-◌, ◌+◌, ◌�
 use Rattle.std.proofs.lemmas.List.{append-nil}
 use Rattle.std.proofs.lemmas.Option.{none-some, some_pair_parts}
 use Rattle.org_journal.specs.declared.record.Entry.{Entry}
-use Rattle.org_journal.specs.declared.record.Patch.{Patch}
+use Rattle.org_splice.specs.declared.patch.Patch.{Patch}
 use Rattle.org_journal.specs.declared.record.Version.{Version}
 use Rattle.org_journal.specs.declared.fault.RecordFault.{RecordFault}
 use Rattle.org_journal.specs.declared.fault.RecordFault.TheVariants.{Malformed, OutOfMemory}

@@ -7,8 +7,9 @@ use Rattle.std.proofs.lemmas.List.Concat.{flat_map-cons}
 use Rattle.std.proofs.lemmas.Option.{same_Some}
 use Rattle.byteorder.specs.Endian.{big_bytes}
 use Rattle.org_splice.specs.Patches.{end_of, last_end, Rise, AreWellFormed}
-use Rattle.org_journal.specs.declared.record.Patch.{Patch}
-use Rattle.org_journal.specs.Record.{pairs, counted_bytes, patch_bytes}
+use Rattle.org_splice.specs.Texts.{pairs_of}
+use Rattle.org_splice.specs.declared.patch.Patch.{Patch}
+use Rattle.org_journal.specs.Record.{counted_bytes, patch_bytes}
 use Rattle.org_journal.specs.Reading.{◌>>=◌, number_at, counted_at, may_follow, patch_at, patches_at}
 use Rattle.org_journal.proofs.Numbers.{IsBytes, Takes, Takes-then, bind_some, passed, both_true, back8, number_takes, number_again, counted_takes, counted_again}
 
@@ -104,22 +105,22 @@ patches_again place final alone (patch ∷ patches) rest small follow =
 
 -- ---- well formed
 
-pub length-pairs : (patches : List Patch) → length (pairs patches) ≡ length patches
+pub length-pairs : (patches : List Patch) → length (pairs_of patches) ≡ length patches
 length-pairs [] = refl
 length-pairs (patch ∷ patches) = ap suc (length-pairs patches)
 
-rise_is : (place final : ℕ) (alone : Bool) (patches : List Patch) → place ≤ final → AllFollow place final alone patches → Rise place (pairs patches) × (last_end place (pairs patches) ≤ final)
+rise_is : (place final : ℕ) (alone : Bool) (patches : List Patch) → place ≤ final → AllFollow place final alone patches → Rise place (pairs_of patches) × (last_end place (pairs_of patches) ≤ final)
 rise_is place final alone [] le follow = (tt, le)
 rise_is place final alone (patch ∷ patches) le follow =
     let others = rise_is (patch.from + length patch.bytes) final alone patches follow.0.ends follow.1 in
     ((follow.0.begins, others.0), others.1)
 
-full_is : (place final : ℕ) (patches : List Patch) → AllFollow place final false patches → AllByRecursion (λ (p : ℕ × List ℕ). 1 ≤ length p.1) (pairs patches)
+full_is : (place final : ℕ) (patches : List Patch) → AllFollow place final false patches → AllByRecursion (λ (p : ℕ × List ℕ). 1 ≤ length p.1) (pairs_of patches)
 full_is place final [] follow = tt
 full_is place final (patch ∷ patches) follow =
     (⊎_elim (λ (e : false ≡ true). absurd (false≢true e)) (λ some. some) follow.0.full, full_is (patch.from + length patch.bytes) final patches follow.1)
 
-pub well_formed_is : (final : ℕ) (patches : List Patch) → 1 ≤ length patches → length patches ≤ 1000 → AllFollow 0 final (length patches == 1) patches → AreWellFormed (pairs patches) final
+pub well_formed_is : (final : ℕ) (patches : List Patch) → 1 ≤ length patches → length patches ≤ 1000 → AllFollow 0 final (length patches == 1) patches → AreWellFormed (pairs_of patches) final
 well_formed_is final patches some few follow =
     let rise = rise_is 0 final (length patches == 1) patches (omega arith) follow in
     record {
@@ -130,7 +131,7 @@ well_formed_is final patches some few follow =
       within = rise.1;
     }
   where
-    full_cases : (alone : Bool) → (length patches == 1) ≡ alone → (length (pairs patches) ≡ 1) ⊎ AllByRecursion (λ (p : ℕ × List ℕ). 1 ≤ length p.1) (pairs patches)
+    full_cases : (alone : Bool) → (length patches == 1) ≡ alone → (length (pairs_of patches) ≡ 1) ⊎ AllByRecursion (λ (p : ℕ × List ℕ). 1 ≤ length p.1) (pairs_of patches)
     full_cases true e = inl (length-pairs patches ∙ eqb-true _ _ e)
     full_cases false e = inr (full_is 0 final patches (subst (λ (b : Bool). AllFollow 0 final b patches) e follow))
 
@@ -138,18 +139,18 @@ last_end_after : (place : ℕ) (patches : List (ℕ × List ℕ)) → Rise place
 last_end_after place [] rise = omega arith
 last_end_after place (patch ∷ patches) rise = omega (arith, rise.0, last_end_after (end_of patch) patches rise.1)
 
-follow_alone : (place final : ℕ) (patches : List Patch) → Rise place (pairs patches) → last_end place (pairs patches) ≤ final → AllFollow place final true patches
+follow_alone : (place final : ℕ) (patches : List Patch) → Rise place (pairs_of patches) → last_end place (pairs_of patches) ≤ final → AllFollow place final true patches
 follow_alone place final [] rise within = tt
 follow_alone place final (patch ∷ patches) rise within =
-    (record { begins = rise.0; ends = omega (arith, within, last_end_after (patch.from + length patch.bytes) (pairs patches) rise.1); full = inl refl }, follow_alone (patch.from + length patch.bytes) final patches rise.1 within)
+    (record { begins = rise.0; ends = omega (arith, within, last_end_after (patch.from + length patch.bytes) (pairs_of patches) rise.1); full = inl refl }, follow_alone (patch.from + length patch.bytes) final patches rise.1 within)
 
-follow_full : (place final : ℕ) (alone : Bool) (patches : List Patch) → Rise place (pairs patches) → last_end place (pairs patches) ≤ final
-    → AllByRecursion (λ (p : ℕ × List ℕ). 1 ≤ length p.1) (pairs patches) → AllFollow place final alone patches
+follow_full : (place final : ℕ) (alone : Bool) (patches : List Patch) → Rise place (pairs_of patches) → last_end place (pairs_of patches) ≤ final
+    → AllByRecursion (λ (p : ℕ × List ℕ). 1 ≤ length p.1) (pairs_of patches) → AllFollow place final alone patches
 follow_full place final alone [] rise within full = tt
 follow_full place final alone (patch ∷ patches) rise within full =
-    (record { begins = rise.0; ends = omega (arith, within, last_end_after (patch.from + length patch.bytes) (pairs patches) rise.1); full = inr full.0 }, follow_full (patch.from + length patch.bytes) final alone patches rise.1 within full.1)
+    (record { begins = rise.0; ends = omega (arith, within, last_end_after (patch.from + length patch.bytes) (pairs_of patches) rise.1); full = inr full.0 }, follow_full (patch.from + length patch.bytes) final alone patches rise.1 within full.1)
 
-pub well_formed_follow : (final : ℕ) (patches : List Patch) → AreWellFormed (pairs patches) final → AllFollow 0 final (length patches == 1) patches
+pub well_formed_follow : (final : ℕ) (patches : List Patch) → AreWellFormed (pairs_of patches) final → AllFollow 0 final (length patches == 1) patches
 well_formed_follow final patches is =
     ⊎_elim
     (λ one. subst (λ (b : Bool). AllFollow 0 final b patches) (sym (ap (λ (n : ℕ). n == 1) (sym (length-pairs patches) ∙ one))) (follow_alone 0 final patches is.rise is.within))

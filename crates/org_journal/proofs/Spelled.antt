@@ -9,7 +9,7 @@ use Rattle.std.proofs.lemmas.Option.{same_Some}
 use Rattle.byteorder.specs.Endian.{big_bytes}
 use Rattle.org_disk.specs.Names.{is_file_name, is_org_name, is_archive_name, base_name}
 use Rattle.org_journal.specs.declared.record.Entry.{Entry}
-use Rattle.org_journal.specs.declared.record.Patch.{Patch}
+use Rattle.org_splice.specs.declared.patch.Patch.{Patch}
 use Rattle.org_journal.specs.declared.record.Version.{Version}
 use Rattle.org_journal.specs.declared.record.Version.TheVariants.{One, Two}
 use Rattle.org_journal.specs.Record.{name_bytes, counted_bytes, patch_bytes, old_patch_bytes, entry_bytes, record_bytes, most_entries, most_patches, greatest_length, IsEntry, names_differ, IsWellFormed}

@@ -12,7 +12,8 @@ use Rattle.org_journal.specs.declared.record.Version.TheVariants.{Two}
 use Rattle.org_journal.specs.Gate.{front_size, is_open}
 use Rattle.org_journal.specs.Reading.{journal_at}
 use Rattle.org_splice.specs.Patches.{AreWellFormed}
-use Rattle.org_journal.specs.Record.{pairs, IsWellFormed}
+use Rattle.org_splice.specs.Texts.{pairs_of}
+use Rattle.org_journal.specs.Record.{IsWellFormed}
 use Rattle.org_journal.specs.Standing.{Image, all_fit, stands}
 
 -- the size of the record that a journal's header gives
@@ -55,4 +56,4 @@ FindsRecord journal (Err OutOfMemory) = Unit {0}
 
 -- the patches of each entry are well-formed
 abbrev pub HaveWellFormedPatches : List Entry → Type 0
-HaveWellFormedPatches entries = AllByRecursion (λ entry. AreWellFormed (pairs entry.patches) entry.length) entries
+HaveWellFormedPatches entries = AllByRecursion (λ entry. AreWellFormed (pairs_of entry.patches) entry.length) entries

@@ -5,7 +5,7 @@ use Rattle.std.specs.Str.{is_utf8}
 use Rattle.byteorder.specs.Endian.{big_number}
 use Rattle.org_disk.specs.Names.{is_file_name}
 use Rattle.org_journal.specs.declared.record.Entry.{Entry}
-use Rattle.org_journal.specs.declared.record.Patch.{Patch}
+use Rattle.org_splice.specs.declared.patch.Patch.{Patch}
 use Rattle.org_journal.specs.declared.record.Version.{Version}
 use Rattle.org_journal.specs.declared.record.Version.TheVariants.{One, Two}
 use Rattle.org_journal.specs.Record.{greatest_length, most_entries, most_patches, names_differ}

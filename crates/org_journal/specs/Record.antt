@@ -1,18 +1,15 @@
 -- What a record is, and its bytes in the two versions of the journal's format. All numbers are big-endian.
-use Rattle.std.specs.Prelude.{◌≡◌, ℕ, ◌≤◌, Bool, true, not, ◌&&◌, IsTrue, IsUtf8, List, [], ◌∷◌, ◌++◌, length, map, codes}
+use Rattle.std.specs.Prelude.{◌≡◌, ℕ, ◌≤◌, Bool, true, not, ◌&&◌, IsTrue, IsUtf8, List, [], ◌∷◌, ◌++◌, length, codes}
 use Rattle.std.specs.List.{flat_map, list_any, AllByRecursion}
 use Rattle.std.specs.Str.{bytes_eq}
 use Rattle.byteorder.specs.Endian.{big_bytes}
 use Rattle.org_disk.specs.Names.{is_file_name}
 use Rattle.org_splice.specs.Patches.{AreWellFormed}
+use Rattle.org_splice.specs.Texts.{pairs_of}
 use Rattle.org_journal.specs.declared.record.Entry.{Entry}
-use Rattle.org_journal.specs.declared.record.Patch.{Patch}
+use Rattle.org_splice.specs.declared.patch.Patch.{Patch}
 use Rattle.org_journal.specs.declared.record.Version.{Version}
 use Rattle.org_journal.specs.declared.record.Version.TheVariants.{One, Two}
-
--- the patches as pairs, each the place from which on its bytes stand, and the bytes
-abbrev pub pairs : List Patch → List (ℕ × List ℕ)
-pairs patches = map (λ p. (p.from, p.bytes)) patches
 
 -- The bytes of a record
 
@@ -65,7 +62,7 @@ pub record IsEntry (version : Version) (entry : Entry) : Type 0 where
   pub text : IsUtf8 entry.name
   pub name : IsTrue (is_file_name entry.name)
   pub few : length entry.patches ≤ most_patches version
-  pub patches : AreWellFormed (pairs entry.patches) entry.length
+  pub patches : AreWellFormed (pairs_of entry.patches) entry.length
   pub small : entry.length ≤ greatest_length version
 
 -- an entry has this name

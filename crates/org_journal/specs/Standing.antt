@@ -6,9 +6,10 @@ use Rattle.std.specs.Str.{bytes_eq}
 use Rattle.org_disk.specs.Disk.{FileState, IsStable, AreImages}
 use Rattle.org_disk.specs.Names.{journal_name}
 use Rattle.org_splice.specs.Patches.{end_of, last_end, lay}
+use Rattle.org_splice.specs.Texts.{pairs_of}
 use Rattle.org_journal.specs.declared.record.Entry.{Entry}
 use Rattle.org_journal.specs.Gate.{is_open}
-use Rattle.org_journal.specs.Record.{pairs, is_named}
+use Rattle.org_journal.specs.Record.{is_named}
 use Rattle.org_journal.specs.Reading.{◌>>=◌, journal_at}
 
 -- the bytes of each file, by its name
@@ -26,13 +27,13 @@ fits patches final size = begins_within size 0 patches && nat_le final (max size
 
 -- each entry fits its file
 abbrev pub all_fit : List Entry → Image → Bool
-all_fit entries image = list_all (λ entry. fits (pairs entry.patches) entry.length (length (image entry.name))) entries
+all_fit entries image = list_all (λ entry. fits (pairs_of entry.patches) entry.length (length (image entry.name))) entries
 
 -- the files that entries make of these: each has its patches laid over it
 abbrev pub replayed : List Entry → Image → Image
 replayed [] image name = image name
 replayed (entry ∷ entries) image name =
-    if bytes_eq entry.name name then lay (pairs entry.patches) entry.length (image name) else replayed entries image name
+    if bytes_eq entry.name name then lay (pairs_of entry.patches) entry.length (image name) else replayed entries image name
 
 -- what an image stands for; nothing where its journal is bad
 abbrev pub stands : Image → Option Image

@@ -10,9 +10,9 @@ ghost use Rattle.org_journal.specs.declared.record.Entry.{Entry};
 use crate::fault::RecordFault;
 use crate::fields::{head_at, old_entry_at, patch_at};
 use crate::reading::{count_at, header_at, well_formed};
-use crate::record::{Entry, Patch, Patches, Record, Version};
+use crate::record::{Entry, Patches, Record, Version};
 use org_disk::{FileName, NameFault};
-use org_splice::Bytes;
+use org_splice::{Bytes, Patch};
 use std::alloc::Global;
 
 // The patches of an entry of version 2, and the bytes behind them.

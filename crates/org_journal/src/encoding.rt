@@ -7,8 +7,9 @@ ghost use Rattle.org_journal.specs.Record.{patch_bytes, entry_bytes, record_byte
 ghost use Rattle.org_journal.specs.Reading.{journal_at};
 
 use crate::reading::HEADER;
-use crate::record::{Entry, Patch, Record};
+use crate::record::{Entry, Record};
 use byteorder::{BigEndian, ByteOrder};
+use org_splice::Patch;
 use std::alloc::{AllocError, Global};
 
 // Where the record's size stands in the header.

@@ -4,7 +4,8 @@ ghost use Rattle.std.specs.List.{AllByRecursion};
 ghost use Rattle.org_disk.specs.Accounts.{Accounts, Looks};
 ghost use Rattle.org_disk.specs.Names.{journal_name};
 ghost use Rattle.org_splice.specs.Patches.{AreWellFormed};
-ghost use Rattle.org_journal.specs.Record.{pairs, IsWellFormed};
+ghost use Rattle.org_splice.specs.Texts.{pairs_of};
+ghost use Rattle.org_journal.specs.Record.{IsWellFormed};
 ghost use Rattle.org_journal.specs.Reading.{journal_at};
 ghost use Rattle.org_journal.specs.Standing.{contents, fits, all_fit};
 ghost use Rattle.org_journal.specs.declared.record.Version.TheVariants.{Two};
@@ -14,9 +15,10 @@ ghost use Rattle.org_journal.specs.Gate.{front_size};
 use crate::decoding::decode;
 use crate::fault::{FindFault, RecordFault};
 use crate::gate::OPEN;
-use crate::record::{Entry, Patch, Record};
+use crate::record::{Entry, Record};
 use byteorder::{BigEndian, ByteOrder};
 use org_disk::{Disk, DiskFault, FileName};
+use org_splice::Patch;
 use std::alloc::Global;
 
 /// How many bytes stand in front of a record: the gate, and the header behind it. A journal that is shorter has a closed
@@ -105,8 +107,8 @@ fn record_of<D: Disk>(
 
 // Whether patches and a final length fit a file of this size.
 fn fits(patches: &[Patch], length: u64, size: u64) -> bool
-    requires { AreWellFormed (pairs patches.now) length }
-    ensures { result ≡ fits (pairs patches.now) length size }
+    requires { AreWellFormed (pairs_of patches.now) length }
+    ensures { result ≡ fits (pairs_of patches.now) length size }
 {
     let mut place = 0;
     for patch in patches {

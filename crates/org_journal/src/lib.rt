@@ -19,4 +19,4 @@ pub use fields::GREATEST_LENGTH;
 pub use finding::{FRONT, Found, find};
 pub use gate::{arm, close_gate, open_gate, prepare};
 pub use reading::well_formed;
-pub use record::{Entry, Patch, Patches, Record};
+pub use record::{Entry, Patches, Record};

@@ -2,17 +2,8 @@
 ghost use Rattle.std.specs.Prelude.{◌≡◌};
 
 use org_disk::FileName;
-use org_splice::Bytes;
+use org_splice::Patch;
 use std::marker::Model;
-
-/// The bytes that stand in a file from the byte position `from` on.
-#[derive(Debug, Drop)]
-pub struct Patch {
-    /// The byte position of the first of them.
-    pub from: u64,
-    /// The bytes.
-    pub bytes: Bytes,
-}
 
 /// The patches of one file, which a clause sees as a list.
 #[derive(Debug, Drop)]
@@ -22,7 +13,7 @@ pub struct Patches {
 
 impl Model for Patches {
     ghost use Rattle.std.specs.Prelude.{List};
-    ghost use Rattle.org_journal.specs.declared.record.Patch.{Patch};
+    ghost use Rattle.org_splice.specs.declared.patch.Patch.{Patch};
 
     ghost Value = { List Patch };
 

@@ -12,7 +12,7 @@ use std::alloc::{AllocError, Global};
 /// Bytes of a text, and the byte position from which on they stand there.
 #[derive(Debug, PartialEq, Eq, Drop)]
 pub struct Patch {
-    pub from: usize,
+    pub from: u64,
     pub bytes: Bytes,
 }
 
@@ -35,7 +35,7 @@ pub(crate) fn patches_of(
     for range in changed {
         let bytes = Vec::from_slice(alloc, &text[range.start..range.end])?;
         patches.push(Patch {
-            from: range.start,
+            from: range.start as u64,
             bytes: Bytes::new(bytes),
         })?;
     }

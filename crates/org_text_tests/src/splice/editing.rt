@@ -28,7 +28,7 @@ fn make(
 }
 
 /// Whether a text has these bytes and these patches.
-fn shows(text: &Editing, bytes: &[u8], patches: &[(usize, &[u8])]) -> Result<bool, AllocError> {
+fn shows(text: &Editing, bytes: &[u8], patches: &[(u64, &[u8])]) -> Result<bool, AllocError> {
     Ok(text.bytes() == bytes && are(&text.patches()?, patches))
 }
 

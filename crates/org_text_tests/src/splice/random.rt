@@ -26,7 +26,7 @@ fn written(
     let mut text = Vec::from_slice(alloc, old)?;
     for patch in patches {
         for (i, byte) in patch.bytes.as_slice().iter().enumerate() {
-            match text.get_mut(patch.from.saturating_add(i)) {
+            match text.get_mut((patch.from as usize).saturating_add(i)) {
                 Some(place) => *place = *byte,
                 None => text.push(*byte)?,
             }

@@ -22,21 +22,21 @@ fn edited<R: AllocGlobal + Abort>(
 }
 
 /// Whether these are the patches, each of a place and its bytes.
-pub(crate) fn are(patches: &[Patch], expected: &[(usize, &[u8])]) -> bool {
+pub(crate) fn are(patches: &[Patch], expected: &[(u64, &[u8])]) -> bool {
     patches.len() == expected.len()
         && patches.iter().zip(expected).all(|(patch, (from, bytes))| patch.from == *from
             && patch.bytes.as_slice() == *bytes)
 }
 
 /// Whether a text has these bytes and these patches.
-fn has(text: &Editing, bytes: &[u8], patches: &[(usize, &[u8])]) -> Result<bool, AllocError> {
+fn has(text: &Editing, bytes: &[u8], patches: &[(u64, &[u8])]) -> Result<bool, AllocError> {
     Ok(text.bytes() == bytes && are(&text.patches()?, patches))
 }
 
 const HEADINGS: &[u8] = b"* A\n* B\n";
 
 /// Texts, their splices, the new text, and its patches.
-const SPLICES: [(&[u8], &[(usize, usize, &[u8])], &[u8], &[(usize, &[u8])]); 10] = [
+const SPLICES: [(&[u8], &[(usize, usize, &[u8])], &[u8], &[(u64, &[u8])]); 10] = [
     (HEADINGS, &[], b"* A\n* B\n", &[(0, b"")]),
     (HEADINGS, &[(2, 1, b"C")], b"* C\n* B\n", &[(2, b"C")]),
     (
@@ -102,7 +102,7 @@ fn assert_every_other(rt: &impl Abort, patches: &[Patch]) {
     for (i, patch) in patches.iter().enumerate() {
         let bytes: &[u8] = if i == 999 { b"bab" } else { b"b" };
         assert!(rt;
-            patch.from == 2 * i && patch.bytes.as_slice() == bytes,
+            patch.from == 2 * i as u64 && patch.bytes.as_slice() == bytes,
             "patch {i}"
         );
     }
@@ -117,7 +117,7 @@ fn more_than_a_thousand_ranges(rt: HostRuntime) {
 
 #[test]
 fn texts_with_a_newline_at_their_end(rt: HostRuntime) {
-    let rows: [(&[u8], &[u8], &[(usize, &[u8])]); 4] = [
+    let rows: [(&[u8], &[u8], &[(u64, &[u8])]); 4] = [
         (b"", b"", &[(0, b"")]),
         (b"* A\n", b"* A\n", &[(0, b"")]),
         (b"* A", b"* A\n", &[(3, b"\n")]),

@@ -2,7 +2,7 @@ use Rattle.std.proofs.Common.{length, refl, sym, ◌∙◌, ap, subst, arith}
 use Rattle.std.proofs.lemmas.Option.{slice_get_read}
 use Rattle.org_disk.specs.Disk.{FileState}
 use Rattle.org_splice.specs.Patches.{Fit, lay}
-use Rattle.org_journal.specs.Record.{pairs}
+use Rattle.org_splice.specs.Texts.{pairs_of}
 use Rattle.org_journal.specs.Standing.{contents, replayed}
 use Rattle.org_fileset.proofs.Takes.{layable_at, named_apart}
 use Rattle.org_fileset.proofs.Stands.{replayed-entry, replayed-other}
@@ -45,7 +45,7 @@ lay_entry-requires-clause-fits g c h =
     let is = slice_get_read c.args.entries.now (length c.args.entries.now) i entry refl c.loop-entry-test.true c.entry-item.is in
     let old = g.D.Disk.files c.args.disk.now in
     let lays = replayed-entry c.args.entries.now (contents old) i entry (c.requires.layable honest) (c.requires.fits honest) is in
-    subst (λ (f : FileState). Fit (pairs entry.patches) entry.length (length f.content)) (sym (sofar.untouched h i entry (omega arith) is)) lays.fit
+    subst (λ (f : FileState). Fit (pairs_of entry.patches) entry.length (length f.content)) (sym (sofar.untouched h i entry (omega arith) is)) lays.fit
 
 pub returns-in_err-lay_entry-clause-replays : goal.returns-in_err-lay_entry-clause-replays
 returns-in_err-lay_entry-clause-replays g c ended stable texts takes =
@@ -86,7 +86,7 @@ loop-entry-preserved g c =
       have = λ ended.
           let lays = replayed-entry c.args.entries.now (contents old) i entry (c.requires.layable (sofar.accounts.was_honest (back ended))) (c.requires.fits (sofar.accounts.was_honest (back ended))) is in
           texts_more c.args.entries.now (replayed c.args.entries.now (contents old)) i entry mid (g.D.Disk.files c.lay_entry.new.disk) is
-          (c.in_ok-lay_entry.ensures.content ended ∙ ap (λ (f : FileState). lay (pairs entry.patches) entry.length f.content) (sofar.untouched (back ended) i entry (omega arith) is) ∙ lays.makes)
+          (c.in_ok-lay_entry.ensures.content ended ∙ ap (λ (f : FileState). lay (pairs_of entry.patches) entry.length f.content) (sofar.untouched (back ended) i entry (omega arith) is) ∙ lays.makes)
           (c.lay_entry.ensures.others ended) (sofar.have (back ended));
       untouched = λ ended.
           untouched_more c.args.entries.now i entry old mid (g.D.Disk.files c.lay_entry.new.disk) (c.requires.layable (sofar.accounts.was_honest (back ended))) is (c.lay_entry.ensures.others ended) (sofar.untouched (back ended));

@@ -1,6 +1,6 @@
 use Rattle.std.proofs.Common.{◌≤◌, ◌+◌, ℕ, List, length, refl, sym, ◌∙◌, ap, subst, arith}
 use Rattle.org_disk.specs.Disk.{FileState, write, cut}
-use Rattle.org_journal.specs.Record.{pairs}
+use Rattle.org_splice.specs.Texts.{pairs_of}
 use Rattle.org_fileset.proofs.Laying.{lays_none, lays_call, lays_read, takes_write, takes_cut}
 use Rattle.org_fileset.proofs.Steps.{pair_at, lay_each-more, next_within, next_small, long_enough}
 use Rattle.org_disk.proofs.Accounting.{accounts_none, accounts_then, accounts_call_ok}
@@ -18,7 +18,7 @@ pub write_at-requires-clause-within : goal.write_at-requires-clause-within
 write_at-requires-clause-within g c h =
     let sofar = c.loop-patch.invariant in
     let honest = sofar.accounts.was_honest h in
-    let patches = pairs c.args.entry.now.patches in
+    let patches = pairs_of c.args.entry.now.patches in
     let is = pair_at c.as_slice-patch-items.result.now c.args.entry.now.patches c.loop-patch.patch-index c.patch-item.result c.as_slice.result.now
     c.as_slice-patch-items.ensures c.loop-patch-test.true c.patch-item.is c.as_slice.ensures in
     next_within patches c.args.entry.now.length c.loop-patch.patch-index c.patch-item.result.from c.as_slice.result.now (g.D.Disk.files c.args.disk.now c.args.entry.now.name).content
@@ -28,7 +28,7 @@ pub write_at-requires-clause-fits : goal.write_at-requires-clause-fits
 write_at-requires-clause-fits g c h =
     let sofar = c.loop-patch.invariant in
     let honest = sofar.accounts.was_honest h in
-    let patches = pairs c.args.entry.now.patches in
+    let patches = pairs_of c.args.entry.now.patches in
     let is = pair_at c.as_slice-patch-items.result.now c.args.entry.now.patches c.loop-patch.patch-index c.patch-item.result c.as_slice.result.now
     c.as_slice-patch-items.ensures c.loop-patch-test.true c.patch-item.is c.as_slice.ensures in
     let small : c.patch-item.result.from + length c.as_slice.result.now ≤ c.args.entry.now.length =
@@ -41,7 +41,7 @@ returns-in_err-write_at-clause-lays g c ended to takes =
     let sofar = c.loop-patch.invariant in
     let h = c.write_at.ensures.accounts.was_honest ended in
     let honest = sofar.accounts.was_honest h in
-    let patches = pairs c.args.entry.now.patches in
+    let patches = pairs_of c.args.entry.now.patches in
     let name = c.args.entry.now.name in
     let mid = g.D.Disk.files c.loop-patch.disk in
     let from = c.patch-item.result.from in
@@ -58,7 +58,7 @@ returns-in_err-write_at-clause-lays g c ended to takes =
 pub loop-patch-preserved : goal.loop-patch-preserved
 loop-patch-preserved g c =
     let sofar = c.loop-patch.invariant in
-    let patches = pairs c.args.entry.now.patches in
+    let patches = pairs_of c.args.entry.now.patches in
     let name = c.args.entry.now.name in
     let mid = g.D.Disk.files c.loop-patch.disk in
     let from = c.patch-item.result.from in

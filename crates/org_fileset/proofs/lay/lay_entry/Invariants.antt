@@ -1,7 +1,7 @@
 use Rattle.std.proofs.Common.{◌≡◌, ◌≢◌, List, ℕ, take}
 use Rattle.org_disk.specs.Accounts.{Accounts}
 use Rattle.org_splice.specs.Patches.{lay_each}
-use Rattle.org_journal.specs.Record.{pairs}
+use Rattle.org_splice.specs.Texts.{pairs_of}
 use Rattle.org_fileset.specs.Replay.{EachLaysTo, Lays}
 use Rattle.org_fileset.proofs.lay.lay_entry.Given as goal
 
@@ -9,7 +9,7 @@ use Rattle.org_fileset.proofs.lay.lay_entry.Given as goal
 abbrev pub invariant-loop-patch : goal.invariant-loop-patch
 invariant-loop-patch g l =
     let disk = g.D.Disk in
-    let patches = pairs l.entry.patches in
+    let patches = pairs_of l.entry.patches in
     record {
       accounts : Accounts disk.steady disk.honest disk.failures l.fn.disk l.disk ⊥;
       content : disk.honest l.disk → (disk.files l.disk l.entry.name).content ≡ lay_each (take l.patch-index patches) (disk.files l.fn.disk l.entry.name).content;

@@ -1,7 +1,7 @@
 use Rattle.std.proofs.Common.{ap, ◌∙◌, ◌++◌, List, ℕ, length}
 use Rattle.std.specs.List.{flat_map}
 use Rattle.byteorder.specs.Endian.{big_bytes}
-use Rattle.org_journal.specs.declared.record.Patch.{Patch}
+use Rattle.org_splice.specs.declared.patch.Patch.{Patch}
 use Rattle.org_journal.specs.Record.{patch_bytes}
 use Rattle.org_journal.proofs.Journal.{appended5}
 use Rattle.org_journal.proofs.encoding.put_entry.Goals as goal

@@ -2,8 +2,8 @@ use Rattle.std.proofs.Common.{◌≡◌, Bool, List, ℕ, ap, sym, ◌∙◌, �
 use Rattle.std.specs.Prelude.{◌&&◌}
 use Rattle.org_disk.specs.Disk.{FileState}
 use Rattle.org_disk.proofs.Accounting.{accounts_call_ok, accounts_then, looks_then}
-use Rattle.org_journal.specs.declared.record.Patch.{Patch}
-use Rattle.org_journal.specs.Record.{pairs}
+use Rattle.org_splice.specs.declared.patch.Patch.{Patch}
+use Rattle.org_splice.specs.Texts.{pairs_of}
 use Rattle.org_journal.specs.Standing.{contents, fits, all_fit}
 use Rattle.org_journal.proofs.Fitting.{patches_first, all_first}
 use Rattle.org_journal.proofs.finding.all_fit.Goals as goal
@@ -22,7 +22,7 @@ loop-entry-preserved g c =
       looks = λ ended. looks_then (so_far.looks (call.accounts.was_honest ended)) (call.looks ended);
       fit = λ ended.
           let size : c.in_ok-size.size ≡ length (image entry.name) = c.in_ok-size.ensures.value ended ∙ ap (λ (f : List ℕ → FileState). length (f entry.name).content) (so_far.looks (call.accounts.was_honest ended)).same in
-          let test : fits (pairs entry.patches) entry.length (length (image entry.name)) ≡ true =
-          ap (fits (pairs entry.patches) entry.length) (sym size) ∙ ap (λ (p : List Patch). fits (pairs p) entry.length c.in_ok-size.size) (sym c.as_slice.ensures) ∙ sym c.fits.ensures ∙ c.if-not-fits.false in
+          let test : fits (pairs_of entry.patches) entry.length (length (image entry.name)) ≡ true =
+          ap (fits (pairs_of entry.patches) entry.length) (sym size) ∙ ap (λ (p : List Patch). fits (pairs_of p) entry.length c.in_ok-size.size) (sym c.as_slice.ensures) ∙ sym c.fits.ensures ∙ c.if-not-fits.false in
           sym (all_first entries i entry image c.loop-entry-test.true c.entry-item.is ∙ ap (λ (b : Bool). b && all_fit (drop (i + 1) entries) image) test) ∙ so_far.fit (call.accounts.was_honest ended);
     }
