@@ -6,10 +6,9 @@ ghost use Rattle.org_serve.specs.Group.{IsGroup};
 mod archives;
 mod clocks;
 mod failures;
+mod folders;
 mod groups;
 mod journals;
-mod large_moves;
-mod lines;
 mod moves;
 mod pipes;
 mod states;
@@ -137,16 +136,4 @@ fn is_answered(
 {
     let written = served(alloc, disk, group, input)?;
     Ok(written.as_slice() == wanted)
-}
-
-// Over a.org, which holds `* A`, and b.org, which holds `* Z`, this input is answered so.
-fn answers(rt: &(impl Abort + AllocGlobal), input: &str, wanted: &str) {
-    answers_over(rt, ("* A", "* Z"), input, wanted);
-}
-
-// Over such a.org and b.org this input is answered so.
-fn answers_over(rt: &(impl Abort + AllocGlobal), (a, b): (&str, &str), input: &str, wanted: &str) {
-    let disk = must(rt, two_files(rt.alloc(), a.as_bytes(), b.as_bytes()));
-    let is_answered = is_answered(rt.alloc(), disk, 1, input.as_bytes(), wanted.as_bytes());
-    assert!(rt; must(rt, is_answered), "{input}");
 }

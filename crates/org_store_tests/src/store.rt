@@ -2,12 +2,9 @@
 ghost use Rattle.std.specs.List.{All};
 ghost use Rattle.org_disk.specs.Names.{IsOrgFile};
 
-mod captures;
 mod failures;
 mod groups;
-mod limits;
-mod refiles;
-mod states;
+mod paths;
 mod stops;
 
 use org_capture::Target;
@@ -56,22 +53,15 @@ fn store_over(rt: &impl Abort, alloc: Global, a: &[u8], b: &[u8]) -> Store<Memor
     must(rt, open(alloc, disk))
 }
 
-// A capture on 2026-07-01 at 10:00.
-fn capture(
-    alloc: Global,
-    file: &str,
-    target: Target,
-    place: Place,
-    template: &[u8],
-    initial: &[u8],
-) -> Result<Command, Fail> {
+// A capture at the end of a file.
+fn capture(alloc: Global, file: &str, template: &[u8]) -> Result<Command, Fail> {
     Ok(Command::Capture {
         file: FileName::new(alloc, file)?,
-        target,
-        place,
+        target: Target::Top,
+        place: Place::Last,
         moment: Moment::new(2026, 7, 1, 10, 0).ok_or("no moment")?,
         template: Bytes::new(template.to_vec(alloc)?),
-        initial: Bytes::new(initial.to_vec(alloc)?),
+        initial: Bytes::new(Vec::new(alloc)),
     })
 }
 
@@ -101,27 +91,6 @@ fn left_on(rt: &impl Abort, alloc: Global, disk: MemoryDisk) -> (Vec<u8>, Vec<u8
     must(rt, both(alloc, &mut store))
 }
 
-// Whether a show of the file answers this text.
-fn shows(
-    alloc: Global,
-    store: &mut Store<MemoryDisk>,
-    file: &str,
-    text: &[u8],
-) -> Result<bool, Fail> {
-    let shown = shown(alloc, store, file)?;
-    Ok(shown.as_slice() == text)
-}
-
-// Whether shows of both files answer these texts.
-fn shows_both(
-    alloc: Global,
-    store: &mut Store<MemoryDisk>,
-    a: &[u8],
-    b: &[u8],
-) -> Result<bool, Fail> {
-    Ok(shows(alloc, store, "a.org", a)? && shows(alloc, store, "b.org", b)?)
-}
-
 // What a command that changes files is answered: its number, or why there is none.
 fn answered(
     store: &mut Store<MemoryDisk>,
@@ -141,10 +110,7 @@ fn captured(
     file: &str,
     template: &[u8],
 ) -> Result<Result<u64, RunFault>, Fail> {
-    answered(
-        store,
-        &capture(alloc, file, Target::Top, Place::Last, template, b"")?,
-    )
+    answered(store, &capture(alloc, file, template)?)
 }
 
 // Whether so many commands are accepted, and so many of them on the disk.

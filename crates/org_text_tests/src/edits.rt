@@ -20,12 +20,3 @@ pub fn edited(rt: &impl Abort, alloc: Global, text: &[u8], edit: &Edit) -> Vec<u
     after.apply(edit).expect(rt, "memory");
     after.bytes().to_vec(alloc).expect(rt, "memory")
 }
-
-/// The text after edits, one after the other.
-pub fn edited_by(rt: &impl Abort, alloc: Global, text: &[u8], edits: &[Edit]) -> Vec<u8> {
-    let mut after = text.to_vec(alloc).expect(rt, "memory");
-    for edit in edits {
-        after = edited(rt, alloc, &after, edit);
-    }
-    after
-}

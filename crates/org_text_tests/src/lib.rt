@@ -4,10 +4,6 @@
 #[cfg(test)]
 mod archives;
 #[cfg(test)]
-mod archiving;
-#[cfg(test)]
-mod captures;
-#[cfg(test)]
 mod clocks;
 #[cfg(test)]
 mod edits;
@@ -16,12 +12,10 @@ mod held_texts;
 #[cfg(test)]
 mod outline;
 #[cfg(test)]
-mod refiles;
-#[cfg(test)]
 mod sections;
 #[cfg(test)]
 mod splice;
 #[cfg(test)]
 mod stamp;
 #[cfg(test)]
-mod states;
+mod templates;

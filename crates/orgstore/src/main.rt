@@ -17,8 +17,6 @@ mod fault;
 mod folder;
 mod names;
 mod states;
-#[cfg(test)]
-mod tests;
 
 use arguments::Arguments;
 use fault::Fault;

@@ -11,45 +11,6 @@ use std::alloc::Global;
 use std::process::Abort;
 use std::test::Fail;
 
-// In groups of this size the lines are answered so.
-fn answers_in(rt: &(impl Abort + AllocGlobal), group: u32, lines: &[u8], wanted: &str)
-    requires { IsGroup group }
-{
-    let disk = must(rt, two_files(rt.alloc(), b"* A\n", b"* Z"));
-    assert!(rt;
-        must(
-            rt,
-            is_answered(rt.alloc(), disk, group, lines, wanted.as_bytes())
-        )
-    );
-}
-
-const THREE: &[u8] = b"capture\ta.org\ttop\tlast\t2026-07-01 10:00\t* N\t\n\
-    capture\tb.org\ttop\tlast\t2026-07-01 10:00\t* K\t\n\
-    capture\ta.org\ttop\tlast\t2026-07-01 10:00\t* L\t\n";
-
-#[test]
-fn three_captures(rt: HostRuntime) {
-    answers_in(&rt, 1, THREE, "ok 1\nsafe 1\nok 2\nsafe 2\nok 3\nsafe 3\n");
-    answers_in(&rt, 2, THREE, "ok 1\nok 2\nsafe 2\nok 3\nsafe 3\n");
-    answers_in(&rt, 3, THREE, "ok 1\nok 2\nok 3\nsafe 3\n");
-    answers_in(&rt, 1000, THREE, "ok 1\nok 2\nok 3\nsafe 3\n");
-}
-
-// A refused command changes no number, and a show shows what is accepted.
-#[test]
-fn a_refusal_between(rt: HostRuntime) {
-    let lines = b"capture\ta.org\ttop\tlast\t2026-07-01 10:00\t* N\t\n\
-        capture\ta.org\ttop\tlast\t2026-07-01 10:00\tN\t\nshow\ta.org\n\
-        capture\tb.org\ttop\tlast\t2026-07-01 10:00\t* K\t\n";
-    answers_in(
-        &rt,
-        2,
-        lines,
-        "ok 1\nrefused 3 BadEntry\ntext 8\n* A\n* N\n\nok 2\nsafe 2\n",
-    );
-}
-
 // What is left of the disk where the input breaks off behind these lines, so that nothing is settled at its end.
 fn broken_off(
     rt: &impl Abort,

@@ -1,12 +1,21 @@
-// Templates, the initial texts put into them, and entries.
-use super::{now, states};
+// Templates, the initial texts put into them, and entries: rows worked by hand from the rules of templates.
 use org_capture::{CaptureFault, entry, expand, expanded_length};
+use org_outline::States;
 use org_stamp::Moment;
 use std::alloc::{AllocError, Global};
 use std::process::Abort;
 
 /// A template, an initial text, and what they make on 2026-07-01.
 type Filled = (&'static str, &'static str, &'static str);
+
+/// 2026-07-01 10:00.
+fn now(rt: &impl Abort) -> Moment {
+    Moment::new(2026, 7, 1, 10, 0).expect(rt, "a moment")
+}
+
+fn states(rt: &(impl Abort + AllocGlobal)) -> States {
+    States::new(rt.alloc(), &["TODO"], &["DONE"]).expect(rt, "states")
+}
 
 /// Whether a template makes these bytes, as many as are told of it.
 fn fills(
