@@ -71,9 +71,14 @@ fn show(alloc: Global, file: &str) -> Result<Command, Fail> {
     })
 }
 
+// A command, of whose answer nothing is said here: the proofs of what calls this have less to carry on.
+fn run(store: &mut Store<MemoryDisk>, command: &Command) -> Result<Reply, RunFault> {
+    store.run(command)
+}
+
 // What a show of the file answers.
 fn shown(alloc: Global, store: &mut Store<MemoryDisk>, file: &str) -> Result<Vec<u8>, Fail> {
-    match store.run(&show(alloc, file)?)? {
+    match run(store, &show(alloc, file)?)? {
         Reply::Text(text) => Ok(text.into_vec()),
         _ => Err("no text")?,
     }
@@ -96,7 +101,7 @@ fn answered(
     store: &mut Store<MemoryDisk>,
     command: &Command,
 ) -> Result<Result<u64, RunFault>, Fail> {
-    match store.run(command) {
+    match run(store, command) {
         Ok(Reply::Done(number)) => Ok(Ok(number)),
         Ok(_) => Err("no number")?,
         Err(fault) => Ok(Err(fault)),

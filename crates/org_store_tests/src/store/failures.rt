@@ -1,5 +1,5 @@
 // A disk that fails at a call.
-use super::{calls_of_opening, captured, has_counts, left_on, must, open, show};
+use super::{calls_of_opening, captured, has_counts, left_on, must, open, run, show};
 use org_disk::MemoryDisk;
 use org_fixtures::two_files;
 use org_store::{RunFault, Store};
@@ -7,10 +7,15 @@ use std::alloc::Global;
 use std::process::Abort;
 use std::test::Fail;
 
+fn settle(store: &mut Store<MemoryDisk>) -> Result<(), RunFault> {
+    store.settle()
+}
+
 // Whether a show and a settling are answered that the store is broken.
 fn answers_broken(alloc: Global, store: &mut Store<MemoryDisk>) -> Result<bool, Fail> {
-    let shown = store.run(&show(alloc, "b.org")?);
-    Ok(matches!(shown, Err(RunFault::Broken)) && matches!(store.settle(), Err(RunFault::Broken)))
+    let shown = run(store, &show(alloc, "b.org")?);
+    let settled = settle(store);
+    Ok(matches!(shown, Err(RunFault::Broken)) && matches!(settled, Err(RunFault::Broken)))
 }
 
 // A capture at which the disk fails, and what comes after it.

@@ -1,5 +1,5 @@
 // Captures in groups whose size changes.
-use super::{captured, has_counts, left_on, must, store_over};
+use super::{captured, has_counts, left_on, must, run, store_over};
 use org_disk::MemoryDisk;
 use org_store::{Command, Reply, Store};
 use std::alloc::Global;
@@ -20,7 +20,7 @@ fn captures_as(
 
 // How many commands a settling tells to be safe.
 fn safe(store: &mut Store<MemoryDisk>) -> Option<u64> {
-    match store.run(&Command::Settle) {
+    match run(store, &Command::Settle) {
         Ok(Reply::Safe(safe)) => Some(safe),
         _ => None,
     }
