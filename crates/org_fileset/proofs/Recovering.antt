@@ -13,6 +13,9 @@ use Rattle.org_disk.specs.Accounts.{Looks, PassesOver}
 use Rattle.org_disk.proofs.Moments.{passes_as, passes_then}
 use Rattle.org_disk.proofs.Names.{name_cases}
 use Rattle.org_journal.specs.declared.record.Entry.{Entry}
+use Rattle.org_journal.specs.declared.finding.Found.{Found}
+use Rattle.org_journal.specs.declared.finding.Found.TheVariants.{Armed, Closed}
+use Rattle.org_journal.specs.Finding.{Finds}
 use Rattle.org_journal.specs.Gate.{front_size, is_open, HasClosedGate, LeavesClosed}
 use Rattle.org_journal.specs.Reading.{journal_at}
 use Rattle.org_journal.specs.declared.record.Version.TheVariants.{Two}
@@ -133,19 +136,18 @@ sync_fit old new r own images changes (inr armed) =
 -- What the record of a fit disk makes
 
 -- an image with one file's bytes put in place of its content
-with_bytes : (List ℕ → FileState) → List ℕ → List ℕ → Image
+pub with_bytes : (List ℕ → FileState) → List ℕ → List ℕ → Image
 with_bytes files name bytes other = if bytes_eq other name then bytes else contents files other
 
-module _ (files : List ℕ → FileState) (own : (name : List ℕ) → IsImage (files name) (files name).content) (entries : List Entry) (layable : AreLayable entries)
-    (over : IsOpenOver entries files) (fit : all_fit entries (contents files) ≡ true) where
-  one_image : (name bytes : List ℕ) → IsImage (files name) bytes → AreImages files (with_bytes files name bytes)
+module _ (files : List ℕ → FileState) (own : (name : List ℕ) → IsImage (files name) (files name).content) where
+  pub one_image : (name bytes : List ℕ) → IsImage (files name) bytes → AreImages files (with_bytes files name bytes)
   unfolding with_bytes
   one_image name bytes image other = elim (name_cases other name) [
     | inl same ↦ let t : bytes_eq other name ≡ true = same.1 in rw t (subst (λ (n : List ℕ). IsImage (files n) bytes) (sym same.0) image)
     | inr apart ↦ let f : bytes_eq other name ≡ false = apart.1 in rw f (own other)
   ]
 
-  here_is : (name bytes : List ℕ) → with_bytes files name bytes name ≡ bytes
+  pub here_is : (name bytes : List ℕ) → with_bytes files name bytes name ≡ bytes
   unfolding with_bytes
   here_is name bytes = elim (name_cases name name) [
     | inl same ↦ let t : bytes_eq name name ≡ true = same.1 in rw t refl
@@ -159,6 +161,8 @@ module _ (files : List ℕ → FileState) (own : (name : List ℕ) → IsImage (
     | inr apart ↦ let f : bytes_eq journal_name name ≡ false = apart.1 in rw f refl
   ]
 
+module _ (files : List ℕ → FileState) (own : (name : List ℕ) → IsImage (files name) (files name).content) (entries : List Entry) (layable : AreLayable entries)
+    (over : IsOpenOver entries files) (fit : all_fit entries (contents files) ≡ true) where
   -- one of the two kinds of fit disks
   pub stable_replayable : OthersStable files → IsReplayable entries files
   stable_replayable stable = record {
@@ -175,9 +179,9 @@ module _ (files : List ℕ → FileState) (own : (name : List ℕ) → IsImage (
   armed_takes armed = record {
     each = λ name not text image.
         let whole = with_bytes files name text in
-        subst (λ (t : List ℕ). TakesTo entries name t (armed.texts name)) (here_is name text)
-        (open_stands entries armed.texts whole (ap is_open (journal_is name text not) ∙ over.opened)
-        (ap (λ (l : List ℕ). journal_at (drop 1 l)) (journal_is name text not) ∙ over.found) (armed.same whole (one_image name text image)) name not);
+        subst (λ (t : List ℕ). TakesTo entries name t (armed.texts name)) (here_is files own name text)
+        (open_stands entries armed.texts whole (ap is_open (journal_is files own name text not) ∙ over.opened)
+        (ap (λ (l : List ℕ). journal_at (drop 1 l)) (journal_is files own name text not) ∙ over.found) (armed.same whole (one_image files own name text image)) name not);
   }
 
   pub armed_replayable : IsArmed files → IsReplayable entries files
@@ -315,9 +319,20 @@ closed_shut journal shut long = closed_when journal true (ap (λ (b : Bool). nat
 pub stood_closed : (files new : Image) → is_open (files journal_name) ≡ false → SameFiles new files → IsSomeAnd (stands files) (SameFiles new)
 stood_closed files new shut same = rw shut same
 
+-- A journal that was found isn't bad.
+pub found_good : (files : Image) (found : Found) → Finds files (Ok found) → stands files ≡ None → ⊥
+found_good files Closed shut none = subst (λ (o : Option Image). IsSomeAnd o (λ f. Unit {0})) none (rw shut tt)
+found_good files (Armed entries) found none =
+    let opened = found.0 in
+    let told = found.1 in
+    let fits = found.2 in
+    let good : IsSomeAnd (stands files) (λ f. Unit {0}) = rw (opened, told, fits) tt in
+    subst (λ (o : Option Image). IsSomeAnd o (λ f. Unit {0})) none good
+
 -- The journal was synced and looked at, and nothing else was done.
 pub record IsLookedAt {D : Type 0} (files : D → List ℕ → FileState) (moment : D → ℕ) (left_since : D → ℕ → Image → Type 0) (old now : D) : Type 0 where
   pub is : IsSynced (files old) (files now)
+  pub time : PassesOver moment left_since old now (AreImages (files old))
   pub since : EachStands (files old) → PassesOver moment left_since old now (StandsAsBefore (files old))
 
 pub looked_at : {D : Type 0} (files : D → List ℕ → FileState) (moment : D → ℕ) (left_since : D → ℕ → Image → Type 0) (old mid now : D) (journal : List ℕ) → journal ≡ journal_name
@@ -326,10 +341,14 @@ pub looked_at : {D : Type 0} (files : D → List ℕ → FileState) (moment : D 
     → Looks files moment left_since mid now → IsLookedAt files moment left_since old now
 looked_at files moment left_since old mid now journal name_is own owns changes time looks = record {
   is = is;
-  since = λ each. passes_then
-      (passes_as time (λ image left. as_before (files old) each image (sync_left journal_name (files old) image own (subst (λ (n : List ℕ). AreLeftBy sync n (files old) image) name_is left))))
-      looks.time (λ image left. as_before (files old) each image (is.images image (subst (λ (f : List ℕ → FileState). AreImages f image) (sym looks.same) left)));
+  time = images;
+  since = λ each. passes_as images (as_before (files old) each);
 }
   where
     is : IsSynced (files old) (files now)
     is = synced (files old) (files mid) (files now) own owns (subst (λ (n : List ℕ). Changes sync n (files old) (files mid) (Ok tt)) name_is changes) looks.same
+
+    images : PassesOver moment left_since old now (AreImages (files old))
+    images = passes_then
+        (passes_as time (λ image left. sync_left journal_name (files old) image own (subst (λ (n : List ℕ). AreLeftBy sync n (files old) image) name_is left)))
+        looks.time (λ image left. is.images image (subst (λ (f : List ℕ → FileState). AreImages f image) (sym looks.same) left))

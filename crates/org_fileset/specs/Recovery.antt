@@ -1,5 +1,5 @@
 -- What an opening may leave.
-use Rattle.std.specs.Prelude.{◌≡◌, ℕ, nat_le, ◌&&◌, not, List, ◌∷◌, length, drop, Result, OnOk, IsSomeAnd, IsTrue, is_some, if◌then◌else◌}
+use Rattle.std.specs.Prelude.{◌≡◌, ℕ, nat_le, ◌&&◌, not, List, ◌∷◌, length, drop, Result, OnOk, IsSomeAnd, IsTrue, is_some, None, if◌then◌else◌}
 use Rattle.org_disk.specs.Disk.{FileState, AreImages}
 use Rattle.org_disk.specs.Accounts.{LeavesOver}
 use Rattle.org_disk.specs.Names.{journal_name}
@@ -32,10 +32,12 @@ pub record IsReopened (old new : List ℕ → FileState) : Type 0 where
   pub rest : IsFit old → EachStands old → IsAtRest new
 
 -- What an opening does to a disk that is honest after it. Where the disk was fit, and each image of it stood for files,
--- a stop at any moment since it began leaves what stands for them, and the disk is as fit after it.
+-- a stop at any moment since it began leaves what stands for them, and the disk is as fit after it. Where the journal is
+-- bad, as it reads, a stop leaves what it might have left before, and nothing else.
 pub record Reopens {D A E : Type 0} (files : D → List ℕ → FileState) (moment : D → ℕ)
     (left_since : D → ℕ → Image → Type 0) (old new : D) (result : Result A E) : Type 0 where
   pub done : OnOk result (IsReopened (files old) (files new))
   pub any_moment : IsFit (files old) → EachStands (files old)
       → LeavesOver moment left_since old new (StandsAsBefore (files old))
   pub fit : IsFit (files old) → EachStands (files old) → IsFit (files new)
+  pub bad : stands (contents (files old)) ≡ None → LeavesOver moment left_since old new (AreImages (files old))

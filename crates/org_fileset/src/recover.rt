@@ -14,7 +14,8 @@ use std::alloc::Global;
 /// Nothing else is written.
 ///
 /// On a disk that is fit, of which each image stands for files, every image at every moment since the call began stands
-/// for what an image at the start stood for, whatever is answered; so it may be stopped, and called again.
+/// for what an image at the start stood for, whatever is answered; so it may be stopped, and called again. Where the
+/// journal is bad, as it reads, a stop leaves what it might have left before, whatever is answered.
 pub fn recover<D: Disk>(alloc: Global, disk: &mut D, journal: &FileName) -> Result<(), FindFault>
     requires { journal.now ≡ journal_name }
     ensures reopens { D.honest disk.new → Reopens D.files D.moment D.left_since disk.old disk.new

@@ -51,6 +51,7 @@ impl<D: Disk> FileSet<D> {
     ///
     /// On a disk that is fit, of which each image stands for files, every image at every moment since the call began
     /// stands for what an image at the start stood for, whatever is answered; so it may be stopped, and called again.
+    /// Where the journal is bad, as it reads, a stop leaves what it might have left before.
     ///
     /// The faults come in the order of `OpenFault`; `Device` and `OutOfMemory` as they are met. A refused call hands the
     /// disk back.

@@ -23,6 +23,10 @@ pub if_err : {A E : Type 0} {P Q : E → Type 0} (r : Result A E) → ((e : E) �
 if_err (Ok x) more held = tt
 if_err (Err e) more held = more e held
 
+pub if_err_always : {A E : Type 0} {P : Type 0} (r : Result A E) → P → IfErr r (λ _. P)
+if_err_always (Ok x) held = tt
+if_err_always (Err e) held = held
+
 -- what a stop leaves has Q too
 pub leaves_as : {m n : ℕ} {s u : ℕ → Image → Type 0} {P Q : Image → Type 0} → LeavesOnly m n s u P → ((image : Image) → P image → Q image) → LeavesOnly m n s u Q
 leaves_as leaves weaker = record { each = λ image left. weaker image (leaves.each image left); passes = passes_as leaves.passes weaker }

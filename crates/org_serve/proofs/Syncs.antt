@@ -14,7 +14,7 @@ use Rattle.org_journal.specs.Gate.{is_open}
 use Rattle.org_fileset.specs.Names.{AreSorted}
 use Rattle.org_fileset.specs.Recovery.{EachStands, StandsAsBefore}
 use Rattle.org_fileset.proofs.Elements.{no_member, cons_cases, cons_here, cons_later}
-use Rattle.org_fileset.proofs.Recovering.{stable_from_only}
+use Rattle.org_fileset.proofs.Recovering.{stable_from_only, with_bytes, one_image, here_is}
 use Rattle.org_serve.specs.Syncing.{AreSynced, OutsideStable, StandsAsRead, stored}
 
 -- One sync after others
@@ -74,6 +74,12 @@ pub all_images : {old new : List ℕ → FileState} → ((name bytes : List ℕ)
     → (image : Image) → AreImages new image → AreImages old image
 all_images images image left name = images name (image name) (left name)
 
+-- told of each file by itself
+pub each_image : {old new : List ℕ → FileState} → ((name : List ℕ) → IsImage (new name) (new name).content)
+    → ((image : Image) → AreImages new image → AreImages old image) → (name bytes : List ℕ) → IsImage (new name) bytes → IsImage (old name) bytes
+each_image {old} {new} own images name bytes image =
+    subst (λ (b : List ℕ). IsImage (old name) b) (here_is new own name bytes) (images (with_bytes new name bytes) (one_image new own name bytes image) name)
+
 module _ (old new : List ℕ → FileState) (own : (name : List ℕ) → IsImage (new name) (new name).content)
     (images : (name bytes : List ℕ) → IsImage (new name) bytes → IsImage (old name) bytes) where
   one_content : (name : List ℕ) → IsStable (old name) → (new name).content ≡ (old name).content
@@ -113,14 +119,14 @@ module _ (old new : List ℕ → FileState) (own : (name : List ℕ) → IsImage
     pub now_fit : IsFit new
     now_fit = inl (λ name not. all_stable name)
 
-    one_image : (image : Image) → AreImages new image → image ≡ contents old
-    one_image image left = (λ i name. only_image (all_stable name) (image name) (left name) i) ∙ synced.same
+    only_read : (image : Image) → AreImages new image → image ≡ contents old
+    only_read image left = (λ i name. only_image (all_stable name) (image name) (left name) i) ∙ synced.same
 
     pub now_stand : IsTrue (is_some (stands (contents old))) → EachStands new
-    now_stand stand image left = subst (λ (f : Image). IsTrue (is_some (stands f))) (sym (one_image image left)) stand
+    now_stand stand image left = subst (λ (f : Image). IsTrue (is_some (stands f))) (sym (only_read image left)) stand
 
     pub as_read : (image : Image) → StandsAsBefore new image → StandsAsRead old image
-    as_read image before = read (stands (contents old)) (subst (λ (f : Image). StandsFor before.texts f) (one_image before.start before.left) before.stood)
+    as_read image before = read (stands (contents old)) (subst (λ (f : Image). StandsFor before.texts f) (only_read before.start before.left) before.stood)
       where
         moved : (texts found : Image) → SameFiles found texts → (o : Option Image) → IsSomeAnd o (λ f. SameFiles f texts) → IsSomeAnd o (λ f. SameFiles f found)
         moved texts found same None held = absurd held
@@ -137,3 +143,11 @@ some_stand files made held = some (stands files) held
     some : (o : Option Image) → IsSomeAnd o (SameFiles made) → is_some o ≡ true
     some None held = absurd held
     some (Some found) held = refl
+
+-- or they don't
+pub some_or_none : (files : Image) → IsTrue (is_some (stands files)) ⊎ (stands files ≡ None)
+some_or_none files = cases (stands files)
+  where
+    cases : (o : Option Image) → IsTrue (is_some o) ⊎ (o ≡ None)
+    cases None = inr refl
+    cases (Some found) = inl refl

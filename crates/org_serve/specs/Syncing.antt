@@ -1,5 +1,5 @@
 -- The files of a store, synced before it is opened over them, and what a stop leaves of them then.
-use Rattle.std.specs.Prelude.{◌≡◌, ◌⊎◌, ℕ, List, ◌∷◌, Result, OnOk, IsSomeAnd, IsTrue, is_some}
+use Rattle.std.specs.Prelude.{◌≡◌, ◌⊎◌, ℕ, List, ◌∷◌, Result, OnOk, IsSomeAnd}
 use Rattle.std.specs.List.{Contains}
 use Rattle.org_disk.specs.Disk.{FileState, IsImage, IsStable, AreImages}
 use Rattle.org_disk.specs.Names.{journal_name}
@@ -33,10 +33,6 @@ IsSyncFault given fault = ⊥
 -- every file but the store's is on the disk
 abbrev pub OutsideStable : List (List ℕ) → (List ℕ → FileState) → Type 0
 OutsideStable given files = (name : List ℕ) → (Contains (stored given) name → ⊥) → IsStable (files name)
-
--- the journal isn't bad, as it reads: so the files stand for something
-abbrev pub HasGoodJournal : (List ℕ → FileState) → Type 0
-HasGoodJournal files = IsTrue (is_some (stands (contents files)))
 
 -- the image stands for what the files stand for as they read
 abbrev pub StandsAsRead : (List ℕ → FileState) → Image → Type 0

@@ -3,7 +3,7 @@ ghost use Rattle.std.specs.Prelude.{◌≡◌, ◌++◌, length, OnOk, OnErr, co
 ghost use Rattle.std.specs.Io.KnownBytes.{Appends};
 ghost use Rattle.org_stamp.specs.Stamp.{duration_text};
 ghost use Rattle.org_store.specs.declared.command.RunFault.TheVariants.{Refused};
-ghost use Rattle.org_disk.specs.Disk.{HasRisen};
+ghost use Rattle.org_disk.specs.Disk.{IsCounted};
 ghost use Rattle.org_serve.specs.Faults.{fault_text};
 ghost use Rattle.org_serve.specs.Replies.{safe_line, safe_if_risen, fault_line, answer_text, settled_text};
 
@@ -22,7 +22,7 @@ pub fn write_answer<W: Sink>(
     ensures ok { OnOk result (Appends (W.written writer.old) (W.written writer.new)
         (answer_text answer.now before safe)) }
     ensures same { OnOk result (W.failures writer.new ≡ W.failures writer.old) }
-    ensures err { OnErr result (HasRisen (W.failures writer.old) (W.failures writer.new)) }
+    ensures err { OnErr result (IsCounted (W.failures writer.old) (W.failures writer.new)) }
 {
     match answer {
         Ok(Reply::Done(n)) => write_done(writer, *n, before, safe)?,
@@ -39,7 +39,7 @@ pub fn write_unread<W: Sink>(writer: &mut W, fault: LineFault) -> Result<(), Pip
     ensures ok { OnOk result (Appends (W.written writer.old) (W.written writer.new)
         (fault_text fault)) }
     ensures same { OnOk result (W.failures writer.new ≡ W.failures writer.old) }
-    ensures err { OnErr result (HasRisen (W.failures writer.old) (W.failures writer.new)) }
+    ensures err { OnErr result (IsCounted (W.failures writer.old) (W.failures writer.new)) }
 {
     match fault {
         LineFault::BadLine => writer.write(b"refused 20 BadLine\n")?,
@@ -57,7 +57,7 @@ pub fn write_settled<W: Sink>(
     ensures ok { OnOk result (Appends (W.written writer.old) (W.written writer.new)
         (settled_text answer safe)) }
     ensures same { OnOk result (W.failures writer.new ≡ W.failures writer.old) }
-    ensures err { OnErr result (HasRisen (W.failures writer.old) (W.failures writer.new)) }
+    ensures err { OnErr result (IsCounted (W.failures writer.old) (W.failures writer.new)) }
 {
     match answer {
         Ok(()) => write_safe(writer, safe)?,
@@ -70,7 +70,7 @@ fn write_done<W: Sink>(writer: &mut W, n: u64, before: u64, safe: u64) -> Result
     ensures ok { OnOk result (Appends (W.written writer.old) (W.written writer.new)
         (codes "ok " ++ decimal n ++ codes "\n" ++ safe_if_risen before safe)) }
     ensures same { OnOk result (W.failures writer.new ≡ W.failures writer.old) }
-    ensures err { OnErr result (HasRisen (W.failures writer.old) (W.failures writer.new)) }
+    ensures err { OnErr result (IsCounted (W.failures writer.old) (W.failures writer.new)) }
 {
     writer.write(b"ok ")?;
     writer.write(Buffer::new().format(n).as_bytes())?;
@@ -85,7 +85,7 @@ fn write_safe<W: Sink>(writer: &mut W, safe: u64) -> Result<(), PipeFault>
     ensures ok { OnOk result (Appends (W.written writer.old) (W.written writer.new)
         (safe_line safe)) }
     ensures same { OnOk result (W.failures writer.new ≡ W.failures writer.old) }
-    ensures err { OnErr result (HasRisen (W.failures writer.old) (W.failures writer.new)) }
+    ensures err { OnErr result (IsCounted (W.failures writer.old) (W.failures writer.new)) }
 {
     writer.write(b"safe ")?;
     writer.write(Buffer::new().format(safe).as_bytes())?;
@@ -96,7 +96,7 @@ fn write_text<W: Sink>(writer: &mut W, bytes: &[u8]) -> Result<(), PipeFault>
     ensures ok { OnOk result (Appends (W.written writer.old) (W.written writer.new)
         (codes "text " ++ decimal (length bytes.now) ++ codes "\n" ++ bytes.now ++ codes "\n")) }
     ensures same { OnOk result (W.failures writer.new ≡ W.failures writer.old) }
-    ensures err { OnErr result (HasRisen (W.failures writer.old) (W.failures writer.new)) }
+    ensures err { OnErr result (IsCounted (W.failures writer.old) (W.failures writer.new)) }
 {
     writer.write(b"text ")?;
     writer.write(Buffer::new().format(bytes.len()).as_bytes())?;
@@ -109,7 +109,7 @@ fn write_time<W: Sink>(writer: &mut W, minutes: u64) -> Result<(), PipeFault>
     ensures ok { OnOk result (Appends (W.written writer.old) (W.written writer.new)
         (codes "time " ++ duration_text minutes 1 ++ codes "\n")) }
     ensures same { OnOk result (W.failures writer.new ≡ W.failures writer.old) }
-    ensures err { OnErr result (HasRisen (W.failures writer.old) (W.failures writer.new)) }
+    ensures err { OnErr result (IsCounted (W.failures writer.old) (W.failures writer.new)) }
 {
     let past = (minutes % 60) as u8;
     writer.write(b"time ")?;
@@ -121,7 +121,7 @@ fn write_fault<W: Sink>(writer: &mut W, fault: RunFault) -> Result<(), PipeFault
     ensures ok { OnOk result (Appends (W.written writer.old) (W.written writer.new)
         (fault_line fault)) }
     ensures same { OnOk result (W.failures writer.new ≡ W.failures writer.old) }
-    ensures err { OnErr result (HasRisen (W.failures writer.old) (W.failures writer.new)) }
+    ensures err { OnErr result (IsCounted (W.failures writer.old) (W.failures writer.new)) }
 {
     match fault {
         RunFault::Refused(why) => write_refusal(writer, why),
@@ -135,7 +135,7 @@ fn write_refusal<W: Sink>(writer: &mut W, why: Refusal) -> Result<(), PipeFault>
     ensures ok { OnOk result (Appends (W.written writer.old) (W.written writer.new)
         (fault_line (Refused why))) }
     ensures same { OnOk result (W.failures writer.new ≡ W.failures writer.old) }
-    ensures err { OnErr result (HasRisen (W.failures writer.old) (W.failures writer.new)) }
+    ensures err { OnErr result (IsCounted (W.failures writer.old) (W.failures writer.new)) }
 {
     writer.write(b"refused ")?;
     writer.write(Buffer::new().format(why.code()).as_bytes())?;

@@ -1,7 +1,7 @@
 //! Lines answered one by one, to the end of the input.
 ghost use Rattle.std.specs.Prelude.{◌≡◌, ◌≢◌, ◌⊎◌, ◌++◌, List, ℕ, [], OnOk, OnErr, MatchResult, IsTrue, IsFalse};
 ghost use Rattle.std.specs.Io.KnownBytes.{Appends};
-ghost use Rattle.org_disk.specs.Disk.{HasRisen};
+ghost use Rattle.org_disk.specs.Disk.{IsCounted};
 ghost use Rattle.org_disk.specs.Accounts.{Accounts};
 ghost use Rattle.org_serve.specs.Counts.{HasRisenBy};
 ghost use Rattle.org_serve.specs.Feeding.{FeedOk, FeedErr, EndsWith};
@@ -31,7 +31,8 @@ const PIECE: usize = 4096;
 /// Where it ends with `End`, `Unsettled` or `Device`, and the disk is honest then, the input was read to its end, and
 /// what was written is its transcript. It ends with `Read` where a read failed, and else only where the turns are used up:
 /// the lines that were read whole are answered then. It ends with `Write` exactly where a write or a flush failed: of the
-/// lines some, from the first on, were run then.
+/// lines some, from the first on, were run then. One failure is counted in either case, so neither reader nor writer is
+/// called once it has failed.
 ///
 /// The store is changed by calls of `run` and `settle` alone. What each of them did is told where the disk is honest after
 /// it (`calls`): a wrong answer takes nothing from what was done before it. What a stop leaves at any moment since the call
@@ -53,7 +54,7 @@ pub fn serve<D: Disk, R: Source, W: Sink>(
         → ServesLines AnswersLine store.old.session store.new.session
         (R.left reader.old) (R.left reader.new) (W.written writer.old) (W.written writer.new) }
     ensures read_cause { result ≡ ServeEnd.Read
-        → HasRisen (R.failures reader.old) (R.failures reader.new)
+        → IsCounted (R.failures reader.old) (R.failures reader.new)
         ⊎ HasRisenBy turns (R.reads reader.old) (R.reads reader.new) }
     ensures read_told { result ≢ ServeEnd.Read → R.failures reader.new ≡ R.failures reader.old }
 
@@ -63,7 +64,7 @@ pub fn serve<D: Disk, R: Source, W: Sink>(
         ⊎ RunsAllAndSettles AnswersLine HasSettled store.old.session store.new.session
         (R.left reader.old) (R.left reader.new) }
     ensures write_cause { result ≡ ServeEnd.Write
-        → HasRisen (W.failures writer.old) (W.failures writer.new) }
+        → IsCounted (W.failures writer.old) (W.failures writer.new) }
     ensures write_told { result ≢ ServeEnd.Write → W.failures writer.new ≡ W.failures writer.old }
 
     ensures calls { Runs (RunsLine D.honest D.files D.moment D.left_since)
@@ -107,7 +108,7 @@ fn feed<D: Disk, W: Sink>(
         piece.now)
         store.new) }
     ensures same { OnOk result (W.failures writer.new ≡ W.failures writer.old) }
-    ensures err { OnErr result (HasRisen (W.failures writer.old) (W.failures writer.new)) }
+    ensures err { OnErr result (IsCounted (W.failures writer.old) (W.failures writer.new)) }
     ensures untouched { IsTrue store.old.session.broken → store.new ≡ store.old }
     ensures accounts { Accounts D.steady D.honest D.failures store.old.disk store.new.disk
         (HasBroken store.old.session store.new.session) }
@@ -136,7 +137,7 @@ fn answer<D: Disk, W: Sink>(
         × OnOk result (Appends (W.written writer.old) (W.written writer.new) out) }
     ensures cleared { Stands pending.new [] }
     ensures same { OnOk result (W.failures writer.new ≡ W.failures writer.old) }
-    ensures err { OnErr result (HasRisen (W.failures writer.old) (W.failures writer.new)) }
+    ensures err { OnErr result (IsCounted (W.failures writer.old) (W.failures writer.new)) }
     ensures untouched { IsTrue store.old.session.broken → store.new ≡ store.old }
     ensures accounts { Accounts D.steady D.honest D.failures store.old.disk store.new.disk
         (HasBroken store.old.session store.new.session) }
@@ -169,7 +170,7 @@ fn answer_read<D: Disk, W: Sink>(
         read.now out store.new
         × OnOk result (Appends (W.written writer.old) (W.written writer.new) out) }
     ensures same { OnOk result (W.failures writer.new ≡ W.failures writer.old) }
-    ensures err { OnErr result (HasRisen (W.failures writer.old) (W.failures writer.new)) }
+    ensures err { OnErr result (IsCounted (W.failures writer.old) (W.failures writer.new)) }
     ensures untouched { IsTrue store.old.session.broken → store.new ≡ store.old }
     ensures accounts { Accounts D.steady D.honest D.failures store.old.disk store.new.disk
         (HasBroken store.old.session store.new.session) }
@@ -196,7 +197,7 @@ fn finish<D: Disk, W: Sink>(store: &mut Store<D>, pending: &Pending, writer: &mu
         → (store.new ≡ store.old) ⊎ HasSettledOver D.honest D.files D.moment D.left_since store.old
         store.new }
     ensures write_cause { result ≡ ServeEnd.Write
-        → HasRisen (W.failures writer.old) (W.failures writer.new) }
+        → IsCounted (W.failures writer.old) (W.failures writer.new) }
     ensures write_told { result ≢ ServeEnd.Write → W.failures writer.new ≡ W.failures writer.old }
     ensures broken { EndsBroken result store.new.session }
     ensures untouched { IsTrue store.old.session.broken → store.new ≡ store.old }
@@ -215,7 +216,7 @@ fn answer_rest<W: Sink>(pending: &Pending, writer: &mut W) -> Result<(), PipeFau
         → (last : List ℕ) × AnswersRest part last
         × OnOk result (Appends (W.written writer.old) (W.written writer.new) last) }
     ensures same { OnOk result (W.failures writer.new ≡ W.failures writer.old) }
-    ensures err { OnErr result (HasRisen (W.failures writer.old) (W.failures writer.new)) }
+    ensures err { OnErr result (IsCounted (W.failures writer.old) (W.failures writer.new)) }
 {
     match pending.unended() {
         None => Ok(()),
@@ -232,7 +233,7 @@ fn settle<D: Disk, W: Sink>(store: &mut Store<D>, writer: &mut W) -> ServeEnd
     ensures write { result ≡ ServeEnd.Write
         → HasSettledOver D.honest D.files D.moment D.left_since store.old store.new }
     ensures write_cause { result ≡ ServeEnd.Write
-        → HasRisen (W.failures writer.old) (W.failures writer.new) }
+        → IsCounted (W.failures writer.old) (W.failures writer.new) }
     ensures write_told { result ≢ ServeEnd.Write → W.failures writer.new ≡ W.failures writer.old }
     ensures broken { EndsBroken result store.new.session }
     ensures untouched { IsTrue store.old.session.broken → store.new ≡ store.old }

@@ -1,9 +1,9 @@
 //! The files of a store, synced before it is opened over them.
-ghost use Rattle.std.specs.Prelude.{◌∷◌, All, IfErr, IsErr, IsErrOf};
+ghost use Rattle.std.specs.Prelude.{◌≡◌, ◌∷◌, Err, All, IfErr, IsErr, IsErrOf};
 ghost use Rattle.org_disk.specs.Accounts.{Accounts, LeavesOver};
 ghost use Rattle.org_disk.specs.Disk.{AreImages};
 ghost use Rattle.org_disk.specs.Names.{IsOrgFile};
-ghost use Rattle.org_fileset.specs.declared.open.OpenFault.TheVariants.{Device};
+ghost use Rattle.org_fileset.specs.declared.open.OpenFault.TheVariants.{Device, TooManyFiles};
 ghost use Rattle.org_serve.specs.Syncing.{Syncs, IsSyncFault, stored};
 
 use crate::names::file_names;
@@ -25,6 +25,7 @@ pub fn sync_files<D: Disk>(alloc: Global, disk: &mut D, given: &[FileName]) -> R
     ensures any_moment { D.honest disk.new → LeavesOver D.moment D.left_since disk.old disk.new
         (AreImages (D.files disk.old)) }
     ensures refused { IfErr result (IsSyncFault given.now) }
+    ensures unused { result ≡ Err TooManyFiles → disk.new ≡ disk.old }
     ensures accounts { Accounts D.steady D.honest D.failures disk.old disk.new
         (IsErrOf result Device) }
 {

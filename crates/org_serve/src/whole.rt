@@ -1,14 +1,14 @@
 //! A whole run over a disk, from the opening to the end of the input.
-ghost use Rattle.std.specs.Prelude.{◌≡◌, ◌≢◌, ◌⊎◌, Ok, All, IfOk, IfErr, IsErr};
-ghost use Rattle.org_disk.specs.Disk.{HasRisen};
+ghost use Rattle.std.specs.Prelude.{◌≡◌, ◌≢◌, ◌⊎◌, None, Ok, Err, All, IfOk, IfErr, IsErr};
+ghost use Rattle.org_disk.specs.Disk.{AreImages, IsCounted};
 ghost use Rattle.org_disk.specs.Accounts.{Accounts, LeavesOver};
-ghost use Rattle.org_journal.specs.Standing.{IsFit, contents};
+ghost use Rattle.org_journal.specs.Standing.{IsFit, contents, stands};
 ghost use Rattle.org_disk.specs.Names.{IsOrgFile};
 ghost use Rattle.org_fileset.specs.Opening.{IsReason};
 ghost use Rattle.org_fileset.specs.Recovery.{EachStands, StandsAsBefore};
 ghost use Rattle.org_serve.specs.Counts.{HasRisenBy};
 ghost use Rattle.org_store.specs.Group.{IsGroup};
-ghost use Rattle.org_serve.specs.Syncing.{OutsideStable, HasGoodJournal, IsAsFound};
+ghost use Rattle.org_serve.specs.Syncing.{OutsideStable, IsAsFound};
 ghost use Rattle.org_serve.specs.Whole.{ServesOver, Lasts, LastsFrom, HasFailed};
 
 use crate::end::ServeEnd;
@@ -56,8 +56,9 @@ pub struct Served<D> {
 /// them. The disk is as fit at the end, so that all this may be done again.
 ///
 /// The faults are those of `Store::open`, and then nothing is read or written; the ends, and when each comes, those of
-/// `serve`. With `Device`, or an opening that is refused so, it ends only where the disk counted a failure, and with
-/// `End` or `Unsettled` only where it counted none.
+/// `serve`. Too many names leave the disk unused. Where the journal is bad, as it reads, a stop leaves what it might have
+/// left before, whatever fault is told. With `Device`, or an opening that is refused so, it ends only where the disk
+/// counted a failure, and with `End` or `Unsettled` only where it counted none.
 pub fn serve_disk<D: Disk, R: Source, W: Sink>(
     alloc: Global,
     disk: D,
@@ -76,17 +77,21 @@ pub fn serve_disk<D: Disk, R: Source, W: Sink>(
     ensures unopened { D.honest result.disk → IsFit (D.files disk) → EachStands (D.files disk)
         → IfErr result.end (λ _.
         LeavesOver D.moment D.left_since disk result.disk (StandsAsBefore (D.files disk))) }
+    ensures unopened_bad { D.honest result.disk → stands (contents (D.files disk)) ≡ None
+        → IsErr result.end × LeavesOver D.moment D.left_since disk result.disk
+        (AreImages (D.files disk)) }
+    ensures unused { result.end ≡ Err OpenFault.TooManyFiles → result.disk ≡ disk }
     ensures fit { D.honest result.disk → IsFit (D.files disk) → EachStands (D.files disk)
         → IsFit (D.files result.disk) × EachStands (D.files result.disk) }
     ensures unserved { IfErr result.end (λ _. (reader.new ≡ reader.old)
         × (writer.new ≡ writer.old)) }
     ensures read_cause { result.end ≡ Ok ServeEnd.Read
-        → HasRisen (R.failures reader.old) (R.failures reader.new)
+        → IsCounted (R.failures reader.old) (R.failures reader.new)
         ⊎ HasRisenBy turns (R.reads reader.old) (R.reads reader.new) }
     ensures read_told { result.end ≢ Ok ServeEnd.Read
         → R.failures reader.new ≡ R.failures reader.old }
     ensures write_cause { result.end ≡ Ok ServeEnd.Write
-        → HasRisen (W.failures writer.old) (W.failures writer.new) }
+        → IsCounted (W.failures writer.old) (W.failures writer.new) }
     ensures write_told { result.end ≢ Ok ServeEnd.Write
         → W.failures writer.new ≡ W.failures writer.old }
     ensures refused { IfErr result.end (IsReason setup.names.items (D.honest result.disk)
@@ -122,7 +127,6 @@ pub fn serve_disk<D: Disk, R: Source, W: Sink>(
 /// image of the files as they were found, or what stands for what they read as, or for the files after one prefix of the
 /// commands accepted by then; from each store on the way on, what it leaves is as after `serve_disk`. The disk is then left
 /// fit, and each image of it stands for files; or the store wasn't opened, and the other files are on the disk as before.
-/// Of an opening that is refused this is said where the journal isn't bad, as it reads.
 ///
 /// A sync that fails is an opening that is refused with `Device`.
 pub fn serve_synced<D: Disk, R: Source, W: Sink>(
@@ -146,24 +150,27 @@ pub fn serve_synced<D: Disk, R: Source, W: Sink>(
         → IfErr result.end (λ _.
         LeavesOver D.moment D.left_since disk result.disk (StandsAsBefore (D.files disk))) }
     ensures unopened_as_found { D.honest result.disk
-        → OutsideStable setup.names.items (D.files disk) → HasGoodJournal (D.files disk)
-        → IfErr result.end (λ _.
+        → OutsideStable setup.names.items (D.files disk) → IfErr result.end (λ _.
         LeavesOver D.moment D.left_since disk result.disk (IsAsFound (D.files disk))) }
+    ensures unopened_bad { D.honest result.disk → stands (contents (D.files disk)) ≡ None
+        → IsErr result.end × LeavesOver D.moment D.left_since disk result.disk
+        (AreImages (D.files disk)) }
+    ensures unused { result.end ≡ Err OpenFault.TooManyFiles → result.disk ≡ disk }
     ensures fit { D.honest result.disk → IsFit (D.files disk) → EachStands (D.files disk)
         → IsFit (D.files result.disk) × EachStands (D.files result.disk) }
     ensures fit_once_synced { D.honest result.disk
-        → OutsideStable setup.names.items (D.files disk) → HasGoodJournal (D.files disk)
+        → OutsideStable setup.names.items (D.files disk)
         → (IsFit (D.files result.disk) × EachStands (D.files result.disk))
         ⊎ (IsErr result.end × OutsideStable setup.names.items (D.files result.disk)) }
     ensures unserved { IfErr result.end (λ _. (reader.new ≡ reader.old)
         × (writer.new ≡ writer.old)) }
     ensures read_cause { result.end ≡ Ok ServeEnd.Read
-        → HasRisen (R.failures reader.old) (R.failures reader.new)
+        → IsCounted (R.failures reader.old) (R.failures reader.new)
         ⊎ HasRisenBy turns (R.reads reader.old) (R.reads reader.new) }
     ensures read_told { result.end ≢ Ok ServeEnd.Read
         → R.failures reader.new ≡ R.failures reader.old }
     ensures write_cause { result.end ≡ Ok ServeEnd.Write
-        → HasRisen (W.failures writer.old) (W.failures writer.new) }
+        → IsCounted (W.failures writer.old) (W.failures writer.new) }
     ensures write_told { result.end ≢ Ok ServeEnd.Write
         → W.failures writer.new ≡ W.failures writer.old }
     ensures refused { IfErr result.end (IsReason setup.names.items (D.honest result.disk)

@@ -67,7 +67,7 @@ impl<D: Disk> Store<D> {
     ///
     /// On a disk that is fit, and honest after the call, of which each image stands for files, every image at every
     /// moment since the call began stands for what an image at the start stood for, whatever is answered; so it may be
-    /// stopped, and called again.
+    /// stopped, and called again. Where the journal is bad, as it reads, a stop leaves what it might have left before.
     ///
     /// The faults come in the order of `OpenFault`; `Device` and `OutOfMemory` as they are met, and they alone on a
     /// disk that stands for files of these names, none past the limit. A refused call hands the disk back.

@@ -1,15 +1,16 @@
 //! Lines served over a folder.
-ghost use Rattle.std.specs.Prelude.{◌≡◌, ◌≢◌, ◌⊎◌, Ok, IfOk, IfErr, IsErr, All, []};
-ghost use Rattle.org_disk.specs.Disk.{HasRisen};
+ghost use Rattle.std.specs.Prelude.{◌≡◌, ◌≢◌, ◌⊎◌, None, Ok, Err, IfOk, IfErr, IsErr, All, []};
+ghost use Rattle.org_disk.specs.Disk.{AreImages, IsCounted};
 ghost use Rattle.org_disk.specs.Accounts.{Accounts, LeavesOver};
-ghost use Rattle.org_journal.specs.Standing.{IsFit, contents};
+ghost use Rattle.org_journal.specs.Standing.{IsFit, contents, stands};
 ghost use Rattle.org_disk.specs.Names.{IsOrgFile};
 ghost use Rattle.org_fileset.specs.Opening.{IsReason};
+ghost use Rattle.org_fileset.specs.declared.open.OpenFault.{OpenFault};
 ghost use Rattle.org_fileset.specs.Recovery.{EachStands, StandsAsBefore};
 ghost use Rattle.org_folder.specs.FolderDisk.{record_of};
 ghost use Rattle.org_serve.specs.Counts.{HasRisenBy};
 ghost use Rattle.org_store.specs.Group.{IsGroup};
-ghost use Rattle.org_serve.specs.Syncing.{OutsideStable, HasGoodJournal, IsAsFound};
+ghost use Rattle.org_serve.specs.Syncing.{OutsideStable, IsAsFound};
 ghost use Rattle.org_serve.specs.Whole.{ServesOver, Lasts, LastsFrom, HasFailed};
 ghost use Rattle.orgstore.specs.Folder.{is_right, files_of, moment_of, left_of, failures_of};
 
@@ -41,10 +42,11 @@ const TURNS: u64 = 4_294_967_295;
 /// only the other files of the folder have to be on the device at first. Where they are, what another program had written
 /// and not synced may be lost by a stop before the syncs end: then it leaves one of the images of the folder as it was
 /// found. What it leaves later stands for what the files read as when this began, or for the files after one prefix of the
-/// commands, as above. That is said of every folder; where an opening is refused, of one whose journal isn't bad.
+/// commands, as above. Where the journal is bad, as it reads, a stop leaves one of the images of the folder as it was found,
+/// whatever fault is told.
 ///
 /// An opening is refused for its reason alone, and then nothing is read or written. It ends with Read or Write for a cause
-/// alone: a failed call of the reader or the writer, which is always told so, or 4,294,967,295 reads; with Device, or an
+/// alone: one failed call of the reader or the writer, which is always told so, or 4,294,967,295 reads; with Device, or an
 /// opening that is refused so, only where a call failed.
 pub fn serve_folder<F: Files + AllocGlobal + Drop, S: Start, R: Source, W: Sink>(
     alloc: Global,
@@ -70,26 +72,29 @@ where
         → EachStands (files_of S.world disk) → IfErr result.end (λ _. LeavesOver moment_of
         (left_of S.world) disk result.disk (StandsAsBefore (files_of S.world disk))) }
     ensures unopened_as_found { is_right S.world result.disk
-        → OutsideStable setup.names.items (files_of S.world disk)
-        → HasGoodJournal (files_of S.world disk) → IfErr result.end (λ _. LeavesOver moment_of
-        (left_of S.world) disk result.disk (IsAsFound (files_of S.world disk))) }
+        → OutsideStable setup.names.items (files_of S.world disk) → IfErr result.end (λ _.
+        LeavesOver moment_of (left_of S.world) disk result.disk (IsAsFound (files_of S.world disk))) }
+    ensures unopened_bad { is_right S.world result.disk
+        → stands (contents (files_of S.world disk)) ≡ None
+        → IsErr result.end × LeavesOver moment_of (left_of S.world) disk result.disk
+        (AreImages (files_of S.world disk)) }
+    ensures unused { result.end ≡ Err OpenFault.TooManyFiles → result.disk ≡ disk }
     ensures fit { is_right S.world result.disk → IsFit (files_of S.world disk)
         → EachStands (files_of S.world disk)
         → IsFit (files_of S.world result.disk) × EachStands (files_of S.world result.disk) }
     ensures fit_once_synced { is_right S.world result.disk
         → OutsideStable setup.names.items (files_of S.world disk)
-        → HasGoodJournal (files_of S.world disk)
         → (IsFit (files_of S.world result.disk) × EachStands (files_of S.world result.disk))
         ⊎ (IsErr result.end × OutsideStable setup.names.items (files_of S.world result.disk)) }
     ensures unserved { IfErr result.end (λ _. (reader.new ≡ reader.old)
         × (writer.new ≡ writer.old)) }
     ensures read_cause { result.end ≡ Ok ServeEnd.Read
-        → HasRisen (R.failures reader.old) (R.failures reader.new)
+        → IsCounted (R.failures reader.old) (R.failures reader.new)
         ⊎ HasRisenBy 4294967295 (R.reads reader.old) (R.reads reader.new) }
     ensures read_told { result.end ≢ Ok ServeEnd.Read
         → R.failures reader.new ≡ R.failures reader.old }
     ensures write_cause { result.end ≡ Ok ServeEnd.Write
-        → HasRisen (W.failures writer.old) (W.failures writer.new) }
+        → IsCounted (W.failures writer.old) (W.failures writer.new) }
     ensures write_told { result.end ≢ Ok ServeEnd.Write
         → W.failures writer.new ≡ W.failures writer.old }
     ensures refused { IfErr result.end (IsReason setup.names.items (is_right S.world result.disk)

@@ -16,7 +16,7 @@ use Rattle.org_fileset.specs.Recovery.{closed_journal}
 use Rattle.org_fileset.specs.Replay.{IsOpenOver, AreLayable, IsAtRest}
 use Rattle.org_fileset.proofs.Starting.{since_start}
 use Rattle.org_fileset.proofs.Armed.{closed_after, on_ok_never}
-use Rattle.org_fileset.proofs.Recovering.{as_before, sync_left, sync_fit, looked_at, armed_before, closed_before, formed_layable, fit_replayable, closed_stable, closed_rest, shut_gate, closed_open, closed_short, closed_shut, stood_closed}
+use Rattle.org_fileset.proofs.Recovering.{as_before, sync_left, sync_fit, looked_at, armed_before, closed_before, formed_layable, fit_replayable, closed_stable, closed_rest, found_good, shut_gate, closed_open, closed_short, closed_shut, stood_closed}
 use Rattle.org_fileset.proofs.recover.recover.Goals as goal
 
 pub returns-in_err-sync-clause-reopens : goal.returns-in_err-sync-clause-reopens
@@ -33,6 +33,8 @@ returns-in_err-sync-clause-reopens g c ended =
           old (g.met.D.Disk.only_now c.args.disk.now) honest (as_before old each);
       fit = λ fit each. sync_fit old mid c.sync.result own (λ name. g.met.D.Disk.content_is_image c.sync.new.self name ended)
           (subst (λ (n : List ℕ). Changes sync n old mid c.sync.result) c.requires (c.sync.ensures.effect ended)) fit;
+      bad = λ none. since_start (passes_as (c.sync.ensures.time ended) (λ image left. sync_left journal_name old image own (subst (λ (n : List ℕ). AreLeftBy sync n old image) c.requires left)))
+          old (g.met.D.Disk.only_now c.args.disk.now) honest (λ image left. left);
     }
 
 pub returns-in_err-record-clause-bad : goal.returns-in_err-record-clause-bad
@@ -65,6 +67,7 @@ returns-in_err-record-clause-reopens g c ended =
       done = on_ok_never _ c.from_residual-in_err-record.result failed;
       any_moment = λ fit each. since_start (look.since each) old (g.met.D.Disk.only_now c.args.disk.now) honest (as_before old each);
       fit = λ fit each. look.is.fit fit;
+      bad = λ none. since_start look.time old (g.met.D.Disk.only_now c.args.disk.now) honest (λ image left. left);
     }
 
 pub replay-requires-clause-layable : goal.replay-requires-clause-layable
@@ -97,6 +100,7 @@ returns-in_err-replay-in-Armed-clause-reopens g c ended =
       any_moment = λ fit each. since_start (passes_then (look.since each) (replays.any_moment (can fit)) (armed_before old now entries look.is owns layable over found.2 (can fit)))
           old (g.met.D.Disk.only_now c.args.disk.now) honest (as_before old each);
       fit = λ fit each. replays.fit (can fit);
+      bad = λ none. absurd (found_good (contents now) c.in_ok-record.field-0 whole (ap stands look.is.same ∙ none));
     }
 
 pub returns-in_ok-replay-in-Armed-clause-reopens : goal.returns-in_ok-replay-in-Armed-clause-reopens
@@ -134,6 +138,7 @@ returns-in_ok-replay-in-Armed-clause-reopens g c ended =
       any_moment = λ fit each. since_start (passes_then (look.since each) (replays.any_moment (can fit)) (armed_before old now entries look.is owns layable over found.2 (can fit)))
           old (g.met.D.Disk.only_now c.args.disk.now) honest (as_before old each);
       fit = λ fit each. replays.fit (can fit);
+      bad = λ none. absurd (found_good (contents now) c.in_ok-record.field-0 whole (ap stands look.is.same ∙ none));
     }
 
 pub returns-in_err-length-in-Closed-clause-reopens : goal.returns-in_err-length-in-Closed-clause-reopens
@@ -155,6 +160,7 @@ returns-in_err-length-in-Closed-clause-reopens g c ended =
       any_moment = λ fit each. since_start (passes_then (look.since each) (c.length.ensures.looks ended).time (λ image left. as_before old each image (look.is.images image left)))
           old (g.met.D.Disk.only_now c.args.disk.now) honest (as_before old each);
       fit = λ fit each. subst IsFit (sym again) (look.is.fit fit);
+      bad = λ none. absurd (found_good (contents now) c.in_ok-record.field-0 (subst (λ (f : List ℕ → FileState). Finds (contents f) (Ok c.in_ok-record.field-0)) (sym looks.same) (c.in_ok-record.ensures.found h2)) (ap stands look.is.same ∙ none));
     }
 
 pub returns-else-branch-lt-FRONT-clause-reopens : goal.returns-else-branch-lt-FRONT-clause-reopens
@@ -190,6 +196,7 @@ returns-else-branch-lt-FRONT-clause-reopens g c ended =
       any_moment = λ fit each. since_start (passes_then (look.since each) (c.length.ensures.looks ended).time (λ image left. as_before old each image (look.is.images image left)))
           old (g.met.D.Disk.only_now c.args.disk.now) honest (as_before old each);
       fit = λ fit each. subst IsFit (sym again) (look.is.fit fit);
+      bad = λ none. absurd (found_good (contents now) c.in_ok-record.field-0 (subst (λ (f : List ℕ → FileState). Finds (contents f) (Ok c.in_ok-record.field-0)) (sym looks.same) (c.in_ok-record.ensures.found h2)) (ap stands look.is.same ∙ none));
     }
 
 pub returns-in_err-prepare-in-Closed-clause-reopens : goal.returns-in_err-prepare-in-Closed-clause-reopens
@@ -221,6 +228,7 @@ returns-in_err-prepare-in-Closed-clause-reopens g c ended =
           (subst (λ (f : List ℕ → FileState). LeavesClosed journal_name f image) again (subst (λ (n : List ℕ). LeavesClosed n last image) c.requires left))))
           old (g.met.D.Disk.only_now c.args.disk.now) honest (as_before old each);
       fit = λ fit each. inl (λ name not. subst IsStable (sym (puts.others name not ∙ ap (λ (f : List ℕ → FileState). f name) again)) (others fit name not));
+      bad = λ none. absurd (found_good (contents now) c.in_ok-record.field-0 (subst (λ (f : List ℕ → FileState). Finds (contents f) (Ok c.in_ok-record.field-0)) (sym looks.same) (c.in_ok-record.ensures.found h2)) (ap stands look.is.same ∙ none));
     }
 
 pub returns-in_ok-prepare-in-Closed-clause-reopens : goal.returns-in_ok-prepare-in-Closed-clause-reopens
@@ -264,4 +272,5 @@ returns-in_ok-prepare-in-Closed-clause-reopens g c ended =
           (subst (λ (f : List ℕ → FileState). LeavesClosed journal_name f image) again (subst (λ (n : List ℕ). LeavesClosed n last image) c.requires left))))
           old (g.met.D.Disk.only_now c.args.disk.now) honest (as_before old each);
       fit = λ fit each. inl (λ name not. subst IsStable (sym (puts.others name not ∙ ap (λ (f : List ℕ → FileState). f name) again)) (others fit name not));
+      bad = λ none. absurd (found_good (contents now) c.in_ok-record.field-0 (subst (λ (f : List ℕ → FileState). Finds (contents f) (Ok c.in_ok-record.field-0)) (sym looks.same) (c.in_ok-record.ensures.found h2)) (ap stands look.is.same ∙ none));
     }

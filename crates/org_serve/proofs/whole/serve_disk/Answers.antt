@@ -1,3 +1,6 @@
+use Rattle.std.proofs.Common.{Option, refl, subst}
+use Rattle.std.specs.Prelude.{IsSomeAnd}
+use Rattle.org_journal.specs.Standing.{Image, SameFiles, contents}
 use Rattle.org_disk.specs.Accounts.{Accounts, LeavesOver}
 use Rattle.org_fileset.specs.Replay.{IsAtRest}
 use Rattle.org_fileset.specs.Recovery.{IsReopened, StandsAsBefore}
@@ -62,3 +65,16 @@ returns-in-Err-clause-fit g c honest = λ fit each.
       each_stands d.files d.moment d.left_since c.args.disk c.in-Err.field-0.disk (StandsAsBefore (d.files c.args.disk))
           (λ image left. g.met.D.Disk.counts_now c.in-Err.field-0.disk (d.moment c.args.disk) image honest leaves.passes.later left) leaves (λ image left. (left.texts, left.stands_now)),
     )
+
+pub returns-in-Ok-clause-unopened_bad : goal.returns-in-Ok-clause-unopened_bad
+returns-in-Ok-clause-unopened_bad g c honest none =
+    let d = g.D.Disk in
+    let store = c.in-Ok.store in
+    let setup = c.args.setup in
+    let here = of_disk d.files setup.states setup.group setup.names.items c.args.disk store c.set_group.new.self c.set_group.ensures c.in-Ok.ensures.session in
+    let now : d.honest c.serve-end.new.store.disk = rw (← c.close.ensures) honest in
+    let then = here (λ k. d.honest k → d.honest store.disk) (λ h. h) (c.serve-end.ensures.accounts.was_honest now) in
+    absurd (subst (λ (o : Option Image). IsSomeAnd o (SameFiles (contents (d.files store.disk)))) none (c.in-Ok.ensures.reopens then).done.stood)
+
+pub returns-in-Err-clause-unopened_bad : goal.returns-in-Err-clause-unopened_bad
+returns-in-Err-clause-unopened_bad g c honest none = (refl, (c.in-Err.ensures.reopens honest).bad none)
