@@ -155,7 +155,6 @@ pub fn serve_synced<D: Disk, R: Source, W: Sink>(
     ensures unopened_bad { D.honest result.disk → stands (contents (D.files disk)) ≡ None
         → IsErr result.end × LeavesOver D.moment D.left_since disk result.disk
         (AreImages (D.files disk)) }
-    ensures unused { result.end ≡ Err OpenFault.TooManyFiles → result.disk ≡ disk }
     ensures fit { D.honest result.disk → IsFit (D.files disk) → EachStands (D.files disk)
         → IsFit (D.files result.disk) × EachStands (D.files result.disk) }
     ensures fit_once_synced { D.honest result.disk

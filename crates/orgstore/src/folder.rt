@@ -1,11 +1,10 @@
 //! Lines served over a folder.
-ghost use Rattle.std.specs.Prelude.{◌≡◌, ◌≢◌, ◌⊎◌, None, Ok, Err, IfOk, IfErr, IsErr, All, []};
+ghost use Rattle.std.specs.Prelude.{◌≡◌, ◌≢◌, ◌⊎◌, None, Ok, IfOk, IfErr, IsErr, All, []};
 ghost use Rattle.org_disk.specs.Disk.{AreImages, IsCounted};
 ghost use Rattle.org_disk.specs.Accounts.{Accounts, LeavesOver};
 ghost use Rattle.org_journal.specs.Standing.{IsFit, contents, stands};
 ghost use Rattle.org_disk.specs.Names.{IsOrgFile};
 ghost use Rattle.org_fileset.specs.Opening.{IsReason};
-ghost use Rattle.org_fileset.specs.declared.open.OpenFault.{OpenFault};
 ghost use Rattle.org_fileset.specs.Recovery.{EachStands, StandsAsBefore};
 ghost use Rattle.org_folder.specs.FolderDisk.{record_of};
 ghost use Rattle.org_serve.specs.Counts.{HasRisenBy};
@@ -78,7 +77,6 @@ where
         → stands (contents (files_of S.world disk)) ≡ None
         → IsErr result.end × LeavesOver moment_of (left_of S.world) disk result.disk
         (AreImages (files_of S.world disk)) }
-    ensures unused { result.end ≡ Err OpenFault.TooManyFiles → result.disk ≡ disk }
     ensures fit { is_right S.world result.disk → IsFit (files_of S.world disk)
         → EachStands (files_of S.world disk)
         → IsFit (files_of S.world result.disk) × EachStands (files_of S.world result.disk) }
