@@ -3,7 +3,7 @@ use Rattle.std.proofs.Common.{◌≡◌, ℕ, ◌+◌, ◌-◌, ◌<◌, ◌≤�
 use Rattle.std.specs.declared.cmp.Ordering.{Ordering}
 use Rattle.std.specs.declared.cmp.Ordering.TheVariants.{Equal, Greater}
 use Rattle.std.proofs.lemmas.Bool.{cases_Bool, eqb-true}
-use Rattle.org_splice.specs.Lines.{closed, print_lines}
+use Rattle.org_splice.specs.Lines.{terminated, print_lines}
 use Rattle.org_splice.proofs.Ends.{both}
 use Rattle.org_outline.specs.States.{Keywords}
 use Rattle.org_outline.specs.declared.moves.Place.{Place}
@@ -76,7 +76,7 @@ found_level states d up kind key wanted i is =
     let passes = found_passes (λ i. is_dated states (level_below up d) kind key wanted (node_at d i).node) (children_of d up) i is in
     eqb-true (node_at d i).node.level (level_below up d) (both (eqb (node_at d i).node.level (level_below up d)) _ passes).0
 
-pub dated_before : (states : Keywords) (text : List ℕ) (up : Option ℕ) (kind : DateKind) (key : List ℕ) (i k : ℕ) (node : Node) → closed text ≡ text → i < node_count (tree text)
+pub dated_before : (states : Keywords) (text : List ℕ) (up : Option ℕ) (kind : DateKind) (key : List ℕ) (i k : ℕ) (node : Node) → terminated text ≡ text → i < node_count (tree text)
     → first_dated states (tree text) up kind key Greater ≡ Some i → k ≡ (node_at (tree text) i).at
     → Inserts text (print (put_dated (first_dated states (tree text) up kind key Greater) up node (tree text))) k (print_node (shift_node (level_below up (tree text)) node))
 dated_before states text up kind key i k node shut lt found at =

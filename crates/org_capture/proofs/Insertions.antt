@@ -2,7 +2,7 @@
 use Rattle.std.proofs.Common.{◌≡◌, ℕ, ◌+◌, ◌≤◌, List, [], ◌∷◌, ◌++◌, ◌<◌, length, length-append, take, drop, refl, sym, ◌∙◌, ap, subst, add-zero, append_assoc, arith, true, Option, None, Result, Ok}
 use Rattle.std.specs.Prelude.{replicate}
 use Rattle.std.proofs.lemmas.List.{append-nil, length-replicate}
-use Rattle.org_splice.specs.Lines.{closed, print_lines}
+use Rattle.org_splice.specs.Lines.{terminated, print_lines}
 use Rattle.org_splice.specs.Edits.{edited, applied, AreEdits}
 use Rattle.org_splice.specs.declared.edit.Edit.{Edit}
 use Rattle.org_outline.specs.declared.moves.Place.{Place}
@@ -21,7 +21,7 @@ use Rattle.org_capture.specs.Capture.{below_made, below_head, can_be_title, rest
 use Rattle.org_outline.specs.Text.{heading_line}
 
 -- bytes put in where an insertion puts them
-pub makes : (text : List ℕ) (new : Document) (e : Edit) (added : List ℕ) → closed text ≡ text → e.removed ≡ 0 → e.bytes ≡ added → Inserts text (print new) e.at added → Makes e text new
+pub makes : (text : List ℕ) (new : Document) (e : Edit) (added : List ℕ) → terminated text ≡ text → e.removed ≡ 0 → e.bytes ≡ added → Inserts text (print new) e.at added → Makes e text new
 makes text new e added shut none is puts =
     let prints : print (tree text) ≡ text = (tree-is text).prints ∙ shut in
     let edit = inserts_edit text (print new) e.at added puts in
@@ -49,7 +49,7 @@ at_the_end text new added is = record {
 }
 
 -- the heading that is made at the end, with the entry below it
-pub makes_head : (text title : List ℕ) (place : Place) (node : Node) (e : Edit) → closed text ≡ text → e.at ≡ length text → e.removed ≡ 0
+pub makes_head : (text title : List ℕ) (place : Place) (node : Node) (e : Edit) → terminated text ≡ text → e.at ≡ length text → e.removed ≡ 0
     → e.bytes ≡ (heading_line 1 (rest_of title) ++ 10 ∷ []) ++ print_node (shift_node 2 node) → Makes e text (below_made place node title (tree text))
 makes_head text title place node e shut at none is =
     let prints : print (tree text) ≡ text = (tree-is text).prints ∙ shut in
@@ -62,7 +62,7 @@ makes_head text title place node e shut at none is =
     makes text new e over shut none bytes (subst P (sym at) (at_the_end text (print new) over put))
 
 -- a heading's line is longer than its level
-pub level_room : (text : List ℕ) (i : ℕ) → closed text ≡ text → i < node_count (tree text) → (node_at (tree text) i).node.level < length text
+pub level_room : (text : List ℕ) (i : ℕ) → terminated text ≡ text → i < node_count (tree text) → (node_at (tree text) i).node.level < length text
 level_room text i shut lt =
     let d : Document = tree text in
     let node : Node = (node_at d i).node in

@@ -2,14 +2,14 @@
 use Rattle.std.proofs.Common.{◌≡◌, ℕ, ◌+◌, ◌<◌, List, [], ◌∷◌, ◌++◌, length, slice_index_or, Option, Some, None, Ok, Err, refl, sym, ◌∙◌, ap, arith, length-append, false, eqb, inl, inr}
 use Rattle.std.proofs.lemmas.Bool.{cases_Bool, eqb-true}
 use Rattle.std.proofs.lemmas.List.{append-nil}
-use Rattle.org_splice.specs.Lines.{closed, print_lines}
-use Rattle.org_splice.proofs.Lines.{print_lines-append, closed_twice, lines_of-closed}
+use Rattle.org_splice.specs.Lines.{terminated, print_lines}
+use Rattle.org_splice.proofs.Lines.{print_lines-append, terminated_twice, lines_of-terminated}
 use Rattle.org_outline.specs.Tree.{Forest, Empty, Tree, Node, Document, tree, tree_of_lines, print_node, nodes_from, node_at, no_node, lines}
 use Rattle.org_outline.specs.Text.{heading_line}
 use Rattle.org_outline.specs.Moves.{IsPrinted}
 use Rattle.org_outline.proofs.Trees.{tree-is}
 use Rattle.org_capture.specs.declared.fault.CaptureFault.TheVariants.{BadEntry}
-use Rattle.org_capture.specs.Entry.{only_root, entry_in, closed_if_one, entry_text, IsEntry}
+use Rattle.org_capture.specs.Entry.{only_root, entry_in, terminated_if_one, entry_text, IsEntry}
 
 length-print : (xs ys : List (List ℕ)) → length (print_lines (xs ++ ys)) ≡ length (print_lines xs) + length (print_lines ys)
 length-print xs ys = ap length (print_lines-append xs ys) ∙ length-append (print_lines xs) (print_lines ys)
@@ -49,7 +49,7 @@ root_prints [] (Tree n r s kids Empty) k node is = (omega arith, ap (λ ls. prin
 root_prints [] (Tree n r s kids (Tree m q u more later)) k node is = absurd (cc)
 root_prints (l ∷ ls) f k node is = absurd (cc)
 
-pub printed_entry : (t : List ℕ) → closed t ≡ t → IsPrinted t → entry_in t ≡ Some (node_at (tree t) 0).node
+pub printed_entry : (t : List ℕ) → terminated t ≡ t → IsPrinted t → entry_in t ≡ Some (node_at (tree t) 0).node
 printed_entry t ends printed =
     printed_root (tree t).preamble (tree t).forest (length (print_lines (tree t).preamble)) printed.0 (printed.1 ∙ sym ((tree-is t).prints ∙ ends))
 
@@ -65,34 +65,34 @@ entry_node t node entry =
     let one = entry.one in
     cc
 
--- ---- the closed copy of a text
+-- ---- the terminated copy of a text
 
-closed_same : (text : List ℕ) → entry_in (closed text) ≡ entry_in text
-closed_same text = ap (λ ls. only_root (tree_of_lines ls).preamble (tree_of_lines ls).forest) (lines_of-closed text)
+terminated_same : (text : List ℕ) → entry_in (terminated text) ≡ entry_in text
+terminated_same text = ap (λ ls. only_root (tree_of_lines ls).preamble (tree_of_lines ls).forest) (lines_of-terminated text)
 
-no_entry : (o : Option Node) (t : List ℕ) → ((node : Node) → o ≡ Some node → ⊥) → closed_if_one o t ≡ Err BadEntry
+no_entry : (o : Option Node) (t : List ℕ) → ((node : Node) → o ≡ Some node → ⊥) → terminated_if_one o t ≡ Err BadEntry
 no_entry None t none = refl
 no_entry (Some node) t none = absurd (none node refl)
 
-pub entry_bad : (text copy : List ℕ) → copy ≡ closed text → (IsPrinted copy → ⊥) → entry_text text ≡ Err BadEntry
+pub entry_bad : (text copy : List ℕ) → copy ≡ terminated text → (IsPrinted copy → ⊥) → entry_text text ≡ Err BadEntry
 entry_bad text copy is unprinted =
     no_entry (entry_in text) text (λ node one.
-    let shut : closed copy ≡ copy = ap closed is ∙ closed_twice text ∙ sym is in
-    unprinted (entry_printed copy node (record { shut = shut; one = ap entry_in is ∙ closed_same text ∙ one })))
+    let shut : terminated copy ≡ copy = ap terminated is ∙ terminated_twice text ∙ sym is in
+    unprinted (entry_printed copy node (record { shut = shut; one = ap entry_in is ∙ terminated_same text ∙ one })))
 
-pub entry_good : (text copy : List ℕ) → copy ≡ closed text → IsPrinted copy → (entry_text text ≡ Ok copy) × IsEntry copy (node_at (tree copy) 0).node
+pub entry_good : (text copy : List ℕ) → copy ≡ terminated text → IsPrinted copy → (entry_text text ≡ Ok copy) × IsEntry copy (node_at (tree copy) 0).node
 entry_good text copy is printed =
-    let shut : closed copy ≡ copy = ap closed is ∙ closed_twice text ∙ sym is in
+    let shut : terminated copy ≡ copy = ap terminated is ∙ terminated_twice text ∙ sym is in
     let one = printed_entry copy shut printed in
-    let found : entry_in text ≡ Some (node_at (tree copy) 0).node = sym (closed_same text) ∙ ap entry_in (sym is) ∙ one in
+    let found : entry_in text ≡ Some (node_at (tree copy) 0).node = sym (terminated_same text) ∙ ap entry_in (sym is) ∙ one in
     (rw found (ap Ok (sym is)), record { shut = shut; one = one })
 
--- a text that isn't closed lacks a newline
-pub closed_ends : (t : List ℕ) → (closed t ≡ t → ⊥) → closed t ≡ t ++ 10 ∷ []
-closed_ends [] unshut = absurd (unshut refl)
-closed_ends (b ∷ []) unshut =
+-- a text that isn't terminated lacks a newline
+pub terminated_ends : (t : List ℕ) → (terminated t ≡ t → ⊥) → terminated t ≡ t ++ 10 ∷ []
+terminated_ends [] unshut = absurd (unshut refl)
+terminated_ends (b ∷ []) unshut =
     elim (cases_Bool (eqb b 10)) [
       | inl e ↦ absurd (unshut (rw e refl))
       | inr e ↦ rw e refl
     ]
-closed_ends (b ∷ c ∷ t) unshut = ap (λ (l : List ℕ). b ∷ l) (closed_ends (c ∷ t) (λ shut. unshut (ap (λ (l : List ℕ). b ∷ l) shut)))
+terminated_ends (b ∷ c ∷ t) unshut = ap (λ (l : List ℕ). b ∷ l) (terminated_ends (c ∷ t) (λ shut. unshut (ap (λ (l : List ℕ). b ∷ l) shut)))

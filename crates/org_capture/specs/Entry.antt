@@ -1,6 +1,6 @@
 -- Entries: texts that are one heading with what lies below it (Org manual, "Template elements": type `entry`).
 use Rattle.std.specs.Prelude.{◌≡◌, ℕ, List, [], ◌∷◌, Option, Some, None, Result, Ok, Err}
-use Rattle.org_splice.specs.Lines.{closed}
+use Rattle.org_splice.specs.Lines.{terminated}
 use Rattle.org_outline.specs.Tree.{Forest, Empty, Tree, Node, Document, tree}
 use Rattle.org_capture.specs.declared.fault.CaptureFault.{CaptureFault}
 use Rattle.org_capture.specs.declared.fault.CaptureFault.TheVariants.{BadEntry}
@@ -20,15 +20,15 @@ only_root (line ∷ lines) forest = None
 abbrev pub entry_in : List ℕ → Option Node
 entry_in text = only_root (tree text).preamble (tree text).forest
 
--- the closed text of an entry
-abbrev pub closed_if_one : Option Node → List ℕ → Result (List ℕ) CaptureFault
-closed_if_one None text = Err BadEntry
-closed_if_one (Some node) text = Ok (closed text)
+-- the terminated text of an entry
+abbrev pub terminated_if_one : Option Node → List ℕ → Result (List ℕ) CaptureFault
+terminated_if_one None text = Err BadEntry
+terminated_if_one (Some node) text = Ok (terminated text)
 
 abbrev pub entry_text : List ℕ → Result (List ℕ) CaptureFault
-entry_text text = closed_if_one (entry_in text) text
+entry_text text = terminated_if_one (entry_in text) text
 
--- a closed text that is this entry
+-- a terminated text that is this entry
 pub record IsEntry (text : List ℕ) (node : Node) : Type 0 where
-  pub shut : closed text ≡ text
+  pub shut : terminated text ≡ text
   pub one : entry_in text ≡ Some node

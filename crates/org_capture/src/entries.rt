@@ -1,13 +1,13 @@
 //! Entries.
 ghost use Rattle.std.specs.Prelude.{◌≡◌, ◌↔◌, IsTrue, IfOk, length};
-ghost use Rattle.org_splice.specs.Lines.{closed};
+ghost use Rattle.org_splice.specs.Lines.{terminated};
 ghost use Rattle.org_outline.specs.Tree.{Node as NodeOf};
 ghost use Rattle.org_outline.specs.Moves.{IsPrinted};
 ghost use Rattle.org_capture.specs.Entry.{IsEntry, entry_text};
 ghost use Rattle.org_capture.specs.Answers.{AnswersBytes};
 
 use crate::fault::CaptureFault;
-use org_outline::{Outline, States, is_closed};
+use org_outline::{Outline, States, is_terminated};
 use std::alloc::{AllocError, Global};
 
 /// Whether the outline's text is one heading with what lies below it, and nothing stands before it.
@@ -21,9 +21,9 @@ fn is_one_heading(outline: &Outline<'_>) -> bool
     span.start == 0 && span.end == outline.text().len()
 }
 
-/// Whether a closed text is one heading with what lies below it, and nothing stands before it.
+/// Whether a terminated text is one heading with what lies below it, and nothing stands before it.
 fn is_entry(alloc: Global, text: &[u8], states: &States) -> Result<bool, AllocError>
-    requires { closed text.now ≡ text.now }
+    requires { terminated text.now ≡ text.now }
     ensures { IfOk result (λ is. IsTrue is ↔ IsPrinted text.now) }
 {
     let outline = Outline::read(alloc, text, states)?;
@@ -31,25 +31,25 @@ fn is_entry(alloc: Global, text: &[u8], states: &States) -> Result<bool, AllocEr
 }
 
 /// The bytes, with a newline at their end where they have none.
-fn closed_copy(alloc: Global, bytes: &[u8]) -> Result<Vec<u8>, AllocError>
-    ensures { IfOk result (λ text. text.items ≡ closed bytes.now) }
+fn terminated_copy(alloc: Global, bytes: &[u8]) -> Result<Vec<u8>, AllocError>
+    ensures { IfOk result (λ text. text.items ≡ terminated bytes.now) }
 {
     let mut text = Vec::with_capacity(alloc, bytes.len().saturating_add(1))?;
     text.extend_from_slice(bytes)?;
-    if !is_closed(bytes) {
+    if !is_terminated(bytes) {
         text.push(b'\n')?;
     }
     Ok(text)
 }
 
-/// The closed text of an entry: one heading, of any level, with what lies below it (Org manual,
+/// The terminated text of an entry: one heading, of any level, with what lies below it (Org manual,
 /// "Template elements": type `entry`). BadEntry where the text has something before its first
 /// heading, or not exactly one root.
 pub fn entry(alloc: Global, bytes: &[u8], states: &States) -> Result<Vec<u8>, CaptureFault>
     ensures value { AnswersBytes (entry_text bytes.now) result }
     ensures one { IfOk result (λ text. (node : NodeOf) × IsEntry text.items node) }
 {
-    let text = closed_copy(alloc, bytes)?;
+    let text = terminated_copy(alloc, bytes)?;
     if !is_entry(alloc, text.as_slice(), states)? {
         return Err(CaptureFault::BadEntry);
     }

@@ -36,8 +36,8 @@ pub step_same : (call : Call) (file : FileState) → step call call.name file �
 step_same call file = cond-true (bytes_eq call.name call.name) (effect_of call.effect file) file ((bytes_eq-Decides call.name call.name).1 refl)
 
 -- a call without effect
-step_nothing : (name other : List ℕ) (stopped : Bool) (file : FileState) → step (call_of name Nothing stopped) other file ≡ file
-step_nothing name other stopped file = ⊎_elim (cond-true (bytes_eq name other) file file) (cond-false (bytes_eq name other) file file) (cases_Bool (bytes_eq name other))
+step_nothing : (name other : List ℕ) (crashed : Bool) (file : FileState) → step (call_of name Nothing crashed) other file ≡ file
+step_nothing name other crashed file = ⊎_elim (cond-true (bytes_eq name other) file file) (cond-false (bytes_eq name other) file file) (cases_Bool (bytes_eq name other))
 
 state_after-push : (calls : List Call) (call : Call) (name : List ℕ) (file : FileState) → state_after (calls ++ call ∷ []) name file ≡ step call name (state_after calls name file)
 state_after-push [] call name file = refl
@@ -92,16 +92,16 @@ module _ (calls later : List Call) (call : Call) (is : later ≡ calls ++ call �
       }
 
 -- A call without effect.
-module _ (calls later : List Call) (name : List ℕ) (stopped : Bool) (is : later ≡ calls ++ call_of name Nothing stopped ∷ []) where
+module _ (calls later : List Call) (name : List ℕ) (crashed : Bool) (is : later ≡ calls ++ call_of name Nothing crashed ∷ []) where
   file_same : (other : List ℕ) → files_after later other ≡ files_after calls other
-  file_same other = ap (λ (cs : List Call). files_after cs other) is ∙ files_after-push calls (call_of name Nothing stopped) other ∙ step_nothing name other stopped (files_after calls other)
+  file_same other = ap (λ (cs : List Call). files_after cs other) is ∙ files_after-push calls (call_of name Nothing crashed) other ∙ step_nothing name other crashed (files_after calls other)
 
   pub files_same : files_after later ≡ files_after calls
   files_same = λ j other. file_same other j
 
   pub passes_still : (P : Image → Type 0) → ((image : Image) → AreImages (files_after calls) image → P image) → Passes (length calls) (length later) (LeftSince calls) (LeftSince later) P
   passes_still P now = subst (λ (cs : List Call). Passes (length calls) (length cs) (LeftSince calls) (LeftSince cs) P) (sym is)
-      (passes_push calls (call_of name Nothing stopped) P (λ image left.
+      (passes_push calls (call_of name Nothing crashed) P (λ image left.
       now image (subst (λ (files : List ℕ → FileState). AreImages files image) files_same (subst (λ (cs : List Call). AreImages (files_after cs) image) (sym is) left))))
 
 -- A call that isn't in the record.
@@ -249,12 +249,12 @@ module _ (name : List ℕ) (copy : Vec ℕ Global) (calls later : List Call) whe
   set_others (Ok tt) made same other apart = (changes_made calls later (call_of name (Set copy) false) made).others other apart
   set_others (Err e) made same other apart = ap (λ (cs : List Call). files_after cs other) same
 
--- A call within which the disk stops.
-pub tried_stopped : (name : List ℕ) (effect made : Effect) (calls later : List Call) → (made ≡ effect) ⊎ (made ≡ Nothing) → (r : Result (Unit {0}) AllocError)
+-- A call within which the disk crashes.
+pub tried_crashed : (name : List ℕ) (effect made : Effect) (calls later : List Call) → (made ≡ effect) ⊎ (made ≡ Nothing) → (r : Result (Unit {0}) AllocError)
     → OnOk r (later ≡ calls ++ call_of name made true ∷ []) → OnErr r (later ≡ calls) → IsTried name effect calls later
-tried_stopped name effect made calls later which (Err e) ok err = inl err
-tried_stopped name effect made calls later (inl same) (Ok tt) ok err = inr (inl (true, ok ∙ ap (λ (e : Effect). calls ++ call_of name e true ∷ []) same))
-tried_stopped name effect made calls later (inr none) (Ok tt) ok err = inr (inr (true, ok ∙ ap (λ (e : Effect). calls ++ call_of name e true ∷ []) none))
+tried_crashed name effect made calls later which (Err e) ok err = inl err
+tried_crashed name effect made calls later (inl same) (Ok tt) ok err = inr (inl (true, ok ∙ ap (λ (e : Effect). calls ++ call_of name e true ∷ []) same))
+tried_crashed name effect made calls later (inr none) (Ok tt) ok err = inr (inr (true, ok ∙ ap (λ (e : Effect). calls ++ call_of name e true ∷ []) none))
 
 -- what a call that was made adds to the count
 pub count_made : (name : List ℕ) (effect : Effect) (calls later : List Call) (result : Result (Unit {0}) DiskFault) → is_call_effect effect ≡ true

@@ -23,17 +23,17 @@ pub record AccountsOfCall {D : Type 0} {A : Type 0} (steady : Type 0) (honest : 
   pub kept : OnOk result (failures new ≡ failures old)
   pub counted : OnErr result (IsCounted (failures old) (failures new))
 
--- Time goes on from the one disk to the other, and a stop meanwhile leaves nothing new but what has P.
+-- Time goes on from the one disk to the other, and a crash meanwhile leaves nothing new but what has P.
 abbrev pub PassesOver : {D : Type 0} → (D → ℕ) → (D → ℕ → (List ℕ → List ℕ) → Type 0)
     → D → D → ((List ℕ → List ℕ) → Type 0) → Type 0
 PassesOver moment left_since old new P = Passes (moment old) (moment new) (left_since old) (left_since new) P
 
--- A stop at any moment since the one disk leaves what has P.
+-- A crash at any moment since the one disk leaves what has P.
 abbrev pub LeavesOver : {D : Type 0} → (D → ℕ) → (D → ℕ → (List ℕ → List ℕ) → Type 0)
     → D → D → ((List ℕ → List ℕ) → Type 0) → Type 0
 LeavesOver moment left_since old new P = LeavesOnly (moment old) (moment new) (left_since old) (left_since new) P
 
--- A call that only looks: the files stay, and a stop meanwhile leaves an image of them.
+-- A call that only looks: the files stay, and a crash meanwhile leaves an image of them.
 pub record Looks {D : Type 0} (files : D → List ℕ → FileState) (moment : D → ℕ)
     (left_since : D → ℕ → (List ℕ → List ℕ) → Type 0) (old new : D) : Type 0 where
   pub same : files new ≡ files old

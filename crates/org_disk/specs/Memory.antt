@@ -7,8 +7,8 @@ use Rattle.org_disk.specs.Record.{files_after, is_call, LeftSince}
 use Rattle.org_disk.specs.declared.memory.MemoryDisk.{MemoryDisk}
 use Rattle.org_disk.specs.declared.memory.Outcome.{Outcome}
 use Rattle.org_disk.specs.declared.memory.Outcome.TheVariants.{All}
-use Rattle.org_disk.specs.declared.memory.Stop.{Stop}
-use Rattle.org_disk.specs.declared.memory.Stop.TheVariants.{Never, In, Came}
+use Rattle.org_disk.specs.declared.memory.Crash.{Crash}
+use Rattle.org_disk.specs.declared.memory.Crash.TheVariants.{Never, In, Came}
 
 -- the files of a disk in memory
 abbrev pub memory_files : MemoryDisk → List ℕ → FileState
@@ -18,11 +18,11 @@ memory_files disk = files_after disk.calls.items
 abbrev pub memory_moment : MemoryDisk → ℕ
 memory_moment disk = length disk.calls.items
 
--- what a stop might have left of it since a moment
+-- what a crash might have left of it since a moment
 abbrev pub memory_left_since : MemoryDisk → ℕ → (List ℕ → List ℕ) → Type 0
 memory_left_since disk = LeftSince disk.calls.items
 
--- a call without effect: each file is as it was, and a stop within the call leaves an image from before it
+-- a call without effect: each file is as it was, and a crash within the call leaves an image from before it
 abbrev pub HasNoEffect : MemoryDisk → MemoryDisk → Type 0
 HasNoEffect old new = Looks memory_files memory_moment memory_left_since old new
 
@@ -30,15 +30,15 @@ HasNoEffect old new = Looks memory_files memory_moment memory_left_since old new
 abbrev pub call_count : MemoryDisk → ℕ
 call_count disk = count_by is_call disk.calls.items
 
--- no stop came, or one that leaves all that was written
-abbrev pub stop_leaves_all : Stop → Bool
-stop_leaves_all Never = true
-stop_leaves_all (In k outcome) = true
-stop_leaves_all (Came All) = true
-stop_leaves_all (Came outcome) = false
+-- no crash came, or one that leaves all that was written
+abbrev pub crash_leaves_all : Crash → Bool
+crash_leaves_all Never = true
+crash_leaves_all (In k outcome) = true
+crash_leaves_all (Came All) = true
+crash_leaves_all (Came outcome) = false
 
 abbrev pub leaves_all : MemoryDisk → Bool
-leaves_all disk = stop_leaves_all disk.stop
+leaves_all disk = crash_leaves_all disk.crash
 
 -- what an image of a disk holds of a file
 pub record IsLeft (disk : MemoryDisk) (name bytes : List ℕ) : Type 0 where
@@ -46,39 +46,39 @@ pub record IsLeft (disk : MemoryDisk) (name bytes : List ℕ) : Type 0 where
   pub whole : IsTrue (leaves_all disk) → bytes ≡ (memory_files disk name).content
 
 -- the next call fails
-abbrev pub stops_now : Stop → Bool
-stops_now Never = false
-stops_now (In k outcome) = k == 1
-stops_now (Came outcome) = true
+abbrev pub crashes_now : Crash → Bool
+crashes_now Never = false
+crashes_now (In k outcome) = k == 1
+crashes_now (Came outcome) = true
 
 abbrev pub is_due : MemoryDisk → Bool
-is_due disk = disk.fail_in == 1 || stops_now disk.stop
+is_due disk = disk.fail_in == 1 || crashes_now disk.crash
 
--- the disk stops within the next call
-abbrev pub stops_within : Stop → Bool
-stops_within Never = false
-stops_within (In k outcome) = k == 1
-stops_within (Came outcome) = false
+-- the disk crashes within the next call
+abbrev pub crashes_within : Crash → Bool
+crashes_within Never = false
+crashes_within (In k outcome) = k == 1
+crashes_within (Came outcome) = false
 
-abbrev pub stop_after_call : Stop → Stop
-stop_after_call Never = Never
-stop_after_call (In k outcome) = if k == 1 then Came outcome else In (k - 1) outcome
-stop_after_call (Came outcome) = Came outcome
+abbrev pub crash_after_call : Crash → Crash
+crash_after_call Never = Never
+crash_after_call (In k outcome) = if k == 1 then Came outcome else In (k - 1) outcome
+crash_after_call (Came outcome) = Came outcome
 
--- the stop that waits once one was asked for within the call k
-abbrev pub stop_asked : Stop → ℕ → Outcome → Stop
-stop_asked (Came past) k outcome = Came past
-stop_asked stop k outcome = if k == 0 then Never else In k outcome
+-- the crash that waits once one was asked for within the call k
+abbrev pub crash_asked : Crash → ℕ → Outcome → Crash
+crash_asked (Came past) k outcome = Came past
+crash_asked crash k outcome = if k == 0 then Never else In k outcome
 
 -- a call counts both numbers down
 pub record CountsDown (old new : MemoryDisk) : Type 0 where
   pub fail_in : new.fail_in ≡ old.fail_in - 1
-  pub stop : new.stop ≡ stop_after_call old.stop
+  pub crash : new.crash ≡ crash_after_call old.crash
 
 -- the calls that are to fail stay the same
 pub record KeepsPlan (old new : MemoryDisk) : Type 0 where
   pub fail_in : new.fail_in ≡ old.fail_in
-  pub stop : new.stop ≡ old.stop
+  pub crash : new.crash ≡ old.crash
 
 -- A call begins and ends: what is due to fail does, both numbers are counted down, and a call that failed is counted.
 pub record TakesTurn {A : Type 0} (old new : MemoryDisk) (result : Result A DiskFault) : Type 0 where

@@ -1,4 +1,4 @@
-//! A disk as the layers above see it: what a read gives, and what a stop may leave.
+//! A disk as the layers above see it: what a read gives, and what a crash may leave.
 ghost use Rattle.std.specs.Prelude.{◌≡◌, ◌+◌, ◌^◌, ◌<◌, ◌≤◌, List, ℕ, length, take, drop, IfOk, OnOk};
 ghost use Rattle.org_disk.specs.Disk.{FileState, IsImage, AreImages, AreLeftBy, Changes, write, cut, sync};
 ghost use Rattle.org_disk.specs.Accounts.{AccountsOfCall, Looks, PassesOver};
@@ -14,8 +14,8 @@ pub struct DiskFault;
 /// A disk that holds files by name; an absent file and an empty one are the same.
 ///
 /// What a call asks of contents, lengths and images is asked of an honest disk alone, and what is said of them is said
-/// where the disk is honest after the call. After a failed `write_at`, `cut` or `sync` the file reads as what a stop
-/// within the call may leave, and from then on a stop leaves nothing else of it. A call that fails adds one to the
+/// where the disk is honest after the call. After a failed `write_at`, `cut` or `sync` the file reads as what a crash
+/// within the call may leave, and from then on a crash leaves nothing else of it. A call that fails adds one to the
 /// failures, whose greatest number is 2^64 - 1.
 pub trait Disk {
     /// The disk has been as it says: each read gave the content, and each call had its effect. A wrong answer ends this
@@ -31,7 +31,7 @@ pub trait Disk {
     /// A clock, which no call sets back.
     ghost moment: { Self → ℕ };
 
-    /// What a stop might have left of the disk at this moment or later, within a call or between two.
+    /// What a crash might have left of the disk at this moment or later, within a call or between two.
     ghost left_since: { Self → ℕ → (List ℕ → List ℕ) → Type 0 };
 
     /// How many calls have failed.
@@ -55,8 +55,9 @@ pub trait Disk {
         ensures accounts { AccountsOfCall steady honest failures self.old self.new result };
 
     /// Writes bytes over a file from `from` on, which is at most its length; the file grows where they reach past its
-    /// end. Until the next sync a stop may leave any bytes in that range, and any length from the least to the greatest
-    /// that the file had since the last sync. A write of no bytes changes nothing (`laws::no_bytes_change_nothing`).
+    /// end. Until the next sync a crash may leave any bytes in that range, and any length from the least to the
+    /// greatest that the file had since the last sync. A write of no bytes changes nothing
+    /// (`laws::no_bytes_change_nothing`).
     fn write_at(&mut self, name: &FileName, from: u64, bytes: &[u8]) -> Result<(), DiskFault>
         requires within { honest self.old → from ≤ length (files self.old name.now).content }
         requires fits { honest self.old → from + length bytes.now < 2 ^ 64 }
@@ -67,8 +68,8 @@ pub trait Disk {
             (AreLeftBy (write from bytes.now) name.now (files self.old)) }
         ensures accounts { AccountsOfCall steady honest failures self.old self.new result };
 
-    /// Takes away the bytes of a file from `to` on, which is at most its length. Until the next sync a stop may leave any
-    /// length from the least to the greatest that the file had since the last sync, and any bytes from `to` on.
+    /// Takes away the bytes of a file from `to` on, which is at most its length. Until the next sync a crash may leave
+    /// any length from the least to the greatest that the file had since the last sync, and any bytes from `to` on.
     fn cut(&mut self, name: &FileName, to: u64) -> Result<(), DiskFault>
         requires { honest self.old → to ≤ length (files self.old name.now).content }
         ensures effect { honest self.new →
@@ -78,7 +79,7 @@ pub trait Disk {
             (AreLeftBy (cut to) name.now (files self.old)) }
         ensures accounts { AccountsOfCall steady honest failures self.old self.new result };
 
-    /// Puts a file on the disk: from then on a stop leaves its content, and nothing else.
+    /// Puts a file on the disk: from then on a crash leaves its content, and nothing else.
     fn sync(&mut self, name: &FileName) -> Result<(), DiskFault>
         ensures effect { honest self.new →
             Changes sync name.now (files self.old) (files self.new) result }
@@ -91,11 +92,11 @@ pub trait Disk {
     ghost content_is_image: { (disk : Self) (name : List ℕ) → honest disk →
         IsImage (files disk name) (files disk name).content };
 
-    /// A stop at this moment may leave each image of the disk.
+    /// A crash at this moment may leave each image of the disk.
     ghost counts_now: { (disk : Self) (t : ℕ) (image : List ℕ → List ℕ) → honest disk →
         t ≤ moment disk → AreImages (files disk) image → left_since disk t image };
 
-    /// A stop at this moment leaves an image of the disk, and nothing else.
+    /// A crash at this moment leaves an image of the disk, and nothing else.
     ghost only_now: { (disk : Self) (image : List ℕ → List ℕ) → honest disk →
         left_since disk (moment disk) image → AreImages (files disk) image };
 }

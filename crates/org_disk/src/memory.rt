@@ -10,18 +10,18 @@ use crate::{Disk, DiskFault, FileName};
 use indexmap::IndexMap;
 use std::alloc::{AllocError, Global};
 
-/// What a stop leaves of each file, one of its images.
+/// What a crash leaves of each file, one of its images.
 #[derive(Clone, Copy, Debug, PartialEq, Eq)]
 pub enum Outcome {
-    /// Every write and cut so far took place, the stopped one too.
+    /// Every write and cut so far took place, the crashed one too.
     All,
     /// The file is as after its last successful sync or `set`; without one it is empty.
     None,
-    /// As `All`, but only the first bytes of a stopped write went out, at most as many as the number says; another
-    /// stopped call had no effect.
+    /// As `All`, but only the first bytes of a crashed write went out, at most as many as the number says; another
+    /// crashed call had no effect.
     Front(usize),
     /// The file has its greatest length since its last sync, and this byte at each position that isn't fixed; the
-    /// stopped call counts as made.
+    /// crashed call counts as made.
     Fill(u8),
 }
 
@@ -41,8 +41,8 @@ pub(crate) enum Effect {
 pub(crate) struct Call {
     name: FileName,
     effect: Effect,
-    // the disk stopped within this call
-    stopped: bool,
+    // the disk crashed within this call
+    crashed: bool,
 }
 
 // How a call that begins goes.
@@ -50,12 +50,12 @@ pub(crate) struct Call {
 enum Turn {
     Made,
     Failed,
-    Stopped,
+    Crashed,
 }
 
-// The stop that was asked for.
+// The crash that was asked for.
 #[derive(Clone, Copy)]
-pub(crate) enum Stop {
+pub(crate) enum Crash {
     Never,
     // within the call of this number, counted from 1
     In(u64, Outcome),
@@ -72,7 +72,7 @@ pub struct MemoryDisk {
     failures: u64,
     // the call that fails, counted from 1; 0 for none
     fail_in: u64,
-    stop: Stop,
+    crash: Crash,
     ghost tied: { (name : List ℕ) → content_in contents name ≡ (files_after calls.items name).content },
     // a file that isn't kept was never longer than nothing
     ghost absent: { (name : List ℕ) → IsNone (get bytes_eq contents name) →
@@ -83,7 +83,7 @@ impl MemoryDisk {
     ghost use Rattle.std.specs.Prelude.{◌≡◌, ◌≢◌, List, ℕ, [], count_by, IsTrue, IfOk, OnOk, OnErr};
     ghost use Rattle.org_disk.specs.Disk.{AreImages, stable};
     ghost use Rattle.org_disk.specs.Record.{is_call};
-    ghost use Rattle.org_disk.specs.Memory.{call_count, leaves_all, memory_files, stop_asked, KeepsPlan};
+    ghost use Rattle.org_disk.specs.Memory.{call_count, leaves_all, memory_files, crash_asked, KeepsPlan};
 
     /// A disk without files, of which no call has failed.
     pub fn new(alloc: Global) -> Self
@@ -91,7 +91,7 @@ impl MemoryDisk {
         ensures calls { result.calls.items ≡ [] }
         ensures failures { result.failures ≡ 0 }
         ensures fail_in { result.fail_in ≡ 0 }
-        ensures stop { result.stop ≡ Stop.Never }
+        ensures crash { result.crash ≡ Crash.Never }
     {
         MemoryDisk {
             alloc,
@@ -99,7 +99,7 @@ impl MemoryDisk {
             contents: IndexMap::new(alloc),
             failures: 0,
             fail_in: 0,
-            stop: Stop::Never,
+            crash: Crash::Never,
         }
     }
 
@@ -123,32 +123,32 @@ impl MemoryDisk {
         ensures files { memory_files self.new ≡ memory_files self.old }
         ensures failures { self.new.failures ≡ self.old.failures }
         ensures fail_in { self.new.fail_in ≡ k }
-        ensures stop { self.new.stop ≡ self.old.stop }
+        ensures crash { self.new.crash ≡ self.old.crash }
     {
         self.fail_in = k;
     }
 
     /// The k-th call of `Disk` from now on, counted from 1, and every later one fail; `image` then tells what the
-    /// outcome leaves. It takes the place of an earlier `stop_at` whose call hasn't come, and with 0 no call stops the
-    /// disk; a disk that has stopped stays so.
-    pub fn stop_at(&mut self, k: u64, outcome: Outcome)
+    /// outcome leaves. It takes the place of an earlier `crash_at` whose call hasn't come, and with 0 no call crashes
+    /// the disk; a disk that has crashed stays so.
+    pub fn crash_at(&mut self, k: u64, outcome: Outcome)
         ensures files { memory_files self.new ≡ memory_files self.old }
         ensures failures { self.new.failures ≡ self.old.failures }
         ensures fail_in { self.new.fail_in ≡ self.old.fail_in }
-        ensures stop { self.new.stop ≡ stop_asked self.old.stop k outcome }
+        ensures crash { self.new.crash ≡ crash_asked self.old.crash k outcome }
     {
-        if let Stop::Came(_) = self.stop {
+        if let Crash::Came(_) = self.crash {
             return;
         }
-        self.stop = if k == 0 {
-            Stop::Never
+        self.crash = if k == 0 {
+            Crash::Never
         } else {
-            Stop::In(k, outcome)
+            Crash::In(k, outcome)
         };
     }
 
-    /// The disk after the stop, all of it stable: one of its images, which the outcome picks. Without a stop it is the
-    /// content as it is now.
+    /// The disk after the crash, all of it stable: one of its images, which the outcome picks. Without a crash it is
+    /// the content as it is now.
     pub fn image(&self, alloc: Global) -> Result<MemoryDisk, AllocError>
         ensures stable { IfOk result (λ image. (name : List ℕ) →
             memory_files image name ≡ stable (memory_files image name).content) }
@@ -158,7 +158,7 @@ impl MemoryDisk {
             IfOk result (λ image. (name : List ℕ) →
             (memory_files image name).content ≡ (memory_files self.now name).content) }
         ensures fresh { IfOk result (λ image. (image.failures ≡ 0) × (image.fail_in ≡ 0)
-            × (image.stop ≡ Stop.Never)) }
+            × (image.crash ≡ Crash.Never)) }
         ensures uncounted { IfOk result (λ image. call_count image ≡ 0) }
     {
         let mut image = MemoryDisk::new(alloc);
@@ -188,7 +188,7 @@ impl MemoryDisk {
     ghost use Rattle.std.specs.Prelude.{◌≡◌, ◌≢◌, ◌+◌, [], ◌∷◌, ◌++◌, false, IsTrue, IsFalse, IfOk, OnOk, OnErr};
     ghost use Rattle.org_disk.specs.Disk.{IsCounted, IsImage};
     ghost use Rattle.org_disk.specs.Record.{IsTried};
-    ghost use Rattle.org_disk.specs.Memory.{call_count, is_due, leaves_all, memory_files, stops_within, CountsDown, HasNoEffect, KeepsPlan, TakesTurn};
+    ghost use Rattle.org_disk.specs.Memory.{call_count, is_due, leaves_all, memory_files, crashes_within, CountsDown, HasNoEffect, KeepsPlan, TakesTurn};
 
     // What a file holds.
     fn content(&self, name: &FileName) -> &[u8]
@@ -197,17 +197,17 @@ impl MemoryDisk {
         content_in(&self.contents, name)
     }
 
-    // What the stop leaves of a file.
+    // What the crash leaves of a file.
     fn left(&self, alloc: Global, name: &FileName) -> Result<Vec<u8>, AllocError>
         ensures image { IfOk result (λ left. IsImage (memory_files self.now name.now) left.items) }
         ensures whole { IsTrue (leaves_all self.now) →
             IfOk result (λ left. left.items ≡ (memory_files self.now name.now).content) }
     {
-        match self.stop {
-            Stop::Came(Outcome::All) | Stop::Never | Stop::In(_, _) => self
+        match self.crash {
+            Crash::Came(Outcome::All) | Crash::Never | Crash::In(_, _) => self
                 .content(name)
                 .to_vec(alloc),
-            Stop::Came(outcome) => left_of(alloc, &self.calls, name, outcome),
+            Crash::Came(outcome) => left_of(alloc, &self.calls, name, outcome),
         }
     }
 
@@ -227,32 +227,32 @@ impl MemoryDisk {
         ensures failures { self.new.failures ≡ self.old.failures }
         ensures due { IsTrue (is_due self.old) → result ≢ Turn.Made }
         ensures made { IsFalse (is_due self.old) → result ≡ Turn.Made }
-        ensures stopped { result ≡ Turn.Stopped → IsTrue (stops_within self.old.stop) }
+        ensures crashed { result ≡ Turn.Crashed → IsTrue (crashes_within self.old.crash) }
         ensures counts { CountsDown self.old self.new }
     {
         let is_due = self.fail_in == 1;
         self.fail_in = self.fail_in.saturating_sub(1);
-        match self.stop {
-            Stop::Came(_) => Turn::Failed,
-            Stop::In(1, outcome) => {
-                self.stop = Stop::Came(outcome);
-                Turn::Stopped
+        match self.crash {
+            Crash::Came(_) => Turn::Failed,
+            Crash::In(1, outcome) => {
+                self.crash = Crash::Came(outcome);
+                Turn::Crashed
             }
-            Stop::In(k, outcome) => {
-                self.stop = Stop::In(k.saturating_sub(1), outcome);
+            Crash::In(k, outcome) => {
+                self.crash = Crash::In(k.saturating_sub(1), outcome);
                 fate(is_due)
             }
-            Stop::Never => fate(is_due),
+            Crash::Never => fate(is_due),
         }
     }
 
     // A call, which has its effect where it is made.
     fn call(&mut self, name: &FileName, effect: Effect) -> Result<(), DiskFault>
         ensures ok { OnOk result (self.new.calls.items ≡ self.old.calls.items ++
-            (record { name = name.now; effect = effect; stopped = false }) ∷ []) }
+            (record { name = name.now; effect = effect; crashed = false }) ∷ []) }
         ensures err { OnErr result (IsTried name.now effect self.old.calls.items
             self.new.calls.items) }
-        ensures no_effect { IsFalse (stops_within self.old.stop) →
+        ensures no_effect { IsFalse (crashes_within self.old.crash) →
             OnErr result (IsTried name.now Effect.Nothing self.old.calls.items
             self.new.calls.items) }
         ensures sync { effect ≡ Effect.Sync →
@@ -269,7 +269,7 @@ impl MemoryDisk {
                 let _recorded = self.record(name, Effect::Nothing, false);
                 Err(self.fault())
             }
-            Turn::Stopped => {
+            Turn::Crashed => {
                 let _recorded = self.record(name, without_sync(effect), true);
                 Err(self.fault())
             }
@@ -288,9 +288,9 @@ impl MemoryDisk {
     }
 
     // Adds a call to the record; where memory is refused, nothing changes.
-    fn record(&mut self, name: &FileName, effect: Effect, stopped: bool) -> Result<(), AllocError>
+    fn record(&mut self, name: &FileName, effect: Effect, crashed: bool) -> Result<(), AllocError>
         ensures ok { OnOk result (self.new.calls.items ≡ self.old.calls.items ++
-            (record { name = name.now; effect = effect; stopped = stopped }) ∷ []) }
+            (record { name = name.now; effect = effect; crashed = crashed }) ∷ []) }
         ensures err { OnErr result (self.new.calls.items ≡ self.old.calls.items) }
         ensures failures { self.new.failures ≡ self.old.failures }
         ensures plan { KeepsPlan self.old self.new }
@@ -298,7 +298,7 @@ impl MemoryDisk {
         let call = Call {
             name: name.clone()?,
             effect,
-            stopped,
+            crashed,
         };
         self.calls.reserve(1)?;
         keep(self.alloc, &mut self.contents, name, &call.effect)?;
@@ -311,7 +311,7 @@ impl Disk for MemoryDisk {
     ghost use Rattle.std.specs.Prelude.{◌≡◌, ◌+◌, ◌^◌, ◌<◌, ◌≤◌, length, take, drop, IfOk, IsFalse, OnOk, OnErr};
     ghost use Rattle.org_disk.specs.Disk.{AreLeftBy, Changes, cut, sync, write};
     ghost use Rattle.org_disk.specs.Accounts.{PassesOver};
-    ghost use Rattle.org_disk.specs.Memory.{call_count, memory_files, memory_left_since, memory_moment, stops_within, HasNoEffect, TakesTurn};
+    ghost use Rattle.org_disk.specs.Memory.{call_count, memory_files, memory_left_since, memory_moment, crashes_within, HasNoEffect, TakesTurn};
     ghost use Rattle.org_disk.specs.RecordLaws.{own_image, now_counts, now_alone};
 
     ghost honest = { λ _. Unit {0} };
@@ -363,7 +363,7 @@ impl Disk for MemoryDisk {
             (memory_files self.old) (memory_files self.new) result }
         ensures time { PassesOver memory_moment memory_left_since self.old self.new
             (AreLeftBy (write from bytes.now) name.now (memory_files self.old)) }
-        ensures no_effect { IsFalse (stops_within self.old.stop) →
+        ensures no_effect { IsFalse (crashes_within self.old.crash) →
             OnErr result (HasNoEffect self.old self.new) }
         ensures turn { TakesTurn self.old self.new result }
         ensures recorded { OnOk result (call_count self.new ≡ call_count self.old + 1) }
@@ -383,7 +383,7 @@ impl Disk for MemoryDisk {
             (memory_files self.old) (memory_files self.new) result }
         ensures time { PassesOver memory_moment memory_left_since self.old self.new
             (AreLeftBy (cut to) name.now (memory_files self.old)) }
-        ensures no_effect { IsFalse (stops_within self.old.stop) →
+        ensures no_effect { IsFalse (crashes_within self.old.crash) →
             OnErr result (HasNoEffect self.old self.new) }
         ensures turn { TakesTurn self.old self.new result }
         ensures recorded { OnOk result (call_count self.new ≡ call_count self.old + 1) }
@@ -407,12 +407,12 @@ impl Disk for MemoryDisk {
 fn fate(is_due: bool) -> Turn
     ensures due { IsTrue is_due → result ≢ Turn.Made }
     ensures made { IsFalse is_due → result ≡ Turn.Made }
-    ensures stopped { result ≢ Turn.Stopped }
+    ensures crashed { result ≢ Turn.Crashed }
 {
     if is_due { Turn::Failed } else { Turn::Made }
 }
 
-// The effect of a call within which the disk stops: a sync has none.
+// The effect of a call within which the disk crashes: a sync has none.
 fn without_sync(effect: Effect) -> Effect
     ensures effect { (result ≡ effect) ⊎ (result ≡ Effect.Nothing) }
     ensures sync { effect ≡ Effect.Sync → result ≡ Effect.Nothing }
@@ -423,7 +423,7 @@ fn without_sync(effect: Effect) -> Effect
     }
 }
 
-// What a stop with this outcome leaves of a file after these calls.
+// What a crash with this outcome leaves of a file after these calls.
 fn left_of(
     alloc: Global,
     calls: &[Call],
@@ -443,7 +443,7 @@ fn left_of(
     Ok(left)
 }
 
-// Makes of what a stop leaves of a file before a call what it leaves after it.
+// Makes of what a crash leaves of a file before a call what it leaves after it.
 fn leave(
     alloc: Global,
     outcome: Outcome,
@@ -456,11 +456,11 @@ fn leave(
     match &call.effect {
         Effect::Set(bytes) => *left = bytes.to_vec(alloc)?,
         Effect::Write(from, bytes) => {
-            if let Some(piece) = piece_of(alloc, outcome, call.stopped, bytes)? {
-                lay(left, *from as usize, &piece)?;
+            if let Some(piece) = piece_of(alloc, outcome, call.crashed, bytes)? {
+                overwrite(left, *from as usize, &piece)?;
             }
         }
-        Effect::Cut(n) => leave_cut(outcome, call.stopped, left, *n as usize)?,
+        Effect::Cut(n) => leave_cut(outcome, call.crashed, left, *n as usize)?,
         Effect::Sync => *left = content.to_vec(alloc)?,
         Effect::Nothing => {}
     }
@@ -471,30 +471,30 @@ fn leave(
 fn piece_of(
     alloc: Global,
     outcome: Outcome,
-    stopped: bool,
+    crashed: bool,
     bytes: &[u8],
 ) -> Result<Option<Vec<u8>>, AllocError>
     ensures { IfOk result (λ piece. IfSome piece (λ p. length p.items ≤ length bytes.now)) }
 {
     match outcome {
-        Outcome::Front(n) if stopped => Ok(Some(bytes[..n.min(bytes.len())].to_vec(alloc)?)),
+        Outcome::Front(n) if crashed => Ok(Some(bytes[..n.min(bytes.len())].to_vec(alloc)?)),
         Outcome::All | Outcome::Front(_) => Ok(Some(bytes.to_vec(alloc)?)),
         Outcome::None => Ok(None),
         Outcome::Fill(byte) => Ok(Some(vec![in alloc; byte; bytes.len()]?)),
     }
 }
 
-// Makes of what a stop leaves of a file before a cut what it leaves after it.
+// Makes of what a crash leaves of a file before a cut what it leaves after it.
 fn leave_cut(
     outcome: Outcome,
-    stopped: bool,
+    crashed: bool,
     left: &mut Vec<u8>,
     n: usize,
 ) -> Result<(), AllocError>
     ensures { OnOk result (KeepsCutImage n left.old.items left.new.items) }
 {
     match outcome {
-        Outcome::Front(_) if stopped => {}
+        Outcome::Front(_) if crashed => {}
         Outcome::All | Outcome::Front(_) => left.truncate(n),
         Outcome::None => {}
         Outcome::Fill(byte) => {
@@ -543,15 +543,15 @@ fn act(alloc: Global, content: &mut Vec<u8>, effect: &Effect) -> Result<(), Allo
 {
     match effect {
         Effect::Set(bytes) => *content = bytes.to_vec(alloc)?,
-        Effect::Write(from, bytes) => lay(content, *from as usize, bytes)?,
+        Effect::Write(from, bytes) => overwrite(content, *from as usize, bytes)?,
         Effect::Cut(n) => content.truncate(*n as usize),
         Effect::Sync | Effect::Nothing => {}
     }
     Ok(())
 }
 
-// Lays bytes over a content; where memory is refused, nothing changes.
-fn lay(content: &mut Vec<u8>, from: usize, bytes: &[u8]) -> Result<(), AllocError>
+// Writes bytes over a content; where memory is refused, nothing changes.
+fn overwrite(content: &mut Vec<u8>, from: usize, bytes: &[u8]) -> Result<(), AllocError>
     ensures ok { OnOk result (content.new.items ≡ overwritten from bytes.now content.old.items) }
     ensures err { OnErr result (content.new.items ≡ content.old.items) }
 {

@@ -1,7 +1,7 @@
 // What no clause says: which image an outcome picks, which call fails, and that each call can succeed.
+mod crashes;
 mod failures;
 mod names;
-mod stops;
 
 use org_disk::{Disk, DiskFault, FileName, MemoryDisk};
 use org_fixtures::bytes_of;

@@ -39,8 +39,8 @@ fn set_file(alloc: Global, disk: &mut MemoryDisk, name: &str, bytes: &[u8]) -> R
     Ok(())
 }
 
-// A disk that was stopped while the record was laid: some of the text is there.
-fn stopped(rt: &impl Abort, alloc: Global, gate: u8) -> MemoryDisk {
+// A disk that crashed while the record was applied: some of the text is there.
+fn crashed(rt: &impl Abort, alloc: Global, gate: u8) -> MemoryDisk {
     let journal = with_one(rt, alloc, &NEW, 0, gate);
     let mut disk = with_journal(rt, alloc, &journal);
     must(rt, set_file(alloc, &mut disk, "inbox.org", b"* TO"));
@@ -104,7 +104,7 @@ fn has_texts(held: &Held, a: &[u8], inbox: &[u8]) -> bool {
 fn read_opened(rt: &impl Abort, alloc: Global, disk: MemoryDisk) -> (Held, MemoryDisk) {
     let mut set = open(rt, alloc, disk);
     let held = read_all(rt, alloc, &mut set);
-    (held, set.close())
+    (held, set.into_disk())
 }
 
 fn held_in(rt: &impl Abort, alloc: Global, disk: MemoryDisk) -> Held {
@@ -119,7 +119,7 @@ fn opened_then_closed(
     disk: MemoryDisk,
 ) -> (MemoryDisk, Option<OpenFault>) {
     match opened(rt, alloc, disk) {
-        Ok(set) => (set.close(), None),
+        Ok(set) => (set.into_disk(), None),
         Err(refused) => (refused.disk, Some(refused.fault)),
     }
 }
@@ -130,7 +130,7 @@ fn opened_disk(rt: &impl Abort, alloc: Global, disk: MemoryDisk) -> MemoryDisk {
     disk
 }
 
-// A disk that holds what a stop leaves of this one.
+// A disk that holds what a crash leaves of this one.
 fn image_of(rt: &impl Abort, alloc: Global, disk: &MemoryDisk) -> MemoryDisk {
     disk.image(alloc).expect(rt, "memory")
 }

@@ -1,4 +1,4 @@
--- A journal that stands open while its record is laid, and is then closed.
+-- A journal that stands open while its record is applied, and is then closed.
 use Rattle.std.proofs.Common.{◌≡◌, ◌≢◌, inl, inr, ℕ, ◌≤◌, List, ◌∷◌, length, drop, get_or, true, false, Some, Result, Ok, Err, OnOk, IsErr, sym, ◌∙◌, ap, subst, arith}
 use Rattle.std.specs.Prelude.{nat_le, slice_index, ◌==◌}
 use Rattle.std.proofs.lemmas.Bool.{cases_Bool, and_parts, leb-true}
@@ -12,32 +12,32 @@ use Rattle.org_journal.specs.declared.record.Entry.{Entry}
 use Rattle.org_journal.specs.Gate.{front_size, is_open, HasClosedGate, LeavesBody}
 use Rattle.org_journal.specs.Reading.{journal_at}
 use Rattle.org_journal.specs.Record.{is_named}
-use Rattle.org_journal.specs.Standing.{Image, SameFiles, StandsFor, IsArmed, contents}
-use Rattle.org_fileset.specs.Replay.{TakesTo, AreLayable, EachTakes, LeavesTaking, Replays, IsOpenOver, IsReplayable, IsAtRest}
+use Rattle.org_journal.specs.Recovered.{Image, SameFiles, RecoversTo, IsArmed, contents}
+use Rattle.org_fileset.specs.Replay.{TakesTo, AreApplicable, EachTakes, LeavesTaking, Replays, IsOpenOver, IsReplayable, IsAtRest}
 use Rattle.org_fileset.proofs.Takes.{journal_unnamed}
-use Rattle.org_fileset.proofs.Stands.{stands_open, stands_closed}
+use Rattle.org_fileset.proofs.Recovers.{recovers_open, recovers_closed}
 
 -- one run of calls after another
-pub replays_then : {entries : List Entry} {texts : Image} {m n k : ℕ} {s u v : ℕ → Image → Type 0} {old mid new : List ℕ → FileState} → AreLayable entries
+pub replays_then : {entries : List Entry} {texts : Image} {m n k : ℕ} {s u v : ℕ → Image → Type 0} {old mid new : List ℕ → FileState} → AreApplicable entries
     → Replays entries texts m n s u old mid → Replays entries texts n k u v mid new → Replays entries texts m k s v old new
-replays_then {entries} layable first second = record {
+replays_then {entries} applicable first second = record {
   any_moment = passes_then first.any_moment second.any_moment (λ image left. record {
-    same_journal = left.same_journal ∙ ap (λ (f : FileState). f.content) (first.others journal_name (journal_unnamed entries layable.each));
+    same_journal = left.same_journal ∙ ap (λ (f : FileState). f.content) (first.others journal_name (journal_unnamed entries applicable.each));
     each = left.each;
   });
   takes = second.takes;
   others = λ name none. second.others name none ∙ first.others name none;
 }
 
--- what is left while the record is laid stands for what it makes
-pub taking_stands : (entries : List Entry) (texts : Image) (journal : List ℕ) → AreLayable entries → is_open journal ≡ true → journal_at (drop 1 journal) ≡ Some entries
-    → (image : Image) → LeavesTaking journal entries texts image → StandsFor texts image
-taking_stands entries texts journal layable opened found image left =
-    stands_open entries texts image layable (ap is_open left.same_journal ∙ opened) (ap (λ (l : List ℕ). journal_at (drop 1 l)) left.same_journal ∙ found) left.each
+-- what is left while the record is applied recovers to what it makes
+pub taking_recovers : (entries : List Entry) (texts : Image) (journal : List ℕ) → AreApplicable entries → is_open journal ≡ true → journal_at (drop 1 journal) ≡ Some entries
+    → (image : Image) → LeavesTaking journal entries texts image → RecoversTo texts image
+taking_recovers entries texts journal applicable opened found image left =
+    recovers_open entries texts image applicable (ap is_open left.same_journal ∙ opened) (ap (λ (l : List ℕ). journal_at (drop 1 l)) left.same_journal ∙ found) left.each
 
 -- such a disk is one with an open record
-pub replayable_armed : (entries : List Entry) (files : List ℕ → FileState) → AreLayable entries → IsOpenOver entries files → IsReplayable entries files → IsArmed files
-replayable_armed entries files layable is can = record {
+pub replayable_armed : (entries : List Entry) (files : List ℕ → FileState) → AreApplicable entries → IsOpenOver entries files → IsReplayable entries files → IsArmed files
+replayable_armed entries files applicable is can = record {
   stable = is.stable;
   opened = is.opened;
   entries = entries;
@@ -46,21 +46,21 @@ replayable_armed entries files layable is can = record {
   texts = can.texts;
   same = λ image left.
       let journal = only_image is.stable (image journal_name) (left journal_name) in
-      stands_open entries can.texts image layable (ap is_open journal ∙ is.opened) (ap (λ (l : List ℕ). journal_at (drop 1 l)) journal ∙ is.found)
+      recovers_open entries can.texts image applicable (ap is_open journal ∙ is.opened) (ap (λ (l : List ℕ). journal_at (drop 1 l)) journal ∙ is.found)
       (λ name not. can.takes.each name not (image name) (left name));
 }
 
--- it stays one while the record is laid
-pub still_open : (entries : List Entry) (old new : List ℕ → FileState) → AreLayable entries → IsOpenOver entries old
+-- it stays one while the record is applied
+pub still_open : (entries : List Entry) (old new : List ℕ → FileState) → AreApplicable entries → IsOpenOver entries old
     → ((name : List ℕ) → is_named name entries ≡ false → new name ≡ old name) → IsOpenOver entries new
-still_open entries old new layable is others = record {
+still_open entries old new applicable is others = record {
   stable = subst IsStable (sym same) is.stable;
   opened = ap (λ (f : FileState). is_open f.content) same ∙ is.opened;
   found = ap (λ (f : FileState). journal_at (drop 1 f.content)) same ∙ is.found;
 }
   where
     same : new journal_name ≡ old journal_name
-    same = others journal_name (journal_unnamed entries layable.each)
+    same = others journal_name (journal_unnamed entries applicable.each)
 
 pub still_replayable : {entries : List Entry} {m n : ℕ} {s u : ℕ → Image → Type 0} {old new : List ℕ → FileState} (can : IsReplayable entries old) → Replays entries can.texts m n s u old new
     → IsReplayable entries new
@@ -78,12 +78,12 @@ pub record IsDone (entries : List Entry) (texts : Image) (files : List ℕ → F
   pub found : journal_at (drop 1 (files journal_name).content) ≡ Some entries
 
 -- what is left while the gate is closed
-pub closing_stands : (entries : List Entry) (texts : Image) (files : List ℕ → FileState) (journal : List ℕ) → journal ≡ journal_name → AreLayable entries
-    → ((name : List ℕ) → IsImage (files name) (files name).content) → IsDone entries texts files → (image : Image) → LeavesBody journal files image → StandsFor texts image
-closing_stands entries texts files journal name_is layable own done image left = elim (cases_Bool (is_open (image journal_name))) [
-  | inl opened ↦ stands_open entries texts image layable opened (ap journal_at here.body ∙ done.found) (λ name not.
+pub closing_recovers : (entries : List Entry) (texts : Image) (files : List ℕ → FileState) (journal : List ℕ) → journal ≡ journal_name → AreApplicable entries
+    → ((name : List ℕ) → IsImage (files name) (files name).content) → IsDone entries texts files → (image : Image) → LeavesBody journal files image → RecoversTo texts image
+closing_recovers entries texts files journal name_is applicable own done image left = elim (cases_Bool (is_open (image journal_name))) [
+  | inl opened ↦ recovers_open entries texts image applicable opened (ap journal_at here.body ∙ done.found) (λ name not.
       subst (λ (t : List ℕ). TakesTo entries name t (texts name)) (sym (same name not)) (done.takes.each name not (files name).content (own name)))
-  | inr shut ↦ stands_closed texts image shut (λ name not. same name not ∙ done.have name not)
+  | inr shut ↦ recovers_closed texts image shut (λ name not. same name not ∙ done.have name not)
 ]
   where
     here : LeavesBody journal_name files image

@@ -9,25 +9,25 @@ use Rattle.org_disk.proofs.Images.{only_image}
 use Rattle.org_journal.specs.declared.record.Entry.{Entry}
 use Rattle.org_journal.specs.Gate.{is_open, HasClosedGate, LeavesClosed, LeavesBody}
 use Rattle.org_journal.specs.Reading.{journal_at}
-use Rattle.org_journal.specs.Standing.{Image, SameFiles, StandsFor, all_fit, replayed, contents}
-use Rattle.org_fileset.specs.Replay.{TakesTo, AreLayable, EachTakes, IsOpenOver, IsAtRest, IsBeforeOrAfter}
-use Rattle.org_fileset.proofs.Stands.{stands_open, stands_closed, takes-replayed, replayed-takes, all_fit-takes}
+use Rattle.org_journal.specs.Recovered.{Image, SameFiles, RecoversTo, all_fit, replayed, contents}
+use Rattle.org_fileset.specs.Replay.{TakesTo, AreApplicable, EachTakes, IsOpenOver, IsAtRest, IsBeforeOrAfter}
+use Rattle.org_fileset.proofs.Recovers.{recovers_open, recovers_closed, takes-replayed, replayed-takes, all_fit-takes}
 
 pub shut : (journal : List ℕ) → slice_index journal 0 ≢ 1 → is_open journal ≡ false
 shut journal not = and_right (nat_le 16 (length journal)) (slice_index journal 0 == 1) (ne_eqb (slice_index journal 0) 1 not)
 
--- behind the first byte stands what was laid there, and then whatever was there
-drop-laid : (body text : List ℕ) → 1 ≤ length text → drop 1 (overwritten 1 body text) ≡ body ++ drop (1 + length body) text
-drop-laid body [] long = absurd (omega arith)
-drop-laid body (x ∷ text) long = refl
+-- behind the first byte stands what was written there, and then whatever was there
+drop-overwritten : (body text : List ℕ) → 1 ≤ length text → drop 1 (overwritten 1 body text) ≡ body ++ drop (1 + length body) text
+drop-overwritten body [] long = absurd (omega arith)
+drop-overwritten body (x ∷ text) long = refl
 
--- a disk at rest stands for what it holds
-pub at_rest_stands : (files : List ℕ → FileState) → IsAtRest files → (image : Image) → AreImages files image → StandsFor (contents files) image
-at_rest_stands files rest image left =
+-- a disk at rest recovers to what it holds
+pub at_rest_recovers : (files : List ℕ → FileState) → IsAtRest files → (image : Image) → AreImages files image → RecoversTo (contents files) image
+at_rest_recovers files rest image left =
     let same : (name : List ℕ) → image name ≡ contents files name = λ name. only_image (rest.stable name) (image name) (left name) in
-    stands_closed (contents files) image (ap is_open (same journal_name) ∙ shut (contents files journal_name) rest.gate.closed) (λ name not. same name)
+    recovers_closed (contents files) image (ap is_open (same journal_name) ∙ shut (contents files journal_name) rest.gate.closed) (λ name not. same name)
 
-module _ (entries : List Entry) (files : List ℕ → FileState) (layable : AreLayable entries) (gate : HasClosedGate (files journal_name)) (fit : all_fit entries (contents files) ≡ true)
+module _ (entries : List Entry) (files : List ℕ → FileState) (applicable : AreApplicable entries) (gate : HasClosedGate (files journal_name)) (fit : all_fit entries (contents files) ≡ true)
     (body : List ℕ) (reads : (more : List ℕ) → journal_at (body ++ more) ≡ Some entries) (enough : 15 ≤ length body) where
   abbrev after : Image
   after = replayed entries (contents files)
@@ -40,13 +40,13 @@ module _ (entries : List Entry) (files : List ℕ → FileState) (layable : AreL
   takes name text same = subst (λ (t : List ℕ). TakesTo entries name t (after name)) (sym same) (takes-replayed entries (contents files) name (after name) fit refl)
 
   pub while_arming : IsAtRest files → (image : Image) → LeavesClosed journal_name files image → Stands image
-  while_arming rest image left = inl (stands_closed (contents files) image left.closed (λ name not. only_image (rest.stable name) (image name) (left.others name not)))
+  while_arming rest image left = inl (recovers_closed (contents files) image left.closed (λ name not. only_image (rest.stable name) (image name) (left.others name not)))
 
   -- the body stands behind the gate
   module _ (mid : List ℕ → FileState) (armed : (mid journal_name).content ≡ overwritten 1 body (contents files journal_name))
       (same : (other : List ℕ) → other ≢ journal_name → mid other ≡ files other) where
     behind : drop 1 (mid journal_name).content ≡ body ++ drop (1 + length body) (contents files journal_name)
-    behind = ap (λ (l : List ℕ). drop 1 l) armed ∙ drop-laid body (contents files journal_name) gate.nonempty
+    behind = ap (λ (l : List ℕ). drop 1 l) armed ∙ drop-overwritten body (contents files journal_name) gate.nonempty
 
     told : (text : List ℕ) → drop 1 text ≡ drop 1 (mid journal_name).content → journal_at (drop 1 text) ≡ Some entries
     told text is = ap journal_at (is ∙ behind) ∙ reads (drop (1 + length body) (contents files journal_name))
@@ -66,7 +66,7 @@ module _ (entries : List Entry) (files : List ℕ → FileState) (layable : AreL
 
     -- the record fits the files as it did
     pub opened_fits : (last : List ℕ → FileState) → ((other : List ℕ) → other ≢ journal_name → last other ≡ mid other) → all_fit entries (contents last) ≡ true
-    opened_fits last others = all_fit-takes entries (contents last) after layable (λ name not. takes name (contents last name) (ap (λ (f : FileState). f.content) (others name not ∙ same name not)))
+    opened_fits last others = all_fit-takes entries (contents last) after applicable (λ name not. takes name (contents last name) (ap (λ (f : FileState). f.content) (others name not ∙ same name not)))
 
     -- and makes of them what it made
     pub opened_made : (last : List ℕ → FileState) → ((other : List ℕ) → other ≢ journal_name → last other ≡ mid other) → SameFiles (replayed entries (contents last)) after
@@ -83,8 +83,8 @@ module _ (entries : List Entry) (files : List ℕ → FileState) (layable : AreL
           let other_is : (name : List ℕ) → name ≢ journal_name → image name ≡ contents files name =
           λ name not. own name (image name) (subst (λ f. IsImage f (image name)) (same name not) (left.others name not)) in
           elim (cases_Bool (is_open (image journal_name))) [
-            | inl opened ↦ inr (stands_open entries after image layable opened (told (image journal_name) left.body) (λ name not. takes name (image name) (other_is name not)))
-            | inr closed ↦ inl (stands_closed (contents files) image closed other_is)
+            | inl opened ↦ inr (recovers_open entries after image applicable opened (told (image journal_name) left.body) (λ name not. takes name (image name) (other_is name not)))
+            | inr closed ↦ inl (recovers_closed (contents files) image closed other_is)
           ]
 
       pub opened_takes : (last : List ℕ → FileState) → ((other : List ℕ) → other ≢ journal_name → last other ≡ mid other) → EachTakes entries after last

@@ -20,12 +20,12 @@ use Rattle.org_journal.specs.declared.record.Entry.{Entry}
 use Rattle.org_splice.specs.declared.patch.Patch.{Patch}
 use Rattle.org_journal.specs.declared.record.Version.TheVariants.{Two}
 use Rattle.org_journal.specs.Record.{IsEntry, IsWellFormed, greatest_length, most_entries}
-use Rattle.org_journal.specs.Standing.{Image, contents, replayed}
+use Rattle.org_journal.specs.Recovered.{Image, contents, replayed}
 use Rattle.org_fileset.specs.Entries.{AreEntriesOf, changed}
 use Rattle.org_fileset.specs.Replay.{IsAtRest, IsBeforeOrAfter, IsCommitted, Commits}
-use Rattle.org_fileset.proofs.Commits.{at_rest_stands}
-use Rattle.org_fileset.proofs.Stands.{stands_as}
-use Rattle.org_fileset.proofs.Recorded.{IsCommittable, file_named, changes_layable, changes_made}
+use Rattle.org_fileset.proofs.Commits.{at_rest_recovers}
+use Rattle.org_fileset.proofs.Recovers.{recovers_as}
+use Rattle.org_fileset.proofs.Recorded.{IsCommittable, file_named, changes_applicable, changes_made}
 
 abbrev Change : Type 0
 Change = List ℕ × EditedText
@@ -97,7 +97,7 @@ changes_formed names changes entries are distinct some each few named small =
       some = omega (arith, long, nonempty changes some);
       few = omega (arith, long, few_changes names changes distinct few (recursion_from_All (λ (change : Change). Contains names change.0) changes named));
       each = each_entry changes entries are can;
-      apart = (changes_layable changes entries are distinct can).apart;
+      apart = (changes_applicable changes entries are distinct can).apart;
     }
   where
     nonempty : (changes : List Change) → (changes ≡ [] → ⊥) → 1 ≤ length changes
@@ -108,13 +108,13 @@ changes_formed names changes entries are distinct some each few named small =
 pub with_or_without : (changes : List Change) (entries : List Entry) (files : Image) → AreEntriesOf changes entries → AllByRecursion (λ (change : Change). IsEditOf (files change.0) change.1) changes
     → (image : Image) → IsBeforeOrAfter files (replayed entries files) image → IsBeforeOrAfter files (changed changes files) image
 with_or_without changes entries files are edits image (inl before) = inl before
-with_or_without changes entries files are edits image (inr after) = inr (stands_as (replayed entries files) (changed changes files) image (λ name not. changes_made changes entries files name are edits) after)
+with_or_without changes entries files are edits image (inr after) = inr (recovers_as (replayed entries files) (changed changes files) image (λ name not. changes_made changes entries files name are edits) after)
 
 -- no call of the disk
 pub only_before : (changes : List Change) (files : List ℕ → FileState) (m : ℕ) (since : ℕ → Image → Type 0) → IsAtRest files → ((image : Image) → since m image → AreImages files image)
     → LeavesOnly m m since since (IsBeforeOrAfter (contents files) (changed changes (contents files)))
 only_before changes files m since rest now =
-    leaves_only (passes_none m since (IsBeforeOrAfter (contents files) (changed changes (contents files)))) (λ image left. inl (at_rest_stands files rest image (now image left)))
+    leaves_only (passes_none m since (IsBeforeOrAfter (contents files) (changed changes (contents files)))) (λ image left. inl (at_rest_recovers files rest image (now image left)))
 
 -- the calls of the commit
 pub changes_left : (changes : List Change) (entries : List Entry) (files : Image) (m n : ℕ) (past since : ℕ → Image → Type 0) → AreEntriesOf changes entries
@@ -129,8 +129,8 @@ pub commits_none : {D A E : Type 0} (files : D → List ℕ → FileState) (mome
     → ((image : Image) → left_since disk (moment disk) image → AreImages (files disk) image) → OnOk r (IsCommitted after (files disk) (files disk)) → Commits files moment left_since after disk disk r
 commits_none files moment left_since after disk r now done = record {
   done = done;
-  any_moment = λ rest. leaves_only (passes_none (moment disk) (left_since disk) (IsBeforeOrAfter (contents (files disk)) after)) (λ image left. inl (at_rest_stands (files disk) rest image (now image left)));
-  fit = λ rest. inl (λ name not. rest.stable name);
+  any_moment = λ rest. leaves_only (passes_none (moment disk) (left_since disk) (IsBeforeOrAfter (contents (files disk)) after)) (λ image left. inl (at_rest_recovers (files disk) rest image (now image left)));
+  recoverable = λ rest. inl (λ name not. rest.stable name);
 }
 
 -- the commit of the record is one of the changes
@@ -144,5 +144,5 @@ commits_changes files moment left_since changes entries old new r s are edits co
     rest = made.rest;
   }) done;
   any_moment = λ rest. changes_left changes entries (contents (files old)) (moment old) (moment new) (left_since old) (left_since new) are edits (commits.any_moment rest);
-  fit = commits.fit;
+  recoverable = commits.recoverable;
 }

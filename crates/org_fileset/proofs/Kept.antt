@@ -9,34 +9,34 @@ use Rattle.org_disk.specs.Names.{journal_name}
 use Rattle.org_disk.specs.declared.disk.DiskFault.{DiskFault}
 use Rattle.org_disk.proofs.Images.{only_image, stable_is, left_after}
 use Rattle.org_disk.proofs.Names.{name_cases}
-use Rattle.org_splice.specs.Patches.{AreWellFormed, Fit, LayTo, IsPartlyLaid, lay}
+use Rattle.org_splice.specs.Patches.{AreWellFormed, Fit, PatchedTo, IsPartlyPatched, patched}
 use Rattle.org_splice.specs.Texts.{EditedText, pairs_of}
-use Rattle.org_splice.proofs.Again.{LayTo-twice, LayTo-partly}
+use Rattle.org_splice.proofs.Again.{PatchedTo-twice, PatchedTo-partly}
 use Rattle.org_journal.specs.declared.record.Entry.{Entry}
 use Rattle.org_splice.specs.declared.patch.Patch.{Patch}
 use Rattle.org_journal.specs.Gate.{is_open}
 use Rattle.org_journal.specs.Reading.{journal_at}
 use Rattle.org_journal.specs.Record.{is_named}
-use Rattle.org_journal.specs.Standing.{Image, SameFiles, StandsFor, all_fit, stands, contents}
+use Rattle.org_journal.specs.Recovered.{Image, SameFiles, RecoversTo, all_fit, recovered, contents}
 use Rattle.org_fileset.specs.Entries.{changed}
-use Rattle.org_fileset.specs.Replay.{EachLaysTo, TakesTo, AreLayable, EachTakes, IsOpenOver}
+use Rattle.org_fileset.specs.Replay.{EachPatchedTo, TakesTo, AreApplicable, EachTakes, IsOpenOver}
 use Rattle.org_fileset.specs.Replay.{IsBeforeOrAfter}
 use Rattle.org_fileset.specs.Laws.{IsArmedFor, KeepsTexts, IsEachOldOrNew}
-use Rattle.org_fileset.proofs.Laying.{may_leave, takes_write, takes_cut}
-use Rattle.org_fileset.proofs.Takes.{entry-TakesTo, named_apart, layable_at}
+use Rattle.org_fileset.proofs.Patching.{may_leave, takes_write, takes_cut}
+use Rattle.org_fileset.proofs.Takes.{entry-TakesTo, named_apart, applicable_at}
 use Rattle.org_fileset.proofs.Replaying.{not_journal, entry_takes}
-use Rattle.org_fileset.proofs.Stands.{stands_open, open_stands, all_fit-takes}
-use Rattle.org_fileset.proofs.Recovering.{armed_takes, formed_layable}
+use Rattle.org_fileset.proofs.Recovers.{recovers_open, open_recovers, all_fit-takes}
+use Rattle.org_fileset.proofs.Recovering.{armed_takes, formed_applicable}
 
--- Laying again
+-- Applying again
 
-pub lay_twice : (patches : List (ℕ × List ℕ)) (final : ℕ) (text : List ℕ) → AreWellFormed patches final → Fit patches final (length text)
-    → LayTo patches final (lay patches final text) (lay patches final text)
-lay_twice patches final text formed fit = LayTo-twice patches final text (lay patches final text) formed (record { fit = fit; makes = refl })
+pub patched_twice : (patches : List (ℕ × List ℕ)) (final : ℕ) (text : List ℕ) → AreWellFormed patches final → Fit patches final (length text)
+    → PatchedTo patches final (patched patches final text) (patched patches final text)
+patched_twice patches final text formed fit = PatchedTo-twice patches final text (patched patches final text) formed (record { fit = fit; makes = refl })
 
-pub lay_partly : (patches : List (ℕ × List ℕ)) (final : ℕ) (text part : List ℕ) → AreWellFormed patches final → Fit patches final (length text)
-    → IsPartlyLaid patches final text part → LayTo patches final part (lay patches final text)
-lay_partly patches final text part formed fit partly = LayTo-partly patches final text part (lay patches final text) formed partly (record { fit = fit; makes = refl })
+pub patched_partly : (patches : List (ℕ × List ℕ)) (final : ℕ) (text part : List ℕ) → AreWellFormed patches final → Fit patches final (length text)
+    → IsPartlyPatched patches final text part → PatchedTo patches final part (patched patches final text)
+patched_partly patches final text part formed fit partly = PatchedTo-partly patches final text part (patched patches final text) formed partly (record { fit = fit; makes = refl })
 
 -- One call
 
@@ -45,8 +45,8 @@ module _ (entries : List Entry) (texts : Image) (files : List ℕ → FileState)
   at : slice_get entries member.0 ≡ Some entry
   at = slice_get_read entries (length entries) member.0 entry refl member.1 (sym member.2)
 
-  layable : AreLayable entries
-  layable = formed_layable entries is.formed
+  applicable : AreApplicable entries
+  applicable = formed_applicable entries is.formed
 
   over : IsOpenOver entries files
   over = record {
@@ -55,34 +55,34 @@ module _ (entries : List Entry) (texts : Image) (files : List ℕ → FileState)
     found = is.armed.found ∙ ap (λ (l : List Entry). let o : Option (List Entry) = Some l in o) is.same_entries;
   }
 
-  stand : (image : Image) → AreImages files image → StandsFor texts image
-  stand image left = subst (λ (t : Image). StandsFor t image) is.same_texts (is.armed.same image left)
+  stand : (image : Image) → AreImages files image → RecoversTo texts image
+  stand image left = subst (λ (t : Image). RecoversTo t image) is.same_texts (is.armed.same image left)
 
   fit : all_fit entries (contents files) ≡ true
-  fit = all_fit-takes entries (contents files) texts layable (open_stands entries texts (contents files) over.opened over.found (stand (contents files) own))
+  fit = all_fit-takes entries (contents files) texts applicable (open_recovers entries texts (contents files) over.opened over.found (stand (contents files) own))
 
   takes : EachTakes entries texts files
-  takes = subst (λ (t : Image). EachTakes entries t files) is.same_texts (armed_takes files own entries layable over fit is.armed)
+  takes = subst (λ (t : Image). EachTakes entries t files) is.same_texts (armed_takes files own entries applicable over fit is.armed)
 
-  -- of its file the entry makes one text, whatever a stop leaves of it
-  pub here : EachLaysTo (pairs_of entry.patches) entry.length (texts entry.name) (files entry.name)
-  here = entry_takes entries texts files member.0 entry layable at takes
+  -- of its file the entry makes one text, whatever a crash leaves of it
+  pub here : EachPatchedTo (pairs_of entry.patches) entry.length (texts entry.name) (files entry.name)
+  here = entry_takes entries texts files member.0 entry applicable at takes
 
   pub formed_here : AreWellFormed (pairs_of entry.patches) entry.length
-  formed_here = (layable_at entries member.0 entry layable.each at).patches
+  formed_here = (applicable_at entries member.0 entry applicable.each at).patches
 
   -- a call that keeps it so
-  module _ (effect : FileState → FileState) (after : EachLaysTo (pairs_of entry.patches) entry.length (texts entry.name) (effect (files entry.name))) where
+  module _ (effect : FileState → FileState) (after : EachPatchedTo (pairs_of entry.patches) entry.length (texts entry.name) (effect (files entry.name))) where
     apart : entry.name ≢ journal_name
-    apart = not_journal entries member.0 entry layable at
+    apart = not_journal entries member.0 entry applicable at
 
-    left_stands : (image : Image) → AreLeftBy effect entry.name files image → StandsFor texts image
-    left_stands image left =
+    left_recovers : (image : Image) → AreLeftBy effect entry.name files image → RecoversTo texts image
+    left_recovers image left =
         let journal : image journal_name ≡ (files journal_name).content = only_image over.stable (image journal_name) (left.others journal_name (λ same. apart (sym same))) in
-        stands_open entries texts image layable (ap is_open journal ∙ over.opened) (ap (λ (l : List ℕ). journal_at (drop 1 l)) journal ∙ over.found)
+        recovers_open entries texts image applicable (ap is_open journal ∙ over.opened) (ap (λ (l : List ℕ). journal_at (drop 1 l)) journal ∙ over.found)
         (λ name not. elim (name_cases name entry.name) [
           | inl same ↦ subst (λ (n : List ℕ). TakesTo entries n (image n) (texts n)) (sym same.0)
-              (entry-TakesTo entries member.0 entry (image entry.name) (texts entry.name) layable.apart at (may_leave effect (files entry.name) here after (image entry.name) left.here))
+              (entry-TakesTo entries member.0 entry (image entry.name) (texts entry.name) applicable.apart at (may_leave effect (files entry.name) here after (image entry.name) left.here))
           | inr other ↦ takes.each name not (image name) (left.others name other.0)
         ])
 
@@ -98,7 +98,7 @@ module _ (entries : List Entry) (texts : Image) (files : List ℕ → FileState)
             others = λ name not none. subst IsStable (sym (changes.others name (named_apart entries member.0 entry name none at)))
                 (is.armed.others name not (ap (λ (l : List Entry). is_named name l) is.same_entries ∙ none));
             texts = texts;
-            same = λ image left. left_stands image (left_after changes image left);
+            same = λ image left. left_recovers image (left_after changes image left);
           };
           same_entries = refl;
           same_texts = refl;
@@ -106,7 +106,7 @@ module _ (entries : List Entry) (texts : Image) (files : List ℕ → FileState)
         }
 
     pub keeps : KeepsTexts effect entry.name entries texts files
-    keeps = record { any_moment = left_stands; after = armed_after }
+    keeps = record { any_moment = left_recovers; after = armed_after }
 
 pub keeps_write : (entries : List Entry) (texts : Image) (files : List ℕ → FileState) (entry : Entry) (patch : Patch) → IsArmedFor entries texts files → AreImages files (contents files)
     → Contains entries entry → Contains entry.patches patch → patch.from ≤ length (contents files entry.name) → KeepsTexts (write patch.from patch.bytes) entry.name entries texts files
@@ -128,7 +128,7 @@ pub keeps_sync : (entries : List Entry) (texts : Image) (files : List ℕ → Fi
 keeps_sync entries texts files entry is own member =
     let now = here entries texts files is own entry member in
     keeps entries texts files is own entry member sync
-    (λ text image. subst (λ (t : List ℕ). LayTo (pairs_of entry.patches) entry.length t (texts entry.name)) (sym (only_image (stable_is (files entry.name).content) text image))
+    (λ text image. subst (λ (t : List ℕ). PatchedTo (pairs_of entry.patches) entry.length t (texts entry.name)) (sym (only_image (stable_is (files entry.name).content) text image))
     (now (files entry.name).content (own entry.name)))
 
 -- Each file by itself
@@ -141,6 +141,6 @@ new_or_old : (changes : List (List ℕ × EditedText)) (files : Image) (o : Opti
 new_or_old changes files None same = same
 new_or_old changes files (Some found) same = λ name not. inr (same name not)
 
-pub each_old_or_new : (changes : List (List ℕ × EditedText)) (files image : Image) → IsBeforeOrAfter files (changed changes files) image → IsSomeAnd (stands image) (IsEachOldOrNew changes files)
-each_old_or_new changes files image (inl before) = old_or_new changes files (stands image) before
-each_old_or_new changes files image (inr after) = new_or_old changes files (stands image) after
+pub each_old_or_new : (changes : List (List ℕ × EditedText)) (files image : Image) → IsBeforeOrAfter files (changed changes files) image → IsSomeAnd (recovered image) (IsEachOldOrNew changes files)
+each_old_or_new changes files image (inl before) = old_or_new changes files (recovered image) before
+each_old_or_new changes files image (inr after) = new_or_old changes files (recovered image) after

@@ -1,11 +1,11 @@
 mod Starting
-mod Laying
+mod Patching
 pub mod Elements
 pub mod Sorted
 mod Steps
 mod Takes
 mod Replaying
-pub mod Stands
+pub mod Recovers
 mod Armed
 pub mod Commits
 mod Changes
@@ -14,4 +14,4 @@ mod Recorded
 pub mod Recovering
 mod Committing
 mod Kept
-pub mod Stopped
+pub mod Crashed

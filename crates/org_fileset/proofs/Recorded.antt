@@ -8,15 +8,15 @@ use Rattle.std.proofs.lemmas.Bool.{and_from, false≢true}
 use Rattle.std.proofs.lemmas.Map.Keys.{IsDistinct-tail, IsDistinct-head}
 use Rattle.org_disk.specs.Names.{is_file_name, journal_name}
 use Rattle.org_disk.proofs.Names.{name_cases, same_name}
-use Rattle.org_splice.specs.Patches.{LayTo, lay}
+use Rattle.org_splice.specs.Patches.{PatchedTo, patched}
 use Rattle.org_splice.specs.Texts.{EditedText, IsEditOf, pairs_of}
 use Rattle.org_journal.specs.declared.record.Entry.{Entry}
 use Rattle.org_journal.specs.declared.record.Version.TheVariants.{Two}
 use Rattle.org_journal.specs.Record.{is_named, names_differ, greatest_length}
-use Rattle.org_journal.specs.Standing.{Image, fits, all_fit, replayed}
+use Rattle.org_journal.specs.Recovered.{Image, fits, all_fit, replayed}
 use Rattle.org_fileset.specs.Entries.{IsEntryOf, AreEntriesOf, changed}
-use Rattle.org_fileset.specs.Replay.{IsLayable, AreLayable}
-use Rattle.org_fileset.proofs.Stands.{fits-true}
+use Rattle.org_fileset.specs.Replay.{IsApplicable, AreApplicable}
+use Rattle.org_fileset.proofs.Recovers.{fits-true}
 
 abbrev Change : Type 0
 Change = List ℕ × EditedText
@@ -29,18 +29,18 @@ IsCommittable change = (change.0 ≢ journal_name) × (length change.1.bytes ≤
 pub file_named : (change : Change) (entry : Entry) → IsEntryOf change entry → change.0 ≢ journal_name → IsTrue (is_file_name entry.name)
 file_named change entry is not = ⊎_elim (λ accepted. accepted) (λ same. absurd (not (sym is.name ∙ same))) is.valid
 
-each_layable : (changes : List Change) (entries : List Entry) → AreEntriesOf changes entries → AllByRecursion IsCommittable changes → AllByRecursion IsLayable entries
-each_layable [] [] are can = tt
-each_layable (change ∷ changes) (entry ∷ entries) are can = (
+each_applicable : (changes : List Change) (entries : List Entry) → AreEntriesOf changes entries → AllByRecursion IsCommittable changes → AllByRecursion IsApplicable entries
+each_applicable [] [] are can = tt
+each_applicable (change ∷ changes) (entry ∷ entries) are can = (
   record {
     name = file_named change entry are.0 can.0.0;
     patches = are.0.patches;
     small = omega (arith, are.0.length_is, can.0.1);
   },
-  each_layable changes entries are.1 can.1,
+  each_applicable changes entries are.1 can.1,
 )
-each_layable [] (entry ∷ entries) are can = absurd are
-each_layable (change ∷ changes) [] are can = absurd are
+each_applicable [] (entry ∷ entries) are can = absurd are
+each_applicable (change ∷ changes) [] are can = absurd are
 
 -- a name that is no key is no entry's
 no_entry : (name : List ℕ) (changes : List Change) (entries : List Entry) → AreEntriesOf changes entries → AllByRecursion (λ key. bytes_eq name key ≡ false) (keys_of changes) → is_named name entries ≡ false
@@ -64,17 +64,17 @@ entries_differ (change ∷ changes) (entry ∷ entries) are distinct =
 entries_differ [] (entry ∷ entries) are distinct = absurd are
 entries_differ (change ∷ changes) [] are distinct = absurd are
 
-pub changes_layable : (changes : List Change) (entries : List Entry) → AreEntriesOf changes entries → IsDistinct bytes_eq (keys_of changes) → AllByRecursion IsCommittable changes → AreLayable entries
-changes_layable changes entries are distinct can = record { each = each_layable changes entries are can; apart = entries_differ changes entries are distinct }
+pub changes_applicable : (changes : List Change) (entries : List Entry) → AreEntriesOf changes entries → IsDistinct bytes_eq (keys_of changes) → AllByRecursion IsCommittable changes → AreApplicable entries
+changes_applicable changes entries are distinct can = record { each = each_applicable changes entries are can; apart = entries_differ changes entries are distinct }
 
 -- each text is an edit of its file's
 pub changes_fit : (changes : List Change) (entries : List Entry) (files : Image) → AreEntriesOf changes entries → AllByRecursion (λ (change : Change). IsEditOf (files change.0) change.1) changes → all_fit entries files ≡ true
 changes_fit [] [] files are edits = refl
 changes_fit (change ∷ changes) (entry ∷ entries) files are edits =
-    let lays : LayTo (pairs_of entry.patches) entry.length (files entry.name) change.1.bytes =
-    subst (λ (n : List ℕ). LayTo (pairs_of entry.patches) entry.length (files n) change.1.bytes) (sym are.0.name) (are.0.laid (files change.0) edits.0) in
+    let applies : PatchedTo (pairs_of entry.patches) entry.length (files entry.name) change.1.bytes =
+    subst (λ (n : List ℕ). PatchedTo (pairs_of entry.patches) entry.length (files n) change.1.bytes) (sym are.0.name) (are.0.makes (files change.0) edits.0) in
     and_from (fits (pairs_of entry.patches) entry.length (length (files entry.name))) (all_fit entries files)
-    (fits-true (pairs_of entry.patches) entry.length (length (files entry.name)) lays.fit) (changes_fit changes entries files are.1 edits.1)
+    (fits-true (pairs_of entry.patches) entry.length (length (files entry.name)) applies.fit) (changes_fit changes entries files are.1 edits.1)
 changes_fit [] (entry ∷ entries) files are edits = absurd are
 changes_fit (change ∷ changes) [] files are edits = absurd are
 
@@ -86,7 +86,7 @@ changes_made (change ∷ changes) (entry ∷ entries) files name are edits = eli
   | inl same ↦
       let e : bytes_eq entry.name name ≡ true = ap (λ (n : List ℕ). bytes_eq n name) are.0.name ∙ same.1 in
       let f : bytes_eq change.0 name ≡ true = same.1 in
-      rw (e, f) (ap (λ (n : List ℕ). lay (pairs_of entry.patches) entry.length (files n)) (sym same.0) ∙ (are.0.laid (files change.0) edits.0).makes)
+      rw (e, f) (ap (λ (n : List ℕ). patched (pairs_of entry.patches) entry.length (files n)) (sym same.0) ∙ (are.0.makes (files change.0) edits.0).makes)
   | inr other ↦
       let e : bytes_eq entry.name name ≡ false = ap (λ (n : List ℕ). bytes_eq n name) are.0.name ∙ other.1 in
       let f : bytes_eq change.0 name ≡ false = other.1 in

@@ -20,12 +20,12 @@ use Rattle.org_journal.specs.Gate.{front_size, is_open, HasClosedGate, LeavesClo
 use Rattle.org_journal.specs.Reading.{journal_at}
 use Rattle.org_journal.specs.declared.record.Version.TheVariants.{Two}
 use Rattle.org_journal.specs.Record.{is_named, IsEntry, IsWellFormed}
-use Rattle.org_journal.specs.Standing.{Image, SameFiles, StandsFor, IsArmed, IsFit, OthersStable, stands, all_fit, replayed, contents}
-use Rattle.org_fileset.specs.Recovery.{EachStands, StandsAsBefore, closed_journal}
-use Rattle.org_fileset.specs.Replay.{TakesTo, IsLayable, AreLayable, EachTakes, IsOpenOver, IsReplayable, IsAtRest}
-use Rattle.org_fileset.proofs.Stands.{stands_open, stands_closed, open_stands, takes-replayed}
+use Rattle.org_journal.specs.Recovered.{Image, SameFiles, RecoversTo, IsArmed, IsRecoverable, OthersStable, recovered, all_fit, replayed, contents}
+use Rattle.org_fileset.specs.Recovery.{EachRecovers, RecoversAsBefore, closed_journal}
+use Rattle.org_fileset.specs.Replay.{TakesTo, IsApplicable, AreApplicable, EachTakes, IsOpenOver, IsReplayable, IsAtRest}
+use Rattle.org_fileset.proofs.Recovers.{recovers_open, recovers_closed, open_recovers, takes-replayed}
 
--- A file of which a stop leaves the content and nothing else is all on the disk.
+-- A file of which a crash leaves the content and nothing else is all on the disk.
 
 out_or_in : (written : List (ℕ × ℕ)) (i : ℕ) → IsOutside written i ⊎ (IsOutside written i → ⊥)
 out_or_in [] i = inl tt
@@ -115,11 +115,11 @@ sync_after name old new r own changes other bytes image = elim (name_cases other
     may (Ok x) changes here = inr (subst (λ f. IsImage f bytes) changes.ok here)
     may (Err e) changes here = changes.err.images bytes here
 
--- the sync keeps a disk fit, also where it fails
-pub sync_fit : (old new : List ℕ → FileState) (r : Result (Unit {0}) DiskFault) → IsImage (old journal_name) (old journal_name).content → ((name : List ℕ) → IsImage (new name) (new name).content)
-    → Changes sync journal_name old new r → IsFit old → IsFit new
-sync_fit old new r own images changes (inl stable) = inl (λ name not. subst IsStable (sym (changes.others name not)) (stable name not))
-sync_fit old new r own images changes (inr armed) =
+-- the sync keeps a disk recoverable, also where it fails
+pub sync_recoverable : (old new : List ℕ → FileState) (r : Result (Unit {0}) DiskFault) → IsImage (old journal_name) (old journal_name).content → ((name : List ℕ) → IsImage (new name) (new name).content)
+    → Changes sync journal_name old new r → IsRecoverable old → IsRecoverable new
+sync_recoverable old new r own images changes (inl stable) = inl (λ name not. subst IsStable (sym (changes.others name not)) (stable name not))
+sync_recoverable old new r own images changes (inr armed) =
     let only : (bytes : List ℕ) → IsImage (new journal_name) bytes → bytes ≡ (old journal_name).content =
     λ bytes image. only_image armed.stable bytes (sync_after journal_name old new r own changes journal_name bytes image) in
     let same : (new journal_name).content ≡ (old journal_name).content = only (new journal_name).content (images journal_name) in
@@ -133,7 +133,7 @@ sync_fit old new r own images changes (inr armed) =
       same = λ image left. armed.same image (λ name. sync_after journal_name old new r own changes name (image name) (left name));
     })
 
--- What the record of a fit disk makes
+-- What the record of a recoverable disk makes
 
 -- an image with one file's bytes put in place of its content
 pub with_bytes : (List ℕ → FileState) → List ℕ → List ℕ → Image
@@ -161,9 +161,9 @@ module _ (files : List ℕ → FileState) (own : (name : List ℕ) → IsImage (
     | inr apart ↦ let f : bytes_eq journal_name name ≡ false = apart.1 in rw f refl
   ]
 
-module _ (files : List ℕ → FileState) (own : (name : List ℕ) → IsImage (files name) (files name).content) (entries : List Entry) (layable : AreLayable entries)
+module _ (files : List ℕ → FileState) (own : (name : List ℕ) → IsImage (files name) (files name).content) (entries : List Entry) (applicable : AreApplicable entries)
     (over : IsOpenOver entries files) (fit : all_fit entries (contents files) ≡ true) where
-  -- one of the two kinds of fit disks
+  -- one of the two kinds of recoverable disks
   pub stable_replayable : OthersStable files → IsReplayable entries files
   stable_replayable stable = record {
     others = λ name not none. stable name not;
@@ -180,7 +180,7 @@ module _ (files : List ℕ → FileState) (own : (name : List ℕ) → IsImage (
     each = λ name not text image.
         let whole = with_bytes files name text in
         subst (λ (t : List ℕ). TakesTo entries name t (armed.texts name)) (here_is files own name text)
-        (open_stands entries armed.texts whole (ap is_open (journal_is files own name text not) ∙ over.opened)
+        (open_recovers entries armed.texts whole (ap is_open (journal_is files own name text not) ∙ over.opened)
         (ap (λ (l : List ℕ). journal_at (drop 1 l)) (journal_is files own name text not) ∙ over.found) (armed.same whole (one_image files own name text image)) name not);
   }
 
@@ -194,16 +194,16 @@ module _ (files : List ℕ → FileState) (own : (name : List ℕ) → IsImage (
         takes = armed_takes armed;
       }
 
-  pub fit_replayable : IsFit files → IsReplayable entries files
-  fit_replayable (inl stable) = stable_replayable stable
-  fit_replayable (inr armed) = armed_replayable armed
+  pub recoverable_replayable : IsRecoverable files → IsReplayable entries files
+  recoverable_replayable (inl stable) = stable_replayable stable
+  recoverable_replayable (inr armed) = armed_replayable armed
 
-  -- the contents stand for what it makes
-  pub contents_stand : (can : IsReplayable entries files) → StandsFor can.texts (contents files)
-  contents_stand can = stands_open entries can.texts (contents files) layable over.opened over.found (λ name not. can.takes.each name not (contents files name) (own name))
+  -- the contents recover to what it makes
+  pub contents_recover : (can : IsReplayable entries files) → RecoversTo can.texts (contents files)
+  contents_recover can = recovers_open entries can.texts (contents files) applicable over.opened over.found (λ name not. can.takes.each name not (contents files name) (own name))
 
--- A closed gate on a fit disk: all other files are on the disk.
-pub closed_stable : (files : List ℕ → FileState) → is_open (contents files journal_name) ≡ false → IsFit files → OthersStable files
+-- A closed gate on a recoverable disk: all other files are on the disk.
+pub closed_stable : (files : List ℕ → FileState) → is_open (contents files journal_name) ≡ false → IsRecoverable files → OthersStable files
 closed_stable files shut (inl stable) = stable
 closed_stable files shut (inr armed) = absurd (false≢true (sym shut ∙ armed.opened))
 
@@ -223,19 +223,19 @@ some_of : (o : Option Image) → is_some o ≡ true → (found : Image) × (o �
 some_of None is = absurd (false≢true is)
 some_of (Some found) is = (found, refl)
 
--- an image from the start stands for what it stands for
-pub as_before : (files : List ℕ → FileState) → EachStands files → (image : Image) → AreImages files image → StandsAsBefore files image
+-- an image from the start recovers to what it recovers to
+pub as_before : (files : List ℕ → FileState) → EachRecovers files → (image : Image) → AreImages files image → RecoversAsBefore files image
 as_before files each image left =
-    let found = some_of (stands image) (each image left) in
-    let stood : StandsFor found.0 image = subst (λ (o : Option Image). IsSomeAnd o (λ (f : Image). SameFiles f found.0)) (sym found.1) (λ name not. refl) in
-    record { start = image; left = left; texts = found.0; stood = stood; stands_now = stood }
+    let found = some_of (recovered image) (each image left) in
+    let recovered_then : RecoversTo found.0 image = subst (λ (o : Option Image). IsSomeAnd o (λ (f : Image). SameFiles f found.0)) (sym found.1) (λ name not. refl) in
+    record { start = image; left = left; texts = found.0; recovered_then = recovered_then; recovers_now = recovered_then }
 
 -- after a sync of the journal
 pub record IsSynced (old now : List ℕ → FileState) : Type 0 where
   pub images : (image : Image) → AreImages now image → AreImages old image
   pub stable : IsStable (now journal_name)
   pub same : contents now ≡ contents old
-  pub fit : IsFit old → IsFit now
+  pub recoverable : IsRecoverable old → IsRecoverable now
 
 pub synced : (old mid now : List ℕ → FileState) → IsImage (old journal_name) (old journal_name).content → ((name : List ℕ) → IsImage (mid name) (mid name).content)
     → Changes sync journal_name old mid (Ok tt) → now ≡ mid → IsSynced old now
@@ -243,7 +243,7 @@ synced old mid now own images changes is = subst (λ (f : List ℕ → FileState
   images = λ image left name. sync_after journal_name old mid (Ok tt) own changes name (image name) (left name);
   stable = subst IsStable (sym changes.ok) (stable_is (old journal_name).content);
   same = λ i name. same_content name i;
-  fit = sync_fit old mid (Ok tt) own images changes;
+  recoverable = sync_recoverable old mid (Ok tt) own images changes;
 })
   where
     same_content : (name : List ℕ) → contents mid name ≡ contents old name
@@ -252,35 +252,35 @@ synced old mid now own images changes is = subst (λ (f : List ℕ → FileState
       | inr apart ↦ ap (λ (f : FileState). f.content) (changes.others name apart.0)
     ]
 
--- an open gate: what stands for the files that the record makes
-pub armed_before : (old now : List ℕ → FileState) (entries : List Entry) → IsSynced old now → ((name : List ℕ) → IsImage (now name) (now name).content) → AreLayable entries → IsOpenOver entries now
-    → all_fit entries (contents now) ≡ true → (can : IsReplayable entries now) → (image : Image) → StandsFor can.texts image → StandsAsBefore old image
-armed_before old now entries is own layable over fit can image stand = record {
+-- an open gate: what recovers to the files that the record makes
+pub armed_before : (old now : List ℕ → FileState) (entries : List Entry) → IsSynced old now → ((name : List ℕ) → IsImage (now name) (now name).content) → AreApplicable entries → IsOpenOver entries now
+    → all_fit entries (contents now) ≡ true → (can : IsReplayable entries now) → (image : Image) → RecoversTo can.texts image → RecoversAsBefore old image
+armed_before old now entries is own applicable over fit can image stand = record {
   start = contents now;
   left = is.images (contents now) own;
   texts = can.texts;
-  stood = contents_stand now own entries layable over fit can;
-  stands_now = stand;
+  recovered_then = contents_recover now own entries applicable over fit can;
+  recovers_now = stand;
 }
 
--- a closed one: what stands for the files themselves
+-- a closed one: what recovers to the files themselves
 pub closed_before : (old now : List ℕ → FileState) → IsSynced old now → ((name : List ℕ) → IsImage (now name) (now name).content) → is_open (contents now journal_name) ≡ false → OthersStable now
-    → (image : Image) → LeavesClosed journal_name now image → StandsAsBefore old image
+    → (image : Image) → LeavesClosed journal_name now image → RecoversAsBefore old image
 closed_before old now is own shut stable image left = record {
   start = contents now;
   left = is.images (contents now) own;
   texts = contents now;
-  stood = stands_closed (contents now) (contents now) shut (λ name not. refl);
-  stands_now = stands_closed (contents now) image left.closed (λ name not. only_image (stable name not) (image name) (left.others name not));
+  recovered_then = recovers_closed (contents now) (contents now) shut (λ name not. refl);
+  recovers_now = recovers_closed (contents now) image left.closed (λ name not. only_image (stable name not) (image name) (left.others name not));
 }
 
 -- what a record that was found is
-each_layable : (entries : List Entry) → AllByRecursion (IsEntry Two) entries → AllByRecursion IsLayable entries
-each_layable [] each = tt
-each_layable (entry ∷ entries) each = (record { name = each.0.name; patches = each.0.patches; small = each.0.small }, each_layable entries each.1)
+each_applicable : (entries : List Entry) → AllByRecursion (IsEntry Two) entries → AllByRecursion IsApplicable entries
+each_applicable [] each = tt
+each_applicable (entry ∷ entries) each = (record { name = each.0.name; patches = each.0.patches; small = each.0.small }, each_applicable entries each.1)
 
-pub formed_layable : (entries : List Entry) → IsWellFormed Two entries → AreLayable entries
-formed_layable entries formed = record { each = each_layable entries formed.each; apart = formed.apart }
+pub formed_applicable : (entries : List Entry) → IsWellFormed Two entries → AreApplicable entries
+formed_applicable entries formed = record { each = each_applicable entries formed.each; apart = formed.apart }
 
 -- all at rest where the gate is closed
 pub closed_rest : (files : List ℕ → FileState) → HasClosedGate (files journal_name) → IsStable (files journal_name) → OthersStable files → IsAtRest files
@@ -315,25 +315,25 @@ closed_short journal short = closed_when journal false (ap (λ (b : Bool). b && 
 pub closed_shut : (journal : List ℕ) → is_open journal ≡ false → front_size ≤ length journal → closed_journal journal ≡ journal
 closed_shut journal shut long = closed_when journal true (ap (λ (b : Bool). nat_le front_size (length journal) && not b) shut ∙ ap (λ (b : Bool). b && true) (le-leb front_size (length journal) long))
 
--- with a closed gate files stand for themselves
-pub stood_closed : (files new : Image) → is_open (files journal_name) ≡ false → SameFiles new files → IsSomeAnd (stands files) (SameFiles new)
-stood_closed files new shut same = rw shut same
+-- with a closed gate files recover to themselves
+pub recovered_closed : (files new : Image) → is_open (files journal_name) ≡ false → SameFiles new files → IsSomeAnd (recovered files) (SameFiles new)
+recovered_closed files new shut same = rw shut same
 
 -- A journal that was found isn't bad.
-pub found_good : (files : Image) (found : Found) → Finds files (Ok found) → stands files ≡ None → ⊥
+pub found_good : (files : Image) (found : Found) → Finds files (Ok found) → recovered files ≡ None → ⊥
 found_good files Closed shut none = subst (λ (o : Option Image). IsSomeAnd o (λ f. Unit {0})) none (rw shut tt)
 found_good files (Armed entries) found none =
     let opened = found.0 in
     let told = found.1 in
     let fits = found.2 in
-    let good : IsSomeAnd (stands files) (λ f. Unit {0}) = rw (opened, told, fits) tt in
+    let good : IsSomeAnd (recovered files) (λ f. Unit {0}) = rw (opened, told, fits) tt in
     subst (λ (o : Option Image). IsSomeAnd o (λ f. Unit {0})) none good
 
 -- The journal was synced and looked at, and nothing else was done.
 pub record IsLookedAt {D : Type 0} (files : D → List ℕ → FileState) (moment : D → ℕ) (left_since : D → ℕ → Image → Type 0) (old now : D) : Type 0 where
   pub is : IsSynced (files old) (files now)
   pub time : PassesOver moment left_since old now (AreImages (files old))
-  pub since : EachStands (files old) → PassesOver moment left_since old now (StandsAsBefore (files old))
+  pub since : EachRecovers (files old) → PassesOver moment left_since old now (RecoversAsBefore (files old))
 
 pub looked_at : {D : Type 0} (files : D → List ℕ → FileState) (moment : D → ℕ) (left_since : D → ℕ → Image → Type 0) (old mid now : D) (journal : List ℕ) → journal ≡ journal_name
     → IsImage (files old journal_name) (files old journal_name).content → ((name : List ℕ) → IsImage (files mid name) (files mid name).content)

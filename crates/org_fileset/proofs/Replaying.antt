@@ -1,4 +1,4 @@
--- How a run of calls goes on that lays a record over its files.
+-- How a run of calls goes on that applies a record to its files.
 use Rattle.std.proofs.Common.{◌≡◌, ◌≢◌, inl, inr, ℕ, zero, suc, ◌+◌, ◌<◌, ◌≤◌, List, [], ◌∷◌, length, Bool, true, false, not, Result, Some, refl, sym, ◌∙◌, ap, subst, arith}
 use Rattle.std.specs.Prelude.{slice_get, ◌||◌}
 use Rattle.std.specs.Str.{bytes_eq}
@@ -10,24 +10,24 @@ use Rattle.org_disk.specs.declared.disk.DiskFault.{DiskFault}
 use Rattle.org_disk.proofs.Images.{only_image, stable_is}
 use Rattle.org_disk.proofs.Moments.{passes_none, passes_then}
 use Rattle.org_disk.proofs.Names.{name_cases}
-use Rattle.org_splice.specs.Patches.{LayTo}
+use Rattle.org_splice.specs.Patches.{PatchedTo}
 use Rattle.org_splice.specs.Texts.{pairs_of}
 use Rattle.org_journal.specs.declared.record.Entry.{Entry}
 use Rattle.org_journal.specs.Record.{is_named, names_differ}
-use Rattle.org_journal.specs.Standing.{Image, contents}
-use Rattle.org_fileset.specs.Replay.{EachLaysTo, Lays, TakesTo, AreLayable, EachTakes, LeavesTaking, Replays}
-use Rattle.org_fileset.proofs.Laying.{lays_none, lays_call}
+use Rattle.org_journal.specs.Recovered.{Image, contents}
+use Rattle.org_fileset.specs.Replay.{EachPatchedTo, AppliesPatches, TakesTo, AreApplicable, EachTakes, LeavesTaking, Replays}
+use Rattle.org_fileset.proofs.Patching.{applies_none, applies_call}
 use Rattle.org_fileset.proofs.Takes.{TakesTo-entry, entry-TakesTo, named_apart, journal_unnamed}
 
 -- no entry's name is the journal's
-pub not_journal : (entries : List Entry) (i : ℕ) (entry : Entry) → AreLayable entries → slice_get entries i ≡ Some entry → entry.name ≢ journal_name
-not_journal entries i entry layable is = λ same. named_apart entries i entry journal_name (journal_unnamed entries layable.each) is (sym same)
+pub not_journal : (entries : List Entry) (i : ℕ) (entry : Entry) → AreApplicable entries → slice_get entries i ≡ Some entry → entry.name ≢ journal_name
+not_journal entries i entry applicable is = λ same. named_apart entries i entry journal_name (journal_unnamed entries applicable.each) is (sym same)
 
--- whatever a stop leaves of an entry's file takes its patches
-pub entry_takes : (entries : List Entry) (texts : Image) (files : List ℕ → FileState) (i : ℕ) (entry : Entry) → AreLayable entries → slice_get entries i ≡ Some entry
-    → EachTakes entries texts files → EachLaysTo (pairs_of entry.patches) entry.length (texts entry.name) (files entry.name)
-entry_takes entries texts files i entry layable is takes text image =
-    TakesTo-entry entries i entry text (texts entry.name) layable.apart is (takes.each entry.name (not_journal entries i entry layable is) text image)
+-- whatever a crash leaves of an entry's file takes its patches
+pub entry_takes : (entries : List Entry) (texts : Image) (files : List ℕ → FileState) (i : ℕ) (entry : Entry) → AreApplicable entries → slice_get entries i ≡ Some entry
+    → EachTakes entries texts files → EachPatchedTo (pairs_of entry.patches) entry.length (texts entry.name) (files entry.name)
+entry_takes entries texts files i entry applicable is takes text image =
+    TakesTo-entry entries i entry text (texts entry.name) applicable.apart is (takes.each entry.name (not_journal entries i entry applicable is) text image)
 
 pub replays_none : {entries : List Entry} {texts : Image} (m : ℕ) (s : ℕ → Image → Type 0) (files : List ℕ → FileState) → EachTakes entries texts files → Replays entries texts m m s s files files
 replays_none {entries} {texts} m s files takes = record {
@@ -38,40 +38,40 @@ replays_none {entries} {texts} m s files takes = record {
 
 -- calls on the file of one entry
 pub replays_entry : {entries : List Entry} {texts : Image} {m n k : ℕ} {s u v : ℕ → Image → Type 0} {old mid new : List ℕ → FileState} (i : ℕ) (entry : Entry)
-    → AreLayable entries → slice_get entries i ≡ Some entry → IsStable (old journal_name)
-    → Replays entries texts m n s u old mid → Lays (pairs_of entry.patches) entry.length entry.name (texts entry.name) n k u v mid new → Replays entries texts m k s v old new
-replays_entry {entries} {texts} {old = old} {mid = mid} {new = new} i entry layable is stable sofar lays = record {
-  any_moment = passes_then sofar.any_moment lays.any_moment (λ image left. record {
+    → AreApplicable entries → slice_get entries i ≡ Some entry → IsStable (old journal_name)
+    → Replays entries texts m n s u old mid → AppliesPatches (pairs_of entry.patches) entry.length entry.name (texts entry.name) n k u v mid new → Replays entries texts m k s v old new
+replays_entry {entries} {texts} {old = old} {mid = mid} {new = new} i entry applicable is stable sofar applies = record {
+  any_moment = passes_then sofar.any_moment applies.any_moment (λ image left. record {
     same_journal = only_image stable (image journal_name) (subst (λ f. IsImage f (image journal_name)) (sofar.others journal_name none) (left.others journal_name (λ same. apart (sym same))));
     each = λ name not. elim (name_cases name entry.name) [
       | inl same ↦ subst (λ (x : List ℕ). TakesTo entries x (image x) (texts x)) (sym same.0)
-          (entry-TakesTo entries i entry (image entry.name) (texts entry.name) layable.apart is left.here)
+          (entry-TakesTo entries i entry (image entry.name) (texts entry.name) applicable.apart is left.here)
       | inr other ↦ sofar.takes.each name not (image name) (left.others name other.0)
     ];
   });
   takes = record {
     each = λ name not text image. elim (name_cases name entry.name) [
       | inl same ↦ subst (λ (x : List ℕ). TakesTo entries x text (texts x)) (sym same.0)
-          (entry-TakesTo entries i entry text (texts entry.name) layable.apart is (lays.takes text (subst (λ (x : List ℕ). IsImage (new x) text) same.0 image)))
-      | inr other ↦ sofar.takes.each name not text (subst (λ f. IsImage f text) (lays.others name other.0) image)
+          (entry-TakesTo entries i entry text (texts entry.name) applicable.apart is (applies.takes text (subst (λ (x : List ℕ). IsImage (new x) text) same.0 image)))
+      | inr other ↦ sofar.takes.each name not text (subst (λ f. IsImage f text) (applies.others name other.0) image)
     ];
   };
-  others = λ name none. lays.others name (named_apart entries i entry name none is) ∙ sofar.others name none;
+  others = λ name none. applies.others name (named_apart entries i entry name none is) ∙ sofar.others name none;
 }
   where
     apart : entry.name ≢ journal_name
-    apart = not_journal entries i entry layable is
+    apart = not_journal entries i entry applicable is
 
     none : is_named journal_name entries ≡ false
-    none = journal_unnamed entries layable.each
+    none = journal_unnamed entries applicable.each
 
 -- a sync of the file of one entry
-pub lays_sync : {patches : List (ℕ × List ℕ)} {final : ℕ} {name to : List ℕ} {m n : ℕ} {s u : ℕ → Image → Type 0} {old new : List ℕ → FileState} (r : Result (Unit {0}) DiskFault)
-    → EachLaysTo patches final to (old name) → IsImage (old name) (old name).content → Changes sync name old new r → Passes m n s u (AreLeftBy sync name old)
-    → Lays patches final name to m n s u old new
-lays_sync {patches} {final} {name} {to} {m = m} {s = s} {old = old} r takes own changes time =
-    lays_call sync r (lays_none m s old takes)
-    (λ text image. subst (λ (t : List ℕ). LayTo patches final t to) (sym (only_image (stable_is (old name).content) text image)) (takes (old name).content own))
+pub applies_sync : {patches : List (ℕ × List ℕ)} {final : ℕ} {name to : List ℕ} {m n : ℕ} {s u : ℕ → Image → Type 0} {old new : List ℕ → FileState} (r : Result (Unit {0}) DiskFault)
+    → EachPatchedTo patches final to (old name) → IsImage (old name) (old name).content → Changes sync name old new r → Passes m n s u (AreLeftBy sync name old)
+    → AppliesPatches patches final name to m n s u old new
+applies_sync {patches} {final} {name} {to} {m = m} {s = s} {old = old} r takes own changes time =
+    applies_call sync r (applies_none m s old takes)
+    (λ text image. subst (λ (t : List ℕ). PatchedTo patches final t to) (sym (only_image (stable_is (old name).content) text image)) (takes (old name).content own))
     changes time
 
 -- the entries up to one have their texts
@@ -127,10 +127,10 @@ apart_at (first ∷ entries) zero (suc j) one other differ less at there =
 apart_at (first ∷ entries) (suc i) (suc j) one other differ less at there =
     apart_at entries i j one other (and_parts (not (is_named first.name entries)) (names_differ entries) differ).1 (omega arith) at there
 
-pub untouched_more : (entries : List Entry) (i : ℕ) (entry : Entry) (old mid new : List ℕ → FileState) → AreLayable entries → slice_get entries i ≡ Some entry
+pub untouched_more : (entries : List Entry) (i : ℕ) (entry : Entry) (old mid new : List ℕ → FileState) → AreApplicable entries → slice_get entries i ≡ Some entry
     → ((other : List ℕ) → other ≢ entry.name → new other ≡ mid other) → AreUntouched entries i old mid → AreUntouched entries (i + 1) old new
-untouched_more entries i entry old mid new layable is others sofar j later le at =
-    others later.name (apart_at entries i j entry later layable.apart (omega arith) is at) ∙ sofar j later (omega arith) at
+untouched_more entries i entry old mid new applicable is others sofar j later le at =
+    others later.name (apart_at entries i j entry later applicable.apart (omega arith) is at) ∙ sofar j later (omega arith) at
 
 -- the files of the entries up to one are on the disk
 abbrev pub AreStable : List Entry → ℕ → (List ℕ → FileState) → Type 0

@@ -9,10 +9,10 @@ use Rattle.org_fileset.specs.Names.{with_archives, AreSorted, most_names, limit,
 use Rattle.org_fileset.specs.Opening.{AreSetNames}
 use Rattle.std.specs.Prelude.{Option, Some, None, IsSomeAnd}
 use Rattle.org_disk.specs.Disk.{FileState, AreImages}
-use Rattle.org_journal.specs.Standing.{SameFiles, stands, contents}
-use Rattle.org_fileset.specs.Recovery.{StandsAsBefore}
+use Rattle.org_journal.specs.Recovered.{SameFiles, recovered, contents}
+use Rattle.org_fileset.specs.Recovery.{RecoversAsBefore}
 use Rattle.org_fileset.specs.Replay.{IsAtRest}
-use Rattle.org_fileset.proofs.Commits.{at_rest_stands}
+use Rattle.org_fileset.proofs.Commits.{at_rest_recovers}
 use Rattle.org_fileset.proofs.Elements.{no_member, cons_cases, cons_here, cons_later}
 
 pub with_archives-push : (names : List (List ℕ)) (name : List ℕ) → with_archives (names ++ name ∷ []) ≡ with_archives names ++ name ∷ archive_name name ∷ []
@@ -100,12 +100,12 @@ flipped : (o : Option (List ℕ → List ℕ)) (files : List ℕ → List ℕ) �
 flipped (Some found) files same = λ name not. sym (same name not)
 flipped None files same = same
 
--- where a record was brought to its end, what is left stands for what the files stood for
-pub left_after : (old now : List ℕ → FileState) → AreImages old (contents old) → IsSomeAnd (stands (contents old)) (SameFiles (contents now)) → IsAtRest now → (image : List ℕ → List ℕ) → AreImages now image → StandsAsBefore old image
+-- where a record was brought to its end, what is left recovers to what the files recovered to
+pub left_after : (old now : List ℕ → FileState) → AreImages old (contents old) → IsSomeAnd (recovered (contents old)) (SameFiles (contents now)) → IsAtRest now → (image : List ℕ → List ℕ) → AreImages now image → RecoversAsBefore old image
 left_after old now own found rest image left = record {
   start = contents old;
   left = own;
   texts = contents now;
-  stood = flipped (stands (contents old)) (contents now) found;
-  stands_now = at_rest_stands now rest image left;
+  recovered_then = flipped (recovered (contents old)) (contents now) found;
+  recovers_now = at_rest_recovers now rest image left;
 }

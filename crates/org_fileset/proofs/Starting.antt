@@ -1,4 +1,4 @@
--- A run of calls, and what a stop may have left where it began.
+-- A run of calls, and what a crash may have left where it began.
 use Rattle.std.proofs.Common.{ℕ, List}
 use Rattle.org_disk.specs.Disk.{FileState, AreImages, Passes, LeavesOnly}
 use Rattle.org_disk.proofs.Moments.{Image, leaves_only}

@@ -6,8 +6,8 @@ use Rattle.std.proofs.lemmas.List.{take_more, take_all, length-map}
 use Rattle.std.proofs.lemmas.Option.{slice_get_read, slice_get-map, get_or_from_slice_get, slice_get_within}
 use Rattle.org_splice.specs.Overwritten.{overwritten}
 use Rattle.org_splice.specs.Texts.{pairs_of}
-use Rattle.org_splice.specs.Patches.{lay_each, lay, end_of, last_end, Rise, BeginWithin, Fit, AreWellFormed}
-use Rattle.org_splice.proofs.Laying.{length-lay_each, last_end-place, length-lay}
+use Rattle.org_splice.specs.Patches.{patched_each, patched, end_of, last_end, Rise, BeginWithin, Fit, AreWellFormed}
+use Rattle.org_splice.proofs.Patching.{length-patched_each, last_end-place, length-patched}
 use Rattle.org_splice.specs.declared.patch.Patch.{Patch}
 
 -- the pair of an item
@@ -19,18 +19,18 @@ pair_at items patches k patch bytes same within is of =
     ∙ ap (λ (o : Option Patch). option_map (λ (p : Patch). (p.from, p.bytes)) o) (slice_get_read items (length items) k patch refl within is)
     ∙ ap (λ (b : List ℕ). let o : Option (ℕ × List ℕ) = Some (patch.from, b) in o) (sym of)
 
-lay_each-append : (first later : List (ℕ × List ℕ)) (text : List ℕ) → lay_each (first ++ later) text ≡ lay_each later (lay_each first text)
-lay_each-append [] later text = refl
-lay_each-append (patch ∷ first) later text = lay_each-append first later (overwritten patch.0 patch.1 text)
+patched_each-append : (first later : List (ℕ × List ℕ)) (text : List ℕ) → patched_each (first ++ later) text ≡ patched_each later (patched_each first text)
+patched_each-append [] later text = refl
+patched_each-append (patch ∷ first) later text = patched_each-append first later (overwritten patch.0 patch.1 text)
 
 -- one patch more
-pub lay_each-more : (patches : List (ℕ × List ℕ)) (k from : ℕ) (bytes text : List ℕ) → slice_get patches k ≡ Some (from, bytes)
-    → lay_each (take (k + 1) patches) text ≡ overwritten from bytes (lay_each (take k patches) text)
-lay_each-more patches k from bytes text is =
-    ap (λ (l : List (ℕ × List ℕ)). lay_each l text)
+pub patched_each-more : (patches : List (ℕ × List ℕ)) (k from : ℕ) (bytes text : List ℕ) → slice_get patches k ≡ Some (from, bytes)
+    → patched_each (take (k + 1) patches) text ≡ overwritten from bytes (patched_each (take k patches) text)
+patched_each-more patches k from bytes text is =
+    ap (λ (l : List (ℕ × List ℕ)). patched_each l text)
     (take_more patches k (from, bytes) (slice_get_within patches k (from, bytes) is)
     ∙ ap (λ (p : ℕ × List ℕ). take k patches ++ p ∷ []) (get_or_from_slice_get patches k (from, bytes) (from, bytes) is))
-    ∙ lay_each-append (take k patches) ((from, bytes) ∷ []) text
+    ∙ patched_each-append (take k patches) ((from, bytes) ∷ []) text
 
 -- what is known of the patch at a place: it begins within what the ones before it made, and ends within the text
 at_place : (patches : List (ℕ × List ℕ)) (size place k from : ℕ) (bytes : List ℕ) → Rise place patches → BeginWithin size place patches → slice_get patches k ≡ Some (from, bytes)
@@ -55,11 +55,11 @@ begin_front (patch ∷ patches) size place (suc k) begin = (begin.0, begin_front
 
 -- the next patch may be written
 pub next_within : (patches : List (ℕ × List ℕ)) (final k from : ℕ) (bytes text now : List ℕ) → AreWellFormed patches final → Fit patches final (length text)
-    → slice_get patches k ≡ Some (from, bytes) → now ≡ lay_each (take k patches) text → from ≤ length now
-next_within patches final k from bytes text now formed fit is laid =
-    let long : length (lay_each (take k patches) text) ≡ max (length text) (last_end 0 (take k patches)) =
-    length-lay_each (length text) 0 (take k patches) text (omega arith) (rise_front patches 0 k formed.rise) (begin_front patches (length text) 0 k fit.begin) in
-    omega (arith, ap length laid, long, (at_place patches (length text) 0 k from bytes formed.rise fit.begin is).0)
+    → slice_get patches k ≡ Some (from, bytes) → now ≡ patched_each (take k patches) text → from ≤ length now
+next_within patches final k from bytes text now formed fit is applied =
+    let long : length (patched_each (take k patches) text) ≡ max (length text) (last_end 0 (take k patches)) =
+    length-patched_each (length text) 0 (take k patches) text (omega arith) (rise_front patches 0 k formed.rise) (begin_front patches (length text) 0 k fit.begin) in
+    omega (arith, ap length applied, long, (at_place patches (length text) 0 k from bytes formed.rise fit.begin is).0)
 
 pub next_small : (patches : List (ℕ × List ℕ)) (final k from : ℕ) (bytes text : List ℕ) → AreWellFormed patches final → Fit patches final (length text)
     → slice_get patches k ≡ Some (from, bytes) → from + length bytes ≤ final
@@ -67,17 +67,17 @@ next_small patches final k from bytes text formed fit is =
     omega (arith, formed.within, (at_place patches (length text) 0 k from bytes formed.rise fit.begin is).1)
 
 -- all of them written, and the file cut
-pub all_laid : (items patches : List Patch) (k final : ℕ) (text now : List ℕ) → items ≡ patches → length items ≤ k → now ≡ lay_each (take k (pairs_of patches)) text
-    → take final now ≡ lay (pairs_of patches) final text
-all_laid items patches k final text now same done laid =
+pub all_applied : (items patches : List Patch) (k final : ℕ) (text now : List ℕ) → items ≡ patches → length items ≤ k → now ≡ patched_each (take k (pairs_of patches)) text
+    → take final now ≡ patched (pairs_of patches) final text
+all_applied items patches k final text now same done applied =
     let pair : Patch → ℕ × List ℕ = λ p. (p.from, p.bytes) in
     let long : length (map pair patches) ≡ length patches = length-map patches pair in
     let enough : length (pairs_of patches) ≤ k = omega (arith, done, long, ap length same) in
-    ap (λ (l : List ℕ). take final l) (laid ∙ ap (λ (l : List (ℕ × List ℕ)). lay_each l text) (take_all k (pairs_of patches) enough))
+    ap (λ (l : List ℕ). take final l) (applied ∙ ap (λ (l : List (ℕ × List ℕ)). patched_each l text) (take_all k (pairs_of patches) enough))
 
 -- as long as it is to be, or longer
 pub long_enough : (items patches : List Patch) (k final : ℕ) (text now : List ℕ) → AreWellFormed (pairs_of patches) final → Fit (pairs_of patches) final (length text)
-    → items ≡ patches → length items ≤ k → now ≡ lay_each (take k (pairs_of patches)) text → final ≤ length now
-long_enough items patches k final text now formed fit same done laid =
-    let cut_is = all_laid items patches k final text now same done laid in
-    omega (arith, ap length cut_is, length-take final now, length-lay (pairs_of patches) final text formed.rise fit)
+    → items ≡ patches → length items ≤ k → now ≡ patched_each (take k (pairs_of patches)) text → final ≤ length now
+long_enough items patches k final text now formed fit same done applied =
+    let cut_is = all_applied items patches k final text now same done applied in
+    omega (arith, ap length cut_is, length-take final now, length-patched (pairs_of patches) final text formed.rise fit)

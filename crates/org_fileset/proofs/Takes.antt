@@ -6,11 +6,11 @@ use Rattle.std.specs.Str.{bytes_eq}
 use Rattle.std.proofs.lemmas.Bool.{and_parts, not-true, true≢false, false≢true, MatchBool-at_true, MatchBool-at_false}
 use Rattle.org_disk.specs.Names.{journal_name, is_file_name}
 use Rattle.org_disk.proofs.Names.{name_cases, same_name}
-use Rattle.org_splice.specs.Patches.{LayTo}
+use Rattle.org_splice.specs.Patches.{PatchedTo}
 use Rattle.org_splice.specs.Texts.{pairs_of}
 use Rattle.org_journal.specs.declared.record.Entry.{Entry}
 use Rattle.org_journal.specs.Record.{is_named, names_differ}
-use Rattle.org_fileset.specs.Replay.{TakesTo, IsLayable}
+use Rattle.org_fileset.specs.Replay.{TakesTo, IsApplicable}
 
 or_false : (a b : Bool) → (a || b) ≡ false → (a ≡ false) × (b ≡ false)
 or_false true b is = absurd (true≢false is)
@@ -21,7 +21,7 @@ pub TakesTo-other : (entries : List Entry) (name text to : List ℕ) → is_name
 TakesTo-other [] name text to none takes = takes
 TakesTo-other (entry ∷ entries) name text to none takes =
     let parts = or_false (bytes_eq entry.name name) (is_named name entries) none in
-    TakesTo-other entries name text to parts.1 (MatchBool-at_false (LayTo (pairs_of entry.patches) entry.length text to) (TakesTo entries name text to) parts.0 takes)
+    TakesTo-other entries name text to parts.1 (MatchBool-at_false (PatchedTo (pairs_of entry.patches) entry.length text to) (TakesTo entries name text to) parts.0 takes)
 
 -- a name that no entry has isn't this entry's
 pub named_apart : (entries : List Entry) (i : ℕ) (entry : Entry) (name : List ℕ) → is_named name entries ≡ false → slice_get entries i ≡ Some entry → name ≢ entry.name
@@ -46,31 +46,31 @@ later_name first entries i entry differ is =
 
 -- of the file that an entry names, the record makes what the entry makes
 pub TakesTo-entry : (entries : List Entry) (i : ℕ) (entry : Entry) (text to : List ℕ) → names_differ entries ≡ true → slice_get entries i ≡ Some entry
-    → TakesTo entries entry.name text to → LayTo (pairs_of entry.patches) entry.length text to
+    → TakesTo entries entry.name text to → PatchedTo (pairs_of entry.patches) entry.length text to
 TakesTo-entry [] i entry text to differ is takes = absurd (cc)
 TakesTo-entry (first ∷ entries) zero entry text to differ is takes =
     let one : first ≡ entry = cc in
     let here : bytes_eq first.name entry.name ≡ true = ap (λ (e : Entry). bytes_eq first.name e.name) (sym one) ∙ same_name first.name in
-    subst (λ (e : Entry). LayTo (pairs_of e.patches) e.length text to) one
-    (MatchBool-at_true (LayTo (pairs_of first.patches) first.length text to) (TakesTo entries entry.name text to) here takes)
+    subst (λ (e : Entry). PatchedTo (pairs_of e.patches) e.length text to) one
+    (MatchBool-at_true (PatchedTo (pairs_of first.patches) first.length text to) (TakesTo entries entry.name text to) here takes)
 TakesTo-entry (first ∷ entries) (suc i) entry text to differ is takes =
     let other = later_name first entries i entry differ is in
     TakesTo-entry entries i entry text to (and_parts (not (is_named first.name entries)) (names_differ entries) differ).1 is
-    (MatchBool-at_false (LayTo (pairs_of first.patches) first.length text to) (TakesTo entries entry.name text to) other takes)
+    (MatchBool-at_false (PatchedTo (pairs_of first.patches) first.length text to) (TakesTo entries entry.name text to) other takes)
 
 pub entry-TakesTo : (entries : List Entry) (i : ℕ) (entry : Entry) (text to : List ℕ) → names_differ entries ≡ true → slice_get entries i ≡ Some entry
-    → LayTo (pairs_of entry.patches) entry.length text to → TakesTo entries entry.name text to
-entry-TakesTo [] i entry text to differ is lays = absurd (cc)
-entry-TakesTo (first ∷ entries) zero entry text to differ is lays =
+    → PatchedTo (pairs_of entry.patches) entry.length text to → TakesTo entries entry.name text to
+entry-TakesTo [] i entry text to differ is applies = absurd (cc)
+entry-TakesTo (first ∷ entries) zero entry text to differ is applies =
     let one : first ≡ entry = cc in
     let here : bytes_eq first.name entry.name ≡ true = ap (λ (e : Entry). bytes_eq first.name e.name) (sym one) ∙ same_name first.name in
-    rw here (subst (λ (e : Entry). LayTo (pairs_of e.patches) e.length text to) (sym one) lays)
-entry-TakesTo (first ∷ entries) (suc i) entry text to differ is lays =
+    rw here (subst (λ (e : Entry). PatchedTo (pairs_of e.patches) e.length text to) (sym one) applies)
+entry-TakesTo (first ∷ entries) (suc i) entry text to differ is applies =
     let other = later_name first entries i entry differ is in
-    rw other (entry-TakesTo entries i entry text to (and_parts (not (is_named first.name entries)) (names_differ entries) differ).1 is lays)
+    rw other (entry-TakesTo entries i entry text to (and_parts (not (is_named first.name entries)) (names_differ entries) differ).1 is applies)
 
 -- no entry names the journal
-pub journal_unnamed : (entries : List Entry) → AllByRecursion IsLayable entries → is_named journal_name entries ≡ false
+pub journal_unnamed : (entries : List Entry) → AllByRecursion IsApplicable entries → is_named journal_name entries ≡ false
 journal_unnamed [] each = refl
 journal_unnamed (entry ∷ entries) each = elim (name_cases entry.name journal_name) [
   | inl same ↦
@@ -79,7 +79,7 @@ journal_unnamed (entry ∷ entries) each = elim (name_cases entry.name journal_n
   | inr other ↦ let e = other.1 in rw e (journal_unnamed entries each.1)
 ]
 
-pub layable_at : (entries : List Entry) (i : ℕ) (entry : Entry) → AllByRecursion IsLayable entries → slice_get entries i ≡ Some entry → IsLayable entry
-layable_at [] i entry each is = absurd (cc)
-layable_at (first ∷ entries) zero entry each is = let one : first ≡ entry = cc in subst IsLayable one each.0
-layable_at (first ∷ entries) (suc i) entry each is = layable_at entries i entry each.1 is
+pub applicable_at : (entries : List Entry) (i : ℕ) (entry : Entry) → AllByRecursion IsApplicable entries → slice_get entries i ≡ Some entry → IsApplicable entry
+applicable_at [] i entry each is = absurd (cc)
+applicable_at (first ∷ entries) zero entry each is = let one : first ≡ entry = cc in subst IsApplicable one each.0
+applicable_at (first ∷ entries) (suc i) entry each is = applicable_at entries i entry each.1 is

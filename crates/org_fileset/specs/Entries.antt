@@ -2,10 +2,10 @@
 use Rattle.std.specs.Prelude.{◌≡◌, ℕ, List, [], ◌∷◌, length, IsUtf8, if◌then◌else◌}
 use Rattle.std.specs.Str.{bytes_eq}
 use Rattle.org_disk.specs.Names.{IsDiskName}
-use Rattle.org_splice.specs.Patches.{AreWellFormed, LayTo}
+use Rattle.org_splice.specs.Patches.{AreWellFormed, PatchedTo}
 use Rattle.org_splice.specs.Texts.{EditedText, IsEditOf, pairs_of}
 use Rattle.org_journal.specs.declared.record.Entry.{Entry}
-use Rattle.org_journal.specs.Standing.{Image}
+use Rattle.org_journal.specs.Recovered.{Image}
 
 -- the entry makes the changed text of whatever it was made from
 pub record IsEntryOf (change : List ℕ × EditedText) (entry : Entry) : Type 0 where
@@ -14,7 +14,7 @@ pub record IsEntryOf (change : List ℕ × EditedText) (entry : Entry) : Type 0 
   pub valid : IsDiskName entry.name
   pub length_is : entry.length ≡ length change.1.bytes
   pub patches : AreWellFormed (pairs_of entry.patches) entry.length
-  pub laid : (old : List ℕ) → IsEditOf old change.1 → LayTo (pairs_of entry.patches) entry.length old change.1.bytes
+  pub makes : (old : List ℕ) → IsEditOf old change.1 → PatchedTo (pairs_of entry.patches) entry.length old change.1.bytes
 
 abbrev pub AreEntriesOf : List (List ℕ × EditedText) → List Entry → Type 0
 AreEntriesOf [] [] = Unit {0}

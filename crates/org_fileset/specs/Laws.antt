@@ -7,36 +7,37 @@ use Rattle.org_splice.specs.Texts.{EditedText}
 use Rattle.org_journal.specs.declared.record.Entry.{Entry}
 use Rattle.org_journal.specs.declared.record.Version.TheVariants.{Two}
 use Rattle.org_journal.specs.Record.{IsWellFormed}
-use Rattle.org_journal.specs.Standing.{Image, SameFiles, StandsFor, IsArmed, IsFit, contents}
+use Rattle.org_journal.specs.Recovered.{Image, SameFiles, RecoversTo, IsArmed, IsRecoverable, contents}
 use Rattle.org_fileset.specs.Entries.{changed}
-use Rattle.org_fileset.specs.Recovery.{EachStands}
+use Rattle.org_fileset.specs.Recovery.{EachRecovers}
 use Rattle.org_fileset.specs.Replay.{IsAtRest}
 
--- The journal stands open on the disk with this record, and whatever a stop leaves stands for these texts.
+-- The journal stands open on the disk with this record, and whatever a crash leaves recovers to these texts.
 pub record IsArmedFor (entries : List Entry) (texts : Image) (files : List ℕ → FileState) : Type 0 where
   pub armed : IsArmed files
   pub same_entries : armed.entries ≡ entries
   pub same_texts : armed.texts ≡ texts
   pub formed : IsWellFormed Two entries
 
--- A call of this effect on the file of one name keeps that: whatever a stop leaves within the call stands for the texts,
--- and after the call, also where it failed, the journal stands open as before, and what a stop leaves stands for them.
+-- A call of this effect on the file of one name keeps that: whatever a crash leaves within the call recovers to the
+-- texts, and after the call, also where it failed, the journal stands open as before, and what a crash leaves recovers
+-- to them.
 pub record KeepsTexts (effect : FileState → FileState) (name : List ℕ) (entries : List Entry) (texts : Image) (files : List ℕ → FileState) : Type 0 where
-  pub any_moment : (image : Image) → AreLeftBy effect name files image → StandsFor texts image
+  pub any_moment : (image : Image) → AreLeftBy effect name files image → RecoversTo texts image
   pub after : (new : List ℕ → FileState) (result : Result (Unit {0}) DiskFault) → Changes effect name files new result → IsArmedFor entries texts new
 
 -- each of the files by itself is as it was, or as the changes make it
 abbrev pub IsEachOldOrNew : List (List ℕ × EditedText) → Image → Image → Type 0
 IsEachOldOrNew changes files texts = (name : List ℕ) → name ≢ journal_name → (texts name ≡ files name) ⊎ (texts name ≡ changed changes files name)
 
--- Each file is on the disk. So a disk is found after a stop: it holds one image of what it was.
+-- Each file is on the disk. So a disk is found after a crash: it holds one image of what it was.
 abbrev pub AllStable : (List ℕ → FileState) → Type 0
 AllStable files = (name : List ℕ) → IsStable (files name)
 
--- Fit to be opened, and whatever a stop leaves of it has P.
+-- Recoverable, and whatever a crash leaves of it has P.
 pub record IsFound (P : Image → Type 0) (files : List ℕ → FileState) : Type 0 where
-  pub fit : IsFit files
-  pub each_stands : EachStands files
+  pub recoverable : IsRecoverable files
+  pub each_recovers : EachRecovers files
   pub each : (image : Image) → AreImages files image → P image
 
 -- these files, all at rest

@@ -7,7 +7,7 @@ use Rattle.std.specs.Cmp.Lexicographic.{slice_cmp}
 use Rattle.org_disk.specs.Names.{archive_name}
 use Rattle.org_journal.specs.declared.record.Version.TheVariants.{Two}
 use Rattle.org_journal.specs.Record.{greatest_length}
-use Rattle.org_journal.specs.Standing.{Image}
+use Rattle.org_journal.specs.Recovered.{Image}
 
 -- how many names may be given
 abbrev pub most_names : ℕ

@@ -5,7 +5,7 @@ use Rattle.std.specs.List.{AllByRecursion}
 use Rattle.org_disk.specs.Names.{journal_name}
 use Rattle.org_disk.specs.declared.name.FileName.{FileName}
 use Rattle.org_journal.specs.Record.{most_entries}
-use Rattle.org_journal.specs.Standing.{Image, SameFiles, stands}
+use Rattle.org_journal.specs.Recovered.{Image, SameFiles, recovered}
 use Rattle.org_journal.specs.declared.fault.FindFault.{FindFault}
 use Rattle.org_journal.specs.declared.fault.FindFault.TheVariants as find
 use Rattle.org_fileset.specs.declared.open.OpenFault.{OpenFault}
@@ -50,11 +50,11 @@ HaveSizes files names (Err OutOfMemory) = Unit {0}
 HaveSizes files names (Err fault) = ⊥
 
 -- No file of these names is past the limit after a record was brought to its end; or there is this fault. The sizes are
--- asked for once the files are what the disk stood for.
+-- asked for once the files are what the disk recovered to.
 abbrev pub IsAnswer : Image → Image → List (List ℕ) → Result (Unit {0}) OpenFault → Type 0
-IsAnswer before now names (Err BadJournal) = (stands before ≡ None) × (now ≡ before)
+IsAnswer before now names (Err BadJournal) = (recovered before ≡ None) × (now ≡ before)
 IsAnswer before now names (Ok done) = HaveSizes now names (Ok done)
-IsAnswer before now names (Err (TooLarge name)) = HaveSizes now names (Err (TooLarge name)) × IsSomeAnd (stands before) (SameFiles now)
+IsAnswer before now names (Err (TooLarge name)) = HaveSizes now names (Err (TooLarge name)) × IsSomeAnd (recovered before) (SameFiles now)
 IsAnswer before now names (Err TooManyFiles) = ⊥
 IsAnswer before now names (Err Device) = Unit {0}
 IsAnswer before now names (Err OutOfMemory) = Unit {0}
@@ -63,8 +63,8 @@ IsAnswer before now names (Err OutOfMemory) = Unit {0}
 -- disk is honest as the call ends: what lay in them when it began, and what lies in them then.
 abbrev pub IsReason : List (List ℕ) → Type 0 → Image → Image → OpenFault → Type 0
 IsReason given honest before now TooManyFiles = AreTooMany given
-IsReason given honest before now BadJournal = AreFew given × (honest → (stands before ≡ None) × (now ≡ before))
+IsReason given honest before now BadJournal = AreFew given × (honest → (recovered before ≡ None) × (now ≡ before))
 IsReason given honest before now (TooLarge name) = AreFew given
-    × (honest → (names : List (List ℕ)) × AreSorted (with_archives given) names × (first_large now names ≡ Some name) × IsSomeAnd (stands before) (SameFiles now))
+    × (honest → (names : List (List ℕ)) × AreSorted (with_archives given) names × (first_large now names ≡ Some name) × IsSomeAnd (recovered before) (SameFiles now))
 IsReason given honest before now Device = AreFew given
 IsReason given honest before now OutOfMemory = Unit {0}

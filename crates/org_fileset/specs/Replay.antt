@@ -1,4 +1,4 @@
--- Files over which a record is being laid: whatever a stop leaves of them, the record makes the same texts of it.
+-- Files to which a record is being applied: whatever a crash leaves of them, the record makes the same texts of it.
 use Rattle.std.specs.Prelude.{◌≡◌, ◌≢◌, ◌⊎◌, ℕ, ◌≤◌, List, [], ◌∷◌, drop, Some, Result, OnOk, MatchBool, IsTrue, IsFalse}
 use Rattle.std.specs.List.{AllByRecursion}
 use Rattle.std.specs.Str.{bytes_eq}
@@ -6,48 +6,48 @@ use Rattle.org_disk.specs.Disk.{FileState, IsImage, IsStable, Passes}
 use Rattle.org_disk.specs.Accounts.{PassesOver, LeavesOver}
 use Rattle.org_disk.specs.Names.{journal_name, is_file_name}
 use Rattle.org_disk.specs.declared.disk.DiskFault.{DiskFault}
-use Rattle.org_splice.specs.Patches.{AreWellFormed, LayTo}
+use Rattle.org_splice.specs.Patches.{AreWellFormed, PatchedTo}
 use Rattle.org_splice.specs.Texts.{pairs_of}
 use Rattle.org_journal.specs.declared.record.Entry.{Entry}
 use Rattle.org_journal.specs.declared.record.Version.TheVariants.{Two}
 use Rattle.org_journal.specs.Record.{is_named, names_differ, greatest_length}
 use Rattle.org_journal.specs.Gate.{is_open, HasClosedGate}
 use Rattle.org_journal.specs.Reading.{journal_at}
-use Rattle.org_journal.specs.Standing.{Image, SameFiles, StandsFor, IsFit, contents, replayed}
+use Rattle.org_journal.specs.Recovered.{Image, SameFiles, RecoversTo, IsRecoverable, contents, replayed}
 
--- whatever a stop leaves of the file takes the patches to this text
-abbrev pub EachLaysTo : List (ℕ × List ℕ) → ℕ → List ℕ → FileState → Type 0
-EachLaysTo patches final to file = (text : List ℕ) → IsImage file text → LayTo patches final text to
+-- whatever a crash leaves of the file takes the patches to this text
+abbrev pub EachPatchedTo : List (ℕ × List ℕ) → ℕ → List ℕ → FileState → Type 0
+EachPatchedTo patches final to file = (text : List ℕ) → IsImage file text → PatchedTo patches final text to
 
 -- what is left: a text of this file that takes the patches to `to`, and an image of each other file
-pub record LeavesLaid (patches : List (ℕ × List ℕ)) (final : ℕ) (name to : List ℕ) (files : List ℕ → FileState) (image : Image) : Type 0 where
-  pub here : LayTo patches final (image name) to
+pub record LeavesPatched (patches : List (ℕ × List ℕ)) (final : ℕ) (name to : List ℕ) (files : List ℕ → FileState) (image : Image) : Type 0 where
+  pub here : PatchedTo patches final (image name) to
   pub others : (other : List ℕ) → other ≢ name → IsImage (files other) (image other)
 
--- Calls that lay patches over one file, all of them or some: at each moment, and now, what a stop leaves of the file
+-- Calls that apply patches to one file, all of them or some: at each moment, and now, what a crash leaves of the file
 -- takes the patches to the same text.
-pub record Lays (patches : List (ℕ × List ℕ)) (final : ℕ) (name to : List ℕ) (before now : ℕ) (past since : ℕ → Image → Type 0) (old new : List ℕ → FileState) : Type 0 where
-  pub any_moment : Passes before now past since (LeavesLaid patches final name to old)
-  pub takes : EachLaysTo patches final to (new name)
+pub record AppliesPatches (patches : List (ℕ × List ℕ)) (final : ℕ) (name to : List ℕ) (before now : ℕ) (past since : ℕ → Image → Type 0) (old new : List ℕ → FileState) : Type 0 where
+  pub any_moment : Passes before now past since (LeavesPatched patches final name to old)
+  pub takes : EachPatchedTo patches final to (new name)
   pub others : (other : List ℕ) → other ≢ name → new other ≡ old other
 
 -- the record makes `to` of this text of the file with that name; what it doesn't name stays as it is
 abbrev pub TakesTo : List Entry → List ℕ → List ℕ → List ℕ → Type 0
 TakesTo [] name text to = text ≡ to
 TakesTo (entry ∷ entries) name text to =
-    MatchBool (bytes_eq entry.name name) (LayTo (pairs_of entry.patches) entry.length text to) (TakesTo entries name text to)
+    MatchBool (bytes_eq entry.name name) (PatchedTo (pairs_of entry.patches) entry.length text to) (TakesTo entries name text to)
 
--- an entry that can be laid over a file which it fits
-pub record IsLayable (entry : Entry) : Type 0 where
+-- an entry that can be applied to a file which it fits
+pub record IsApplicable (entry : Entry) : Type 0 where
   pub name : IsTrue (is_file_name entry.name)
   pub patches : AreWellFormed (pairs_of entry.patches) entry.length
   pub small : entry.length ≤ greatest_length Two
 
-pub record AreLayable (entries : List Entry) : Type 0 where
-  pub each : AllByRecursion IsLayable entries
+pub record AreApplicable (entries : List Entry) : Type 0 where
+  pub each : AllByRecursion IsApplicable entries
   pub apart : IsTrue (names_differ entries)
 
--- whatever a stop leaves of the files, the record makes these texts of it
+-- whatever a crash leaves of the files, the record makes these texts of it
 pub record EachTakes (entries : List Entry) (texts : Image) (files : List ℕ → FileState) : Type 0 where
   pub each : (name : List ℕ) → name ≢ journal_name → (text : List ℕ) → IsImage (files name) text → TakesTo entries name text (texts name)
 
@@ -56,8 +56,8 @@ pub record LeavesTaking (journal : List ℕ) (entries : List Entry) (texts : Ima
   pub same_journal : image journal_name ≡ journal
   pub each : (name : List ℕ) → name ≢ journal_name → TakesTo entries name (image name) (texts name)
 
--- Calls that lay a record over its files, all of it or a part: at each moment, and now, the record makes the same texts
--- of what a stop leaves.
+-- Calls that apply a record to its files, all of it or a part: at each moment, and now, the record makes the same texts
+-- of what a crash leaves.
 pub record Replays (entries : List Entry) (texts : Image) (before now : ℕ) (past since : ℕ → Image → Type 0) (old new : List ℕ → FileState) : Type 0 where
   pub any_moment : Passes before now past since (LeavesTaking (old journal_name).content entries texts)
   pub takes : EachTakes entries texts new
@@ -69,8 +69,8 @@ pub record IsOpenOver (entries : List Entry) (files : List ℕ → FileState) : 
   pub opened : IsTrue (is_open (files journal_name).content)
   pub found : journal_at (drop 1 (files journal_name).content) ≡ Some entries
 
--- The files that the record doesn't name are on the disk, and it makes one and the same texts of whatever a stop leaves
--- of the others.
+-- The files that the record doesn't name are on the disk, and it makes one and the same texts of whatever a crash
+-- leaves of the others.
 pub record IsReplayable (entries : List Entry) (files : List ℕ → FileState) : Type 0 where
   pub others : (name : List ℕ) → name ≢ journal_name → IsFalse (is_named name entries) → IsStable (files name)
   pub texts : Image
@@ -81,27 +81,27 @@ pub record IsAtRest (files : List ℕ → FileState) : Type 0 where
   pub gate : HasClosedGate (files journal_name)
   pub stable : (name : List ℕ) → IsStable (files name)
 
--- what is left stands for these files, or for those
+-- what is left recovers to these files, or for those
 abbrev pub IsBeforeOrAfter : Image → Image → Image → Type 0
-IsBeforeOrAfter before after image = StandsFor before image ⊎ StandsFor after image
+IsBeforeOrAfter before after image = RecoversTo before image ⊎ RecoversTo after image
 
--- The record of an open journal was laid over its files, and the gate was closed.
+-- The record of an open journal was applied to its files, and the gate was closed.
 pub record IsReplayed (entries : List Entry) (old new : List ℕ → FileState) : Type 0 where
   pub gate : HasClosedGate (new journal_name)
   pub journal : contents new journal_name ≡ 0 ∷ drop 1 (contents old journal_name)
   pub made : SameFiles (contents new) (replayed entries (contents old))
   pub rest : IsReplayable entries old → IsAtRest new
 
--- What a call does that lays the record of an open journal over its files, and closes the gate, where the disk is honest
+-- What a call does that applies the record of an open journal to its files, and closes the gate, where the disk is honest
 -- after it.
 pub record ReplaysOver {D : Type 0} (files : D → List ℕ → FileState) (moment : D → ℕ)
     (left_since : D → ℕ → Image → Type 0) (entries : List Entry) (old new : D)
     (result : Result (Unit {0}) DiskFault) : Type 0 where
   pub done : OnOk result (IsReplayed entries (files old) (files new))
-  -- where the record makes the same texts of whatever a stop leaves at the start
+  -- where the record makes the same texts of whatever a crash leaves at the start
   pub any_moment : (can : IsReplayable entries (files old))
-      → PassesOver moment left_since old new (StandsFor can.texts)
-  pub fit : IsReplayable entries (files old) → IsFit (files new)
+      → PassesOver moment left_since old new (RecoversTo can.texts)
+  pub recoverable : IsReplayable entries (files old) → IsRecoverable (files new)
 
 -- The files are these now; what was at rest is at rest.
 pub record IsCommitted (after : Image) (old new : List ℕ → FileState) : Type 0 where
@@ -113,17 +113,17 @@ pub record Commits {D A E : Type 0} (files : D → List ℕ → FileState) (mome
     (left_since : D → ℕ → Image → Type 0) (after : Image) (old new : D)
     (result : Result A E) : Type 0 where
   pub done : OnOk result (IsCommitted after (files old) (files new))
-  -- where all was on the disk: what a stop at any moment since the call began leaves
+  -- where all was on the disk: what a crash at any moment since the call began leaves
   pub any_moment : IsAtRest (files old)
       → LeavesOver moment left_since old new (IsBeforeOrAfter (contents (files old)) after)
   -- after a failure too, it may be opened again
-  pub fit : IsAtRest (files old) → IsFit (files new)
+  pub recoverable : IsAtRest (files old) → IsRecoverable (files new)
 
--- `Lays` and `Replays` of a disk before calls and after them
-abbrev pub LaysOver : {D : Type 0} → (D → List ℕ → FileState) → (D → ℕ)
+-- `AppliesPatches` and `Replays` of a disk before calls and after them
+abbrev pub AppliesPatchesOver : {D : Type 0} → (D → List ℕ → FileState) → (D → ℕ)
     → (D → ℕ → Image → Type 0) → List (ℕ × List ℕ) → ℕ → List ℕ → List ℕ → D → D → Type 0
-LaysOver files moment left_since patches final name to old new =
-    Lays patches final name to (moment old) (moment new) (left_since old) (left_since new) (files old) (files new)
+AppliesPatchesOver files moment left_since patches final name to old new =
+    AppliesPatches patches final name to (moment old) (moment new) (left_since old) (left_since new) (files old) (files new)
 
 abbrev pub TakesOver : {D : Type 0} → (D → List ℕ → FileState) → (D → ℕ)
     → (D → ℕ → Image → Type 0) → List Entry → Image → D → D → Type 0

@@ -6,7 +6,7 @@ use Rattle.org_disk.specs.Names.{journal_name}
 use Rattle.org_splice.specs.Texts.{EditedText, IsEditOf}
 use Rattle.org_journal.specs.Gate.{HasClosedGate}
 use Rattle.org_journal.specs.Record.{most_entries}
-use Rattle.org_journal.specs.Standing.{Image}
+use Rattle.org_journal.specs.Recovered.{Image}
 use Rattle.org_fileset.specs.declared.fault.SetFault.{SetFault}
 use Rattle.org_fileset.specs.declared.fault.SetFault.TheVariants.{Broken, Device}
 use Rattle.org_fileset.specs.Names.{limit}

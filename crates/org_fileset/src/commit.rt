@@ -1,34 +1,35 @@
-//! A record made to count: written to the journal, laid over its files, and done with.
+//! A record made to count: written to the journal, applied to its files, and done with.
 ghost use Rattle.std.specs.Prelude.{◌≡◌, ◌≤◌, ◌++◌, List, ℕ, Some, length, IsTrue, OnOk, IsErr};
 ghost use Rattle.org_disk.specs.Accounts.{Accounts};
 ghost use Rattle.org_disk.specs.Names.{journal_name};
 ghost use Rattle.org_journal.specs.Gate.{HasClosedGate};
 ghost use Rattle.org_journal.specs.Reading.{journal_at};
-ghost use Rattle.org_journal.specs.Standing.{all_fit, replayed, contents};
-ghost use Rattle.org_fileset.specs.Replay.{AreLayable, Commits, IsOpenOver, ReplaysOver};
+ghost use Rattle.org_journal.specs.Recovered.{all_fit, replayed, contents};
+ghost use Rattle.org_fileset.specs.Replay.{AreApplicable, Commits, IsOpenOver, ReplaysOver};
 
-use crate::lay::{lay_all, sync_all};
+use crate::apply::{apply_all, sync_all};
 use org_disk::{Disk, DiskFault, FileName};
 use org_journal::{Entry, arm, close_gate, open_gate};
 
-/// Does what an open journal's record says: lays it over its files, syncs them, and closes the gate. Where the record
-/// makes the same texts of whatever a stop leaves at the start, every image stands for them at every moment since.
+/// Does what an open journal's record says: applies it to its files, syncs them, and closes the gate. Where the record
+/// makes the same texts of whatever a crash leaves at the start, every image recovers to them at every moment since.
 pub fn replay<D: Disk>(disk: &mut D, journal: &FileName, entries: &[Entry]) -> Result<(), DiskFault>
     requires journal { journal.now ≡ journal_name }
-    requires layable { D.honest disk.old → AreLayable entries.now }
+    requires applicable { D.honest disk.old → AreApplicable entries.now }
     requires opened { D.honest disk.old → IsOpenOver entries.now (D.files disk.old) }
     requires fits { D.honest disk.old → IsTrue (all_fit entries.now (contents (D.files disk.old))) }
     ensures replays { D.honest disk.new → ReplaysOver D.files D.moment D.left_since
         entries.now disk.old disk.new result }
     ensures accounts { Accounts D.steady D.honest D.failures disk.old disk.new (IsErr result) }
 {
-    lay_all(disk, entries)?;
+    apply_all(disk, entries)?;
     sync_all(disk, entries)?;
     close_gate(disk, journal)
 }
 
 /// Commits entries that fit their files. The body is their record, from the journal's second byte on. Where all files
-/// are on the disk at the start, every image at every moment since stands for all files before, or for all files after.
+/// are on the disk at the start, every image at every moment since recovers to all files before, or to all files
+/// after.
 pub fn commit_entries<D: Disk>(
     disk: &mut D,
     journal: &FileName,
@@ -36,7 +37,7 @@ pub fn commit_entries<D: Disk>(
     body: &[u8],
 ) -> Result<(), DiskFault>
     requires journal { journal.now ≡ journal_name }
-    requires layable { D.honest disk.old → AreLayable entries.now }
+    requires applicable { D.honest disk.old → AreApplicable entries.now }
     requires body { (more : List ℕ) → journal_at (body.now ++ more) ≡ Some entries.now }
     requires long { 15 ≤ length body.now }
     requires gate { D.honest disk.old → HasClosedGate (D.files disk.old journal_name) }

@@ -1,30 +1,31 @@
-//! The laws of laying records over files, for all values: each is the contract of a function with nothing to do.
+//! The laws of applying records to files, for all values: each is the contract of a function with nothing to do.
 ghost use Rattle.std.specs.Prelude.{◌≤◌, List, ℕ, length, IsSomeAnd};
 ghost use Rattle.std.specs.List.{Contains};
 ghost use Rattle.org_disk.specs.Disk.{FileState, AreImages, write, cut, sync};
-ghost use Rattle.org_splice.specs.Patches.{AreWellFormed, Fit, LayTo, IsPartlyLaid, lay};
+ghost use Rattle.org_splice.specs.Patches.{AreWellFormed, Fit, PatchedTo, IsPartlyPatched, patched};
 ghost use Rattle.org_splice.specs.Texts.{EditedText};
 ghost use Rattle.org_journal.specs.declared.record.Entry.{Entry};
 ghost use Rattle.org_splice.specs.declared.patch.Patch.{Patch};
-ghost use Rattle.org_journal.specs.Standing.{Image, StandsFor, stands, contents};
+ghost use Rattle.org_journal.specs.Recovered.{Image, RecoversTo, recovered, contents};
 ghost use Rattle.org_fileset.specs.Entries.{changed};
-ghost use Rattle.org_fileset.specs.Recovery.{IsReopened, StandsAsBefore};
+ghost use Rattle.org_fileset.specs.Recovery.{IsReopened, RecoversAsBefore};
 ghost use Rattle.org_fileset.specs.Replay.{IsAtRest, IsBeforeOrAfter};
 ghost use Rattle.org_fileset.specs.Laws.{AllStable, AreAtRest, IsArmedFor, IsFound, KeepsTexts, IsEachOldOrNew};
 
-/// Laying twice is laying once: patches that fit a text fit what they make of it, and make the same of that again.
-pub fn laid_twice_as_once()
+/// Applying twice is applying once: patches that fit a text fit what they make of it, and make the same of that again.
+pub fn applied_twice_as_once()
     ensures twice { (patches : List (ℕ × List ℕ)) (final : ℕ) (text : List ℕ)
         → AreWellFormed patches final → Fit patches final (length text)
-        → LayTo patches final (lay patches final text) (lay patches final text) }
+        → PatchedTo patches final (patched patches final text) (patched patches final text) }
     // So do they over each text on which a part of the work may have been done.
     ensures partly { (patches : List (ℕ × List ℕ)) (final : ℕ) (text part : List ℕ)
         → AreWellFormed patches final → Fit patches final (length text)
-        → IsPartlyLaid patches final text part → LayTo patches final part (lay patches final text) }
+        → IsPartlyPatched patches final text part
+        → PatchedTo patches final part (patched patches final text) }
 {}
 
-/// Each of the calls that lay an entry over its file, made while the journal stands open with the entry's record, keeps
-/// what every image stands for, at every moment and also where the call fails.
+/// Each of the calls that apply an entry to its file, made while the journal stands open with the entry's record, keeps
+/// what every image recovers to, at every moment and also where the call fails.
 pub fn calls_keep_texts()
     // a write of one of the entry's patches
     ensures write { (entries : List Entry) (texts : Image) (files : List ℕ → FileState)
@@ -44,36 +45,37 @@ pub fn calls_keep_texts()
         → Contains entries entry → KeepsTexts sync entry.name entries texts files }
 {}
 
-/// At every moment of a commit each file by itself is old or new, in what an image stands for.
+/// At every moment of a commit each file by itself is old or new, in what an image recovers to.
 pub fn each_file_old_or_new()
     ensures { (changes : List (List ℕ × EditedText)) (files image : Image)
         → IsBeforeOrAfter files (changed changes files) image
-        → IsSomeAnd (stands image) (IsEachOldOrNew changes files) }
+        → IsSomeAnd (recovered image) (IsEachOldOrNew changes files) }
 {}
 
-/// From stopped to opened again. A disk that is found after a stop holds one image, and all of it is on the disk. It is
-/// fit; and where that image stands for files, so does whatever a stop leaves of it from then on. So `FileSet::open`
-/// promises of it that each image since stands for what the first stop left (`again`), however often the opening is
-/// stopped and begun anew, and that an opening that is done leaves these files at rest (`opened`).
-pub fn stopped_disk_opens_again()
-    // whatever image it is, as long as it stands for files
+/// From crashed to opened again. A disk that is found after a crash holds one image, and all of it is on the disk. It
+/// is fit; and where that image recovers to files, so does whatever a crash leaves of it from then on. So
+/// `FileSet::open` promises of it that each image since recovers to what the first crash left (`again`), however often
+/// the opening is crashed and begun anew, and that an opening that is done leaves these files at rest (`opened`).
+pub fn crashed_disk_opens_again()
+    // whatever image it is, as long as it recovers to files
     ensures image { (texts : Image) (files : List ℕ → FileState) → AllStable files
-        → StandsFor texts (contents files) → IsFound (StandsFor texts) files }
+        → RecoversTo texts (contents files) → IsFound (RecoversTo texts) files }
     // one image of a disk at rest: it is at rest
     ensures rest { (old files : List ℕ → FileState) → IsAtRest old → AllStable files
         → AreImages old (contents files)
-        → AreAtRest (contents old) files × IsFound (StandsFor (contents old)) files }
-    // what a stop at any moment of a commit left (`Commits`)
+        → AreAtRest (contents old) files × IsFound (RecoversTo (contents old)) files }
+    // what a crash at any moment of a commit left (`Commits`)
     ensures commit { (before after : Image) (files : List ℕ → FileState) → AllStable files
         → IsBeforeOrAfter before after (contents files)
         → IsFound (IsBeforeOrAfter before after) files }
-    // what a stop at any moment of an opening left (`Reopens`)
+    // what a crash at any moment of an opening left (`Reopens`)
     ensures opening { (old files : List ℕ → FileState) → AllStable files
-        → StandsAsBefore old (contents files) → IsFound (StandsAsBefore old) files }
-    // what a stop within the opening of such a disk leaves stands for the same files
+        → RecoversAsBefore old (contents files) → IsFound (RecoversAsBefore old) files }
+    // what a crash within the opening of such a disk leaves recovers to the same files
     ensures again { (texts image : Image) (files : List ℕ → FileState) → AllStable files
-        → StandsFor texts (contents files) → StandsAsBefore files image → StandsFor texts image }
+        → RecoversTo texts (contents files) → RecoversAsBefore files image
+        → RecoversTo texts image }
     // and where it is done, they are all there
     ensures opened { (texts : Image) (old new : List ℕ → FileState) → AllStable old
-        → StandsFor texts (contents old) → IsReopened old new → AreAtRest texts new }
+        → RecoversTo texts (contents old) → IsReopened old new → AreAtRest texts new }
 {}

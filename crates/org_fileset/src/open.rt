@@ -3,7 +3,7 @@ ghost use Rattle.std.specs.Prelude.{◌≡◌, Err, IfOk, IfErr, IsErrOf};
 ghost use Rattle.std.specs.List.{All};
 ghost use Rattle.org_disk.specs.Accounts.{Accounts, Looks};
 ghost use Rattle.org_disk.specs.Names.{journal_name, IsOrgFile};
-ghost use Rattle.org_journal.specs.Standing.{stands, contents};
+ghost use Rattle.org_journal.specs.Recovered.{recovered, contents};
 ghost use Rattle.org_fileset.specs.Names.{with_archives, AreSorted, AreFew};
 ghost use Rattle.org_fileset.specs.Opening.{AreAllNames, AreSetNames, HaveSizes, IsAnswer, fault_of};
 ghost use Rattle.org_fileset.specs.Recovery.{Reopens};
@@ -28,7 +28,7 @@ pub enum OpenFault {
     /// content was changed.
     BadJournal,
     /// The file of this name has more than 67,108,864 bytes: the first such file, in byte order of the names. What a
-    /// stop had cut short was brought to an end.
+    /// crash had cut short was brought to an end.
     TooLarge(FileName),
     /// A call of the disk failed.
     Device,
@@ -118,7 +118,7 @@ pub fn check_sizes<D: Disk>(disk: &mut D, names: &[FileName]) -> Result<(), Open
     Ok(())
 }
 
-/// Brings to an end what a stop cut short, and then asks for the length of each of these files.
+/// Brings to an end what a crash cut short, and then asks for the length of each of these files.
 pub fn make_ready<D: Disk>(
     alloc: Global,
     disk: &mut D,

@@ -4,7 +4,7 @@ ghost use Rattle.std.specs.List.{All, Contains};
 ghost use Rattle.org_disk.specs.Accounts.{Accounts, Looks};
 ghost use Rattle.org_disk.specs.Names.{journal_name, IsOrgFile};
 ghost use Rattle.org_splice.specs.Texts.{IsEditOf};
-ghost use Rattle.org_journal.specs.Standing.{stands, contents};
+ghost use Rattle.org_journal.specs.Recovered.{recovered, contents};
 ghost use Rattle.org_fileset.specs.Entries.{changed};
 ghost use Rattle.org_fileset.specs.Names.{with_archives, AreSorted, AreFew, first_large};
 ghost use Rattle.org_fileset.specs.Opening.{IsDeviceRefusal, IsReason, disk_in};
@@ -46,12 +46,12 @@ impl<D: Disk> Model for FileSet<D> {
 }
 
 impl<D: Disk> FileSet<D> {
-    /// A set of the files of the given names and of their archive files. No name is an archive file's or the journal's; a
-    /// repeated one counts once. What a stop cut short is brought to an end first.
+    /// A set of the files of the given names and of their archive files. No name is an archive file's or the journal's;
+    /// a repeated one counts once. What a crash cut short is brought to an end first.
     ///
-    /// On a disk that is fit, of which each image stands for files, every image at every moment since the call began
-    /// stands for what an image at the start stood for, whatever is answered; so it may be stopped, and called again.
-    /// Where the journal is bad, as it reads, a stop leaves what it might have left before.
+    /// On a disk that is recoverable, of which each image recovers to files, every image at every moment since the call
+    /// began recovers to what an image at the start recovered to, whatever is answered; so it may be stopped, and
+    /// called again. Where the journal is bad, as it reads, a crash leaves what it might have left before.
     ///
     /// The faults come in the order of `OpenFault`; `Device` and `OutOfMemory` as they are met. A refused call hands the
     /// disk back.
@@ -102,7 +102,7 @@ impl<D: Disk> FileSet<D> {
     }
 
     /// Gives the disk back as it is.
-    pub fn close(self) -> D
+    pub fn into_disk(self) -> D
         ensures { result ≡ self.disk }
     {
         let FileSet {
@@ -142,10 +142,10 @@ impl<D: Disk> FileSet<D> {
     /// Gives all of the changed files their texts at once. The texts are edits of what the files hold, and within
     /// `LIMIT`; the names are the set's.
     ///
-    /// Where all is on the disk when the call begins, then at every moment since what a stop leaves stands for all files
-    /// as they were, or for all files with the changed texts; after Ok all is on the disk again, and after `Device` it
-    /// can be opened anew. All memory is taken before the first call of the disk. Where nothing was changed, no call of the
-    /// disk is made.
+    /// Where all is on the disk when the call begins, then at every moment since what a crash leaves recovers to all
+    /// files as they were, or to all files with the changed texts; after Ok all is on the disk again, and after
+    /// `Device` it can be opened anew. All memory is taken before the first call of the disk. Where nothing was
+    /// changed, no call of the disk is made.
     pub fn commit<C: Changes<FileName>>(&mut self, changes: &C) -> Result<(), SetFault>
         requires named { All (λ change. Contains self.old.names change.0) (C.pairs changes.now) }
         requires small { All (λ change. length change.1.bytes ≤ LIMIT) (C.pairs changes.now) }

@@ -46,7 +46,7 @@ files world (Sync name false ∷ earlier) =
     changed name (reading (world.left (Sync name false ∷ earlier))) (files world earlier)
 
 -- The answer of a call is right after these calls: a look answers what they made of the file, and a call that failed
--- left what a stop within it may leave. A name without a file stands for the empty file, after a stop too.
+-- left what a crash within it may leave. A name without a file stands for the empty file, after a crash too.
 abbrev pub IsRight : World → Event → List Event → Type 0
 IsRight world (Absent name) earlier = files world earlier name ≡ stable []
 IsRight world (Length name n) earlier = n ≡ length (files world earlier name).content
@@ -59,7 +59,7 @@ IsRight world (Cut name n false) earlier = IsImage (cut n (files world earlier n
 IsRight world (Sync name true) earlier = ⊤
 IsRight world (Sync name false) earlier = IsImage (files world earlier name) (world.left (Sync name false ∷ earlier))
 
--- each answer was right, and each file reads at first as a stop may leave it
+-- each answer was right, and each file reads at first as a crash may leave it
 abbrev pub AreRight : World → List Event → Type 0
 AreRight world [] = (name : List ℕ) → IsImage (world.start name) (world.start name).content
 AreRight world (event ∷ earlier) = IsRight world event earlier × AreRight world earlier
@@ -74,13 +74,13 @@ IsLeftAlone name (Write other from bytes ok ∷ earlier) = (other ≢ name) × I
 IsLeftAlone name (Cut other n ok ∷ earlier) = (other ≢ name) × IsLeftAlone name earlier
 IsLeftAlone name (Sync other ok ∷ earlier) = (other ≢ name) × IsLeftAlone name earlier
 
--- what a stop since the call of this number might have left
+-- what a crash since the call of this number might have left
 abbrev pub LeftSince : World → List Event → ℕ → (List ℕ → List ℕ) → Type 0
 LeftSince world [] t image = (t ≤ 0) × AreImages (files world []) image
 LeftSince world (event ∷ earlier) t image =
     ((t ≤ length (event ∷ earlier)) × AreImages (files world (event ∷ earlier)) image) ⊎ LeftSince world earlier t image
 
--- what a call that only looks does: the files are the same, and a stop leaves an image of them
+-- what a call that only looks does: the files are the same, and a crash leaves an image of them
 pub record Looks (world : World) (old new : List Event) : Type 0 where
   pub same : files world new ≡ files world old
   pub time : Passes (length old) (length new) (LeftSince world old) (LeftSince world new) (AreImages (files world old))

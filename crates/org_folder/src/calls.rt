@@ -38,8 +38,8 @@ impl<F: Drop> Opened<F> {
 /// A record that stands in proofs alone has, each with its answer: a name without a file, each length and read that
 /// succeeded, and each write, cut and sync. To open or make a file, and to sync its entry, leaves it as it is. Whether
 /// the answers were right (`AreRight`) is no clause: that a length and a read gave what the calls before made of the
-/// file, that a name without a file stands for the empty file, after a stop too, and that a call that failed left what
-/// a stop within it may leave. It is the premise under which a `CallsDisk` is an honest disk.
+/// file, that a name without a file stands for the empty file, after a crash too, and that a call that failed left what
+/// a crash within it may leave. It is the premise under which a `CallsDisk` is an honest disk.
 pub trait Calls {
     /// A file of the system, open for reading and, where that is permitted, for writing.
     type File;

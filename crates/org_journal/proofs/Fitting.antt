@@ -17,7 +17,7 @@ use Rattle.org_disk.specs.Names.{journal_name}
 use Rattle.org_journal.specs.declared.fault.FindFault.{FindFault}
 use Rattle.org_journal.specs.declared.fault.FindFault.TheVariants.{BadJournal, Device, OutOfMemory}
 use Rattle.org_journal.specs.Gate.{front_size, is_open}
-use Rattle.org_journal.specs.Standing.{Image, begins_within, fits, all_fit, stands}
+use Rattle.org_journal.specs.Recovered.{Image, begins_within, fits, all_fit, recovered}
 use Rattle.org_journal.specs.Finding.{Finds, FindsSize, HaveWellFormedPatches, HoldsRecord, record_size}
 
 -- the test of the patches that are left, from this place on, is that of all
@@ -175,7 +175,7 @@ size_passes journal short =
     let same : big_number 8 (drop 7 (drop 1 journal)) ≡ record_size journal = ap (big_number 8) (drop-drop 7 1 journal) in
     journal_short (drop 1 journal) (omega (arith, short, same, length-drop 1 journal))
 
-no_record : (image : Image) → is_open (image journal_name) ≡ true → journal_at (drop 1 (image journal_name)) ≡ None → stands image ≡ None
+no_record : (image : Image) → is_open (image journal_name) ≡ true → journal_at (drop 1 (image journal_name)) ≡ None → recovered image ≡ None
 no_record image opened none = rw (opened, none) refl
 
 -- the header tells

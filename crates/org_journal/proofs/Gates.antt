@@ -1,4 +1,4 @@
--- What a stop leaves of the journal while its gate is written.
+-- What a crash leaves of the journal while its gate is written.
 use Rattle.std.proofs.Common.{◌≡◌, ◌≢◌, inr, ⊎_elim, ℕ, ◌+◌, ◌-◌, ◌<◌, ◌≤◌, ◌∷◌, List, [], length, drop, refl, sym, ◌∙◌, ap, subst, arith}
 use Rattle.std.specs.Prelude.{IsFalse}
 use Rattle.std.proofs.lemmas.List.{same_lists, get_or-drop, length-drop, get_or_default}
@@ -8,9 +8,9 @@ use Rattle.org_disk.proofs.Images.{only_image, stable_is, fixed_after_write}
 use Rattle.org_journal.specs.Gate.{front_size, is_open, LeavesBody, LeavesClosed}
 
 -- the gate alone
-pub laid_gate : (gate : ℕ) (text : List ℕ) → overwritten 0 (gate ∷ []) text ≡ gate ∷ drop 1 text
-laid_gate gate [] = refl
-laid_gate gate (x ∷ text) = refl
+pub overwritten_gate : (gate : ℕ) (text : List ℕ) → overwritten 0 (gate ∷ []) text ≡ gate ∷ drop 1 text
+overwritten_gate gate [] = refl
+overwritten_gate gate (x ∷ text) = refl
 
 -- too short for a header
 pub short_is_closed : (bytes : List ℕ) → length bytes < front_size → IsFalse (is_open bytes)
@@ -48,7 +48,7 @@ module _ (journal : List ℕ) (gate : ℕ) (files : List ℕ → FileState) (is 
       → (image : List ℕ → List ℕ) → AreLeftBy sync journal mid image → LeavesBody journal files image
   gate_sync mid is_written others image left =
       let synced : (bytes : List ℕ) → IsImage (stable (mid journal).content) bytes → HasBody bytes = λ bytes now.
-      ap (λ (l : List ℕ). drop 1 l) (only_image (stable_is (mid journal).content) bytes now ∙ ap (λ (f : FileState). f.content) is_written ∙ laid_gate gate content) in
+      ap (λ (l : List ℕ). drop 1 l) (only_image (stable_is (mid journal).content) bytes now ∙ ap (λ (f : FileState). f.content) is_written ∙ overwritten_gate gate content) in
       let body : HasBody (image journal) =
       ⊎_elim (λ before. body_written (image journal) (subst (λ f. IsImage f (image journal)) is_written before)) (synced (image journal)) left.here in
       record { body = body; others = λ other apart. subst (λ f. IsImage f (image other)) (others other apart) (left.others other apart) }

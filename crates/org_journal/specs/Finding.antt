@@ -14,7 +14,7 @@ use Rattle.org_journal.specs.Reading.{journal_at}
 use Rattle.org_splice.specs.Patches.{AreWellFormed}
 use Rattle.org_splice.specs.Texts.{pairs_of}
 use Rattle.org_journal.specs.Record.{IsWellFormed}
-use Rattle.org_journal.specs.Standing.{Image, all_fit, stands}
+use Rattle.org_journal.specs.Recovered.{Image, all_fit, recovered}
 
 -- the size of the record that a journal's header gives
 abbrev pub record_size : List ℕ → ℕ
@@ -29,7 +29,7 @@ abbrev pub Finds : Image → Result Found FindFault → Type 0
 Finds image (Ok Closed) = IsFalse (is_open (image journal_name))
 Finds image (Ok (Armed entries)) =
     IsTrue (is_open (image journal_name)) × (journal_at (drop 1 (image journal_name)) ≡ Some entries) × IsTrue (all_fit entries image)
-Finds image (Err BadJournal) = IsTrue (is_open (image journal_name)) × (stands image ≡ None)
+Finds image (Err BadJournal) = IsTrue (is_open (image journal_name)) × (recovered image ≡ None)
 Finds image (Err Device) = Unit {0}
 -- memory is wanted only once the record's size was compared with the journal's
 Finds image (Err OutOfMemory) = IsTrue (is_open (image journal_name)) × HoldsRecord (image journal_name)

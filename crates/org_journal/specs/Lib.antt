@@ -1,6 +1,6 @@
 pub mod Gate
 pub mod Record
 pub mod Reading
-pub mod Standing
+pub mod Recovered
 pub mod Decoding
 pub mod Finding

@@ -7,7 +7,7 @@ ghost use Rattle.org_splice.specs.Patches.{AreWellFormed};
 ghost use Rattle.org_splice.specs.Texts.{pairs_of};
 ghost use Rattle.org_journal.specs.Record.{IsWellFormed};
 ghost use Rattle.org_journal.specs.Reading.{journal_at};
-ghost use Rattle.org_journal.specs.Standing.{contents, fits, all_fit};
+ghost use Rattle.org_journal.specs.Recovered.{contents, fits, all_fit};
 ghost use Rattle.org_journal.specs.declared.record.Version.TheVariants.{Two};
 ghost use Rattle.org_journal.specs.Finding.{Finds, IsWritable, FindsSize, FindsRecord, HoldsRecord, HaveWellFormedPatches, record_size};
 ghost use Rattle.org_journal.specs.Gate.{front_size};

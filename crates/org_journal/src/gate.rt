@@ -1,4 +1,4 @@
-//! The writes of the journal, in the order that lets a stop at any moment leave it whole: while its bytes are written
+//! The writes of the journal, in the order that lets a crash at any moment leave it whole: while its bytes are written
 //! the gate is closed on the disk, and the gate alone opens and closes it.
 ghost use Rattle.std.specs.Prelude.{◌≤◌, ◌<◌, length, drop, ◌∷◌, OnOk, IsErr, IsTrue, is_some};
 ghost use Rattle.org_splice.specs.Overwritten.{overwritten};

@@ -36,14 +36,15 @@ impl Patches {
     }
 }
 
-/// What becomes of one file: its patches are laid over it in order, and it has `length` bytes then.
+/// What becomes of one file: its patches are applied to it in order, and it has `length` bytes
+/// then.
 #[derive(Debug, Drop)]
 pub struct Entry {
     /// The name of the file.
     pub name: FileName,
     /// How many bytes the file has in the end, at most `GREATEST_LENGTH` in a record.
     pub length: u64,
-    /// What is laid over it, each patch behind the one before, at most 1,000 in a record.
+    /// What is applied to it, each patch behind the one before, at most 1,000 in a record.
     pub patches: Patches,
 }
 

@@ -2,7 +2,7 @@
 use Rattle.std.proofs.Common.{◌≡◌, ℕ, ◌+◌, ◌-◌, ◌≤◌, true, Option, Some, None, Result, Ok, Err, List, [], ◌∷◌, ◌++◌, length, take, drop, refl, sym, ap, subst, ◌∙◌, arith, append_assoc, length-append, take-append-drop}
 use Rattle.std.specs.Prelude.{MatchResult}
 use Rattle.std.proofs.lemmas.List.{take_at, drop_at, length-drop, length-take-le}
-use Rattle.org_splice.specs.Lines.{closed, print_lines, lines_of}
+use Rattle.org_splice.specs.Lines.{terminated, print_lines, lines_of}
 use Rattle.org_splice.specs.declared.Span.{Span}
 use Rattle.org_splice.specs.declared.edit.Edit.{Edit}
 use Rattle.org_splice.proofs.Lines.{print_lines-append}
@@ -13,13 +13,13 @@ use Rattle.org_meta.specs.declared.fault.ClockFault.TheVariants.{ClockBackwards,
 use Rattle.org_meta.specs.Edits.{Gives}
 use Rattle.org_meta.specs.Clocks.{running_clock, is_open, minutes_between, IsOpenAt, HasOpenAt}
 use Rattle.org_meta.specs.Clocking.{closing_text, closed_after, closed_clock, closed_line, IsWhyNot, ClosesNot}
-use Rattle.org_meta.proofs.Walk.{print_lines-closed}
+use Rattle.org_meta.proofs.Walk.{print_lines-terminated}
 use Rattle.org_meta.proofs.Puts.{gives_at}
 
-module _ (section : List ℕ) (span : Span) (before : List (List ℕ)) (line : List ℕ) (after : List (List ℕ)) (whole : closed section ≡ section) (is : IsOpenAt section span before line after) where
+module _ (section : List ℕ) (span : Span) (before : List (List ℕ)) (line : List ℕ) (after : List (List ℕ)) (whole : terminated section ≡ section) (is : IsOpenAt section span before line after) where
   -- the bytes of the section round the line
   pub round_line : section ≡ print_lines before ++ (line ++ 10 ∷ print_lines after)
-  round_line = sym (print_lines-closed section whole) ∙ ap print_lines is.lines ∙ print_lines-append before (line ∷ after)
+  round_line = sym (print_lines-terminated section whole) ∙ ap print_lines is.lines ∙ print_lines-append before (line ∷ after)
 
   pub ends_within : span.end ≤ length section
   ends_within = omega (arith, is.end, ap length round_line, length-append (print_lines before) (line ++ 10 ∷ print_lines after), length-append line (10 ∷ print_lines after))
@@ -66,11 +66,11 @@ module _ (section : List ℕ) (span : Span) (before : List (List ℕ)) (line : L
 
 -- ---- as the code says it
 
-pub line_runs : (section : List ℕ) (span : Span) (text : List ℕ) → closed section ≡ section → HasOpenAt section span → text ≡ take (span.end - 1 - span.start) (drop span.start section) → is_open text ≡ true
+pub line_runs : (section : List ℕ) (span : Span) (text : List ℕ) → terminated section ≡ section → HasOpenAt section span → text ≡ take (span.end - 1 - span.start) (drop span.start section) → is_open text ≡ true
 line_runs section span text whole h same = ap is_open (same ∙ line_at section span h.before h.line h.after whole h.is) ∙ h.is.runs
 
 -- memory was refused for a line that can be closed
-pub starved : (section : List ℕ) (span : Span) (now : CivilMinute) (running : Running) (text : List ℕ) (minutes : ℕ) (fault : ClockFault) → closed section ≡ section → fault ≡ OutOfMemory
+pub starved : (section : List ℕ) (span : Span) (now : CivilMinute) (running : Running) (text : List ℕ) (minutes : ℕ) (fault : ClockFault) → terminated section ≡ section → fault ≡ OutOfMemory
     → text ≡ take (span.end - 1 - span.start) (drop span.start section) → Some running ≡ running_clock text → Some minutes ≡ minutes_between running.start now → ClosesNot now section span fault
 starved section span now running text minutes fault whole memory same runs some =
     λ before line after is. rw memory (take running.head line ++ closing_text now minutes, closes_now section span before line after whole is now running text same runs minutes some)

@@ -2,13 +2,13 @@
 use Rattle.std.proofs.Common.{◌≡◌, ℕ, suc, ◌+◌, true, false, Option, Some, None, List, [], ◌∷◌, ◌++◌, length, take, drop, ◌-◌, Bor, refl, sym, ap, ◌∙◌, arith, length-append}
 use Rattle.std.specs.List.{AllByRecursion}
 use Rattle.std.specs.Option.{option_map, option_map_or, unwrap_or}
-use Rattle.org_splice.specs.Lines.{closed, lines_of, print_lines, IsLine}
+use Rattle.org_splice.specs.Lines.{terminated, lines_of, print_lines, IsLine}
 use Rattle.org_meta.specs.Lines.{BeginsWith, behind_lines}
 use Rattle.org_meta.specs.declared.parts.Sections.{Sections}
 use Rattle.org_meta.specs.Sections.{AreSections, split, is_planning, planning_size, is_drawer_start, drawer_size, is_end, NodeProperty, property_of, size_to_end, value_named, value_before_end}
-use Rattle.org_splice.proofs.Lines.{closed-print_lines, lines_of-lines, lines_of-print_lines}
+use Rattle.org_splice.proofs.Lines.{terminated-print_lines, lines_of-lines, lines_of-print_lines}
 use Rattle.org_meta.proofs.AllLines.{AllByRecursion-take, AllByRecursion-drop}
-use Rattle.org_meta.proofs.Walk.{Passed, passed_none, passed_line, passed_rest, behind_none, front_lines, print_lines-closed}
+use Rattle.org_meta.proofs.Walk.{Passed, passed_none, passed_line, passed_rest, behind_none, front_lines, print_lines-terminated}
 
 -- ---- the end of a drawer
 
@@ -25,7 +25,7 @@ plus_one : (k : ℕ) (ls : List (List ℕ)) (l : List ℕ) (o : Option ℕ) → 
 plus_one k ls l None long = refl
 plus_one k ls l (Some n) long = ap (λ n. Some n) (omega (arith, length-append ls (l ∷ [])))
 
-pub ends_none : (whole : List ℕ) → closed whole ≡ whole → EndsLater whole whole
+pub ends_none : (whole : List ℕ) → terminated whole ≡ whole → EndsLater whole whole
 unfolding passed_none
 ends_none whole is = record { passed = passed_none whole is; size = plus_none (size_to_end (lines_of whole)) }
 
@@ -60,12 +60,12 @@ ends_nowhere whole text e none =
 -- ---- a value
 
 pub record ValueLater (name whole text : List ℕ) : Type 0 where
-  pub closed_text : closed text ≡ text
+  pub terminated_text : terminated text ≡ text
   pub value : value_before_end name (lines_of whole) ≡ value_before_end name (lines_of text)
 
 pub value_line : (name whole text line rest : List ℕ) → ValueLater name whole text → BeginsWith text line rest → is_end line ≡ false → value_named name line ≡ None → ValueLater name whole rest
 value_line name whole text line rest v b other none = record {
-  closed_text = b.closed_rest;
+  terminated_text = b.terminated_rest;
   value = v.value ∙ ap (value_before_end name) b.lines ∙ rw (other, none) refl;
 }
 
@@ -81,17 +81,17 @@ value_nowhere name whole text v none = sym (v.value ∙ ap (λ (t : List ℕ). v
 
 -- ---- the parts
 
-pub behind_other : (text line rest : List ℕ) → closed text ≡ text → BeginsWith text line rest → is_drawer_start line ≡ false → text ≡ behind_lines text (drawer_size (lines_of text))
+pub behind_other : (text line rest : List ℕ) → terminated text ≡ text → BeginsWith text line rest → is_drawer_start line ≡ false → text ≡ behind_lines text (drawer_size (lines_of text))
 behind_other text line rest whole b other =
     let none : drawer_size (lines_of text) ≡ 0 = ap drawer_size b.lines ∙ rw other refl in
     behind_none text whole ∙ ap (behind_lines text) (sym none)
 
-size_behind : (text line rest : List ℕ) (o : Option ℕ) (r : Option (List ℕ)) → closed text ≡ text → BeginsWith text line rest → r ≡ option_map (behind_lines rest) o → unwrap_or r text ≡ behind_lines text (option_map_or suc o 0)
+size_behind : (text line rest : List ℕ) (o : Option ℕ) (r : Option (List ℕ)) → terminated text ≡ text → BeginsWith text line rest → r ≡ option_map (behind_lines rest) o → unwrap_or r text ≡ behind_lines text (option_map_or suc o 0)
 size_behind text line rest None r whole b is = rw is (behind_none text whole)
 size_behind text line rest (Some n) r whole b is =
     rw is (sym (ap (λ (ls : List (List ℕ)). print_lines (drop (suc n) ls)) b.lines))
 
-behind_drawer : (text line rest : List ℕ) (r : Option (List ℕ)) → closed text ≡ text → BeginsWith text line rest → is_drawer_start line ≡ true → r ≡ option_map (behind_lines rest) (size_to_end (lines_of rest))
+behind_drawer : (text line rest : List ℕ) (r : Option (List ℕ)) → terminated text ≡ text → BeginsWith text line rest → is_drawer_start line ≡ true → r ≡ option_map (behind_lines rest) (size_to_end (lines_of rest))
     → unwrap_or r text ≡ behind_lines text (drawer_size (lines_of text))
 behind_drawer text line rest r whole b start is =
     let size : drawer_size (lines_of text) ≡ option_map_or suc (size_to_end (lines_of rest)) 0 = ap drawer_size b.lines ∙ rw start refl in
@@ -101,7 +101,7 @@ now_or : (r : Option (Bor (List ℕ))) (d : Bor (List ℕ)) → (unwrap_or r d).
 now_or None d = refl
 now_or (Some x) d = refl
 
-pub behind_drawer_now : (text line rest : List ℕ) (found : Option (Bor (List ℕ))) (or answer : Bor (List ℕ)) → or.now ≡ text → answer ≡ unwrap_or found or → closed text ≡ text → BeginsWith text line rest → is_drawer_start line ≡ true
+pub behind_drawer_now : (text line rest : List ℕ) (found : Option (Bor (List ℕ))) (or answer : Bor (List ℕ)) → or.now ≡ text → answer ≡ unwrap_or found or → terminated text ≡ text → BeginsWith text line rest → is_drawer_start line ≡ true
     → option_map (λ x. x.now) found ≡ option_map (behind_lines rest) (size_to_end (lines_of rest))
     → answer.now ≡ behind_lines text (drawer_size (lines_of text))
 behind_drawer_now text line rest found or answer is_text is whole b start behind =
@@ -111,9 +111,9 @@ behind_drawer_now text line rest found or answer is_text is whole b start behind
 pub planning_here : (text line rest : List ℕ) → BeginsWith text line rest → is_planning line ≡ true → rest ≡ behind_lines text (planning_size (lines_of text))
 planning_here text line rest b here =
     let size : planning_size (lines_of text) ≡ 1 = ap planning_size b.lines ∙ rw here refl in
-    sym (ap (behind_lines text) size ∙ ap (λ (ls : List (List ℕ)). print_lines (drop 1 ls)) b.lines ∙ print_lines-closed rest b.closed_rest)
+    sym (ap (behind_lines text) size ∙ ap (λ (ls : List (List ℕ)). print_lines (drop 1 ls)) b.lines ∙ print_lines-terminated rest b.terminated_rest)
 
-pub planning_other : (text line rest : List ℕ) → closed text ≡ text → BeginsWith text line rest → is_planning line ≡ false → text ≡ behind_lines text (planning_size (lines_of text))
+pub planning_other : (text line rest : List ℕ) → terminated text ≡ text → BeginsWith text line rest → is_planning line ≡ false → text ≡ behind_lines text (planning_size (lines_of text))
 planning_other text line rest whole b other =
     let size : planning_size (lines_of text) ≡ 0 = ap planning_size b.lines ∙ rw other refl in
     behind_none text whole ∙ ap (behind_lines text) (sym size)
@@ -123,7 +123,7 @@ pub part_lines : (ls : List (List ℕ)) (text : List ℕ) → AllByRecursion IsL
 part_lines ls text p is = ap lines_of is ∙ lines_of-print_lines ls p
 
 -- the three slices of a section, from where the second and the third begin
-pub are_sections : (section below rest : List ℕ) (slices : Sections) → closed section ≡ section → below ≡ behind_lines section (planning_size (lines_of section))
+pub are_sections : (section below rest : List ℕ) (slices : Sections) → terminated section ≡ section → below ≡ behind_lines section (planning_size (lines_of section))
     → rest ≡ behind_lines below (drawer_size (lines_of below))
     → slices.planning.now ≡ take (length section - length below) section → slices.drawer.now ≡ take (length below - length rest) below → slices.rest.now ≡ rest
     → AreSections slices (split (lines_of section))
@@ -131,10 +131,10 @@ are_sections section below rest slices whole is_below is_rest planning drawer la
     let n = planning_size (lines_of section) in
     let lines : lines_of below ≡ drop n (lines_of section) =
     part_lines (drop n (lines_of section)) below (AllByRecursion-drop IsLine n (lines_of section) (lines_of-lines section)) is_below in
-    let closed_below : closed below ≡ below = ap closed is_below ∙ closed-print_lines (drop n (lines_of section)) ∙ sym is_below in
+    let terminated_below : terminated below ≡ below = ap terminated is_below ∙ terminated-print_lines (drop n (lines_of section)) ∙ sym is_below in
     record {
       planning = planning ∙ front_lines section below n whole is_below;
-      drawer = drawer ∙ front_lines below rest (drawer_size (lines_of below)) closed_below is_rest ∙ ap (λ (ls : List (List ℕ)). print_lines (take (drawer_size ls) ls)) lines;
+      drawer = drawer ∙ front_lines below rest (drawer_size (lines_of below)) terminated_below is_rest ∙ ap (λ (ls : List (List ℕ)). print_lines (take (drawer_size ls) ls)) lines;
       rest = last ∙ is_rest ∙ ap (λ (ls : List (List ℕ)). print_lines (drop (drawer_size ls) ls)) lines;
     }
 
@@ -151,8 +151,8 @@ property_lines section drawer line rest is b =
 pub no_drawer : (section drawer : List ℕ) → drawer ≡ print_lines (split (lines_of section)).drawer → drawer ≡ [] → (split (lines_of section)).drawer ≡ []
 no_drawer section drawer is none = sym (part_lines (split (lines_of section)).drawer drawer (drawer_lines section) is) ∙ ap lines_of none
 
-pub drawer_closed : (section : List ℕ) (slices : Sections) → AreSections slices (split (lines_of section)) → closed slices.drawer.now ≡ slices.drawer.now
-drawer_closed section slices are = ap closed are.drawer ∙ closed-print_lines (split (lines_of section)).drawer ∙ sym are.drawer
+pub drawer_terminated : (section : List ℕ) (slices : Sections) → AreSections slices (split (lines_of section)) → terminated slices.drawer.now ≡ slices.drawer.now
+drawer_terminated section slices are = ap terminated are.drawer ∙ terminated-print_lines (split (lines_of section)).drawer ∙ sym are.drawer
 
 pub drawer_is : (section : List ℕ) (slices : Sections) → AreSections slices (split (lines_of section)) → lines_of slices.drawer.now ≡ (split (lines_of section)).drawer
 drawer_is section slices are = part_lines (split (lines_of section)).drawer slices.drawer.now (drawer_lines section) are.drawer

@@ -3,7 +3,7 @@ use Rattle.std.proofs.Common.{◌≡◌, ℕ, ◌+◌, ◌-◌, ◌≤◌, true,
 use Rattle.std.specs.Prelude.{codes}
 use Rattle.std.specs.List.{list_any}
 use Rattle.std.specs.Option.{option_map, unwrap_or}
-use Rattle.org_splice.specs.Lines.{closed, print_lines, lines_of, IsLine}
+use Rattle.org_splice.specs.Lines.{terminated, print_lines, lines_of, IsLine}
 use Rattle.org_splice.specs.declared.edit.Edit.{Edit}
 use Rattle.org_stamp.specs.Calendar.{CivilMinute}
 use Rattle.org_meta.specs.declared.parts.Sections.{Sections}
@@ -13,9 +13,9 @@ use Rattle.org_meta.specs.Edits.{Gives}
 use Rattle.org_meta.specs.Edits.{IsPlaceFor}
 use Rattle.org_meta.specs.Sections.{SectionParts, AreSections, split, joined, is_end, planning_size}
 use Rattle.org_meta.specs.Clocking.{is_logbook, in_logbook, logged, clock_line, opened}
-use Rattle.org_splice.proofs.Lines.{print_lines-append, closed-print_lines, lines_of-lines}
+use Rattle.org_splice.proofs.Lines.{print_lines-append, terminated-print_lines, lines_of-lines}
 use Rattle.org_meta.proofs.AllLines.{AllByRecursion-drop}
-use Rattle.org_meta.proofs.Walk.{Passed, passed_none, passed_line, print_lines-closed}
+use Rattle.org_meta.proofs.Walk.{Passed, passed_none, passed_line, print_lines-terminated}
 use Rattle.org_meta.proofs.Puts.{gives_at, section_bytes, rest_below}
 use Rattle.org_meta.proofs.Drawers.{part_lines}
 
@@ -31,7 +31,7 @@ behind_more : (before : List (List ℕ)) (l : List ℕ) (o : Option (List (List 
 behind_more before l None = refl
 behind_more before l (Some ls) = ap (λ (ls : List (List ℕ)). Some ls) (sym (append_assoc before (l ∷ []) ls))
 
-pub log_none : (whole : List ℕ) → closed whole ≡ whole → LogLater whole whole
+pub log_none : (whole : List ℕ) → terminated whole ≡ whole → LogLater whole whole
 unfolding passed_none
 log_none whole is = record { passed = passed_none whole is; log = λ line. behind_nothing (in_logbook line (lines_of whole)) }
 
@@ -55,7 +55,7 @@ log_here whole text l rest place p b start ends left removed =
       old = [];
       after = lines_of rest;
       whole = next.bytes ∙ ap (λ (t : List ℕ). print_lines (p.passed.before ++ l ∷ []) ++ t) (sym left);
-      left = left ∙ sym (print_lines-closed rest b.closed_rest);
+      left = left ∙ sym (print_lines-terminated rest b.terminated_rest);
       removed = removed;
       gives = λ line.
           let here : in_logbook line (l ∷ lines_of rest) ≡ Some (l ∷ line ∷ lines_of rest) = rw (start, ends) refl in
@@ -97,7 +97,7 @@ print_opened : (parts : SectionParts) (rest : List (List ℕ)) → print_lines (
 print_opened parts rest = print_lines-append parts.planning (parts.drawer ++ rest) ∙ ap (λ (t : List ℕ). print_lines parts.planning ++ t) (print_lines-append parts.drawer rest)
 
 -- an edit of the rest is one of the section
-pub rest_gives : (e : Edit) (section a b c w : List ℕ) (slices : Sections) (rest : List (List ℕ)) → closed section ≡ section → AreSections slices (split (lines_of section)) → slices.rest.now ≡ a ++ (b ++ c)
+pub rest_gives : (e : Edit) (section a b c w : List ℕ) (slices : Sections) (rest : List (List ℕ)) → terminated section ≡ section → AreSections slices (split (lines_of section)) → slices.rest.now ≡ a ++ (b ++ c)
     → e.at + (length b + length c) ≡ length section → e.removed ≡ length b → e.bytes ≡ w → print_lines rest ≡ a ++ (w ++ c)
     → Gives e section (joined (record (split (lines_of section)) { rest = rest }))
 rest_gives e section a b c w slices rest whole are old at removed bytes new =
@@ -119,10 +119,10 @@ rest_gives e section a b c w slices rest whole are old at removed bytes new =
 pub rest_lines : (section : List ℕ) (slices : Sections) → AreSections slices (split (lines_of section)) → lines_of slices.rest.now ≡ (split (lines_of section)).rest
 rest_lines section slices are = part_lines (split (lines_of section)).rest slices.rest.now (AllByRecursion-drop IsLine _ _ (AllByRecursion-drop IsLine (planning_size (lines_of section)) (lines_of section) (lines_of-lines section))) are.rest
 
-pub rest_closed : (section : List ℕ) (slices : Sections) → AreSections slices (split (lines_of section)) → closed slices.rest.now ≡ slices.rest.now
-rest_closed section slices are = ap closed are.rest ∙ closed-print_lines (split (lines_of section)).rest ∙ sym are.rest
+pub rest_terminated : (section : List ℕ) (slices : Sections) → AreSections slices (split (lines_of section)) → terminated slices.rest.now ≡ slices.rest.now
+rest_terminated section slices are = ap terminated are.rest ∙ terminated-print_lines (split (lines_of section)).rest ∙ sym are.rest
 
-pub opened_gives : (e : Edit) (section : List ℕ) (now : CivilMinute) (slices : Sections) (place : Place) → closed section ≡ section → AreSections slices (split (lines_of section))
+pub opened_gives : (e : Edit) (section : List ℕ) (now : CivilMinute) (slices : Sections) (place : Place) → terminated section ≡ section → AreSections slices (split (lines_of section))
     → IsPlaceFor (λ line. logged line (lines_of slices.rest.now)) slices.rest.now place
     → e.at ≡ length section - length place.left.now → e.removed ≡ place.removed → e.bytes ≡ clock_line now ++ 10 ∷ []
     → Gives e section (joined (opened now (split (lines_of section))))
@@ -149,7 +149,7 @@ opened_gives e section now slices place whole are is at removed bytes =
     ) in
     rest_gives e section a b c (l ++ 10 ∷ []) slices (logged l p.rest) whole are old here (removed ∙ is.removed) bytes new
 
-pub new_log_gives : (e : Edit) (section : List ℕ) (now : CivilMinute) (slices : Sections) → closed section ≡ section → AreSections slices (split (lines_of section))
+pub new_log_gives : (e : Edit) (section : List ℕ) (now : CivilMinute) (slices : Sections) → terminated section ≡ section → AreSections slices (split (lines_of section))
     → ((line : List ℕ) → in_logbook line (lines_of slices.rest.now) ≡ None)
     → e.at ≡ length section - length slices.rest.now → e.removed ≡ 0 → e.bytes ≡ codes ":LOGBOOK:\n" ++ (clock_line now ++ 10 ∷ []) ++ codes ":END:\n"
     → Gives e section (joined (opened now (split (lines_of section))))
@@ -166,7 +166,7 @@ new_log_gives e section now slices whole are none at removed bytes =
     let here : e.at + (0 + length c) ≡ length section = omega arith in
     rest_gives e section [] [] c (codes ":LOGBOOK:\n" ++ (l ++ 10 ∷ []) ++ codes ":END:\n") slices (logged l p.rest) whole are refl here removed bytes new
 
-pub log_below : (section : List ℕ) (slices : Sections) (result : List ℕ → List (List ℕ)) (place : Place) → closed section ≡ section → AreSections slices (split (lines_of section)) → IsPlaceFor result slices.rest.now place → length place.left.now ≤ length section
+pub log_below : (section : List ℕ) (slices : Sections) (result : List ℕ → List (List ℕ)) (place : Place) → terminated section ≡ section → AreSections slices (split (lines_of section)) → IsPlaceFor result slices.rest.now place → length place.left.now ≤ length section
 log_below section slices result place whole are is =
     let below = rest_below section slices whole are in
     omega (arith, ap length is.whole, length-append (print_lines is.before) place.left.now)

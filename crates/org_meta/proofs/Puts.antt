@@ -2,7 +2,7 @@
 use Rattle.std.proofs.Common.{◌≡◌, ℕ, ◌+◌, ◌-◌, ◌≤◌, true, false, Bool, Option, Some, None, Bor, List, [], ◌∷◌, ◌++◌, length, take, drop, refl, sym, ap, ◌∙◌, arith, append_assoc, length-append, take-append-drop}
 use Rattle.std.specs.Prelude.{is_some, codes}
 use Rattle.std.specs.Option.{option_map}
-use Rattle.org_splice.specs.Lines.{closed, print_lines, lines_of}
+use Rattle.org_splice.specs.Lines.{terminated, print_lines, lines_of}
 use Rattle.org_splice.specs.declared.edit.Edit.{Edit}
 use Rattle.org_meta.specs.declared.parts.Sections.{Sections}
 use Rattle.org_meta.specs.declared.lines.Place.{Place}
@@ -13,7 +13,7 @@ use Rattle.org_splice.proofs.Places.{edited_at}
 use Rattle.org_meta.specs.Edits.{Gives, IsPlaceFor}
 use Rattle.org_meta.specs.Sections.{SectionParts, AreSections, split, joined, is_end, value_named, put_before_end, put_in_drawer, property_line, put, planning_size, drawer_size}
 use Rattle.org_meta.specs.Notes.{with_note}
-use Rattle.org_meta.proofs.Walk.{Passed, passed_none, passed_line, print_lines-closed}
+use Rattle.org_meta.proofs.Walk.{Passed, passed_none, passed_line, print_lines-terminated}
 use Rattle.org_meta.proofs.Drawers.{no_drawer, drawer_is}
 
 -- ---- edits by their bytes
@@ -39,23 +39,23 @@ print_joined : (parts : SectionParts) → print_lines (joined parts) ≡ print_l
 print_joined parts = print_lines-append parts.planning (parts.drawer ++ parts.rest) ∙ ap (λ (t : List ℕ). print_lines parts.planning ++ t) (print_lines-append parts.drawer parts.rest)
 
 -- the bytes of a section are those of its parts
-pub section_bytes : (section : List ℕ) (slices : Sections) → closed section ≡ section → AreSections slices (split (lines_of section)) → section ≡ slices.planning.now ++ (slices.drawer.now ++ slices.rest.now)
+pub section_bytes : (section : List ℕ) (slices : Sections) → terminated section ≡ section → AreSections slices (split (lines_of section)) → section ≡ slices.planning.now ++ (slices.drawer.now ++ slices.rest.now)
 section_bytes section slices whole are =
     let p = split (lines_of section) in
     let text : section ≡ print_lines p.planning ++ (print_lines p.drawer ++ print_lines p.rest) =
-    sym (print_lines-closed section whole) ∙ ap print_lines (sym (joined_split (lines_of section))) ∙ print_joined p in
+    sym (print_lines-terminated section whole) ∙ ap print_lines (sym (joined_split (lines_of section))) ∙ print_joined p in
     text
     ∙ ap (λ (t : List ℕ). t ++ (print_lines p.drawer ++ print_lines p.rest)) (sym are.planning)
     ∙ ap (λ (t : List ℕ). slices.planning.now ++ (t ++ print_lines p.rest)) (sym are.drawer)
     ∙ ap (λ (t : List ℕ). slices.planning.now ++ (slices.drawer.now ++ t)) (sym are.rest)
 
-pub rest_below : (section : List ℕ) (slices : Sections) → closed section ≡ section → AreSections slices (split (lines_of section)) → length slices.rest.now ≤ length section
+pub rest_below : (section : List ℕ) (slices : Sections) → terminated section ≡ section → AreSections slices (split (lines_of section)) → length slices.rest.now ≤ length section
 rest_below section slices whole are =
     omega (arith, ap length (section_bytes section slices whole are), length-append slices.planning.now (slices.drawer.now ++ slices.rest.now), length-append slices.drawer.now slices.rest.now)
 
 -- ---- a note
 
-pub note_gives : (e : Edit) (section note : List ℕ) (slices : Sections) → closed section ≡ section → AreSections slices (split (lines_of section)) → e.at ≡ length section - length slices.rest.now → e.removed ≡ 0 → e.bytes ≡ note ++ 10 ∷ []
+pub note_gives : (e : Edit) (section note : List ℕ) (slices : Sections) → terminated section ≡ section → AreSections slices (split (lines_of section)) → e.at ≡ length section - length slices.rest.now → e.removed ≡ 0 → e.bytes ≡ note ++ 10 ∷ []
     → Gives e section (joined (with_note note (split (lines_of section))))
 note_gives e section note slices whole are at removed bytes =
     let p = split (lines_of section) in
@@ -78,7 +78,7 @@ pub record PutsLater (name whole text : List ℕ) : Type 0 where
   pub passed : Passed whole text
   pub puts : (line : List ℕ) → put_before_end name line (lines_of whole) ≡ passed.before ++ put_before_end name line (lines_of text)
 
-pub puts_none : (name whole : List ℕ) → closed whole ≡ whole → PutsLater name whole whole
+pub puts_none : (name whole : List ℕ) → terminated whole ≡ whole → PutsLater name whole whole
 unfolding passed_none
 puts_none name whole is = record { passed = passed_none whole is; puts = λ line. refl }
 
@@ -108,7 +108,7 @@ puts_here name whole text l rest place p b other found left removed = record {
   old = l ∷ [];
   after = lines_of rest;
   whole = p.passed.bytes ∙ ap (λ (t : List ℕ). print_lines p.passed.before ++ t) (sym left);
-  left = left ∙ b.bytes ∙ ap (λ (t : List ℕ). l ++ 10 ∷ t) (sym (print_lines-closed rest b.closed_rest)) ∙ sym (append_assoc l (10 ∷ []) (print_lines (lines_of rest)));
+  left = left ∙ b.bytes ∙ ap (λ (t : List ℕ). l ++ 10 ∷ t) (sym (print_lines-terminated rest b.terminated_rest)) ∙ sym (append_assoc l (10 ∷ []) (print_lines (lines_of rest)));
   removed = removed ∙ (let long : length text - length rest ≡ length (l ++ 10 ∷ []) = omega (arith, ap length b.bytes, length-append l (10 ∷ rest), length-append l (10 ∷ [])) in long);
   gives = λ line.
       p.puts line
@@ -123,7 +123,7 @@ puts_at_end name whole text l rest place p b end left removed = record {
   old = [];
   after = lines_of text;
   whole = p.passed.bytes ∙ ap (λ (t : List ℕ). print_lines p.passed.before ++ t) (sym left);
-  left = left ∙ sym (print_lines-closed text p.passed.closed_text);
+  left = left ∙ sym (print_lines-terminated text p.passed.terminated_text);
   removed = removed;
   gives = λ line.
       p.puts line
@@ -145,7 +145,7 @@ puts_nowhere name whole text place p none left removed = record {
 
 -- ---- a property in its section
 
-pub new_drawer_gives : (e : Edit) (section name value : List ℕ) (slices : Sections) → closed section ≡ section → AreSections slices (split (lines_of section)) → slices.drawer.now ≡ []
+pub new_drawer_gives : (e : Edit) (section name value : List ℕ) (slices : Sections) → terminated section ≡ section → AreSections slices (split (lines_of section)) → slices.drawer.now ≡ []
     → e.at ≡ length slices.planning.now → e.removed ≡ 0 → e.bytes ≡ codes ":PROPERTIES:\n" ++ (property_line name value ++ 10 ∷ []) ++ codes ":END:\n"
     → Gives e section (joined (put name value (split (lines_of section))))
 new_drawer_gives e section name value slices whole are none at removed bytes =
@@ -164,7 +164,7 @@ new_drawer_gives e section name value slices whole are none at removed bytes =
     ∙ ap (λ (t : List ℕ). a ++ (codes ":PROPERTIES:\n" ++ t)) (sym (append_assoc l (10 ∷ []) (codes ":END:\n" ++ c)) ∙ sym (append_assoc (l ++ 10 ∷ []) (codes ":END:\n") c)) in
     gives_at e section a [] c w (joined (put name value p)) parts at removed bytes print
 
-pub put_gives : (e : Edit) (section name value start properties : List ℕ) (slices : Sections) (place : Place) → closed section ≡ section → AreSections slices (split (lines_of section))
+pub put_gives : (e : Edit) (section name value start properties : List ℕ) (slices : Sections) (place : Place) → terminated section ≡ section → AreSections slices (split (lines_of section))
     → BeginsWith slices.drawer.now start properties → IsPlaceFor (λ line. put_before_end name line (lines_of properties)) properties place
     → e.at ≡ length section - length slices.rest.now - length place.left.now → e.removed ≡ place.removed → e.bytes ≡ property_line name value ++ 10 ∷ []
     → Gives e section (joined (put name value (split (lines_of section))))
@@ -196,7 +196,7 @@ put_gives e section name value start properties slices place whole are b is at r
     let here : e.at ≡ length head = omega arith in
     gives_at e section head old (after ++ c) (l ++ 10 ∷ []) (joined (put name value p)) parts here (removed ∙ is.removed) bytes print
 
-pub left_below : (section start properties : List ℕ) (slices : Sections) (result : List ℕ → List (List ℕ)) (place : Place) → closed section ≡ section → AreSections slices (split (lines_of section))
+pub left_below : (section start properties : List ℕ) (slices : Sections) (result : List ℕ → List (List ℕ)) (place : Place) → terminated section ≡ section → AreSections slices (split (lines_of section))
     → BeginsWith slices.drawer.now start properties → IsPlaceFor result properties place → length place.left.now ≤ length section - length slices.rest.now
 left_below section start properties slices result place whole are b is =
     omega (

@@ -4,7 +4,7 @@ use Rattle.std.specs.Prelude.{◌⊎◌}
 use Rattle.std.specs.Option.{option_map_or}
 use Rattle.std.proofs.lemmas.Bool.{cases_Bool}
 use Rattle.org_splice.specs.Edits.{edited}
-use Rattle.org_splice.specs.Lines.{closed, print_lines, IsLine, lines_of}
+use Rattle.org_splice.specs.Lines.{terminated, print_lines, IsLine, lines_of}
 use Rattle.org_splice.specs.declared.edit.Edit.{Edit}
 use Rattle.org_stamp.specs.Calendar.{CivilMinute}
 use Rattle.org_meta.specs.declared.parts.Sections.{Sections}
@@ -15,10 +15,10 @@ use Rattle.org_meta.specs.Edits.{Gives, ChangesNothing}
 use Rattle.org_meta.specs.Sections.{SectionParts, AreSections, split, joined, is_planning, planning_size}
 use Rattle.org_meta.specs.Planning.{PlanningEntry, PlanningLine, planning_of, has_repeater, AreRepeated, replanned, replanned_line, closed_text, kept_text, has_closed, has_closed_entry, has_others, without_closed, with_closed, clear_closed}
 use Rattle.org_meta.specs.Replans.{GivesOk, FaultIn, PutsAllRepeated, HasNoRepeater, FaultRepeated, GivesRepeated, GivesRepeatedIn, repeated_line}
-use Rattle.org_splice.proofs.Lines.{print_lines-append, closed-print_lines, lines_of-lines}
+use Rattle.org_splice.proofs.Lines.{print_lines-append, terminated-print_lines, lines_of-lines}
 use Rattle.org_meta.proofs.AllLines.{AllByRecursion-take}
 use Rattle.org_meta.proofs.Drawers.{part_lines}
-use Rattle.org_meta.proofs.Walk.{print_lines-closed}
+use Rattle.org_meta.proofs.Walk.{print_lines-terminated}
 use Rattle.org_meta.proofs.PlanningText.{nothing_goes}
 use Rattle.org_meta.proofs.Puts.{gives_at, section_bytes, joined_split}
 
@@ -26,7 +26,7 @@ planning_is : (section : List ℕ) (slices : Sections) → AreSections slices (s
 planning_is section slices are = part_lines (split (lines_of section)).planning slices.planning.now (AllByRecursion-take IsLine (planning_size (lines_of section)) (lines_of section) (lines_of-lines section)) are.planning
 
 -- other lines in the place of the planning
-planning_gives : (e : Edit) (section : List ℕ) (slices : Sections) (new : List (List ℕ)) → closed section ≡ section → AreSections slices (split (lines_of section)) → e.at ≡ 0 → e.removed ≡ length slices.planning.now → e.bytes ≡ print_lines new
+planning_gives : (e : Edit) (section : List ℕ) (slices : Sections) (new : List (List ℕ)) → terminated section ≡ section → AreSections slices (split (lines_of section)) → e.at ≡ 0 → e.removed ≡ length slices.planning.now → e.bytes ≡ print_lines new
     → Gives e section (joined (record (split (lines_of section)) { planning = new }))
 planning_gives e section slices new whole are at removed bytes =
     let p = split (lines_of section) in
@@ -40,10 +40,10 @@ planning_gives e section slices new whole are at removed bytes =
 with_gives : (section : List ℕ) (e : Edit) (r : Result SectionParts PlanningFault) (parts : SectionParts) → r ≡ Ok parts → Gives e section (joined parts) → GivesOk r section e
 with_gives section e r parts is gives = let P : Result SectionParts PlanningFault → Type 0 = λ r. GivesOk r section e in subst P (sym is) gives
 
-pub planning_closed : (section : List ℕ) (slices : Sections) → AreSections slices (split (lines_of section)) → closed slices.planning.now ≡ slices.planning.now
-planning_closed section slices are = ap closed are.planning ∙ closed-print_lines (split (lines_of section)).planning ∙ sym are.planning
+pub planning_terminated : (section : List ℕ) (slices : Sections) → AreSections slices (split (lines_of section)) → terminated slices.planning.now ≡ slices.planning.now
+planning_terminated section slices are = ap terminated are.planning ∙ terminated-print_lines (split (lines_of section)).planning ∙ sym are.planning
 
-module _ (section : List ℕ) (slices : Sections) (whole : closed section ≡ section) (are : AreSections slices (split (lines_of section))) (none : List (List ℕ)) (some : PlanningLine → List (List ℕ)) where
+module _ (section : List ℕ) (slices : Sections) (whole : terminated section ≡ section) (are : AreSections slices (split (lines_of section))) (none : List (List ℕ)) (some : PlanningLine → List (List ℕ)) where
   pub plan_none : (e : Edit) → slices.planning.now ≡ [] → e.at ≡ 0 → e.removed ≡ 0 → e.bytes ≡ print_lines none → GivesOk (replanned none some (split (lines_of section)) (split (lines_of section)).planning) section e
   plan_none e empty at removed bytes =
       let p = split (lines_of section) in
@@ -97,15 +97,15 @@ planning_alone (l ∷ ls) line more e =
     ]
 
 -- the edit that changes nothing gives the lines that there are
-nothing_gives : (e : Edit) (section : List ℕ) → closed section ≡ section → ChangesNothing e → Gives e section (lines_of section)
+nothing_gives : (e : Edit) (section : List ℕ) → terminated section ≡ section → ChangesNothing e → Gives e section (lines_of section)
 nothing_gives e section whole same = record {
   within = omega (arith, same.at, same.removed);
   gives =
       ap (λ n. edited n e.removed e.bytes section) same.at ∙ ap (λ n. edited 0 n e.bytes section) same.removed
-      ∙ ap (λ (t : List ℕ). edited 0 0 t section) same.bytes ∙ sym (print_lines-closed section whole);
+      ∙ ap (λ (t : List ℕ). edited 0 0 t section) same.bytes ∙ sym (print_lines-terminated section whole);
 }
 
-module _ (section : List ℕ) (slices : Sections) (whole : closed section ≡ section) (are : AreSections slices (split (lines_of section))) where
+module _ (section : List ℕ) (slices : Sections) (whole : terminated section ≡ section) (are : AreSections slices (split (lines_of section))) where
   pub none_cleared : (e : Edit) → slices.planning.now ≡ [] → ChangesNothing e → GivesOk (clear_closed (split (lines_of section))) section e
   none_cleared e empty same = plan_none section slices whole are [] without_closed e empty same.at same.removed same.bytes
 
@@ -140,7 +140,7 @@ with_closed_bytes o0 o1 o2 o3 o4 o5 o6 now p e1 e2 e3 e4 e5 e6 others =
 
 -- ---- repetition
 
-module _ (section : List ℕ) (slices : Sections) (whole : closed section ≡ section) (are : AreSections slices (split (lines_of section))) (now : CivilMinute) where
+module _ (section : List ℕ) (slices : Sections) (whole : terminated section ≡ section) (are : AreSections slices (split (lines_of section))) (now : CivilMinute) where
   pub repeat_none : slices.planning.now ≡ [] → HasNoRepeater (split (lines_of section)).planning
   repeat_none empty = subst HasNoRepeater (sym (sym (planning_is section slices are) ∙ ap lines_of empty)) tt
 

@@ -1,22 +1,22 @@
 -- A walk over the lines of a text.
 use Rattle.std.proofs.Common.{◌≡◌, ℕ, ◌-◌, ◌<◌, ◌≤◌, List, [], ◌∷◌, ◌++◌, length, take, drop, refl, sym, ap, ◌∙◌, arith, append_assoc, length-append, take-append-drop}
 use Rattle.std.proofs.lemmas.List.{drop_at, take_at}
-use Rattle.org_splice.specs.Lines.{closed, print_lines, lines_of}
+use Rattle.org_splice.specs.Lines.{terminated, print_lines, lines_of}
 use Rattle.org_meta.specs.Lines.{BeginsWith, behind_lines}
-use Rattle.org_splice.proofs.Lines.{print_lines-lines_of, print_lines-append, closed-print_lines}
+use Rattle.org_splice.proofs.Lines.{print_lines-lines_of, print_lines-append, terminated-print_lines}
 
-pub print_lines-closed : (t : List ℕ) → closed t ≡ t → print_lines (lines_of t) ≡ t
-print_lines-closed t is = print_lines-lines_of t ∙ is
+pub print_lines-terminated : (t : List ℕ) → terminated t ≡ t → print_lines (lines_of t) ≡ t
+print_lines-terminated t is = print_lines-lines_of t ∙ is
 
 -- The text is what is left of a whole one behind some lines.
 pub record Passed (whole text : List ℕ) : Type 0 where
   pub before : List (List ℕ)
   pub bytes : whole ≡ print_lines before ++ text
   pub lines : lines_of whole ≡ before ++ lines_of text
-  pub closed_text : closed text ≡ text
+  pub terminated_text : terminated text ≡ text
 
-unfoldable pub passed_none : (whole : List ℕ) → closed whole ≡ whole → Passed whole whole
-passed_none whole is = record { before = []; bytes = refl; lines = refl; closed_text = is }
+unfoldable pub passed_none : (whole : List ℕ) → terminated whole ≡ whole → Passed whole whole
+passed_none whole is = record { before = []; bytes = refl; lines = refl; terminated_text = is }
 
 unfoldable pub passed_line : (whole text line rest : List ℕ) → Passed whole text → BeginsWith text line rest → Passed whole rest
 passed_line whole text line rest p b = record {
@@ -26,7 +26,7 @@ passed_line whole text line rest p b = record {
       ∙ sym (append_assoc (print_lines p.before) (line ++ 10 ∷ []) rest)
       ∙ ap (λ (t : List ℕ). t ++ rest) (sym (print_lines-append p.before (line ∷ [])));
   lines = p.lines ∙ ap (λ (ls : List (List ℕ)). p.before ++ ls) b.lines ∙ sym (append_assoc p.before (line ∷ []) (lines_of rest));
-  closed_text = b.closed_rest;
+  terminated_text = b.terminated_rest;
 }
 
 -- what is left is what follows the lines before it
@@ -34,19 +34,19 @@ pub passed_rest : (whole text : List ℕ) (p : Passed whole text) (n : ℕ) → 
 passed_rest whole text p n long =
     ap (λ (ls : List (List ℕ)). print_lines (drop n ls)) p.lines
     ∙ ap print_lines (drop_at p.before (lines_of text) n long)
-    ∙ print_lines-closed text p.closed_text
+    ∙ print_lines-terminated text p.terminated_text
 
 pub rest_shorter : (text line rest : List ℕ) → BeginsWith text line rest → length rest < length text
 rest_shorter text line rest b = omega (arith, ap length b.bytes, length-append line (10 ∷ rest))
 
 -- the lines of a text in two
-pub front_behind : (text : List ℕ) (n : ℕ) → closed text ≡ text → text ≡ print_lines (take n (lines_of text)) ++ behind_lines text n
+pub front_behind : (text : List ℕ) (n : ℕ) → terminated text ≡ text → text ≡ print_lines (take n (lines_of text)) ++ behind_lines text n
 front_behind text n whole =
-    sym (print_lines-closed text whole) ∙ ap print_lines (sym (take-append-drop n (lines_of text)))
+    sym (print_lines-terminated text whole) ∙ ap print_lines (sym (take-append-drop n (lines_of text)))
     ∙ print_lines-append (take n (lines_of text)) (drop n (lines_of text))
 
 -- what comes before the text behind n lines
-pub front_lines : (text rest : List ℕ) (n : ℕ) → closed text ≡ text → rest ≡ behind_lines text n → take (length text - length rest) text ≡ print_lines (take n (lines_of text))
+pub front_lines : (text rest : List ℕ) (n : ℕ) → terminated text ≡ text → rest ≡ behind_lines text n → take (length text - length rest) text ≡ print_lines (take n (lines_of text))
 front_lines text rest n whole is =
     let a = print_lines (take n (lines_of text)) in
     let b = behind_lines text n in
@@ -54,14 +54,14 @@ front_lines text rest n whole is =
     let long : length text - length rest ≡ length a = omega (arith, ap length parts, ap length is, length-append a b) in
     ap (λ k. take k text) long ∙ ap (λ (t : List ℕ). take (length a) t) parts ∙ take_at a b (length a) refl
 
-pub behind_shorter : (text rest : List ℕ) (n : ℕ) → closed text ≡ text → rest ≡ behind_lines text n → length rest ≤ length text
+pub behind_shorter : (text rest : List ℕ) (n : ℕ) → terminated text ≡ text → rest ≡ behind_lines text n → length rest ≤ length text
 behind_shorter text rest n whole is =
     let a = print_lines (take n (lines_of text)) in
     let b = behind_lines text n in
     omega (arith, ap length (front_behind text n whole), ap length is, length-append a b)
 
-pub behind_none : (text : List ℕ) → closed text ≡ text → text ≡ behind_lines text 0
-behind_none text whole = sym (print_lines-closed text whole)
+pub behind_none : (text : List ℕ) → terminated text ≡ text → text ≡ behind_lines text 0
+behind_none text whole = sym (print_lines-terminated text whole)
 
-pub behind_closed : (text rest : List ℕ) (n : ℕ) → rest ≡ behind_lines text n → closed rest ≡ rest
-behind_closed text rest n is = ap closed is ∙ closed-print_lines (drop n (lines_of text)) ∙ sym is
+pub behind_terminated : (text rest : List ℕ) (n : ℕ) → rest ≡ behind_lines text n → terminated rest ≡ rest
+behind_terminated text rest n is = ap terminated is ∙ terminated-print_lines (drop n (lines_of text)) ∙ sym is

@@ -3,7 +3,7 @@ ghost use Rattle.std.specs.Prelude.{◌≡◌, ◌≤◌, length, IfSome, codes,
 ghost use Rattle.std.specs.Option.{option_map};
 ghost use Rattle.std.specs.List.{prefix_len};
 ghost use Rattle.std.specs.Char.{is_ascii_digit};
-ghost use Rattle.org_splice.specs.Lines.{closed, lines_of};
+ghost use Rattle.org_splice.specs.Lines.{terminated, lines_of};
 ghost use Rattle.org_meta.specs.Clocks.{clock_stamp_at, behind_some, behind_mark, are_minutes, behind_hours, is_duration, minutes_between, closed_minutes, clock_from, clock_of, head_of, running_clock, is_open, minutes_in, total, open_line, HasOpenAt};
 ghost use Rattle.org_splice.specs.Blanks.{is_blank, trimmed_end, behind};
 
@@ -188,7 +188,7 @@ fn minutes_in(line: &[u8]) -> u64
 /// "Clocks"): from their first timestamps to their second ones; the written durations aren't read.
 /// Takes no memory.
 pub fn total(section: &[u8]) -> u64
-    requires { closed section.now ≡ section.now }
+    requires { terminated section.now ≡ section.now }
     ensures { result ≡ total (lines_of section.now) }
 {
     let mut left = section;
@@ -203,7 +203,7 @@ pub fn total(section: &[u8]) -> u64
 /// The first open clock line of a heading's section (Org Syntax, "Clocks"), with its newline. Takes
 /// no memory.
 pub fn find_open(section: &[u8]) -> Option<Span>
-    requires { closed section.now ≡ section.now }
+    requires { terminated section.now ≡ section.now }
     ensures first { result ≡ open_line (lines_of section.now) }
     ensures stands { IfSome result (HasOpenAt section.now) }
 {

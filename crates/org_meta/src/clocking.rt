@@ -1,7 +1,7 @@
 // Clocking in and out: edits of LOGBOOK drawers (Org manual, "Clocking Work Time").
 ghost use Rattle.std.specs.Prelude.{◌≡◌, ℕ, List, IfOk, IfErr, IfSome, IfNone, OnOk, None, [], ◌∷◌, ◌++◌};
 ghost use Rattle.std.specs.List.{list_any};
-ghost use Rattle.org_splice.specs.Lines.{closed, lines_of};
+ghost use Rattle.org_splice.specs.Lines.{terminated, lines_of};
 ghost use Rattle.org_meta.specs.Edits.{GivesParts, IsPlaceFor};
 ghost use Rattle.org_meta.specs.Sections.{is_end, parts_of};
 ghost use Rattle.org_meta.specs.Clocks.{HasOpenAt};
@@ -18,7 +18,7 @@ use std::alloc::{AllocError, Global};
 
 /// Whether a line is `:END:`.
 fn has_end(text: &[u8]) -> bool
-    requires { closed text.now ≡ text.now }
+    requires { terminated text.now ≡ text.now }
     ensures { result ≡ list_any is_end (lines_of text.now) }
 {
     let mut left = text;
@@ -33,7 +33,7 @@ fn has_end(text: &[u8]) -> bool
 
 /// The place for a line first in the LOGBOOK drawer, where the text has one.
 fn log_place(text: &[u8]) -> Option<Place<'_>>
-    requires { closed text.now ≡ text.now }
+    requires { terminated text.now ≡ text.now }
     ensures some { IfSome result (λ place.
         IsPlaceFor (λ line. logged line (lines_of text.now)) text.now place) }
     ensures none { IfNone result ((line : List ℕ) → in_logbook line (lines_of text.now) ≡ None) }
@@ -67,7 +67,7 @@ fn push_clock(out: &mut Vec<u8>, now: Moment) -> Result<(), AllocError>
 /// The edit that puts an open clock line first into the section's LOGBOOK drawer, or into a new one
 /// before the rest (Org manual, "Clocking commands").
 pub fn open_clock(alloc: Global, section: &[u8], now: Moment) -> Result<Edit, AllocError>
-    requires { closed section.now ≡ section.now }
+    requires { terminated section.now ≡ section.now }
     ensures { IfOk result (λ edit.
         GivesParts edit section.now (opened now (parts_of section.now))) }
 {
@@ -112,7 +112,7 @@ pub fn close_clock(
     line: Span,
     now: Moment,
 ) -> Result<Edit, ClockFault>
-    requires closed { closed section.now ≡ section.now }
+    requires terminated { terminated section.now ≡ section.now }
     requires stands { HasOpenAt section.now line }
     ensures ok { IfOk result (Closes now section.now line) }
     ensures err { IfErr result (ClosesNot now section.now line) }

@@ -1,6 +1,6 @@
 // Notes of repetitions (Org manual, "Tracking TODO state changes").
 ghost use Rattle.std.specs.Prelude.{◌≡◌, ◌∷◌, [], ◌++◌, IfOk, OnOk};
-ghost use Rattle.org_splice.specs.Lines.{closed};
+ghost use Rattle.org_splice.specs.Lines.{terminated};
 ghost use Rattle.org_meta.specs.Edits.{GivesParts};
 ghost use Rattle.org_meta.specs.Notes.{quoted, note_line, with_note};
 ghost use Rattle.org_meta.specs.Sections.{parts_of};
@@ -49,7 +49,7 @@ pub fn add_note(
     old: &[u8],
     now: Moment,
 ) -> Result<Edit, AllocError>
-    requires { closed section.now ≡ section.now }
+    requires { terminated section.now ≡ section.now }
     ensures { IfOk result (λ edit.
         GivesParts edit section.now
         (with_note (note_line new.now old.now now) (parts_of section.now))) }

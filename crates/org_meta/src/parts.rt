@@ -1,7 +1,7 @@
 // What a section is split into.
 
-/// The parts of a section, each a closed text that begins where the one before ends (Org Syntax,
-/// "Headings").
+/// The parts of a section, each a terminated text that begins where the one before ends (Org
+/// Syntax, "Headings").
 #[derive(Clone, Copy, Debug)]
 pub struct Sections<'a> {
     /// The planning line, or nothing.

@@ -1,6 +1,6 @@
 // Edits of the planning line (Org manual, "Closing items", "Repeated tasks").
 ghost use Rattle.std.specs.Prelude.{◌≡◌, ◌⊎◌, ◌<◌, ◌≤◌, length, None, Some, Ok, Err, IfOk, IfErr, OnOk, true, false, [], ◌∷◌, ◌++◌};
-ghost use Rattle.org_splice.specs.Lines.{closed, print_lines, lines_of};
+ghost use Rattle.org_splice.specs.Lines.{terminated, print_lines, lines_of};
 ghost use Rattle.org_meta.specs.Edits.{ChangesNothing};
 ghost use Rattle.org_meta.specs.Sections.{parts_of, split};
 ghost use Rattle.org_meta.specs.declared.fault.PlanningFault.TheVariants.{OddPlanning, OutOfMemory};
@@ -194,7 +194,7 @@ fn nothing(alloc: Global) -> Edit
 /// entries goes whole. Where there is none, the edit changes nothing. OddPlanning where the planning
 /// line isn't well formed (Org Syntax, "Planning").
 pub fn clear_closed(alloc: Global, section: &[u8]) -> Result<Edit, PlanningFault>
-    requires { closed section.now ≡ section.now }
+    requires { terminated section.now ≡ section.now }
     ensures ok { IfOk result (GivesOk (clear_closed (parts_of section.now)) section.now) }
     ensures nothing { IfOk result (λ edit.
         has_closed_entry (parts_of section.now).planning ≡ false → ChangesNothing edit) }
@@ -221,7 +221,7 @@ pub fn clear_closed(alloc: Global, section: &[u8]) -> Result<Edit, PlanningFault
 /// that it has, or as a new planning line (Org manual, "Closing items"). OddPlanning where the planning
 /// line isn't well formed.
 pub fn set_closed(alloc: Global, section: &[u8], now: Moment) -> Result<Edit, PlanningFault>
-    requires { closed section.now ≡ section.now }
+    requires { terminated section.now ≡ section.now }
     ensures ok { IfOk result (GivesOk (set_closed now (parts_of section.now)) section.now) }
     ensures err { IfErr result (FaultIn (set_closed now (parts_of section.now))) }
 {
@@ -253,7 +253,7 @@ pub fn repeat_planning(
     section: &[u8],
     now: Moment,
 ) -> Result<Option<Edit>, PlanningFault>
-    requires { closed section.now ≡ section.now }
+    requires { terminated section.now ≡ section.now }
     ensures ok { IfOk result (GivesRepeated now (parts_of section.now) section.now) }
     ensures err { IfErr result (λ fault.
         (fault ≡ OutOfMemory) ⊎ FaultRepeated now (parts_of section.now).planning fault) }

@@ -1,7 +1,7 @@
 // Properties (Org manual, "Property Syntax").
 ghost use Rattle.std.specs.Prelude.{◌≡◌, ℕ, ◌≤◌, ◌+◌, length, IfOk, OnOk, [], ◌∷◌, ◌++◌};
 ghost use Rattle.std.specs.Option.{option_map};
-ghost use Rattle.org_splice.specs.Lines.{closed, lines_of};
+ghost use Rattle.org_splice.specs.Lines.{terminated, lines_of};
 ghost use Rattle.org_meta.specs.Edits.{GivesParts, IsPlaceFor};
 ghost use Rattle.org_meta.specs.Sections.{value_named, value_before_end, put_before_end, property, property_line, put, parts_of, split, joined};
 
@@ -25,7 +25,7 @@ fn value_named<'a>(line: &'a [u8], name: &[u8]) -> Option<&'a [u8]>
 
 /// The first value of that name before the `:END:`.
 fn value_before_end<'a>(text: &'a [u8], name: &[u8]) -> Option<&'a [u8]>
-    requires { closed text.now ≡ text.now }
+    requires { terminated text.now ≡ text.now }
     ensures { option_map (λ value. value.now) result
         ≡ value_before_end name.now (lines_of text.now) }
 {
@@ -45,7 +45,7 @@ fn value_before_end<'a>(text: &'a [u8], name: &[u8]) -> Option<&'a [u8]>
 /// The value of the first property of that name in the section's drawer (Org manual, "Property
 /// Syntax"); ASCII case doesn't count. Takes no memory.
 pub fn property<'a>(section: &'a [u8], name: &[u8]) -> Option<&'a [u8]>
-    requires { closed section.now ≡ section.now }
+    requires { terminated section.now ≡ section.now }
     ensures { option_map (λ value. value.now) result ≡ property name.now (parts_of section.now) }
 {
     let (_start, properties) = first_line(sections(section).drawer)?;
@@ -54,7 +54,7 @@ pub fn property<'a>(section: &'a [u8], name: &[u8]) -> Option<&'a [u8]>
 
 /// The place of the first property of that name, or else before the `:END:`.
 fn place_of<'a>(text: &'a [u8], name: &[u8]) -> Place<'a>
-    requires { closed text.now ≡ text.now }
+    requires { terminated text.now ≡ text.now }
     ensures { IsPlaceFor (λ line. put_before_end name.now line (lines_of text.now))
         text.now result }
 {
@@ -97,7 +97,7 @@ pub fn put_property(
     name: &[u8],
     value: &[u8],
 ) -> Result<Edit, AllocError>
-    requires { closed section.now ≡ section.now }
+    requires { terminated section.now ≡ section.now }
     ensures { IfOk result (λ edit.
         GivesParts edit section.now (put name.now value.now (parts_of section.now))) }
 {

@@ -1,7 +1,7 @@
 // The three parts of a section.
 ghost use Rattle.std.specs.Prelude.{◌≡◌, codes, is_some};
 ghost use Rattle.std.specs.Option.{option_map};
-ghost use Rattle.org_splice.specs.Lines.{closed, lines_of};
+ghost use Rattle.org_splice.specs.Lines.{terminated, lines_of};
 ghost use Rattle.org_meta.specs.Sections.{is_planning, is_mark, is_name_run, property_of, size_to_end, planning_size, drawer_size, split, AreSections};
 ghost use Rattle.org_meta.specs.Sections.{is_drawer_start, is_end};
 ghost use Rattle.org_meta.specs.Lines.{behind_lines};
@@ -67,7 +67,7 @@ pub(crate) fn property_of(line: &[u8]) -> Option<Property<'_>>
 
 /// What follows the first `:END:`, where only property lines come before it.
 fn behind_end(text: &[u8]) -> Option<&[u8]>
-    requires { closed text.now ≡ text.now }
+    requires { terminated text.now ≡ text.now }
     ensures { option_map (λ rest. rest.now) result
         ≡ option_map (behind_lines text.now) (size_to_end (lines_of text.now)) }
 {
@@ -84,7 +84,7 @@ fn behind_end(text: &[u8]) -> Option<&[u8]>
 
 /// What follows the property drawer that the text begins with.
 fn behind_drawer(text: &[u8]) -> &[u8]
-    requires { closed text.now ≡ text.now }
+    requires { terminated text.now ≡ text.now }
     ensures { result.now ≡ behind_lines text.now (drawer_size (lines_of text.now)) }
 {
     let Some((line, rest)) = first_line(text) else {
@@ -98,7 +98,7 @@ fn behind_drawer(text: &[u8]) -> &[u8]
 
 /// What follows the planning line that the section begins with.
 fn behind_planning(section: &[u8]) -> &[u8]
-    requires { closed section.now ≡ section.now }
+    requires { terminated section.now ≡ section.now }
     ensures { result.now ≡ behind_lines section.now (planning_size (lines_of section.now)) }
 {
     match first_line(section) {
@@ -109,7 +109,7 @@ fn behind_planning(section: &[u8]) -> &[u8]
 
 /// The parts of a section (Org Syntax, "Planning", "Property Drawers"). Takes no memory.
 pub fn sections(section: &[u8]) -> Sections<'_>
-    requires { closed section.now ≡ section.now }
+    requires { terminated section.now ≡ section.now }
     ensures { AreSections result (split (lines_of section.now)) }
 {
     let below = behind_planning(section);

@@ -2,7 +2,7 @@
 use Rattle.std.proofs.Common.{◌≡◌, ℕ, ◌<◌, List, [], ◌∷◌, Option, Some, None, Ok, refl, sym, ap, subst, ◌∙◌, arith}
 use Rattle.std.specs.Prelude.{Result}
 use Rattle.org_splice.specs.Edits.{AreEdits}
-use Rattle.org_splice.specs.Lines.{closed}
+use Rattle.org_splice.specs.Lines.{terminated}
 use Rattle.org_splice.specs.declared.edit.Edit.{Edit}
 use Rattle.org_stamp.specs.Calendar.{CivilMinute}
 use Rattle.org_outline.specs.declared.paths.PathFault.{PathFault}
@@ -22,7 +22,7 @@ use Rattle.org_move.proofs.Putting.{level_at}
 
 pub archive_made : (states : Keywords) (name : List ℕ) (path : List (List ℕ)) (now : CivilMinute) (t : List ℕ) (there : Keywords) (to : Destination) (u : List ℕ) (r : Result ℕ PathFault) (s : Result (Option ℕ) PathFault)
     (i : ℕ) (up : Option ℕ) (at : ℕ) (bytes : List ℕ) (out goes_in : Edit)
-    → closed t ≡ t → closed u ≡ u → r ≡ find_path states (tree t) path → r ≡ Ok i → s ≡ target_heading there to (tree u) → s ≡ Ok up → i < node_count (tree t)
+    → terminated t ≡ t → terminated u ≡ u → r ≡ find_path states (tree t) path → r ≡ Ok i → s ≡ target_heading there to (tree u) → s ≡ Ok up → i < node_count (tree t)
     → ((node : Node) → InsertsAt u (put_last to up node (tree u)) at (filled to (level_at up (tree u)) node))
     → out ≡ removal i (tree t) → goes_in ≡ record { at = at; removed = 0; bytes = bytes } → bytes ≡ print_node (filled to (level_at up (tree u)) (archived states name now (tree t) i))
     → (new : Moved) × (archive_across states name path now (tree t) there to (tree u) ≡ Ok new)

@@ -6,7 +6,7 @@ use Rattle.std.specs.Option.{option_map, unwrap_or}
 use Rattle.std.proofs.lemmas.List.{append-nil}
 use Rattle.std.specs.Prelude.{slice_range}
 use Rattle.org_disk.specs.Names.{IsDiskName}
-use Rattle.org_splice.specs.Lines.{closed, lines_of}
+use Rattle.org_splice.specs.Lines.{terminated, lines_of}
 use Rattle.org_splice.specs.declared.Span.{Span}
 use Rattle.org_stamp.specs.Calendar.{CivilMinute}
 use Rattle.org_outline.specs.States.{Keywords}
@@ -20,7 +20,7 @@ use Rattle.org_move.specs.Archive.{archive_properties, archived_section, categor
 use Rattle.org_move.specs.Given.{IsGood, with_given}
 use Rattle.org_move.specs.Inherited.{inherited_tags, nearest, nonempty, titles_above}
 use Rattle.org_move.proofs.Values.{IsPut, all_put, name_line}
-use Rattle.org_move.proofs.Own.{section_closed, section_parts}
+use Rattle.org_move.proofs.Own.{section_terminated, section_parts}
 
 abbrev pub read : Bor (List ℕ) → List ℕ
 read text = text.now
@@ -75,8 +75,8 @@ section_made states name now t u i s start new ps same lt is start_is ps_is new_
     let old : split_of start ≡ split (node_at (tree t) i).node.section = ap split_of start_is ∙ section_parts t u i s same lt is in
     sym (joined_split (lines_of new)) ∙ ap joined (new_is ∙ ap (put_each ps) old) ∙ ap (λ qs. joined (put_each qs (split (node_at (tree t) i).node.section))) ps_is
 
-pub start_closed : (t u : List ℕ) (i : ℕ) (s : Span) (start : List ℕ) → u ≡ t → IsSection t (node_at (tree t) i) s → start ≡ slice_range u s.start s.end → closed start ≡ start
-start_closed t u i s start same is start_is = ap closed start_is ∙ section_closed t u i s same is ∙ sym start_is
+pub start_terminated : (t u : List ℕ) (i : ℕ) (s : Span) (start : List ℕ) → u ≡ t → IsSection t (node_at (tree t) i) s → start ≡ slice_range u s.start s.end → terminated start ≡ start
+start_terminated t u i s start same is start_is = ap terminated start_is ∙ section_terminated t u i s same is ∙ sym start_is
 
 pub all_good : (states : Keywords) (name : List ℕ) (now : CivilMinute) (t : List ℕ) (i : ℕ) (ps : List NodeProperty) → IsDiskName name → ps ≡ archive_properties states name now (tree t) i → AllByRecursion IsGood ps
 all_good states name now t i ps valid is =

@@ -3,7 +3,7 @@ use Rattle.std.proofs.Common.{◌≡◌, ℕ, true, false, eqb, cond, Bool, List
 use Rattle.std.specs.Prelude.{if◌then◌else◌}
 use Rattle.std.specs.List.{find, slice_split, onto_first}
 use Rattle.std.proofs.lemmas.Bool.{cases_Bool}
-use Rattle.org_splice.specs.Lines.{is_closed, lines_of, with_byte}
+use Rattle.org_splice.specs.Lines.{is_terminated, lines_of, with_byte}
 use Rattle.org_move.specs.Location.{is_archive_line}
 
 some_line : (b : ℕ) (bs : List ℕ) → (l : List ℕ) × (ls : List (List ℕ)) × (lines_of (b ∷ bs) ≡ l ∷ ls)
@@ -17,7 +17,7 @@ some_line b bs =
     ]
 
 abbrev tail : List ℕ → List (List ℕ)
-tail t = if is_closed t then [] ∷ [] else []
+tail t = if is_terminated t then [] ∷ [] else []
 
 split_lines : (t : List ℕ) → slice_split (λ b. eqb b 10) t ≡ lines_of t ++ tail t
 split_lines [] = refl
@@ -38,4 +38,4 @@ find_more [] false = refl
 find_more (l ∷ ls) b = elim (cases_Bool (is_archive_line l)) [ inl e ↦ rw e refl | inr e ↦ rw e (find_more ls b) ]
 
 pub found_line : (t : List ℕ) → find is_archive_line (slice_split (λ b. eqb b 10) t) ≡ find is_archive_line (lines_of t)
-found_line t = ap (find is_archive_line) (split_lines t) ∙ find_more (lines_of t) (is_closed t)
+found_line t = ap (find is_archive_line) (split_lines t) ∙ find_more (lines_of t) (is_terminated t)

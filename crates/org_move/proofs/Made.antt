@@ -4,7 +4,7 @@ use Rattle.std.specs.Prelude.{Result, IsTrue, ◌↔◌, slice_range}
 use Rattle.std.proofs.lemmas.Bool.{cases_Bool}
 use Rattle.std.proofs.lemmas.List.{length-replicate}
 use Rattle.std.proofs.lemmas.Bool.Decides.{nat_tests}
-use Rattle.org_splice.specs.Lines.{closed, print_lines}
+use Rattle.org_splice.specs.Lines.{terminated, print_lines}
 use Rattle.org_splice.specs.Edits.{AreEdits}
 use Rattle.org_splice.specs.declared.edit.Edit.{Edit}
 use Rattle.org_outline.specs.declared.moves.Place.{Place}
@@ -26,11 +26,11 @@ use Rattle.org_move.specs.Refile.{is_inside, moved, refile_within, Moved, refile
 
 -- ---- nodes of a text
 
-pub prints : (t : List ℕ) → closed t ≡ t → print (tree t) ≡ t
+pub prints : (t : List ℕ) → terminated t ≡ t → print (tree t) ≡ t
 prints t shut = (tree-is t).prints ∙ shut
 
 -- the stars of a heading line aren't the whole text
-pub level_less : (t u : List ℕ) (i level : ℕ) → u ≡ t → closed t ≡ t → i < node_count (tree t) → level ≡ (node_at (tree t) i).node.level → level < length u
+pub level_less : (t u : List ℕ) (i level : ℕ) → u ≡ t → terminated t ≡ t → i < node_count (tree t) → level ≡ (node_at (tree t) i).node.level → level < length u
 level_less t u i level same shut lt is =
     let node : Node = (node_at (tree t) i).node in
     let at = take_local i (tree t) lt in
@@ -80,7 +80,7 @@ inside_is d top i false lies =
     ]
 
 pub within_made : (states : Keywords) (path to : List (List ℕ)) (place : Place) (t : List ℕ) (r s : Result ℕ PathFault) (i p at level : ℕ) (b : Bool) (out into : Edit)
-    → closed t ≡ t → r ≡ find_path states (tree t) path → r ≡ Ok i → s ≡ find_path states (tree t) to → s ≡ Ok p → i < node_count (tree t)
+    → terminated t ≡ t → r ≡ find_path states (tree t) path → r ≡ Ok i → s ≡ find_path states (tree t) to → s ≡ Ok p → i < node_count (tree t)
     → (IsTrue b ↔ LiesIn (tree t) i p) → b ≡ false
     → ((node : Node) → InsertsAt (print (take i (tree t))) (insert (parent_without i (size_of (tree t) i) (Some p)) place node (take i (tree t))) at (shift_node (level_below (Some p) (tree t)) node))
     → level ≡ level_below (Some p) (tree t) → out ≡ removal i (tree t) → into ≡ insertion at (shift_node level (node_at (tree t) i).node)
@@ -101,7 +101,7 @@ within_made states path to place t r s i p at level b out into shut r_is found s
 -- ---- across two texts
 
 pub across_made : (states : Keywords) (path : List (List ℕ)) (t : List ℕ) (there : Keywords) (to : List (List ℕ)) (u : List ℕ) (place : Place) (r s : Result ℕ PathFault) (i p at level : ℕ) (out into : Edit)
-    → closed t ≡ t → closed u ≡ u → r ≡ find_path states (tree t) path → r ≡ Ok i → s ≡ find_path there (tree u) to → s ≡ Ok p → i < node_count (tree t)
+    → terminated t ≡ t → terminated u ≡ u → r ≡ find_path states (tree t) path → r ≡ Ok i → s ≡ find_path there (tree u) to → s ≡ Ok p → i < node_count (tree t)
     → ((node : Node) → InsertsAt u (insert (Some p) place node (tree u)) at (shift_node (level_below (Some p) (tree u)) node))
     → level ≡ level_below (Some p) (tree u) → out ≡ removal i (tree t) → into ≡ insertion at (shift_node level (node_at (tree t) i).node)
     → (new : Moved) × (refile_across states path (tree t) there to (tree u) place ≡ Ok new) × (AreEdits (out ∷ []) t (print new.source) × AreEdits (into ∷ []) u (print new.target))

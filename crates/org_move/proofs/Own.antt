@@ -3,9 +3,9 @@ use Rattle.std.proofs.Common.{◌≡◌, ℕ, ◌+◌, ◌<◌, ◌≤◌, List,
 use Rattle.std.specs.Prelude.{slice_range}
 use Rattle.std.specs.List.{AllByRecursion}
 use Rattle.std.specs.Option.{option_and_then}
-use Rattle.org_splice.specs.Lines.{closed, print_lines, IsLine}
+use Rattle.org_splice.specs.Lines.{terminated, print_lines, IsLine}
 use Rattle.org_splice.specs.declared.Span.{Span}
-use Rattle.org_splice.proofs.Lines.{closed-print_lines, lines_of-print_lines, size-append}
+use Rattle.org_splice.proofs.Lines.{terminated-print_lines, lines_of-print_lines, size-append}
 use Rattle.org_outline.specs.Outline.{IsSection}
 use Rattle.org_outline.specs.Tree.{Node, IsPlain, lines, own_lines, print, print_node, tree, node_at, node_count}
 use Rattle.org_outline.proofs.Changes.{take_local}
@@ -22,7 +22,7 @@ pub section_lines : (t : List ℕ) (i : ℕ) → i < node_count (tree t) → All
 section_lines t i lt = plain_lines _ (node-valid t i lt).heading.section
 
 -- the section lies in the text
-pub section_within : (t u : List ℕ) (i : ℕ) (s : Span) → u ≡ t → closed t ≡ t → i < node_count (tree t) → IsSection t (node_at (tree t) i) s → s.end ≤ length u
+pub section_within : (t u : List ℕ) (i : ℕ) (s : Span) → u ≡ t → terminated t ≡ t → i < node_count (tree t) → IsSection t (node_at (tree t) i) s → s.end ≤ length u
 section_within t u i s same shut lt is =
     let node : Node = (node_at (tree t) i).node in
     let at = take_local i (tree t) lt in
@@ -34,8 +34,8 @@ section_within t u i s same shut lt is =
 pub section_bytes : (t u : List ℕ) (i : ℕ) (s : Span) → u ≡ t → IsSection t (node_at (tree t) i) s → slice_range u s.start s.end ≡ print_lines (node_at (tree t) i).node.section
 section_bytes t u i s same is = ap (λ u. slice_range u s.start s.end) same ∙ is.bytes
 
-pub section_closed : (t u : List ℕ) (i : ℕ) (s : Span) → u ≡ t → IsSection t (node_at (tree t) i) s → closed (slice_range u s.start s.end) ≡ slice_range u s.start s.end
-section_closed t u i s same is = rw (section_bytes t u i s same is) (closed-print_lines _)
+pub section_terminated : (t u : List ℕ) (i : ℕ) (s : Span) → u ≡ t → IsSection t (node_at (tree t) i) s → terminated (slice_range u s.start s.end) ≡ slice_range u s.start s.end
+section_terminated t u i s same is = rw (section_bytes t u i s same is) (terminated-print_lines _)
 
 -- and its parts are those of the node's section
 pub section_parts : (t u : List ℕ) (i : ℕ) (s : Span) → u ≡ t → i < node_count (tree t) → IsSection t (node_at (tree t) i) s

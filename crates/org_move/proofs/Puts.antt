@@ -6,9 +6,9 @@ use Rattle.std.specs.Prelude.{◌≢◌, codes, slice_range}
 use Rattle.std.specs.List.{AllByRecursion, list_all}
 use Rattle.std.proofs.lemmas.List.{take_rest}
 use Rattle.org_splice.specs.Edits.{applied}
-use Rattle.org_splice.specs.Lines.{closed, IsLine, lines_of}
+use Rattle.org_splice.specs.Lines.{terminated, IsLine, lines_of}
 use Rattle.org_splice.specs.declared.edit.Edit.{Edit}
-use Rattle.org_splice.proofs.Lines.{closed-print_lines, lines_of-lines, lines_of-print_lines}
+use Rattle.org_splice.proofs.Lines.{terminated-print_lines, lines_of-lines, lines_of-print_lines}
 use Rattle.org_meta.specs.Edits.{GivesParts}
 use Rattle.org_meta.specs.Sections.{is_property_name, joined, parts_of, property_line, put, split}
 use Rattle.org_meta.proofs.Keeping.{keeps_put}
@@ -46,10 +46,10 @@ put_split name value text new e good line gives is =
     ∙ ap split (lines_of-print_lines (joined (put name value (split ls))) (put_lines name value ls line (lines_of-lines text)))
     ∙ split_put name (property_line name value) ls said.0 said.1
 
-pub put_closed : (name value text new : List ℕ) (e : Edit) → GivesParts e text (put name value (parts_of text)) → new ≡ applied e text → closed new ≡ new
-put_closed name value text new e gives is =
+pub put_terminated : (name value text new : List ℕ) (e : Edit) → GivesParts e text (put name value (parts_of text)) → new ≡ applied e text → terminated new ≡ new
+put_terminated name value text new e gives is =
     let whole = is ∙ gives.gives in
-    ap closed whole ∙ closed-print_lines (joined (put name value (parts_of text))) ∙ sym whole
+    ap terminated whole ∙ terminated-print_lines (joined (put name value (parts_of text))) ∙ sym whole
 
 -- what the code puts together is the edited text
 pub put_together : (text old again first bytes second new : List ℕ) (e : Edit) → old ≡ text → again ≡ text → first ≡ take e.at old → bytes ≡ e.bytes → second ≡ first ++ bytes
@@ -67,5 +67,5 @@ pub put_parts : (name value section text new : List ℕ) (e : Edit) → text ≡
 put_parts name value section text new e same good line gives is =
     put_split name value text new e good line gives (is ∙ ap (applied e) (sym same)) ∙ ap (λ t. put name value (parts_of t)) same
 
-pub put_shut : (name value section text new : List ℕ) (e : Edit) → text ≡ section → GivesParts e text (put name value (parts_of text)) → new ≡ applied e section → closed new ≡ new
-put_shut name value section text new e same gives is = put_closed name value text new e gives (is ∙ ap (applied e) (sym same))
+pub put_shut : (name value section text new : List ℕ) (e : Edit) → text ≡ section → GivesParts e text (put name value (parts_of text)) → new ≡ applied e section → terminated new ≡ new
+put_shut name value section text new e same gives is = put_terminated name value text new e gives (is ∙ ap (applied e) (sym same))

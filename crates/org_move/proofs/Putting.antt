@@ -11,7 +11,7 @@ use Rattle.org_outline.proofs.Changes.{take_local, take_valid}
 use Rattle.org_outline.specs.Numbers.{heading_over, parent_without, size_of}
 use Rattle.org_outline.specs.Outline.{IsSubtree}
 use Rattle.org_splice.specs.declared.Span.{Span}
-use Rattle.org_splice.specs.Lines.{closed}
+use Rattle.org_splice.specs.Lines.{terminated}
 use Rattle.org_outline.proofs.Trees.{tree-is}
 use Rattle.org_outline.proofs.Making.{made_end}
 use Rattle.org_move.proofs.Made.{prints}
@@ -40,7 +40,7 @@ abbrev pub level_at : Option ℕ → Document → Option ℕ
 level_at up d = option_map (λ i. (node_at d i).node.level) up
 
 -- once a subtree is taken out, as the code counts
-pub at_the_new_end : (to : Destination) (node : Node) (t u : List ℕ) (i : ℕ) (up : Option ℕ) (s : Span) → up ≡ None → u ≡ t → closed t ≡ t → i < node_count (tree t) → IsSubtree t (node_at (tree t) i) s
+pub at_the_new_end : (to : Destination) (node : Node) (t u : List ℕ) (i : ℕ) (up : Option ℕ) (s : Span) → up ≡ None → u ≡ t → terminated t ≡ t → i < node_count (tree t) → IsSubtree t (node_at (tree t) i) s
     → InsertsAt (print (take i (tree t))) (put_last to (parent_without i (size_of (tree t) i) up) node (take i (tree t))) (s.start + (length u - s.end)) (filled to (level_at up (tree t)) node)
 at_the_new_end to node t u i up s none same shut lt sub =
     let d : Document = tree t in
@@ -54,7 +54,7 @@ at_the_new_end to node t u i up s none same shut lt sub =
     let at : InsertsAt (print (take i d)) (put_last to None node (take i d)) (length (print (take i d))) (filled to None node) = at_the_end to node (take i d) (take_valid i d (tree-is t).valid) in
     subst P (sym none) (subst (λ k. InsertsAt (print (take i d)) (put_last to None node (take i d)) k (filled to None node)) (sym here) at)
 
-pub end_of_text : (to : Destination) (node : Node) (t u : List ℕ) (up : Option ℕ) → up ≡ None → u ≡ t → closed t ≡ t
+pub end_of_text : (to : Destination) (node : Node) (t u : List ℕ) (up : Option ℕ) → up ≡ None → u ≡ t → terminated t ≡ t
     → InsertsAt t (put_last to up node (tree t)) (length u) (filled to (level_at up (tree t)) node)
 end_of_text to node t u up none same shut =
     let P : Option ℕ → Type 0 = λ up. InsertsAt t (put_last to up node (tree t)) (length u) (filled to (level_at up (tree t)) node) in

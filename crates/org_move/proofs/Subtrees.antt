@@ -2,7 +2,7 @@
 use Rattle.std.proofs.Common.{◌≡◌, ℕ, ◌+◌, ◌-◌, ◌<◌, ◌≤◌, List, [], ◌∷◌, ◌++◌, length, take, drop, append_assoc, refl, sym, ap, subst, ◌∙◌, arith, length-append}
 use Rattle.std.specs.Prelude.{slice_range}
 use Rattle.std.proofs.lemmas.List.{take_at, drop_at}
-use Rattle.org_splice.specs.Lines.{closed, print_lines, lines_of}
+use Rattle.org_splice.specs.Lines.{terminated, print_lines, lines_of}
 use Rattle.org_splice.specs.declared.Span.{Span}
 use Rattle.org_splice.proofs.Lines.{print_lines-append, print_lines-lines_of, size-append}
 use Rattle.org_outline.specs.Outline.{IsSection, IsSubtree}
@@ -26,8 +26,8 @@ node_text node =
     let tail : List ℕ = print_lines (lines node.children) in
     print_lines-append (own_lines node) (lines node.children) ∙ append_assoc line (10 ∷ body) tail ∙ sym (append_assoc line (10 ∷ []) (body ++ tail))
 
-pub other_section : (t u : List ℕ) (i : ℕ) (s o : Span) (section first second new : List ℕ) → u ≡ t → closed t ≡ t → i < node_count (tree t)
-    → IsSubtree t (node_at (tree t) i) s → IsSection t (node_at (tree t) i) o → closed section ≡ section
+pub other_section : (t u : List ℕ) (i : ℕ) (s o : Span) (section first second new : List ℕ) → u ≡ t → terminated t ≡ t → i < node_count (tree t)
+    → IsSubtree t (node_at (tree t) i) s → IsSection t (node_at (tree t) i) o → terminated section ≡ section
     → first ≡ slice_range u s.start o.start → second ≡ first ++ section → new ≡ second ++ slice_range u o.end s.end
     → new ≡ print_node (record (node_at (tree t) i).node { section = lines_of section })
 other_section t u i s o section first second new same shut lt sub sec whole first_is second_is new_is =

@@ -2,7 +2,7 @@
 use Rattle.std.proofs.Common.{◌≡◌, ℕ, ◌<◌, List, [], ◌∷◌, Option, Some, None, Ok, Err, refl, sym, ap, subst, ◌∙◌}
 use Rattle.std.specs.Prelude.{Result}
 use Rattle.org_splice.specs.Edits.{AreEdits}
-use Rattle.org_splice.specs.Lines.{closed}
+use Rattle.org_splice.specs.Lines.{terminated}
 use Rattle.org_splice.specs.declared.edit.Edit.{Edit}
 use Rattle.org_stamp.specs.Calendar.{CivilMinute}
 use Rattle.org_outline.specs.declared.paths.PathFault.{PathFault}
@@ -43,7 +43,7 @@ not_apart {C} states name path now to d Fits r s i up fault r_is found s_is foun
 
 pub archived_within : (states : Keywords) (name : List ℕ) (path : List (List ℕ)) (now : CivilMinute) (t : List ℕ) (to : Destination) (r : Result ℕ PathFault) (s : Result (Option ℕ) PathFault)
     (i : ℕ) (asked up : Option ℕ) (at : ℕ) (bytes : List ℕ) (out goes_in : Edit)
-    → closed t ≡ t → r ≡ find_path states (tree t) path → r ≡ Ok i → s ≡ target_heading states to (tree t) → s ≡ Ok asked → Ok up ≡ if_apart (tree t) i asked asked → i < node_count (tree t)
+    → terminated t ≡ t → r ≡ find_path states (tree t) path → r ≡ Ok i → s ≡ target_heading states to (tree t) → s ≡ Ok asked → Ok up ≡ if_apart (tree t) i asked asked → i < node_count (tree t)
     → ((node : Node) → InsertsAt (print (take i (tree t))) (put_last to (parent_without i (size_of (tree t) i) up) node (take i (tree t))) at (filled to (level_at up (tree t)) node))
     → out ≡ removal i (tree t) → goes_in ≡ record { at = at; removed = 0; bytes = bytes } → bytes ≡ print_node (filled to (level_at up (tree t)) (archived states name now (tree t) i))
     → (new : Document) × (archive_within states name path now to (tree t) ≡ Ok new) × AreEdits (out ∷ goes_in ∷ []) t (print new)

@@ -2,7 +2,7 @@
 ghost use Rattle.std.specs.Prelude.{◌≡◌, [], ◌∷◌, ◌+◌, ◌<◌, ◌^◌};
 ghost use Rattle.std.specs.Option.{ForSome, option_map};
 ghost use Rattle.org_splice.specs.Edits.{AreEdits};
-ghost use Rattle.org_splice.specs.Lines.{closed};
+ghost use Rattle.org_splice.specs.Lines.{terminated};
 ghost use Rattle.org_outline.specs.Paths.{titles_of};
 ghost use Rattle.org_outline.specs.Moves.{InsertsAt, take};
 ghost use Rattle.org_outline.specs.Numbers.{LiesIn, parent_without, size_of};
@@ -27,7 +27,7 @@ use std::alloc::Global;
 fn level_of(outline: &Outline<'_>, node: Node) -> usize
     requires { node < node_count (tree outline.now.text) }
     ensures value { result ≡ (node_at (tree outline.now.text) node).node.level }
-    ensures closed { closed outline.now.text ≡ outline.now.text }
+    ensures terminated { terminated outline.now.text ≡ outline.now.text }
     ensures room { result + 1 < 2 ^ 63 }
 {
     let end = outline.text().len();
@@ -45,7 +45,7 @@ fn last_below(outline: &Outline<'_>, up: Option<Node>) -> (usize, Option<usize>)
         (filled to (option_map (λ i. (node_at d i).node.level) up) node) }
     ensures level { result.1
         ≡ option_map (λ i. (node_at (tree outline.now.text) i).node.level) up }
-    ensures closed { closed outline.now.text ≡ outline.now.text }
+    ensures terminated { terminated outline.now.text ≡ outline.now.text }
     ensures room { ForSome result.1 (λ level. level + 1 < 2 ^ 63) }
 {
     match up {
@@ -72,7 +72,7 @@ fn last_below_without(
         (filled to (option_map (λ i. (node_at d i).node.level) up) node) }
     ensures level { result.1
         ≡ option_map (λ i. (node_at (tree outline.now.text) i).node.level) up }
-    ensures closed { closed outline.now.text ≡ outline.now.text }
+    ensures terminated { terminated outline.now.text ≡ outline.now.text }
     ensures room { ForSome result.1 (λ level. level + 1 < 2 ^ 63) }
 {
     match up {

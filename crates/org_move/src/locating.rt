@@ -3,7 +3,7 @@ ghost use Rattle.std.specs.Prelude.{◌≡◌, ◌<◌, ◌^◌, ◌+◌, true, 
 ghost use Rattle.std.specs.List.{find};
 ghost use Rattle.std.specs.Option.{option_map};
 ghost use Rattle.std.specs.Str.{is_utf8};
-ghost use Rattle.org_splice.specs.Lines.{closed, lines_of};
+ghost use Rattle.org_splice.specs.Lines.{terminated, lines_of};
 ghost use Rattle.org_outline.specs.Paths.{titles_of};
 ghost use Rattle.org_outline.specs.Tree.{node_count, tree};
 ghost use Rattle.org_move.specs.Answers.{GivesName, GivesPlace};
@@ -41,7 +41,7 @@ fn is_archive_line(line: &[u8]) -> bool
 
 /// The first line of the text that begins with `#+ARCHIVE:`.
 fn archive_line(text: &[u8]) -> Option<&[u8]>
-    requires { closed text.now ≡ text.now }
+    requires { terminated text.now ≡ text.now }
     ensures { option_map (λ line. line.now) result ≡ find is_archive_line (lines_of text.now) }
 {
     text.split(|byte| *byte == b'\n')
@@ -50,7 +50,7 @@ fn archive_line(text: &[u8]) -> Option<&[u8]>
 
 /// The value of the text's first `#+ARCHIVE:` line, where that isn't empty.
 fn value_of_text(text: &[u8]) -> Option<&[u8]>
-    requires { closed text.now ≡ text.now }
+    requires { terminated text.now ≡ text.now }
     ensures { option_map (λ value. value.now) result ≡ value_of_lines (lines_of text.now) }
 {
     nonempty(trimmed(mark_and_value(archive_line(text)?).1))

@@ -3,7 +3,7 @@ ghost use Rattle.std.specs.Prelude.{◌≡◌, ◌<◌, ℕ, [], true, IfOk, OnO
 ghost use Rattle.std.specs.List.{AllByRecursion};
 ghost use Rattle.std.specs.Option.{option_map};
 ghost use Rattle.org_disk.specs.Names.{IsDiskName};
-ghost use Rattle.org_splice.specs.Lines.{closed, IsLine, lines_of};
+ghost use Rattle.org_splice.specs.Lines.{terminated, IsLine, lines_of};
 ghost use Rattle.org_outline.specs.Tree.{Document, node_at, node_count, tree};
 ghost use Rattle.org_outline.specs.States.{Keywords};
 ghost use Rattle.org_outline.specs.Parts.{parts_of as heading_parts};
@@ -29,12 +29,12 @@ pub(crate) fn time_text(alloc: Global, now: Moment) -> Result<Vec<u8>, AllocErro
 
 /// Puts a property into a section.
 pub(crate) fn put(section: &mut Vec<u8>, name: &[u8], value: &[u8]) -> Result<(), AllocError>
-    requires closed { closed section.old.items ≡ section.old.items }
+    requires terminated { terminated section.old.items ≡ section.old.items }
     requires name { is_property_name name.now ≡ true }
     requires line { IsLine (property_line name.now value.now) }
     ensures parts { OnOk result
         (parts_of section.new.items ≡ put name.now value.now (parts_of section.old.items)) }
-    ensures closed { OnOk result (closed section.new.items ≡ section.new.items) }
+    ensures terminated { OnOk result (terminated section.new.items ≡ section.new.items) }
 {
     let alloc = *section.allocator();
     let edit = put_property(alloc, section, name, value)?;
@@ -54,12 +54,12 @@ struct Property<'a> {
 
 /// Puts a property into a section, if it has a value.
 fn put_given(section: &mut Vec<u8>, property: Property<'_>) -> Result<(), AllocError>
-    requires closed { closed section.old.items ≡ section.old.items }
+    requires terminated { terminated section.old.items ≡ section.old.items }
     requires good { AllByRecursion IsGood (with_given property.name.now property.value []) }
     ensures parts { OnOk result (parts_of section.new.items
         ≡ put_each (with_given property.entry.name.now property.entry.value [])
         (parts_of section.old.items)) }
-    ensures closed { OnOk result (closed section.new.items ≡ section.new.items) }
+    ensures terminated { OnOk result (terminated section.new.items ≡ section.new.items) }
 {
     match property.value {
         Some(value) => put(section, property.name, value),
@@ -69,11 +69,11 @@ fn put_given(section: &mut Vec<u8>, property: Property<'_>) -> Result<(), AllocE
 
 /// Puts properties into a section, in their order.
 fn put_each(section: &mut Vec<u8>, properties: &[Property<'_>]) -> Result<(), AllocError>
-    requires closed { closed section.old.items ≡ section.old.items }
+    requires terminated { terminated section.old.items ≡ section.old.items }
     requires good { AllByRecursion IsGood (given properties.now) }
     ensures parts { OnOk result (parts_of section.new.items
         ≡ put_each (given properties.now) (parts_of section.old.items)) }
-    ensures closed { OnOk result (closed section.new.items ≡ section.new.items) }
+    ensures terminated { OnOk result (terminated section.new.items ≡ section.new.items) }
 {
     for property in properties {
         put_given(section, *property)?;
@@ -188,7 +188,7 @@ pub(crate) fn archived_section(
     requires file { IsDiskName file.now }
     ensures lines { IfOk result (λ section. lines_of section.items
         ≡ archived_section outline.now.states file.now now (tree outline.now.text) node) }
-    ensures closed { IfOk result (λ section. closed section.items ≡ section.items) }
+    ensures terminated { IfOk result (λ section. terminated section.items ≡ section.items) }
 {
     let time = time_text(alloc, now)?;
     let above = inherited(alloc, outline, node)?;

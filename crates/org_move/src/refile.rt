@@ -1,7 +1,7 @@
 // A subtree made a child of another heading.
 ghost use Rattle.std.specs.Prelude.{◌≡◌, [], ◌∷◌, ◌+◌, ◌<◌, ◌≤◌, ◌^◌, Some, IfOk};
 ghost use Rattle.org_splice.specs.Edits.{AreEdits};
-ghost use Rattle.org_splice.specs.Lines.{closed};
+ghost use Rattle.org_splice.specs.Lines.{terminated};
 ghost use Rattle.org_outline.specs.Paths.{titles_of};
 ghost use Rattle.org_outline.specs.Tree.{node_at, node_count, print, tree};
 ghost use Rattle.org_outline.specs.Moves.{level_below, shift_node};
@@ -31,7 +31,7 @@ pub(crate) fn without(alloc: Global, outline: &Outline<'_>, node: Node) -> Edit
 fn level_below(outline: &Outline<'_>, parent: Node) -> usize
     requires { parent < node_count (tree outline.now.text) }
     ensures value { result ≡ level_below (Some parent) (tree outline.now.text) }
-    ensures closed { closed outline.now.text ≡ outline.now.text }
+    ensures terminated { terminated outline.now.text ≡ outline.now.text }
     ensures low { 1 ≤ result }
     ensures high { result < 2 ^ 63 }
 {
@@ -54,7 +54,7 @@ fn with_subtree(
     requires high { level < 2 ^ 63 }
     ensures value { IfOk result (λ edit. edit
         ≡ insertion at (shift_node level (node_at (tree source.now.text) node).node)) }
-    ensures closed { closed source.now.text ≡ source.now.text }
+    ensures terminated { terminated source.now.text ≡ source.now.text }
 {
     let span = source.subtree(node);
     let bytes = shift(alloc, &source.text()[span.start..span.end], level)?;

@@ -1,7 +1,7 @@
 //! The lines of an archived subtree.
 ghost use Rattle.std.specs.Prelude.{◌≡◌, ◌<◌, ◌+◌, ◌^◌, ◌++◌, ◌∷◌, [], IfOk};
 ghost use Rattle.std.specs.Option.{ForSome};
-ghost use Rattle.org_splice.specs.Lines.{closed, lines_of};
+ghost use Rattle.org_splice.specs.Lines.{terminated, lines_of};
 ghost use Rattle.org_outline.specs.Moves.{IsPrinted};
 ghost use Rattle.org_outline.specs.Text.{heading_line};
 ghost use Rattle.org_outline.specs.Tree.{node_at, node_count, print_node, tree};
@@ -22,11 +22,11 @@ fn with_section(
     section: &[u8],
 ) -> Result<Vec<u8>, AllocError>
     requires node { node < node_count (tree outline.now.text) }
-    requires closed { closed section.now ≡ section.now }
+    requires terminated { terminated section.now ≡ section.now }
     ensures value { let own = (node_at (tree outline.now.text) node).node in
         IfOk result (λ made. made.items
         ≡ print_node (record own { section = lines_of section.now })) }
-    ensures closed { IfOk result (λ made. closed outline.now.text ≡ outline.now.text) }
+    ensures terminated { IfOk result (λ made. terminated outline.now.text ≡ outline.now.text) }
 {
     let subtree = outline.subtree(node);
     let old = outline.section(node);
@@ -49,7 +49,7 @@ pub(crate) fn archived_subtree(
     ensures printed { IfOk result (λ made. IsPrinted made.items) }
     ensures root { IfOk result (λ made. (node_at (tree made.items) 0).node
         ≡ archived outline.now.states name.now now (tree outline.now.text) node) }
-    ensures closed { IfOk result (λ made. closed outline.now.text ≡ outline.now.text) }
+    ensures terminated { IfOk result (λ made. terminated outline.now.text ≡ outline.now.text) }
 {
     let file = name.as_str().as_bytes();
     let section = archived_section(alloc, outline, node, file, now)?;

@@ -14,7 +14,7 @@ use Rattle.std.proofs.lemmas.Iterator.{items_from_drains}
 use Rattle.std.proofs.lemmas.Iterator.Adapters.{YieldsList-from_vec}
 use Rattle.memchr.specs.Find.{IsFirstByte, IsLastByte, Nowhere, Passes, is_byte}
 use Rattle.org_outline.specs.declared.heads.Heading.{Heading}
-use Rattle.org_splice.specs.Lines.{closed, IsLine}
+use Rattle.org_splice.specs.Lines.{terminated, IsLine}
 use Rattle.org_outline.specs.Text.{stars, level_of}
 use Rattle.org_outline.specs.Outline.{headings_of, heads_from, ends_line, with_heading, moved, CanMove, IsEdit}
 use Rattle.org_outline.proofs.Lines.{AllByRecursion-append}
@@ -77,14 +77,14 @@ moving f P xs hs i d inv lt =
 
 -- ---- joined parts
 
-closed-ends : (t : List ℕ) → closed t ≡ t → ends_line true t ≡ true
-closed-ends [] e = refl
-closed-ends (b ∷ []) e =
+terminated-ends : (t : List ℕ) → terminated t ≡ t → ends_line true t ≡ true
+terminated-ends [] e = refl
+terminated-ends (b ∷ []) e =
     elim (cases_Bool (eqb b 10)) [
       | inl is ↦ is
       | inr other ↦ let e2 = rw other at e in absurd cc
     ]
-closed-ends (b ∷ c ∷ bs) e = closed-ends (c ∷ bs) (tail_is b b (closed (c ∷ bs)) (c ∷ bs) e)
+terminated-ends (b ∷ c ∷ bs) e = terminated-ends (c ∷ bs) (tail_is b b (terminated (c ∷ bs)) (c ∷ bs) e)
 
 stars_short : (f : Bool) (x : ℕ) (xs : List ℕ) → ends_line f (x ∷ xs) ≡ true → stars (x ∷ xs) < length (x ∷ xs)
 stars_short f x [] e = let is : x ≡ 10 = eqb-true x 10 e in rw is (omega arith)
@@ -140,7 +140,7 @@ rising at f (x ∷ b) =
 pub rising_now : (hs ks : List Heading) (c : List ℕ) (at removed added : ℕ) → IsEdit hs c at removed added → ks ≡ hs → IsNonDecreasingBy (λ (h : Heading). h.start) ks
 rising_now hs ks c at removed added e same =
     let P : List Heading → Type 0 = λ l. IsNonDecreasingBy (λ (h : Heading). h.start) l in
-    subst P (heads_from-text e.before e.before_closed ∙ sym e.headings_are ∙ sym same) (rising 0 true e.before)
+    subst P (heads_from-text e.before e.before_terminated ∙ sym e.headings_are ∙ sym same) (rising 0 true e.before)
 
 -- where a search ends, as a count of the first ones
 pub count_at : (p : Heading → Bool) (hs : List Heading) (r : ℕ) → r ≤ length hs → IsPartitionPoint (λ h. p h ≡ true) (λ h. p h ≡ false) hs r → r ≡ prefix_len p hs
@@ -214,12 +214,12 @@ take-shorter (suc m) (suc n) [] le = refl
 take-shorter (suc m) (suc n) (x ∷ l) le = ap (λ l. x ∷ l) (take-shorter m n l (omega (arith, le)))
 
 -- a line ends at `to`, and so at `was`
-ends_at : (b c : List ℕ) (q r n : ℕ) → closed b ≡ b → drop q c ≡ drop r b → (q + n ≡ length c) ⊎ ((f : Bool) → ends_line f (take n (drop q c)) ≡ true) → n ≤ length (drop q c)
+ends_at : (b c : List ℕ) (q r n : ℕ) → terminated b ≡ b → drop q c ≡ drop r b → (q + n ≡ length c) ⊎ ((f : Bool) → ends_line f (take n (drop q c)) ≡ true) → n ≤ length (drop q c)
     → ends_line true (take (r + n) b) ≡ true
-ends_at b c q r n closed_b same (inl all) le =
+ends_at b c q r n terminated_b same (inl all) le =
     let none : length b ≤ r + n = omega (arith, all, ap length same, length-drop q c, length-drop r b, le) in
-    ap (ends_line true) (take_all (r + n) b none) ∙ closed-ends b closed_b
-ends_at b c q r n closed_b same (inr ends) le =
+    ap (ends_line true) (take_all (r + n) b none) ∙ terminated-ends b terminated_b
+ends_at b c q r n terminated_b same (inr ends) le =
     ap (ends_line true) (take-plus r n b) ∙ ends_line-append true (take r b) (take n (drop r b)) ∙ ap (λ l. ends_line (ends_line true (take r b)) (take n l)) (sym same)
     ∙ ends (ends_line true (take r b))
 
@@ -255,8 +255,8 @@ parts hs c at removed added from to e fa fe qt tl te =
     ap (λ l. old ++ l) (sym back_same ∙ ap (λ k. drop k b) (sym up_was) ∙ sym (drop-drop (was - from) from b)) ∙ take-append-drop (was - from) (drop from b) in
     let c_rest : new ++ back ≡ drop from c =
     ap (λ l. new ++ l) (ap (λ k. drop k c) (sym up_to) ∙ sym (drop-drop (to - from) from c)) ∙ take-append-drop (to - from) (drop from c) in
-    let fresh : ends_line true (take was b) ≡ true = ap (λ k. ends_line true (take k b)) (sym was_is) ∙ ends_at b c q r n e.before_closed same te2 fits in
-    let fresh_c : ends_line true (take to c) ≡ true = ap (λ k. ends_line true (take k c)) (sym to_is) ∙ ends_at c c q q n e.after_closed refl te2 fits in
+    let fresh : ends_line true (take was b) ≡ true = ap (λ k. ends_line true (take k b)) (sym was_is) ∙ ends_at b c q r n e.before_terminated same te2 fits in
+    let fresh_c : ends_line true (take to c) ≡ true = ap (λ k. ends_line true (take k c)) (sym to_is) ∙ ends_at c c q q n e.after_terminated refl te2 fits in
     let front_b : ends_line true (take from b) ≡ true = ap (ends_line true) (sym in_front) ∙ fe in
     let split_b : take was b ≡ take from b ++ old = ap (λ k. take k b) (sym up_was) ∙ take-plus from (was - from) b in
     let split_c : take to c ≡ take from c ++ new = ap (λ k. take k c) (sym up_to) ∙ take-plus from (to - from) c in
@@ -278,7 +278,7 @@ parts hs c at removed added from to e fa fe qt tl te =
     }
 
 -- the headings of the three parts
-heads_of_parts : (front part back : List ℕ) → closed (front ++ (part ++ back)) ≡ front ++ (part ++ back) → ends_line true front ≡ true → ends_line true part ≡ true
+heads_of_parts : (front part back : List ℕ) → terminated (front ++ (part ++ back)) ≡ front ++ (part ++ back) → ends_line true front ≡ true → ends_line true part ≡ true
     → headings_of (front ++ (part ++ back)) ≡ heads_from 0 true front ++ (heads_from (length front) true part ++ heads_from (length front + length part) true back)
 heads_of_parts front part back c fe pe =
     let zero_is : 0 + length front ≡ length front = omega arith in
@@ -307,13 +307,13 @@ makes hs c at removed added from to first last fresh e small fa fe bounds te fir
     let hb = heads_from from true p.old in
     let hc = heads_from from true p.new in
     let behind = heads_from was true p.back in
-    let C : List ℕ → Type 0 = λ t. closed t ≡ t in
+    let C : List ℕ → Type 0 = λ t. terminated t ≡ t in
     let hs_is : hs ≡ h0 ++ (hb ++ behind) =
-    e.headings_are ∙ ap headings_of p.before ∙ heads_of_parts p.front p.old p.back (subst C p.before e.before_closed) p.front_ends p.old_ends
+    e.headings_are ∙ ap headings_of p.before ∙ heads_of_parts p.front p.old p.back (subst C p.before e.before_terminated) p.front_ends p.old_ends
     ∙ ap (λ k. h0 ++ (heads_from k true p.old ++ heads_from (k + length p.old) true p.back)) p.front_long
     ∙ ap (λ k. h0 ++ (hb ++ heads_from k true p.back)) p.old_long in
     let c_is : headings_of c ≡ h0 ++ (hc ++ heads_from to true p.back) =
-    ap headings_of p.after ∙ heads_of_parts p.front p.new p.back (subst C p.after e.after_closed) p.front_ends p.new_ends
+    ap headings_of p.after ∙ heads_of_parts p.front p.new p.back (subst C p.after e.after_terminated) p.front_ends p.new_ends
     ∙ ap (λ k. h0 ++ (heads_from k true p.new ++ heads_from (k + length p.new) true p.back)) p.front_long
     ∙ ap (λ k. h0 ++ (hc ++ heads_from k true p.back)) p.new_long in
     let fl = p.front_long in
@@ -392,7 +392,7 @@ edited_now hs ks us ws rest c removed added from to first last n size {fresh} m 
     ∙ ap (λ us. take (first + length fresh) us ++ map f (drop (first + length fresh) us)) same ∙ m.is
 
 -- bytes put in the place of others are an edit
-pub spliced_edit : (hs : List Heading) (before after added : List ℕ) (at removed n : ℕ) → hs ≡ headings_of before → closed before ≡ before → closed after ≡ after → length before < 2 ^ 64
+pub spliced_edit : (hs : List Heading) (before after added : List ℕ) (at removed n : ℕ) → hs ≡ headings_of before → terminated before ≡ before → terminated after ≡ after → length before < 2 ^ 64
     → at + removed ≤ length before → after ≡ take at before ++ (added ++ drop (at + removed) before) → n ≡ length added → IsEdit hs after at removed n
 spliced_edit hs before after added at removed n he cb ca small within e en =
     let long : length (take at before) ≡ at = length-take-le at before (omega (arith, within)) in
@@ -402,8 +402,8 @@ spliced_edit hs before after added at removed n he cb ca small within e en =
     record {
       before = before;
       headings_are = he;
-      before_closed = cb;
-      after_closed = ca;
+      before_terminated = cb;
+      after_terminated = ca;
       before_small = small;
       removed_in = within;
       added_in = omega (arith, ap length whole, length-append (take at before ++ added) back, cut);

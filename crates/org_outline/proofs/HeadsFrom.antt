@@ -8,7 +8,7 @@ use Rattle.std.proofs.lemmas.List.{append-nil, take-append-drop, length-replicat
 use Rattle.memchr.specs.Find.{IsFirstByte, is_byte}
 use Rattle.org_splice.proofs.Lines.{print_lines-lines_of, lines_of-lines}
 use Rattle.org_outline.specs.declared.heads.Heading.{Heading}
-use Rattle.org_splice.specs.Lines.{closed, lines_of, print_lines, IsLine}
+use Rattle.org_splice.specs.Lines.{terminated, lines_of, print_lines, IsLine}
 use Rattle.org_outline.specs.Text.{stars, level_of}
 use Rattle.org_outline.specs.Outline.{headings_of, with_heading, heads_from, ends_line}
 use Rattle.org_outline.proofs.Lines.{stars-split, one-add}
@@ -80,7 +80,7 @@ heads_from-lines at [] p = refl
 heads_from-lines at (l ∷ ls) p =
     first_line at l (print_lines ls) p.0 ∙ ap (with_heading (level_of l) at) (heads_from-lines (at + length l + 1) ls p.1)
 
-pub heads_from-text : (t : List ℕ) → closed t ≡ t → heads_from 0 true t ≡ headings_of t
+pub heads_from-text : (t : List ℕ) → terminated t ≡ t → heads_from 0 true t ≡ headings_of t
 heads_from-text t c =
     let whole : print_lines (lines_of t) ≡ t = print_lines-lines_of t ∙ c in
     ap (heads_from 0 true) (sym whole) ∙ heads_from-lines 0 (lines_of t) (lines_of-lines t) ∙ sym (headings_of-lines t)

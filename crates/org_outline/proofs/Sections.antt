@@ -7,7 +7,7 @@ use Rattle.std.proofs.lemmas.List.{length-append, length-drop, take-append-drop,
 use Rattle.memchr.specs.Find.{IsFirstByte, is_byte}
 use Rattle.org_splice.proofs.Lines.{lines_of-lines, size, size-cons, print_lines-append}
 use Rattle.org_outline.specs.declared.heads.Heading.{Heading}
-use Rattle.org_splice.specs.Lines.{closed, print_lines, IsLine, lines_of}
+use Rattle.org_splice.specs.Lines.{terminated, print_lines, IsLine, lines_of}
 use Rattle.org_outline.specs.Text.{heading_line}
 use Rattle.org_outline.specs.Tree.{Forest, Empty, Tree, Document, Placed, lines, own_lines, print_node, IsForest, IsValid, tree, nodes, nodes_from, node_at, node_count, no_node}
 use Rattle.org_outline.specs.Outline.{headings_of, next_at, start_or, IsSection}
@@ -59,14 +59,14 @@ line_none t start r h is l more p split =
     g (length l) (omega arith) (omega (arith, length-append l (10 ∷ more))) (eq-eqb (get_or (l ++ 10 ∷ more) (length l) 0) 10 (get_or_at l 10 more 0 (length l) refl))
 
 -- the text from a node on
-pub from_node : (t : List ℕ) (i : ℕ) (h : Heading) → closed t ≡ t → i < node_count (tree t) → h ≡ get_or (headings_of t) i h → (more : List ℕ) × (drop h.start t ≡ print_node (node_at (tree t) i).node ++ more)
+pub from_node : (t : List ℕ) (i : ℕ) (h : Heading) → terminated t ≡ t → i < node_count (tree t) → h ≡ get_or (headings_of t) i h → (more : List ℕ) × (drop h.start t ≡ print_node (node_at (tree t) i).node ++ more)
 from_node t i h c lt e =
     let s = subtree_is t i h c lt e in
     let k = next_at h.level (drop (suc i) (headings_of t)) (length t) - h.start in
     (drop k (drop h.start t), sym (take-append-drop k (drop h.start t)) ∙ ap (λ x. x ++ drop k (drop h.start t)) s.bytes)
 
 -- what the code answers
-pub section_is : (t : List ℕ) (i : ℕ) (h : Heading) (from : ℕ) → closed t ≡ t → i < node_count (tree t) → h ≡ get_or (headings_of t) i h
+pub section_is : (t : List ℕ) (i : ℕ) (h : Heading) (from : ℕ) → terminated t ≡ t → i < node_count (tree t) → h ≡ get_or (headings_of t) i h
     → ((l more : List ℕ) → IsLine l → drop h.start t ≡ l ++ 10 ∷ more → from ≡ h.start + length l + 1)
     → IsSection t (node_at (tree t) i) (record { start = from; end = start_or (drop (suc i) (headings_of t)) (length t) })
 section_is t i h from c lt e found =
@@ -96,7 +96,7 @@ section_is t i h from c lt e found =
     }
 
 -- the same as the code says it
-pub section_at : (t u : List ℕ) (i j : ℕ) (hs : List Heading) (d : Heading) (from end : ℕ) → u ≡ t → closed t ≡ t → j ≡ i → hs ≡ headings_of t → i < node_count (tree t)
+pub section_at : (t u : List ℕ) (i j : ℕ) (hs : List Heading) (d : Heading) (from end : ℕ) → u ≡ t → terminated t ≡ t → j ≡ i → hs ≡ headings_of t → i < node_count (tree t)
     → ((l more : List ℕ) → IsLine l → drop (get_or hs j d).start u ≡ l ++ 10 ∷ more → from ≡ (get_or hs j d).start + length l + 1)
     → end ≡ start_or (take (length hs - (j + 1)) (drop (j + 1) hs)) (length u)
     → IsSection t (node_at (tree t) i) (record { start = from; end = end })
@@ -108,7 +108,7 @@ section_at t u i j hs d from end ue c je he lt found ee =
     let line : (l more : List ℕ) → IsLine l → drop h.start t ≡ l ++ 10 ∷ more → from ≡ h.start + length l + 1 = λ l more p split. found l more p (ap (drop h.start) ue ∙ split) in
     subst E ends (section_is t i h from c lt (heading_read t i j hs d je he lt) line)
 
-pub start_room : (t u : List ℕ) (i j : ℕ) (hs : List Heading) (d : Heading) → u ≡ t → closed t ≡ t → j ≡ i → hs ≡ headings_of t → i < node_count (tree t) → (get_or hs j d).start ≤ length u
+pub start_room : (t u : List ℕ) (i j : ℕ) (hs : List Heading) (d : Heading) → u ≡ t → terminated t ≡ t → j ≡ i → hs ≡ headings_of t → i < node_count (tree t) → (get_or hs j d).start ≤ length u
 start_room t u i j hs d ue c je he lt =
     let h = get_or hs j d in
     let m = from_node t i h c lt (heading_read t i j hs d je he lt) in

@@ -5,8 +5,8 @@ use Rattle.std.specs.List.{AllByRecursion}
 use Rattle.std.proofs.lemmas.Bool.{cases_Bool}
 use Rattle.std.proofs.lemmas.Bool.Decides.{nat_tests}
 use Rattle.std.proofs.lemmas.List.{append-nil}
-use Rattle.org_splice.specs.Lines.{print_lines, IsLine, lines_of, closed}
-use Rattle.org_splice.proofs.Lines.{lines_of-lines, lines_of-print_lines, lines_of-closed, print_lines-lines_of}
+use Rattle.org_splice.specs.Lines.{print_lines, IsLine, lines_of, terminated}
+use Rattle.org_splice.proofs.Lines.{lines_of-lines, lines_of-print_lines, lines_of-terminated, print_lines-lines_of}
 use Rattle.org_outline.specs.Text.{level_of, heading_line}
 use Rattle.org_outline.specs.Tree.{Forest, Empty, Tree, Document, lines, AllRoots, IsPlain, IsForest, IsValid, IsTreeOf, deeper, others, with_line, tree_of_lines, tree}
 use Rattle.org_outline.specs.Moves.{joined}
@@ -106,9 +106,9 @@ tree-is t = record {
   prints = ap print_lines (lines-tree_of_lines (lines_of t)) ∙ print_lines-lines_of t;
 }
 
--- a text and the closed text have one tree
-pub tree-closed : (t : List ℕ) → tree (closed t) ≡ tree t
-tree-closed t = ap tree_of_lines (lines_of-closed t)
+-- a text and the terminated text have one tree
+pub tree-terminated : (t : List ℕ) → tree (terminated t) ≡ tree t
+tree-terminated t = ap tree_of_lines (lines_of-terminated t)
 
 -- ---- there is no other
 
@@ -202,5 +202,5 @@ document-lines d v = AllByRecursion-append IsLine d.preamble (lines d.forest) (I
 pub one_tree : (t : List ℕ) (d : Document) → IsTreeOf t d → d ≡ tree t
 one_tree t d h =
     let all : lines_of t ≡ d.preamble ++ lines d.forest =
-    sym (lines_of-closed t) ∙ ap lines_of (sym h.prints) ∙ lines_of-print_lines (d.preamble ++ lines d.forest) (document-lines d h.valid) in
+    sym (lines_of-terminated t) ∙ ap lines_of (sym h.prints) ∙ lines_of-print_lines (d.preamble ++ lines d.forest) (document-lines d h.valid) in
     sym (tree_of-lines d h.valid) ∙ ap tree_of_lines (sym all)

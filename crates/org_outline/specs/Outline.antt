@@ -3,7 +3,7 @@ use Rattle.std.specs.Prelude.{◌≡◌, ℕ, suc, nat_lt, Bool, ◌==◌, Optio
 use Rattle.std.specs.Option.{option_map_or}
 use Rattle.org_outline.specs.declared.heads.Heading.{Heading}
 use Rattle.org_splice.specs.declared.Span.{Span}
-use Rattle.org_splice.specs.Lines.{closed, print_lines}
+use Rattle.org_splice.specs.Lines.{terminated, print_lines}
 use Rattle.org_outline.specs.Text.{level_of, heading_line}
 use Rattle.org_outline.specs.Tree.{Placed, own_lines, print_node, nodes_of}
 
@@ -60,12 +60,13 @@ heads_from at fresh (b ∷ bs) = with_heading (if fresh then level_of (b ∷ bs)
 
 -- ---- an edit
 
--- the text `after` comes from a closed text with these headings: `removed` bytes at `at` are replaced by `added` others
+-- the text `after` comes from a terminated text with these headings: `removed` bytes at `at` are replaced by `added`
+-- others
 pub record IsEdit (headings : List Heading) (after : List ℕ) (at removed added : ℕ) : Type 0 where
   pub before : List ℕ
   pub headings_are : headings ≡ headings_of before
-  pub before_closed : closed before ≡ before
-  pub after_closed : closed after ≡ after
+  pub before_terminated : terminated before ≡ before
+  pub after_terminated : terminated after ≡ after
   pub before_small : length before < 2 ^ 64
   pub removed_in : at + removed ≤ length before
   pub added_in : at + added ≤ length after

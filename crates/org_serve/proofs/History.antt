@@ -1,13 +1,13 @@
--- What a stop leaves of a run that is told in one list of texts.
+-- What a crash leaves of a run that is told in one list of texts.
 use Rattle.std.proofs.Common.{◌≡◌, ◌⊎◌, inl, inr, ⊎_elim, ℕ, ◌≤◌, false, List, [], ◌∷◌, Option, Some, None, Result, Ok, Err, refl, sym, ap, ◌∙◌, subst, arith}
 use Rattle.std.specs.Prelude.{slice_get, IsSomeAnd}
 use Rattle.std.proofs.lemmas.Option.{slice_get_within}
 use Rattle.org_disk.specs.Disk.{FileState, AreImages, LeavesOnly}
 use Rattle.org_disk.proofs.Moments.{passes_as, leaves_only}
-use Rattle.org_journal.specs.Standing.{Image, contents}
+use Rattle.org_journal.specs.Recovered.{Image, contents}
 use Rattle.org_fileset.specs.Replay.{IsAtRest}
-use Rattle.org_fileset.proofs.Commits.{at_rest_stands}
-use Rattle.org_fileset.proofs.Stands.{stands_as}
+use Rattle.org_fileset.proofs.Commits.{at_rest_recovers}
+use Rattle.org_fileset.proofs.Recovers.{recovers_as}
 use Rattle.org_store.specs.declared.command.Command.{Command}
 use Rattle.org_store.specs.InOrder.{with_texts}
 use Rattle.org_store.specs.Session.{Session, Kept, Holds}
@@ -19,12 +19,12 @@ use Rattle.org_store.proofs.History.{Begin, Counts, Stands, Texts, adds, begin_a
 use Rattle.org_store.proofs.Runs.{Course, HaveTexts, IsBetween, course_none, course_run, course_settle, falls, holds_back, on_disk_after}
 use Rattle.org_serve.specs.declared.fault.LineFault.{LineFault}
 use Rattle.org_serve.specs.Serving.{AnswersReadBy, AnswersLine}
-use Rattle.org_serve.specs.Stops.{Runs, RunsHonest, RunsLine, HasSettledOver}
+use Rattle.org_serve.specs.Crashes.{Runs, RunsHonest, RunsLine, HasSettledOver}
 use Rattle.org_serve.specs.declared.end.ServeEnd.{ServeEnd}
 use Rattle.org_serve.specs.History.{LeadsBy, RunsPast as ToldRunsPast, PastLine as ToldPast, HasSettledPast as ToldSettledPast}
 use Rattle.org_serve.specs.Transcript.{Answers}
 use Rattle.org_serve.proofs.Honest.{RunsPast, PastLine, HasSettledPast, past_runs}
-use Rattle.org_serve.proofs.Stops.{answers_by}
+use Rattle.org_serve.proofs.Crashes.{answers_by}
 
 -- A run of stores has such a list.
 module _ {D : Type 0} (honest : D → Type 0) (files : D → List ℕ → FileState) (moment : D → ℕ) (left_since : D → ℕ → Image → Type 0) where
@@ -181,7 +181,7 @@ module _ {D : Type 0} (honest : D → Type 0) (files : D → List ℕ → FileSt
       (λ settled. course_settle files moment left_since mid.store last.store settled.0 (Counts last mid) settled.1.0.0 (inl refl))
       ends
 
-  -- What a stop leaves since a store of a run that wasn't broken.
+  -- What a crash leaves since a store of a run that wasn't broken.
   pub leaves_since : (only_now : (disk : D) (image : Image) → honest disk → left_since disk (moment disk) image → AreImages (files disk) image)
       → (first here last : Past D) → honest here.store.disk → IsAtRest (files first.store.disk) → IsOnDisk first.store.session (contents (files first.store.disk)) → here.store.session.broken ≡ false
       → Lists here.store.session here.texts → Begin here.texts last.texts → (P : Session → Type 0) → Goes first here P → Goes here last (Counts last here)
@@ -216,10 +216,10 @@ module _ {D : Type 0} (honest : D → Type 0) (files : D → List ℕ → FileSt
         rw (stands reached.0 reached.1.1 reached.1.2) (back reached.0.files image (inr reached.1.0) reached.2),
       ))
       left))
-      (λ image left. settled_holds image (stands_as (contents (files here.store.disk)) (with_texts here.store.session.names here.store.session.settled (contents (files here.store.disk))) image disk_here
-      (at_rest_stands (files here.store.disk) rest_here image (only_now here.store.disk image honestly left))))
+      (λ image left. settled_holds image (recovers_as (contents (files here.store.disk)) (with_texts here.store.session.names here.store.session.settled (contents (files here.store.disk))) image disk_here
+      (at_rest_recovers (files here.store.disk) rest_here image (only_now here.store.disk image honestly left))))
 
-  -- What a stop leaves since each store on the way of a run, and at its end.
+  -- What a crash leaves since each store on the way of a run, and at its end.
   module _ (only_now : (disk : D) (image : Image) → honest disk → left_since disk (moment disk) image → AreImages (files disk) image)
       {first last : Past D} {end : ServeEnd} {left left' written written' : Option (List ℕ)} (run : Runs Line Settled first last end left left' written written')
       (honest_first : honest first.store.disk) (honest_last : honest last.store.disk) (rest : IsAtRest (files first.store.disk)) (disk : IsOnDisk first.store.session (contents (files first.store.disk)))
@@ -278,7 +278,7 @@ at_first first new lines out answered = record {
   behind = answered;
 }
 
--- What a stop leaves of a run of a store that has such a list as it begins.
+-- What a crash leaves of a run of a store that has such a list as it begins.
 pub run_leaves : {D : Type 0} (honest : D → Type 0) (files : D → List ℕ → FileState) (moment : D → ℕ) (left_since : D → ℕ → Image → Type 0)
     → ((disk : D) (image : Image) → honest disk → left_since disk (moment disk) image → AreImages (files disk) image)
     → (first : Past D) (new : Kept D) (end : ServeEnd) (left left' written written' : Option (List ℕ)) → honest new.disk → IsAtRest (files first.store.disk)

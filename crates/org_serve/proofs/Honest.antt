@@ -1,7 +1,7 @@
 -- Steps that are told by the moment: where the disk is honest at the end, it was at each step, and all of them are told.
 use Rattle.std.proofs.Common.{◌≡◌, ◌⊎◌, inl, inr, ⊎_elim, ℕ, Bool, true, false, nat_lt, List, [], ◌∷◌, ◌++◌, Option, Result, Ok, Err, refl, ap, ◌∙◌, subst, append_assoc}
 use Rattle.org_disk.specs.Disk.{FileState}
-use Rattle.org_journal.specs.Standing.{Image}
+use Rattle.org_journal.specs.Recovered.{Image}
 use Rattle.org_store.specs.declared.command.Command.{Command}
 use Rattle.org_store.specs.declared.command.Reply.{Reply}
 use Rattle.org_store.specs.declared.command.RunFault.{RunFault}
@@ -18,7 +18,7 @@ use Rattle.org_store.specs.History.{Past}
 use Rattle.org_serve.specs.History.{LeadsBy, PastLine as ToldPast, HasSettledPast as ToldSettledPast}
 use Rattle.org_serve.specs.Lines.{cut}
 use Rattle.org_serve.specs.Serving.{AnswersLineBy, AnswersReadBy, EndsBy, FinishesBy, HasSettledBy}
-use Rattle.org_serve.specs.Stops.{Runs, Told, RunsLine as ToldLine, HasSettledOver as ToldSettled, FinishesOver as ToldFinishes}
+use Rattle.org_serve.specs.Crashes.{Runs, Told, RunsLine as ToldLine, HasSettledOver as ToldSettled, FinishesOver as ToldFinishes}
 use Rattle.org_serve.specs.Transcript.{Answers, RunsSome}
 use Rattle.org_serve.proofs.Inputs.{Served}
 

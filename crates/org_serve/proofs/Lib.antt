@@ -10,7 +10,7 @@ pub mod Breaking
 pub mod Escapes
 pub mod Paths
 pub mod Honest
-pub mod Stops
+pub mod Crashes
 pub mod History
 mod Opened
 mod Times

@@ -8,7 +8,7 @@ use Rattle.std.proofs.lemmas.Bool.{cases_Bool, false≢true}
 use Rattle.std.proofs.lemmas.List.Elements.{All-cons, All-nil, All-push, recursion_from_All}
 use Rattle.org_disk.specs.Disk.{FileState}
 use Rattle.org_outline.specs.States.{Keywords}
-use Rattle.org_journal.specs.Standing.{Image, contents}
+use Rattle.org_journal.specs.Recovered.{Image, contents}
 use Rattle.org_fileset.specs.Names.{AreFew}
 use Rattle.org_store.specs.declared.command.Command.{Command}
 use Rattle.org_store.specs.declared.command.Reply.{Reply}
@@ -32,7 +32,7 @@ use Rattle.org_serve.specs.declared.fault.LineFault.{LineFault}
 use Rattle.org_serve.specs.History.{PastLine as ToldPast, HasSettledPast as ToldSettledPast}
 use Rattle.org_serve.specs.OnePlace.{OnlyRefiles}
 use Rattle.org_serve.specs.Serving.{AnswersReadBy, IsReadAs}
-use Rattle.org_serve.specs.Stops.{Runs}
+use Rattle.org_serve.specs.Crashes.{Runs}
 use Rattle.org_serve.specs.Transcript.{Answers}
 use Rattle.org_serve.specs.Whole.{ServesOver, HoldsServed, IsOnTheWay}
 use Rattle.org_serve.proofs.Honest.{RunsPast, PastLine, HasSettledPast, past_runs, up_to}

@@ -4,9 +4,9 @@ use Rattle.std.specs.Prelude.{IsSomeAnd, slice_get}
 use Rattle.org_disk.specs.Disk.{FileState, AreImages, LeavesOnly}
 use Rattle.org_disk.proofs.Moments.{Image, passes_as, passes_then, leaves_only}
 use Rattle.org_outline.specs.States.{Keywords}
-use Rattle.org_journal.specs.Standing.{SameFiles, StandsFor, IsFit, stands, contents}
+use Rattle.org_journal.specs.Recovered.{SameFiles, RecoversTo, IsRecoverable, recovered, contents}
 use Rattle.org_fileset.specs.Names.{with_archives, AreSorted, first_large}
-use Rattle.org_fileset.specs.Recovery.{EachStands, IsReopened, StandsAsBefore}
+use Rattle.org_fileset.specs.Recovery.{EachRecovers, IsReopened, RecoversAsBefore}
 use Rattle.org_fileset.specs.Replay.{IsAtRest}
 use Rattle.org_store.specs.declared.command.RunFault.{RunFault}
 use Rattle.org_store.specs.declared.command.RunFault.TheVariants as run
@@ -22,7 +22,7 @@ use Rattle.org_serve.specs.declared.end.ServeEnd.TheVariants.{End, Device, Read,
 use Rattle.org_store.specs.History.{Past, Lists}
 use Rattle.org_serve.specs.History.{LeadsBy}
 use Rattle.org_serve.specs.Serving.{EndsBy, Finishes, end_of}
-use Rattle.org_serve.specs.Stops.{RunsLine, HasSettledOver, Runs}
+use Rattle.org_serve.specs.Crashes.{RunsLine, HasSettledOver, Runs}
 use Rattle.org_serve.specs.Whole.{Begins, Serves, ServesOver, HoldsServed, IsOnTheWay, IsOnTheWayTo, Lasts}
 use Rattle.org_serve.proofs.History.{at_first, lift_run, session_of_past, since, whole_prefix}
 use Rattle.org_serve.proofs.Honest.{HasSettledPast, PastLine, past_last, past_leads, past_lines, past_runs, up_to}
@@ -64,7 +64,7 @@ module _ {D : Type 0} (files : D → List ℕ → FileState) (states : Keywords)
       → Runs (RunsLine honest files moment left_since) (HasSettledOver honest files moment left_since) begun after end left left' written written'
       → (honest now → Serves begun.session end after.session left left' written written')
       → ServesOver honest files moment left_since states group given disk now end left left' written written'
-  serves honest moment left_since sorted sized began reopened after now closed run told =
+  serves honest moment left_since sorted sized began reopened after now given_up run told =
       let first : Past D = record { store = begun; texts = begun.session.files ∷ [] } in
       let past = lift_run honest files moment left_since first run in record {
         first = first;
@@ -75,7 +75,7 @@ module _ {D : Type 0} (files : D → List ℕ → FileState) (states : Keywords)
         sizes = subst (λ (k : Kept D). honest k.disk → first_large (contents (files k.disk)) k.session.names ≡ None) (sym is) sized;
         texts = refl;
         run = past.1;
-        closed = closed;
+        given_up = given_up;
         so_far = λ here way honestly.
             session_of_past honest files moment left_since first way.answered way.written here
             (past_lines honest files moment left_since first way.answered way.written here way.before honestly).0;
@@ -91,19 +91,19 @@ on_disk_first : (states : Keywords) (group : ℕ) (given : List (List ℕ)) (fil
 on_disk_first states group given files begin begins =
     subst (λ texts. SameFiles files (with_texts begin.names texts files)) (sym (ap (λ (s : Session). s.settled) begins.session)) (others_same begin.names files)
 
--- an image that stands for files
-stands_for : (image texts : Image) → StandsFor texts image → is_some (stands image) ≡ true
-stands_for image texts holds = some (stands image) holds
+-- an image that recovers to files
+recovers_to : (image texts : Image) → RecoversTo texts image → is_some (recovered image) ≡ true
+recovers_to image texts holds = some (recovered image) holds
   where
     some : (found : Option Image) → IsSomeAnd found (λ found. SameFiles found texts) → is_some found ≡ true
     some None held = absurd held
     some (Some found) held = refl
 
--- of a disk that a stop leaves so, each image stands for files
-pub each_stands : {D : Type 0} (files : D → List ℕ → FileState) (moment : D → ℕ) (left_since : D → ℕ → Image → Type 0) (disk now : D) (P : Image → Type 0)
+-- of a disk that a crash leaves so, each image recovers to files
+pub each_recovers : {D : Type 0} (files : D → List ℕ → FileState) (moment : D → ℕ) (left_since : D → ℕ → Image → Type 0) (disk now : D) (P : Image → Type 0)
     → ((image : Image) → AreImages (files now) image → left_since now (moment disk) image)
-    → LeavesOnly (moment disk) (moment now) (left_since disk) (left_since now) P → ((image : Image) → P image → (texts : Image) × StandsFor texts image) → EachStands (files now)
-each_stands files moment left_since disk now P counts leaves each image left = let holds = each image (leaves.each image (counts image left)) in stands_for image holds.0 holds.1
+    → LeavesOnly (moment disk) (moment now) (left_since disk) (left_since now) P → ((image : Image) → P image → (texts : Image) × RecoversTo texts image) → EachRecovers (files now)
+each_recovers files moment left_since disk now P counts leaves each image left = let holds = each image (leaves.each image (counts image left)) in recovers_to image holds.0 holds.1
 
 -- a store that ended well has settled all
 ended : (broken pending : Bool) (s : Session) (out : List ℕ) (new : Session) → EndsBy Settles (λ s. s) broken pending s End out new → broken ≡ s.broken → (pending ≡ false → s.accepted ≤ s.acknowledged)
@@ -143,15 +143,15 @@ module _ {D : Type 0} {honest : D → Type 0} {files : D → List ℕ → FileSt
   on_disk : IsOnDisk served.first.store.session (contents (files served.first.store.disk))
   on_disk = on_disk_first states group given (contents (files served.first.store.disk)) served.first.store.session served.begins
 
-  -- What a stop leaves of a run up to one store, over a disk that is honest there, where the opening left it at rest.
-  module _ (later : Past D) {stops : ServeEnd} (run : Runs Line Settled served.first later stops left left' written written') (began : honest served.first.store.disk) (honestly : honest later.store.disk)
+  -- What a crash leaves of a run up to one store, over a disk that is honest there, where the opening left it at rest.
+  module _ (later : Past D) {crashes : ServeEnd} (run : Runs Line Settled served.first later crashes left left' written written') (began : honest served.first.store.disk) (honestly : honest later.store.disk)
       (rest : IsAtRest (files served.first.store.disk)) where
     since_in : (here : Past D) → LeadsBy Line served.first run.ran run.out run.mid here ⊎ (here ≡ later) → here.store.session.broken ≡ false
         → LeavesOnly (moment here.store.disk) (moment later.store.disk) (left_since here.store.disk) (left_since later.store.disk) (HoldsServed served later here.store.session.acknowledged)
     since_in here way sound = since honest files moment left_since only_now run began honestly rest on_disk lists here way sound
 
-    moment_in : LeavesOnly (moment disk) (moment served.first.store.disk) (left_since disk) (left_since served.first.store.disk) (StandsAsBefore (files disk))
-        → LeavesOnly (moment disk) (moment later.store.disk) (left_since disk) (left_since later.store.disk) (λ image. StandsAsBefore (files disk) image ⊎ HoldsServed served later 0 image)
+    moment_in : LeavesOnly (moment disk) (moment served.first.store.disk) (left_since disk) (left_since served.first.store.disk) (RecoversAsBefore (files disk))
+        → LeavesOnly (moment disk) (moment later.store.disk) (left_since disk) (left_since later.store.disk) (λ image. RecoversAsBefore (files disk) image ⊎ HoldsServed served later 0 image)
     moment_in opening =
         let first = served.first in
         let no_command : first.store.session.acknowledged ≡ 0 = ap (λ (s : Session). s.acknowledged) session_is in
@@ -181,22 +181,22 @@ module _ {D : Type 0} {honest : D → Type 0} {files : D → List ℕ → FileSt
       let finish : Finishes tells.0 End tells.3 served.last.store.session = subst (λ e. Finishes tells.0 e tells.3 served.last.store.session) well tells.6 in
       ended tells.0.broken (nat_lt tells.0.acknowledged tells.0.accepted) tells.0 tells.3 served.last.store.session finish refl (not_less tells.0.acknowledged tells.0.accepted)
 
-  -- What a stop leaves of the whole run.
+  -- What a crash leaves of the whole run.
   module _ (rest : honest served.first.store.disk → IsAtRest (files served.first.store.disk))
-      (opening : honest served.first.store.disk → LeavesOnly (moment disk) (moment served.first.store.disk) (left_since disk) (left_since served.first.store.disk) (StandsAsBefore (files disk))) where
+      (opening : honest served.first.store.disk → LeavesOnly (moment disk) (moment served.first.store.disk) (left_since disk) (left_since served.first.store.disk) (RecoversAsBefore (files disk))) where
     moment_at_last : honest served.last.store.disk
-        → LeavesOnly (moment disk) (moment served.last.store.disk) (left_since disk) (left_since served.last.store.disk) (λ image. StandsAsBefore (files disk) image ⊎ HoldsServed served served.last 0 image)
+        → LeavesOnly (moment disk) (moment served.last.store.disk) (left_since disk) (left_since served.last.store.disk) (λ image. RecoversAsBefore (files disk) image ⊎ HoldsServed served served.last 0 image)
     moment_at_last honestly =
         let whole = past_runs honest files moment left_since served.run honestly in
         moment_in served.last whole.0 whole.1 honestly (rest whole.1) (opening whole.1)
 
     moment_at : (later : Past D) → IsOnTheWay served later → honest later.store.disk
-        → LeavesOnly (moment disk) (moment later.store.disk) (left_since disk) (left_since later.store.disk) (λ image. StandsAsBefore (files disk) image ⊎ HoldsServed served later 0 image)
+        → LeavesOnly (moment disk) (moment later.store.disk) (left_since disk) (left_since later.store.disk) (λ image. RecoversAsBefore (files disk) image ⊎ HoldsServed served later 0 image)
     moment_at later (inl way) honestly =
         let whole = past_runs honest files moment left_since (up_to served.run later way) honestly in
         moment_in later whole.0 whole.1 honestly (rest whole.1) (opening whole.1)
     moment_at later (inr same) honestly =
-        subst (λ (p : Past D). LeavesOnly (moment disk) (moment p.store.disk) (left_since disk) (left_since p.store.disk) (λ image. StandsAsBefore (files disk) image ⊎ HoldsServed served p 0 image)) (sym same)
+        subst (λ (p : Past D). LeavesOnly (moment disk) (moment p.store.disk) (left_since disk) (left_since p.store.disk) (λ image. RecoversAsBefore (files disk) image ⊎ HoldsServed served p 0 image)) (sym same)
         (moment_at_last (subst (λ (p : Past D). honest p.store.disk) same honestly))
 
     since_at_last : (here : Past D) → IsOnTheWay served here → honest served.last.store.disk → here.store.session.broken ≡ false
@@ -226,33 +226,33 @@ module _ {D : Type 0} {honest : D → Type 0} {files : D → List ℕ → FileSt
       any_moment = moment_at;
       since = since_at;
       ended = λ honest_now well image images.
-          let honestly : honest served.last.store.disk = subst honest served.closed honest_now in
+          let honestly : honest served.last.store.disk = subst honest served.given_up honest_now in
           let whole = past_runs honest files moment left_since served.run honestly in
           let done = all_settled honest_now well in
-          whole_in served.last whole.0 whole.1 honestly (rest whole.1) done.0 done.1 image (subst (λ d. AreImages (files d) image) served.closed images);
+          whole_in served.last whole.0 whole.1 honestly (rest whole.1) done.0 done.1 image (subst (λ d. AreImages (files d) image) served.given_up images);
     }
 
-  -- what a stop leaves of it at the end
-  at_end : honest now → Lasts served → LeavesOnly (moment disk) (moment now) (left_since disk) (left_since now) (λ image. StandsAsBefore (files disk) image ⊎ HoldsServed served served.last 0 image)
+  -- what a crash leaves of it at the end
+  at_end : honest now → Lasts served → LeavesOnly (moment disk) (moment now) (left_since disk) (left_since now) (λ image. RecoversAsBefore (files disk) image ⊎ HoldsServed served served.last 0 image)
   at_end honest_now lasts =
-      subst (λ d. LeavesOnly (moment disk) (moment d) (left_since disk) (left_since d) (λ image. StandsAsBefore (files disk) image ⊎ HoldsServed served served.last 0 image)) (sym served.closed)
-      (lasts.any_moment served.last (inr refl) (subst honest served.closed honest_now))
+      subst (λ d. LeavesOnly (moment disk) (moment d) (left_since disk) (left_since d) (λ image. RecoversAsBefore (files disk) image ⊎ HoldsServed served served.last 0 image)) (sym served.given_up)
+      (lasts.any_moment served.last (inr refl) (subst honest served.given_up honest_now))
 
-  -- each image of the disk that is left stands for files
-  pub left_stands : honest now → Lasts served → EachStands (files now)
-  left_stands honest_now lasts =
+  -- each image of the disk that is left recovers to files
+  pub left_recovers : honest now → Lasts served → EachRecovers (files now)
+  left_recovers honest_now lasts =
       let leaves = at_end honest_now lasts in
-      each_stands files moment left_since disk now (λ image. StandsAsBefore (files disk) image ⊎ HoldsServed served served.last 0 image)
+      each_recovers files moment left_since disk now (λ image. RecoversAsBefore (files disk) image ⊎ HoldsServed served served.last 0 image)
       (λ image left. counts_now now (moment disk) image honest_now leaves.passes.later left) leaves (λ image left. elim left [
-        | inl before ↦ (before.texts, before.stands_now)
+        | inl before ↦ (before.texts, before.recovers_now)
         | inr holds ↦ some image (slice_get served.last.texts holds.0) holds.2
       ])
     where
-      some : (image : Image) (found : Option (List (List ℕ))) → IsSomeAnd found (λ texts. Holds served.first.store.session (contents (files served.first.store.disk)) texts image) → (texts : Image) × StandsFor texts image
+      some : (image : Image) (found : Option (List (List ℕ))) → IsSomeAnd found (λ texts. Holds served.first.store.session (contents (files served.first.store.disk)) texts image) → (texts : Image) × RecoversTo texts image
       some image None held = absurd held
       some image (Some texts) held = (with_texts served.first.store.session.names texts (contents (files served.first.store.disk)), held)
 
--- a store that was opened, and in which the group was set: what it serves, and what a stop leaves
+-- a store that was opened, and in which the group was set: what it serves, and what a crash leaves
 module _ {D : Type 0} (honest : D → Type 0) (files : D → List ℕ → FileState) (moment : D → ℕ) (left_since : D → ℕ → Image → Type 0)
     (only_now : (disk : D) (image : Image) → honest disk → left_since disk (moment disk) image → AreImages (files disk) image)
     (counts_now : (disk : D) (t : ℕ) (image : Image) → honest disk → t ≤ moment disk → AreImages (files disk) image → left_since disk t image)
@@ -264,12 +264,12 @@ module _ {D : Type 0} (honest : D → Type 0) (files : D → List ℕ → FileSt
       → {end : ServeEnd} {left left' written written' : Option (List ℕ)} (after : Kept D) (now : D) → now ≡ after.disk
       → Runs (RunsLine honest files moment left_since) (HasSettledOver honest files moment left_since) begun after end left left' written written'
       → (honest now → Serves begun.session end after.session left left' written written')
-      → (IsFit (files disk) → EachStands (files disk) → honest begun.disk → LeavesOnly (moment disk) (moment begun.disk) (left_since disk) (left_since begun.disk) (StandsAsBefore (files disk)))
+      → (IsRecoverable (files disk) → EachRecovers (files disk) → honest begun.disk → LeavesOnly (moment disk) (moment begun.disk) (left_since disk) (left_since begun.disk) (RecoversAsBefore (files disk)))
       → (served : ServesOver honest files moment left_since states group given disk now end left left' written written')
-      × (IsFit (files disk) → EachStands (files disk) → Lasts served)
+      × (IsRecoverable (files disk) → EachRecovers (files disk) → Lasts served)
   unfolding serves
-  serves_lasting sorted sized began reopened after now closed run told opening =
-      let served = serves files states group given disk store begun is opens honest moment left_since sorted sized began reopened after now closed run told in (
+  serves_lasting sorted sized began reopened after now given_up run told opening =
+      let served = serves files states group given disk store begun is opens honest moment left_since sorted sized began reopened after now given_up run told in (
         served,
         λ fit each. lasts only_now counts_now served (λ honestly. (reopened honestly).rest fit each) (λ honestly. opening fit each honestly),
       )

@@ -6,18 +6,18 @@ use Rattle.org_disk.specs.Disk.{FileState, IsImage, AreImages, LeavesOnly}
 use Rattle.org_disk.specs.Names.{journal_name}
 use Rattle.org_disk.proofs.Moments.{Image, passes_as, passes_then, leaves_only}
 use Rattle.org_outline.specs.States.{Keywords}
-use Rattle.org_journal.specs.Standing.{SameFiles, IsFit, stands, contents}
+use Rattle.org_journal.specs.Recovered.{SameFiles, IsRecoverable, recovered, contents}
 use Rattle.org_fileset.specs.declared.open.OpenFault.{OpenFault}
 use Rattle.org_fileset.specs.declared.open.OpenFault.TheVariants as open_fault
 use Rattle.org_fileset.specs.Opening.{IsReason}
-use Rattle.org_fileset.specs.Recovery.{EachStands, IsReopened, StandsAsBefore, closed_journal}
+use Rattle.org_fileset.specs.Recovery.{EachRecovers, IsReopened, RecoversAsBefore, closed_journal}
 use Rattle.org_fileset.proofs.Recovering.{as_before}
 use Rattle.org_serve.specs.declared.end.ServeEnd.{ServeEnd}
 use Rattle.org_store.specs.History.{Past}
 use Rattle.org_serve.specs.Syncing.{AreSynced, OutsideStable, IsAsFound, IsSyncFault, stored}
 use Rattle.org_serve.specs.Whole.{ServesOver, IsOnTheWay, IsOnTheWayTo, Lasts, LastsFrom}
 use Rattle.org_serve.proofs.Honest.{past_runs, up_to}
-use Rattle.org_serve.proofs.Syncs.{still_fit, still_stands, as_at_first, as_read, now_fit, now_stand, some_stand}
+use Rattle.org_serve.proofs.Syncs.{still_recoverable, still_recovers, as_at_first, as_read, now_recoverable, now_recovers, some_recovers}
 
 pub if_err : {A E : Type 0} {P Q : E → Type 0} (r : Result A E) → ((e : E) → P e → Q e) → IfErr r P → IfErr r Q
 if_err (Ok x) more held = tt
@@ -27,7 +27,7 @@ pub if_err_always : {A E : Type 0} {P : Type 0} (r : Result A E) → P → IfErr
 if_err_always (Ok x) held = tt
 if_err_always (Err e) held = held
 
--- what a stop leaves has Q too
+-- what a crash leaves has Q too
 pub leaves_as : {m n : ℕ} {s u : ℕ → Image → Type 0} {P Q : Image → Type 0} → LeavesOnly m n s u P → ((image : Image) → P image → Q image) → LeavesOnly m n s u Q
 leaves_as leaves weaker = record { each = λ image left. weaker image (leaves.each image left); passes = passes_as leaves.passes weaker }
 
@@ -50,9 +50,9 @@ sync_reason given Honest before now open_fault.OutOfMemory why = tt
 pub reason_before : (given : List (List ℕ)) (Honest : Type 0) (before mid now : Image) → (Honest → mid ≡ before) → (fault : OpenFault) → IsReason given Honest mid now fault → IsReason given Honest before now fault
 reason_before given Honest before mid now same open_fault.TooManyFiles why = why
 reason_before given Honest before mid now same open_fault.BadJournal why =
-    (why.0, λ h. (subst (λ (f : Image). stands f ≡ None) (same h) (why.1 h).0, (why.1 h).1 ∙ same h))
+    (why.0, λ h. (subst (λ (f : Image). recovered f ≡ None) (same h) (why.1 h).0, (why.1 h).1 ∙ same h))
 reason_before given Honest before mid now same (open_fault.TooLarge name) why =
-    (why.0, λ h. let found = why.1 h in (found.0, found.1, found.2, subst (λ (f : Image). IsSomeAnd (stands f) (SameFiles now)) (same h) found.3))
+    (why.0, λ h. let found = why.1 h in (found.0, found.1, found.2, subst (λ (f : Image). IsSomeAnd (recovered f) (SameFiles now)) (same h) found.3))
 reason_before given Honest before mid now same open_fault.Device why = why
 reason_before given Honest before mid now same open_fault.OutOfMemory why = tt
 
@@ -64,10 +64,10 @@ module _ {D : Type 0} (honest : D → Type 0) (files : D → List ℕ → FileSt
     (time : honest mid → LeavesOver moment left_since disk mid (AreImages (files disk))) where
   reopened_from : (new : List ℕ → FileState) → honest mid → IsReopened (files mid) new → IsReopened (files disk) new
   reopened_from new h is = record {
-    stood = subst (λ (f : Image). IsSomeAnd (stands f) (SameFiles (contents new))) (synced h).same is.stood;
+    recovered_then = subst (λ (f : Image). IsSomeAnd (recovered f) (SameFiles (contents new))) (synced h).same is.recovered_then;
     journal = is.journal ∙ ap (λ (f : Image). closed_journal (f journal_name)) (synced h).same;
     gate = is.gate;
-    rest = λ fit each. is.rest (still_fit (files disk) (files mid) (own h) (images h) fit) (still_stands (files disk) (files mid) (own h) (images h) each);
+    rest = λ fit each. is.rest (still_recoverable (files disk) (files mid) (own h) (images h) fit) (still_recovers (files disk) (files mid) (own h) (images h) each);
   }
 
   module _ {states : Keywords} {group : ℕ} {now : D} {end : ServeEnd} {left left' written written' : Option (List ℕ)}
@@ -82,7 +82,7 @@ module _ {D : Type 0} (honest : D → Type 0) (files : D → List ℕ → FileSt
       sizes = served.sizes;
       texts = served.texts;
       run = served.run;
-      closed = served.closed;
+      given_up = served.given_up;
       so_far = served.so_far;
       serves = served.serves;
     }
@@ -95,10 +95,10 @@ module _ {D : Type 0} (honest : D → Type 0) (files : D → List ℕ → FileSt
     to_later here later (inl to) = inl to.0
     to_later here later (inr to) = inr to.0
 
-    module _ (lasting : IsFit (files mid) → EachStands (files mid) → Lasts served) (Before : Image → Type 0)
-        (ready : honest served.first.store.disk → IsFit (files mid) × EachStands (files mid))
+    module _ (lasting : IsRecoverable (files mid) → EachRecovers (files mid) → Lasts served) (Before : Image → Type 0)
+        (ready : honest served.first.store.disk → IsRecoverable (files mid) × EachRecovers (files mid))
         (early : (image : Image) → AreImages (files disk) image → Before image)
-        (late : honest served.first.store.disk → (image : Image) → StandsAsBefore (files mid) image → Before image) where
+        (late : honest served.first.store.disk → (image : Image) → RecoversAsBefore (files mid) image → Before image) where
       lasts : honest served.first.store.disk → Lasts served
       lasts h = lasting (ready h).0 (ready h).1
 
@@ -111,29 +111,29 @@ module _ {D : Type 0} (honest : D → Type 0) (files : D → List ℕ → FileSt
             (λ image left. ⊎_elim (λ before. inl (late first image before)) (λ holds. inr holds) left);
         since = λ here later way h sound. (lasts (first_honest later (to_later here later way) h)).since here later way h sound;
         ended = λ h well image left.
-            let last : honest served.last.store.disk = subst honest served.closed h in
+            let last : honest served.last.store.disk = subst honest served.given_up h in
             (lasts (past_runs honest files moment left_since served.run last).1).ended h well image left;
       }
 
-    -- over a disk that was fit
-    pub lasts_fit : (IsFit (files mid) → EachStands (files mid) → Lasts served) → IsFit (files disk) → EachStands (files disk) → Lasts served_from
-    lasts_fit lasting fit each =
-        lasts_from lasting (StandsAsBefore (files disk))
+    -- over a disk that was recoverable
+    pub lasts_recoverable : (IsRecoverable (files mid) → EachRecovers (files mid) → Lasts served) → IsRecoverable (files disk) → EachRecovers (files disk) → Lasts served_from
+    lasts_recoverable lasting fit each =
+        lasts_from lasting (RecoversAsBefore (files disk))
         (λ h.
         let m = served.began h in
-        (still_fit (files disk) (files mid) (own m) (images m) fit, still_stands (files disk) (files mid) (own m) (images m) each))
+        (still_recoverable (files disk) (files mid) (own m) (images m) fit, still_recovers (files disk) (files mid) (own m) (images m) each))
         (as_before (files disk) each)
         (λ h image before. let m = served.began h in as_at_first (files disk) (files mid) (own m) (images m) image before)
 
     -- over one of which the other files were on the disk
-    pub lasts_found : (IsFit (files mid) → EachStands (files mid) → Lasts served) → OutsideStable given (files disk) → LastsFrom (IsAsFound (files disk)) served_from
+    pub lasts_found : (IsRecoverable (files mid) → EachRecovers (files mid) → Lasts served) → OutsideStable given (files disk) → LastsFrom (IsAsFound (files disk)) served_from
     lasts_found lasting outside =
         lasts_from lasting (IsAsFound (files disk))
         (λ h.
         let m = served.began h in
-        let good = subst (λ (f : Image). IsTrue (is_some (stands f))) (synced m).same (some_stand (contents (files mid)) (contents (files served.first.store.disk)) (served.reopened h).stood) in (
-          now_fit (files disk) (files mid) (own m) (images m) given (synced m) outside,
-          now_stand (files disk) (files mid) (own m) (images m) given (synced m) outside good,
+        let good = subst (λ (f : Image). IsTrue (is_some (recovered f))) (synced m).same (some_recovers (contents (files mid)) (contents (files served.first.store.disk)) (served.reopened h).recovered_then) in (
+          now_recoverable (files disk) (files mid) (own m) (images m) given (synced m) outside,
+          now_recovers (files disk) (files mid) (own m) (images m) given (synced m) outside good,
         ))
         (λ image left. inl left)
         (λ h image before. let m = served.began h in inr (as_read (files disk) (files mid) (own m) (images m) given (synced m) outside image before))

@@ -8,14 +8,14 @@ use Rattle.org_disk.specs.Disk.{FileState, IsImage, IsStable, AreImages, Changes
 use Rattle.org_disk.specs.Names.{journal_name}
 use Rattle.org_disk.proofs.Images.{only_image, stable_is}
 use Rattle.org_disk.proofs.Names.{name_cases}
-use Rattle.org_journal.specs.Standing.{Image, SameFiles, StandsFor, IsFit, stands, contents}
+use Rattle.org_journal.specs.Recovered.{Image, SameFiles, RecoversTo, IsRecoverable, recovered, contents}
 use Rattle.org_journal.specs.Reading.{journal_at}
 use Rattle.org_journal.specs.Gate.{is_open}
 use Rattle.org_fileset.specs.Names.{AreSorted}
-use Rattle.org_fileset.specs.Recovery.{EachStands, StandsAsBefore}
+use Rattle.org_fileset.specs.Recovery.{EachRecovers, RecoversAsBefore}
 use Rattle.org_fileset.proofs.Elements.{no_member, cons_cases, cons_here, cons_later}
 use Rattle.org_fileset.proofs.Recovering.{stable_from_only, with_bytes, one_image, here_is}
-use Rattle.org_serve.specs.Syncing.{AreSynced, OutsideStable, StandsAsRead, stored}
+use Rattle.org_serve.specs.Syncing.{AreSynced, OutsideStable, RecoversAsRead, stored}
 
 -- One sync after others
 
@@ -68,7 +68,7 @@ not_done P (Err fault) failed = tt
 pub syncs_of : (given names : List (List ℕ)) (old new : List ℕ → FileState) → AreSorted (stored given) names → AreSynced names old new → AreSynced (stored given) old new
 syncs_of given names old new sorted synced = record { same = synced.same; stable = λ name there. synced.stable name ((sorted.members name).1 there) }
 
--- A disk of which a stop leaves nothing new
+-- A disk of which a crash leaves nothing new
 
 pub all_images : {old new : List ℕ → FileState} → ((name bytes : List ℕ) → IsImage (new name) bytes → IsImage (old name) bytes)
     → (image : Image) → AreImages new image → AreImages old image
@@ -88,9 +88,9 @@ module _ (old new : List ℕ → FileState) (own : (name : List ℕ) → IsImage
   pub still_stable : (name : List ℕ) → IsStable (old name) → IsStable (new name)
   still_stable name stable = stable_from_only (new name) (own name) (λ bytes image. only_image stable bytes (images name bytes image) ∙ sym (one_content name stable))
 
-  pub still_fit : IsFit old → IsFit new
-  still_fit (inl stable) = inl (λ name not. still_stable name (stable name not))
-  still_fit (inr armed) =
+  pub still_recoverable : IsRecoverable old → IsRecoverable new
+  still_recoverable (inl stable) = inl (λ name not. still_stable name (stable name not))
+  still_recoverable (inr armed) =
       let same = one_content journal_name armed.stable in
       inr (record {
         stable = still_stable journal_name armed.stable;
@@ -102,51 +102,51 @@ module _ (old new : List ℕ → FileState) (own : (name : List ℕ) → IsImage
         same = λ image left. armed.same image (all_images images image left);
       })
 
-  pub still_stands : EachStands old → EachStands new
-  still_stands each image left = each image (all_images images image left)
+  pub still_recovers : EachRecovers old → EachRecovers new
+  still_recovers each image left = each image (all_images images image left)
 
   pub still_outside : (given : List (List ℕ)) → OutsideStable given old → OutsideStable given new
   still_outside given outside name none = still_stable name (outside name none)
 
-  pub as_at_first : (image : Image) → StandsAsBefore new image → StandsAsBefore old image
-  as_at_first image before = record { start = before.start; left = all_images images before.start before.left; texts = before.texts; stood = before.stood; stands_now = before.stands_now }
+  pub as_at_first : (image : Image) → RecoversAsBefore new image → RecoversAsBefore old image
+  as_at_first image before = record { start = before.start; left = all_images images before.start before.left; texts = before.texts; recovered_then = before.recovered_then; recovers_now = before.recovers_now }
 
   -- the store's files were synced, and the others were on the disk
   module _ (given : List (List ℕ)) (synced : AreSynced (stored given) old new) (outside : OutsideStable given old) where
     pub all_stable : (name : List ℕ) → IsStable (new name)
     all_stable name = ⊎_elim (synced.stable name) (λ none. still_stable name (outside name none)) (among_cases (stored given) name)
 
-    pub now_fit : IsFit new
-    now_fit = inl (λ name not. all_stable name)
+    pub now_recoverable : IsRecoverable new
+    now_recoverable = inl (λ name not. all_stable name)
 
     only_read : (image : Image) → AreImages new image → image ≡ contents old
     only_read image left = (λ i name. only_image (all_stable name) (image name) (left name) i) ∙ synced.same
 
-    pub now_stand : IsTrue (is_some (stands (contents old))) → EachStands new
-    now_stand stand image left = subst (λ (f : Image). IsTrue (is_some (stands f))) (sym (only_read image left)) stand
+    pub now_recovers : IsTrue (is_some (recovered (contents old))) → EachRecovers new
+    now_recovers stand image left = subst (λ (f : Image). IsTrue (is_some (recovered f))) (sym (only_read image left)) stand
 
-    pub as_read : (image : Image) → StandsAsBefore new image → StandsAsRead old image
-    as_read image before = read (stands (contents old)) (subst (λ (f : Image). StandsFor before.texts f) (only_read before.start before.left) before.stood)
+    pub as_read : (image : Image) → RecoversAsBefore new image → RecoversAsRead old image
+    as_read image before = read (recovered (contents old)) (subst (λ (f : Image). RecoversTo before.texts f) (only_read before.start before.left) before.recovered_then)
       where
         moved : (texts found : Image) → SameFiles found texts → (o : Option Image) → IsSomeAnd o (λ f. SameFiles f texts) → IsSomeAnd o (λ f. SameFiles f found)
         moved texts found same None held = absurd held
         moved texts found same (Some f) held = λ name not. held name not ∙ sym (same name not)
 
-        read : (o : Option Image) → IsSomeAnd o (λ found. SameFiles found before.texts) → IsSomeAnd o (λ found. StandsFor found image)
+        read : (o : Option Image) → IsSomeAnd o (λ found. SameFiles found before.texts) → IsSomeAnd o (λ found. RecoversTo found image)
         read None held = absurd held
-        read (Some found) held = moved before.texts found held (stands image) before.stands_now
+        read (Some found) held = moved before.texts found held (recovered image) before.recovers_now
 
--- a disk whose files stand for something as they read
-pub some_stand : (files made : Image) → IsSomeAnd (stands files) (SameFiles made) → IsTrue (is_some (stands files))
-some_stand files made held = some (stands files) held
+-- a disk whose files recover to something as they read
+pub some_recovers : (files made : Image) → IsSomeAnd (recovered files) (SameFiles made) → IsTrue (is_some (recovered files))
+some_recovers files made held = some (recovered files) held
   where
     some : (o : Option Image) → IsSomeAnd o (SameFiles made) → is_some o ≡ true
     some None held = absurd held
     some (Some found) held = refl
 
 -- or they don't
-pub some_or_none : (files : Image) → IsTrue (is_some (stands files)) ⊎ (stands files ≡ None)
-some_or_none files = cases (stands files)
+pub some_or_none : (files : Image) → IsTrue (is_some (recovered files)) ⊎ (recovered files ≡ None)
+some_or_none files = cases (recovered files)
   where
     cases : (o : Option Image) → IsTrue (is_some o) ⊎ (o ≡ None)
     cases None = inr refl

@@ -2,7 +2,7 @@
 -- `honest`, `files`, `moment` and `left_since` are what is seen of a disk of the type D.
 use Rattle.std.specs.Prelude.{◌≡◌, ℕ, List, ◌++◌, Result}
 use Rattle.org_disk.specs.Disk.{FileState}
-use Rattle.org_journal.specs.Standing.{Image}
+use Rattle.org_journal.specs.Recovered.{Image}
 use Rattle.org_store.specs.declared.command.Command.{Command}
 use Rattle.org_store.specs.declared.command.Reply.{Reply}
 use Rattle.org_store.specs.declared.command.RunFault.{RunFault}
@@ -10,7 +10,7 @@ use Rattle.org_store.specs.Calls.{CallPast}
 use Rattle.org_store.specs.Calls.Call.{Ran, Settled}
 use Rattle.org_store.specs.History.{Past}
 use Rattle.org_serve.specs.Serving.{AnswersLineBy, HasSettledBy}
-use Rattle.org_serve.specs.Stops.{Told}
+use Rattle.org_serve.specs.Crashes.{Told}
 use Rattle.org_serve.specs.Transcript.{Answers}
 
 -- A command was run over a disk, and the list has its texts where it is accepted; that is told where the disk is honest

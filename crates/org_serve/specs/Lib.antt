@@ -9,7 +9,7 @@ pub mod Transcript
 pub mod Feeding
 pub mod Replies
 pub mod Serving
-pub mod Stops
+pub mod Crashes
 pub mod History
 pub mod OnePlace
 pub mod Syncing

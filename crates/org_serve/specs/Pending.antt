@@ -18,6 +18,6 @@ abbrev pub Keeps : Option LineFault → List ℕ → List ℕ → Type 0
 Keeps None kept part = (kept ≡ part) × (length part ≤ limit)
 Keeps (Some fault) kept part = IsCause fault part
 
--- it stands for these bytes of a line
+-- it recovers to these bytes of a line
 abbrev pub Stands : Pending → List ℕ → Type 0
 Stands pending part = Keeps pending.fault pending.bytes.items part

@@ -1,9 +1,9 @@
--- The files of a store, synced before it is opened over them, and what a stop leaves of them then.
+-- The files of a store, synced before it is opened over them, and what a crash leaves of them then.
 use Rattle.std.specs.Prelude.{◌≡◌, ◌⊎◌, ℕ, List, ◌∷◌, Result, OnOk, IsSomeAnd}
 use Rattle.std.specs.List.{Contains}
 use Rattle.org_disk.specs.Disk.{FileState, IsImage, IsStable, AreImages}
 use Rattle.org_disk.specs.Names.{journal_name}
-use Rattle.org_journal.specs.Standing.{Image, StandsFor, stands, contents}
+use Rattle.org_journal.specs.Recovered.{Image, RecoversTo, recovered, contents}
 use Rattle.org_fileset.specs.Names.{with_archives, AreFew, AreTooMany}
 use Rattle.org_fileset.specs.declared.open.OpenFault.{OpenFault}
 use Rattle.org_fileset.specs.declared.open.OpenFault.TheVariants.{TooManyFiles, Device, OutOfMemory}
@@ -20,7 +20,7 @@ pub record AreSynced (names : List (List ℕ)) (old new : List ℕ → FileState
 -- The files of these names were synced, all of them or, where a sync failed, some.
 pub record Syncs {A E : Type 0} (names : List (List ℕ)) (old new : List ℕ → FileState) (result : Result A E) : Type 0 where
   pub done : OnOk result (AreSynced names old new)
-  -- a stop leaves of a file what it might have left before
+  -- a crash leaves of a file what it might have left before
   pub images : (name bytes : List ℕ) → IsImage (new name) bytes → IsImage (old name) bytes
 
 -- a sync of a store's files isn't done for this reason
@@ -34,10 +34,10 @@ IsSyncFault given fault = ⊥
 abbrev pub OutsideStable : List (List ℕ) → (List ℕ → FileState) → Type 0
 OutsideStable given files = (name : List ℕ) → (Contains (stored given) name → ⊥) → IsStable (files name)
 
--- the image stands for what the files stand for as they read
-abbrev pub StandsAsRead : (List ℕ → FileState) → Image → Type 0
-StandsAsRead files image = IsSomeAnd (stands (contents files)) (λ texts. StandsFor texts image)
+-- the image recovers to what the files recover to as they read
+abbrev pub RecoversAsRead : (List ℕ → FileState) → Image → Type 0
+RecoversAsRead files image = IsSomeAnd (recovered (contents files)) (λ texts. RecoversTo texts image)
 
--- what a stop leaves of the files as they were found, or what stands for them as they read
+-- what a crash leaves of the files as they were found, or what recovers to them as they read
 abbrev pub IsAsFound : (List ℕ → FileState) → Image → Type 0
-IsAsFound files image = AreImages files image ⊎ StandsAsRead files image
+IsAsFound files image = AreImages files image ⊎ RecoversAsRead files image

@@ -4,11 +4,11 @@ use Rattle.std.specs.Prelude.{◌≡◌, ◌≢◌, ◌⊎◌, ℕ, List, [], �
 use Rattle.org_disk.specs.Disk.{FileState, AreImages, HasRisen}
 use Rattle.org_disk.specs.Accounts.{LeavesOver}
 use Rattle.org_outline.specs.States.{Keywords}
-use Rattle.org_journal.specs.Standing.{Image, contents}
+use Rattle.org_journal.specs.Recovered.{Image, contents}
 use Rattle.org_fileset.specs.declared.open.OpenFault.{OpenFault}
 use Rattle.org_fileset.specs.declared.open.OpenFault.TheVariants as open_fault
 use Rattle.org_fileset.specs.Names.{with_archives, AreSorted, first_large}
-use Rattle.org_fileset.specs.Recovery.{IsReopened, StandsAsBefore}
+use Rattle.org_fileset.specs.Recovery.{IsReopened, RecoversAsBefore}
 use Rattle.org_store.specs.History.{Past, HoldsPrefix}
 use Rattle.org_store.specs.InOrder.{texts_of}
 use Rattle.org_store.specs.Opening.{opened}
@@ -17,7 +17,7 @@ use Rattle.org_serve.specs.declared.end.ServeEnd.{ServeEnd}
 use Rattle.org_serve.specs.declared.end.ServeEnd.TheVariants.{End, Unsettled, Device, Read, Write}
 use Rattle.org_serve.specs.History.{PastLine, HasSettledPast, LeadsBy}
 use Rattle.org_serve.specs.Serving.{AnswersLine, Finishes, HasSettled}
-use Rattle.org_serve.specs.Stops.{Runs}
+use Rattle.org_serve.specs.Crashes.{Runs}
 use Rattle.org_serve.specs.Transcript.{Answers, ServesAll, ServesLines, RunsSome, RunsAllAndSettles}
 
 -- The session of a store that was just opened over these files, with these states, in groups of this size: it has the
@@ -42,21 +42,21 @@ pub record ServesOver {D : Type 0} (honest : D → Type 0) (files : D → List �
   pub last : Past D
   -- a disk that is honest behind the opening was so before it
   pub began : honest first.store.disk → honest disk
-  -- what a stop had cut short was brought to an end; a closed gate's byte was kept
+  -- what a crash had cut short was brought to an end; a closed gate's byte was kept
   pub reopened : honest first.store.disk → IsReopened (files disk) (files first.store.disk)
   pub begins : Begins states group given (contents (files first.store.disk)) first.store.session
   -- each of its files is within the limit then
   pub sizes : honest first.store.disk → first_large (contents (files first.store.disk)) first.store.session.names ≡ None
   pub texts : first.texts ≡ first.store.session.files ∷ []
   pub run : Runs (PastLine honest files moment left_since) (HasSettledPast honest files moment left_since) first last end left left' written written'
-  pub closed : now ≡ last.store.disk
+  pub given_up : now ≡ last.store.disk
   -- the lines that a store on the way had answered, and their replies
   pub so_far : (here : Past D) → (way : LeadsBy (PastLine honest files moment left_since) first run.ran run.out run.mid here) → honest here.store.disk
       → Answers AnswersLine first.store.session way.answered way.written here.store.session
   pub serves : honest now → Serves first.store.session end last.store.session left left' written written'
 
--- the image stands for the files after one prefix of the commands that were accepted by then, which has at least so many of
--- them
+-- the image recovers to the files after one prefix of the commands that were accepted by then, which has at least so
+-- many of them
 abbrev pub HoldsServed : {D : Type 0} {honest : D → Type 0} {files : D → List ℕ → FileState} {moment : D → ℕ} {left_since : D → ℕ → Image → Type 0}
     {states : Keywords} {group : ℕ} {given : List (List ℕ)} {disk now : D} {end : ServeEnd} {left left' written written' : Option (List ℕ)}
     → ServesOver honest files moment left_since states group given disk now end left left' written written' → Past D → ℕ → Image → Type 0
@@ -78,7 +78,7 @@ IsOnTheWayTo {honest = honest} {files = files} {moment = moment} {left_since = l
     × LeadsBy (PastLine honest files moment left_since) served.first way.answered way.written later here)
     ⊎ ((later ≡ served.last) × IsOnTheWay served here)
 
--- What a stop leaves of a run: up to each store on the way over a disk that is honest there, at the last to the end.
+-- What a crash leaves of a run: up to each store on the way over a disk that is honest there, at the last to the end.
 -- `Before` is what it leaves of what was there when the run began.
 pub record LastsFrom {D : Type 0} {honest : D → Type 0} {files : D → List ℕ → FileState} {moment : D → ℕ} {left_since : D → ℕ → Image → Type 0}
     {states : Keywords} {group : ℕ} {given : List (List ℕ)} {disk now : D} {end : ServeEnd} {left left' written written' : Option (List ℕ)}
@@ -93,11 +93,11 @@ pub record LastsFrom {D : Type 0} {honest : D → Type 0} {files : D → List �
   pub ended : honest now → end ≡ End → (image : Image) → AreImages (files now) image
       → Holds served.first.store.session (contents (files served.first.store.disk)) served.last.store.session.files image
 
--- of a run over a disk that was fit: before, what the disk stood for
+-- of a run over a disk that was recoverable: before, what the disk recovered to
 abbrev pub Lasts : {D : Type 0} {honest : D → Type 0} {files : D → List ℕ → FileState} {moment : D → ℕ} {left_since : D → ℕ → Image → Type 0}
     {states : Keywords} {group : ℕ} {given : List (List ℕ)} {disk now : D} {end : ServeEnd} {left left' written written' : Option (List ℕ)}
     → ServesOver honest files moment left_since states group given disk now end left left' written written' → Type 0
-Lasts {files = files} {disk = disk} served = LastsFrom (StandsAsBefore (files disk)) served
+Lasts {files = files} {disk = disk} served = LastsFrom (RecoversAsBefore (files disk)) served
 
 -- The disk failed in a run that ended so: the fault of the opening tells it, or the end. An end with a failed read or
 -- write tells nothing of the disk.

@@ -2,7 +2,7 @@
 ghost use Rattle.std.specs.Prelude.{ℕ, List, [], ◌≡◌, ◌∷◌, ◌++◌};
 ghost use Rattle.std.specs.Prelude.{All, Option, Some, Result, IsFalse};
 ghost use Rattle.org_disk.specs.Accounts.{LeavesOver};
-ghost use Rattle.org_journal.specs.Standing.{Image, contents};
+ghost use Rattle.org_journal.specs.Recovered.{Image, contents};
 ghost use Rattle.org_fileset.specs.Replay.{IsAtRest};
 ghost use Rattle.org_fileset.specs.Names.{AreFew};
 ghost use Rattle.org_outline.specs.States.{Keywords};
@@ -18,7 +18,7 @@ ghost use Rattle.org_store.specs.Session.{Session, Kept};
 ghost use Rattle.org_store.specs.Step.{Step};
 ghost use Rattle.org_serve.specs.OnePlace.{OnlyRefiles};
 ghost use Rattle.org_serve.specs.declared.end.ServeEnd.{ServeEnd};
-ghost use Rattle.org_serve.specs.Stops.{Runs, RunsLine, HasSettledOver};
+ghost use Rattle.org_serve.specs.Crashes.{Runs, RunsLine, HasSettledOver};
 ghost use Rattle.org_serve.specs.History.{PastLine, HasSettledPast};
 ghost use Rattle.org_serve.specs.Whole.{HoldsServed, IsOnTheWay, ServesOver};
 ghost use Rattle.org_serve.specs.Grammar.{escaped, unescaped, path_of, path_field};
@@ -47,7 +47,7 @@ pub fn written_path_reads_back()
 {}
 
 /// A reply that tells `safe a` ends with that line, and a commands are acknowledged as it is written, by a store that
-/// isn't broken. What a stop leaves from then on is said of such a store: `serve_disk`.
+/// isn't broken. What a crash leaves from then on is said of such a store: `serve_disk`.
 pub fn safe_tells_acknowledged()
     ensures written { (answer : Result Reply RunFault) (old new a : ℕ)
         → told_safe answer old new ≡ Some a
@@ -58,13 +58,13 @@ pub fn safe_tells_acknowledged()
         → (new.acknowledged ≡ a) × IsFalse new.broken }
 {}
 
-/// What a stop leaves while lines are served, told by `calls` of `serve`. Where the list of a store has the texts of all
-/// files as its session tells them, it goes on with those after each command that `serve` accepts. Where the disk is honest
-/// at the end, and was at rest with the settled texts of a store that wasn't broken, as it is between calls
-/// (`settled_is_on_disk`, a law of org_store), at every moment since then what a stop leaves stands for the files after one
-/// prefix of the accepted commands, which has all that were acknowledged as it began; a command in which the disk failed may
-/// be the last of them.
-pub fn stops_leave_a_prefix<D: Disk>()
+/// What a crash leaves while lines are served, told by `calls` of `serve`. Where the list of a store has the texts of
+/// all files as its session tells them, it goes on with those after each command that `serve` accepts. Where the disk
+/// is honest at the end, and was at rest with the settled texts of a store that wasn't broken, as it is between calls
+/// (`settled_is_on_disk`, a law of org_store), at every moment since then what a crash leaves recovers to the files
+/// after one prefix of the accepted commands, which has all that were acknowledged as it began; a command in which the
+/// disk failed may be the last of them.
+pub fn crashes_leave_a_prefix<D: Disk>()
     // a store that was just opened has such a list
     ensures opened { (states : Keywords) (names texts : List (List ℕ))
         → Lists (opened states names texts) (texts ∷ []) }
@@ -89,7 +89,7 @@ pub fn stops_leave_a_prefix<D: Disk>()
 /// Every image of a store's disk opens again while lines are served, with the names that the store was opened with: what
 /// that says is told by `every_image_opens` of org_store's laws.
 pub fn every_image_opens<D: Disk>()
-    // what `stops_leave_a_prefix` tells of `serve`, where no text of the list was past the limit
+    // what `crashes_leave_a_prefix` tells of `serve`, where no text of the list was past the limit
     ensures served { (given : List (List ℕ)) (first last : Past D) (end : ServeEnd)
         (left left' written written' : Option (List ℕ)) (others image : Image) (least : ℕ)
         → AreFew given → IsSessionOf given first.store.session
@@ -108,10 +108,10 @@ pub fn every_image_opens<D: Disk>()
         → HoldsServed served here least image → IsOpenable given image }
 {}
 
-/// Each node in one place, in what a stop leaves while lines are served (`stops_leave_a_prefix`): each node is there as
-/// often, over all files of the store, as after one prefix of the accepted commands, which has all that were acknowledged
-/// when serving began. Where no line that is run is a command but a refile, a show or a settling, that is as often as when
-/// serving began.
+/// Each node in one place, in what a crash leaves while lines are served (`crashes_leave_a_prefix`): each node is there
+/// as often, over all files of the store, as after one prefix of the accepted commands, which has all that were
+/// acknowledged when serving began. Where no line that is run is a command but a refile, a show or a settling, that is
+/// as often as when serving began.
 pub fn one_place<D: Disk>()
     ensures any_moment { (given : List (List ℕ)) (first last : Past D) (end : ServeEnd)
         (left left' written written' : Option (List ℕ)) (others image : Image) (least : ℕ)

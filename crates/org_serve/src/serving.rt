@@ -8,7 +8,7 @@ ghost use Rattle.org_serve.specs.Feeding.{FeedOk, FeedErr, EndsWith};
 ghost use Rattle.org_serve.specs.Lines.{cut};
 ghost use Rattle.org_serve.specs.Pending.{Stands};
 ghost use Rattle.org_serve.specs.Serving.{IsReadAs, AnswersReadBy, AnswersLine, Finishes, HasSettled, HasBroken, EndsBroken, end_of};
-ghost use Rattle.org_serve.specs.Stops.{RunsHonest, RunsLine, HasSettledOver, FinishesOver, Runs, KeepsDisk};
+ghost use Rattle.org_serve.specs.Crashes.{RunsHonest, RunsLine, HasSettledOver, FinishesOver, Runs, KeepsDisk};
 ghost use Rattle.org_serve.specs.Transcript.{AnswersRest, ServesAll, ServesLines, RunsSome, RunsAllAndSettles};
 
 use crate::end::ServeEnd;
@@ -34,11 +34,11 @@ const PIECE: usize = 4096;
 /// lines some, from the first on, were run then. One failure is counted in either case, so neither reader nor writer is
 /// called once it has failed.
 ///
-/// The store is changed by calls of `run` and `settle` alone. What each of them did is told where the disk is honest after
-/// it (`calls`): a wrong answer takes nothing from what was done before it. What a stop leaves at any moment since the call
-/// began follows from that: `stops_leave_a_prefix`, a law. A store that was broken is left as it is; one
-/// that wasn't is broken only where its disk counted a failure, and where it isn't, none was counted. It is broken where
-/// this ends with `Device`, and isn't where it ends with `End` or `Unsettled`.
+/// The store is changed by calls of `run` and `settle` alone. What each of them did is told where the disk is honest
+/// after it (`calls`): a wrong answer takes nothing from what was done before it. What a crash leaves at any moment
+/// since the call began follows from that: `crashes_leave_a_prefix`, a law. A store that was broken is left as it is;
+/// one that wasn't is broken only where its disk counted a failure, and where it isn't, none was counted. It is broken
+/// where this ends with `Device`, and isn't where it ends with `End` or `Unsettled`.
 pub fn serve<D: Disk, R: Source, W: Sink>(
     alloc: Global,
     store: &mut Store<D>,

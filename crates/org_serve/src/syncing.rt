@@ -13,8 +13,8 @@ use std::alloc::Global;
 
 /// Syncs the files of a store that is to be opened with these names: its journal, theirs and their archive files.
 ///
-/// Once it answers Ok, all files read as before, and each of the store's is on the disk: a stop leaves its content, and
-/// nothing else. Whatever it answers, a stop at any moment since it began leaves what it might have left before.
+/// Once it answers Ok, all files read as before, and each of the store's is on the disk: a crash leaves its content,
+/// and nothing else. Whatever it answers, a crash at any moment since it began leaves what it might have left before.
 ///
 /// It answers TooManyFiles where more names are given than a store may have, and no call is made of the disk then; Device
 /// where a sync failed; OutOfMemory.

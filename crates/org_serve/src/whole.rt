@@ -2,10 +2,10 @@
 ghost use Rattle.std.specs.Prelude.{◌≡◌, ◌≢◌, ◌⊎◌, None, Ok, Err, All, IfOk, IfErr, IsErr};
 ghost use Rattle.org_disk.specs.Disk.{AreImages, IsCounted};
 ghost use Rattle.org_disk.specs.Accounts.{Accounts, LeavesOver};
-ghost use Rattle.org_journal.specs.Standing.{IsFit, contents, stands};
+ghost use Rattle.org_journal.specs.Recovered.{IsRecoverable, contents, recovered};
 ghost use Rattle.org_disk.specs.Names.{IsOrgFile};
 ghost use Rattle.org_fileset.specs.Opening.{IsReason};
-ghost use Rattle.org_fileset.specs.Recovery.{EachStands, StandsAsBefore};
+ghost use Rattle.org_fileset.specs.Recovery.{EachRecovers, RecoversAsBefore};
 ghost use Rattle.org_serve.specs.Counts.{HasRisenBy};
 ghost use Rattle.org_store.specs.Group.{IsGroup};
 ghost use Rattle.org_serve.specs.Syncing.{OutsideStable, IsAsFound};
@@ -44,21 +44,21 @@ pub struct Served<D> {
 /// back. It hands on each store on the way with one list: the texts of all files as they were opened, and after each
 /// accepted command.
 ///
-/// What is said of a step is said where the disk is honest after it: a wrong answer later takes nothing from it. So are,
-/// up to each store on the way, the replies to the lines so far the model's; and an opening brings to an end what a stop
-/// had cut short, and leaves a journal whose gate is closed as it is.
+/// What is said of a step is said where the disk is honest after it: a wrong answer later takes nothing from it. So
+/// are, up to each store on the way, the replies to the lines so far the model's; and an opening brings to an end what
+/// a crash had cut short, and leaves a journal whose gate is closed as it is.
 ///
-/// On a disk that is fit, of which each image stands for files, every image at every moment since the call began, up to a
-/// store on the way, stands for what an image at the start stood for, or for the files after one prefix of the commands
-/// accepted by then. Every image since an earlier store on the way that wasn't broken stands for a prefix that has all
-/// commands that were acknowledged there: so since a reply `safe a` was answered, for one that has the first a
-/// (`laws::safe_tells_acknowledged`). Where it ends with `End`, each image at the end stands for the files after all of
-/// them. The disk is as fit at the end, so that all this may be done again.
+/// On a disk that is recoverable, of which each image recovers to files, every image at every moment since the call
+/// began, up to a store on the way, recovers to what an image at the start recovered to, or to the files after one
+/// prefix of the commands accepted by then. Every image since an earlier store on the way that wasn't broken recovers
+/// to a prefix that has all commands that were acknowledged there: so since a reply `safe a` was answered, to one that
+/// has the first a (`laws::safe_tells_acknowledged`). Where it ends with `End`, each image at the end recovers to the
+/// files after all of them. The disk is as recoverable at the end, so that all this may be done again.
 ///
 /// The faults are those of `Store::open`, and then nothing is read or written; the ends, and when each comes, those of
-/// `serve`. Too many names leave the disk unused. Where the journal is bad, as it reads, a stop leaves what it might have
-/// left before, whatever fault is told. With `Device`, or an opening that is refused so, it ends only where the disk
-/// counted a failure, and with `End` or `Unsettled` only where it counted none.
+/// `serve`. Too many names leave the disk unused. Where the journal is bad, as it reads, a crash leaves what it might
+/// have left before, whatever fault is told. With `Device`, or an opening that is refused so, it ends only where the
+/// disk counted a failure, and with `End` or `Unsettled` only where it counted none.
 pub fn serve_disk<D: Disk, R: Source, W: Sink>(
     alloc: Global,
     disk: D,
@@ -73,16 +73,17 @@ pub fn serve_disk<D: Disk, R: Source, W: Sink>(
         D.honest D.files D.moment D.left_since setup.states setup.group setup.names.items
         disk result.disk end (R.left reader.old) (R.left reader.new) (W.written writer.old)
         (W.written writer.new))
-        × (IsFit (D.files disk) → EachStands (D.files disk) → Lasts served)) }
-    ensures unopened { D.honest result.disk → IsFit (D.files disk) → EachStands (D.files disk)
-        → IfErr result.end (λ _.
-        LeavesOver D.moment D.left_since disk result.disk (StandsAsBefore (D.files disk))) }
-    ensures unopened_bad { D.honest result.disk → stands (contents (D.files disk)) ≡ None
+        × (IsRecoverable (D.files disk) → EachRecovers (D.files disk) → Lasts served)) }
+    ensures unopened { D.honest result.disk → IsRecoverable (D.files disk)
+        → EachRecovers (D.files disk) → IfErr result.end (λ _.
+        LeavesOver D.moment D.left_since disk result.disk (RecoversAsBefore (D.files disk))) }
+    ensures unopened_bad { D.honest result.disk → recovered (contents (D.files disk)) ≡ None
         → IsErr result.end × LeavesOver D.moment D.left_since disk result.disk
         (AreImages (D.files disk)) }
     ensures unused { result.end ≡ Err OpenFault.TooManyFiles → result.disk ≡ disk }
-    ensures fit { D.honest result.disk → IsFit (D.files disk) → EachStands (D.files disk)
-        → IsFit (D.files result.disk) × EachStands (D.files result.disk) }
+    ensures recoverable { D.honest result.disk → IsRecoverable (D.files disk)
+        → EachRecovers (D.files disk)
+        → IsRecoverable (D.files result.disk) × EachRecovers (D.files result.disk) }
     ensures unserved { IfErr result.end (λ _. (reader.new ≡ reader.old)
         × (writer.new ≡ writer.old)) }
     ensures read_cause { result.end ≡ Ok ServeEnd.Read
@@ -109,7 +110,7 @@ pub fn serve_disk<D: Disk, R: Source, W: Sink>(
             store.set_group(group);
             let end = serve(alloc, &mut store, reader, writer, turns);
             Served {
-                disk: store.close(),
+                disk: store.into_disk(),
                 end: Ok(end),
             }
         }
@@ -122,11 +123,12 @@ pub fn serve_disk<D: Disk, R: Source, W: Sink>(
 
 /// `serve_disk` over files that are synced first: the journal, the files of the names, and their archive files.
 ///
-/// All that `serve_disk` says of a run holds of this one. But only the other files have to be on the disk at first: where
-/// they are, whatever the store's own files held that wasn't on the disk, a stop at any moment since this began leaves one
-/// image of the files as they were found, or what stands for what they read as, or for the files after one prefix of the
-/// commands accepted by then; from each store on the way on, what it leaves is as after `serve_disk`. The disk is then left
-/// fit, and each image of it stands for files; or the store wasn't opened, and the other files are on the disk as before.
+/// All that `serve_disk` says of a run holds of this one. But only the other files have to be on the disk at first:
+/// where they are, whatever the store's own files held that wasn't on the disk, a crash at any moment since this began
+/// leaves one image of the files as they were found, or what recovers to what they read as, or to the files after one
+/// prefix of the commands accepted by then; from each store on the way on, what it leaves is as after `serve_disk`. The
+/// disk is then left recoverable, and each image of it recovers to files; or the store wasn't opened, and the other
+/// files are on the disk as before.
 ///
 /// A sync that fails is an opening that is refused with `Device`.
 pub fn serve_synced<D: Disk, R: Source, W: Sink>(
@@ -143,23 +145,24 @@ pub fn serve_synced<D: Disk, R: Source, W: Sink>(
         D.honest D.files D.moment D.left_since setup.states setup.group setup.names.items
         disk result.disk end (R.left reader.old) (R.left reader.new) (W.written writer.old)
         (W.written writer.new))
-        × (IsFit (D.files disk) → EachStands (D.files disk) → Lasts served)
+        × (IsRecoverable (D.files disk) → EachRecovers (D.files disk) → Lasts served)
         × (OutsideStable setup.names.items (D.files disk)
         → LastsFrom (IsAsFound (D.files disk)) served)) }
-    ensures unopened { D.honest result.disk → IsFit (D.files disk) → EachStands (D.files disk)
-        → IfErr result.end (λ _.
-        LeavesOver D.moment D.left_since disk result.disk (StandsAsBefore (D.files disk))) }
+    ensures unopened { D.honest result.disk → IsRecoverable (D.files disk)
+        → EachRecovers (D.files disk) → IfErr result.end (λ _.
+        LeavesOver D.moment D.left_since disk result.disk (RecoversAsBefore (D.files disk))) }
     ensures unopened_as_found { D.honest result.disk
         → OutsideStable setup.names.items (D.files disk) → IfErr result.end (λ _.
         LeavesOver D.moment D.left_since disk result.disk (IsAsFound (D.files disk))) }
-    ensures unopened_bad { D.honest result.disk → stands (contents (D.files disk)) ≡ None
+    ensures unopened_bad { D.honest result.disk → recovered (contents (D.files disk)) ≡ None
         → IsErr result.end × LeavesOver D.moment D.left_since disk result.disk
         (AreImages (D.files disk)) }
-    ensures fit { D.honest result.disk → IsFit (D.files disk) → EachStands (D.files disk)
-        → IsFit (D.files result.disk) × EachStands (D.files result.disk) }
-    ensures fit_once_synced { D.honest result.disk
+    ensures recoverable { D.honest result.disk → IsRecoverable (D.files disk)
+        → EachRecovers (D.files disk)
+        → IsRecoverable (D.files result.disk) × EachRecovers (D.files result.disk) }
+    ensures recoverable_once_synced { D.honest result.disk
         → OutsideStable setup.names.items (D.files disk)
-        → (IsFit (D.files result.disk) × EachStands (D.files result.disk))
+        → (IsRecoverable (D.files result.disk) × EachRecovers (D.files result.disk))
         ⊎ (IsErr result.end × OutsideStable setup.names.items (D.files result.disk)) }
     ensures unserved { IfErr result.end (λ _. (reader.new ≡ reader.old)
         × (writer.new ≡ writer.old)) }

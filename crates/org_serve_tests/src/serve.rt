@@ -5,6 +5,7 @@ ghost use Rattle.org_serve.specs.Group.{IsGroup};
 
 mod archives;
 mod clocks;
+mod crashes;
 mod failures;
 mod folders;
 mod groups;
@@ -12,7 +13,6 @@ mod journals;
 mod moves;
 mod pipes;
 mod states;
-mod stops;
 mod syncs;
 
 use org_disk::MemoryDisk;

@@ -1,12 +1,12 @@
--- Laying twice is laying once, also where only a part of the work was done the first time.
+-- Applying twice is applying once, also where only a part of the work was done the first time.
 use Rattle.std.proofs.Common.{◌≡◌, ◌⊎◌, inl, inr, ⊎_elim, ℕ, zero, suc, ◌+◌, ◌-◌, ◌<◌, ◌≤◌, min, List, [], ◌∷◌, length, get_or, take, drop, Some, refl, sym, ◌∙◌, ap, subst, arith, length-drop, length-take}
 use Rattle.std.specs.Prelude.{slice_get}
 use Rattle.std.proofs.lemmas.Bool.{cases_lt}
 use Rattle.std.proofs.lemmas.List.{get_or-drop, get_or-take}
 use Rattle.org_splice.specs.Overwritten.{overwritten}
-use Rattle.org_splice.specs.Patches.{end_of, last_end, Rise, AreWellFormed, BeginWithin, Fit, LayTo, IsOutside, IsPartlyLaid}
+use Rattle.org_splice.specs.Patches.{end_of, last_end, Rise, AreWellFormed, BeginWithin, Fit, PatchedTo, IsOutside, IsPartlyPatched}
 use Rattle.org_splice.proofs.Overwritten.{length-overwritten, overwritten-outside}
-use Rattle.org_splice.proofs.Laying.{last_end-place, length-lay, lay-outside, lay-same}
+use Rattle.org_splice.proofs.Patching.{last_end-place, length-patched, patched-outside, patched-same}
 
 -- Patches that fit a text of one size, and another size
 
@@ -64,32 +64,32 @@ begin_at size other place (patch ∷ patches) (suc k) from bytes is short long r
 
 -- Texts on which a part of the work may have been done
 
-pub IsPartlyLaid-refl : (patches : List (ℕ × List ℕ)) (final : ℕ) (text : List ℕ) → IsPartlyLaid patches final text text
-IsPartlyLaid-refl patches final text = record { no_shorter = omega arith; no_longer = omega arith; same = λ i below outside. refl }
+pub IsPartlyPatched-refl : (patches : List (ℕ × List ℕ)) (final : ℕ) (text : List ℕ) → IsPartlyPatched patches final text text
+IsPartlyPatched-refl patches final text = record { no_shorter = omega arith; no_longer = omega arith; same = λ i below outside. refl }
 
 -- They take the same patches to the same text.
-pub LayTo-partly : (patches : List (ℕ × List ℕ)) (final : ℕ) (text part to : List ℕ) → AreWellFormed patches final → IsPartlyLaid patches final text part → LayTo patches final text to → LayTo patches final part to
-LayTo-partly patches final text part to formed partly lays =
-    let fit : Fit patches final (length part) = Fit-between patches final (length text) (length part) formed.rise formed.within partly.no_shorter lays.fit in
-    record { fit = fit; makes = lay-same patches final part text formed.rise fit lays.fit partly.same ∙ lays.makes }
+pub PatchedTo-partly : (patches : List (ℕ × List ℕ)) (final : ℕ) (text part to : List ℕ) → AreWellFormed patches final → IsPartlyPatched patches final text part → PatchedTo patches final text to → PatchedTo patches final part to
+PatchedTo-partly patches final text part to formed partly applies =
+    let fit : Fit patches final (length part) = Fit-between patches final (length text) (length part) formed.rise formed.within partly.no_shorter applies.fit in
+    record { fit = fit; makes = patched-same patches final part text formed.rise fit applies.fit partly.same ∙ applies.makes }
 
--- so does the text that they make: laying twice is laying once
-pub IsPartlyLaid-lay : (patches : List (ℕ × List ℕ)) (final : ℕ) (text to : List ℕ) → AreWellFormed patches final → LayTo patches final text to → IsPartlyLaid patches final text to
-IsPartlyLaid-lay patches final text to formed lays =
-    let long : length to ≡ final = ap length (sym lays.makes) ∙ length-lay patches final text formed.rise lays.fit in
+-- so does the text that they make: applying twice is applying once
+pub IsPartlyPatched-patched : (patches : List (ℕ × List ℕ)) (final : ℕ) (text to : List ℕ) → AreWellFormed patches final → PatchedTo patches final text to → IsPartlyPatched patches final text to
+IsPartlyPatched-patched patches final text to formed applies =
+    let long : length to ≡ final = ap length (sym applies.makes) ∙ length-patched patches final text formed.rise applies.fit in
     record {
       no_shorter = omega (arith, long);
       no_longer = omega (arith, long);
-      same = λ i below outside. ap (λ (t : List ℕ). get_or t i 0) (sym lays.makes) ∙ lay-outside patches final text i formed.rise lays.fit below outside;
+      same = λ i below outside. ap (λ (t : List ℕ). get_or t i 0) (sym applies.makes) ∙ patched-outside patches final text i formed.rise applies.fit below outside;
     }
 
-pub LayTo-twice : (patches : List (ℕ × List ℕ)) (final : ℕ) (text to : List ℕ) → AreWellFormed patches final → LayTo patches final text to → LayTo patches final to to
-LayTo-twice patches final text to formed lays = LayTo-partly patches final text to to formed (IsPartlyLaid-lay patches final text to formed lays) lays
+pub PatchedTo-twice : (patches : List (ℕ × List ℕ)) (final : ℕ) (text to : List ℕ) → AreWellFormed patches final → PatchedTo patches final text to → PatchedTo patches final to to
+PatchedTo-twice patches final text to formed applies = PatchedTo-partly patches final text to to formed (IsPartlyPatched-patched patches final text to formed applies) applies
 
 -- one of the patches written, at a place within the text
-pub IsPartlyLaid-overwritten : (patches : List (ℕ × List ℕ)) (final : ℕ) (text part : List ℕ) (k from : ℕ) (bytes : List ℕ) → AreWellFormed patches final → slice_get patches k ≡ Some (from, bytes) → from ≤ length part
-    → IsPartlyLaid patches final text part → IsPartlyLaid patches final text (overwritten from bytes part)
-IsPartlyLaid-overwritten patches final text part k from bytes formed is fits partly =
+pub IsPartlyPatched-overwritten : (patches : List (ℕ × List ℕ)) (final : ℕ) (text part : List ℕ) (k from : ℕ) (bytes : List ℕ) → AreWellFormed patches final → slice_get patches k ≡ Some (from, bytes) → from ≤ length part
+    → IsPartlyPatched patches final text part → IsPartlyPatched patches final text (overwritten from bytes part)
+IsPartlyPatched-overwritten patches final text part k from bytes formed is fits partly =
     let long = length-overwritten from bytes part fits in
     let within : from + length bytes ≤ last_end 0 patches = (inside_all 0 patches k from bytes formed.rise is).1 in
     record {
@@ -99,8 +99,8 @@ IsPartlyLaid-overwritten patches final text part k from bytes formed is fits par
     }
 
 -- a cut to the final length
-pub IsPartlyLaid-take : (patches : List (ℕ × List ℕ)) (final : ℕ) (text part : List ℕ) → final ≤ length part → IsPartlyLaid patches final text part → IsPartlyLaid patches final text (take final part)
-IsPartlyLaid-take patches final text part long partly = record {
+pub IsPartlyPatched-take : (patches : List (ℕ × List ℕ)) (final : ℕ) (text part : List ℕ) → final ≤ length part → IsPartlyPatched patches final text part → IsPartlyPatched patches final text (take final part)
+IsPartlyPatched-take patches final text part long partly = record {
   no_shorter = omega (arith, length-take final part, long);
   no_longer = omega (arith, length-take final part, long);
   same = λ i below outside. get_or-take final part i 0 below ∙ partly.same i below outside;
@@ -109,21 +109,21 @@ IsPartlyLaid-take patches final text part long partly = record {
 -- The same of two texts, where one differs from the other only where a call may have changed it
 
 -- equal outside one of the patches: what a write of it, done in part, may leave
-pub LayTo-written : (patches : List (ℕ × List ℕ)) (final : ℕ) (a b to : List ℕ) (k from : ℕ) (bytes : List ℕ) → AreWellFormed patches final → slice_get patches k ≡ Some (from, bytes)
-    → take from a ≡ take from b → drop (from + length bytes) a ≡ drop (from + length bytes) b → LayTo patches final b to → LayTo patches final a to
-LayTo-written patches final a b to k from bytes formed is before after lays =
+pub PatchedTo-written : (patches : List (ℕ × List ℕ)) (final : ℕ) (a b to : List ℕ) (k from : ℕ) (bytes : List ℕ) → AreWellFormed patches final → slice_get patches k ≡ Some (from, bytes)
+    → take from a ≡ take from b → drop (from + length bytes) a ≡ drop (from + length bytes) b → PatchedTo patches final b to → PatchedTo patches final a to
+PatchedTo-written patches final a b to k from bytes formed is before after applies =
     let fronts : min from (length a) ≡ min from (length b) = sym (length-take from a) ∙ ap length before ∙ length-take from b in
     let backs : length a - (from + length bytes) ≡ length b - (from + length bytes) = sym (length-drop (from + length bytes) a) ∙ ap length after ∙ length-drop (from + length bytes) b in
     let within : from + length bytes ≤ last_end 0 patches = (inside_all 0 patches k from bytes formed.rise is).1 in
     let begin : BeginWithin (length a) 0 patches = ⊎_elim
-    (λ (short : length b < from). subst (λ (n : ℕ). BeginWithin n 0 patches) (omega (arith, short, fronts, backs)) lays.fit.begin)
+    (λ (short : length b < from). subst (λ (n : ℕ). BeginWithin n 0 patches) (omega (arith, short, fronts, backs)) applies.fit.begin)
     (λ (long : from ≤ length b). ⊎_elim
-    (λ (past : from + length bytes < length b). subst (λ (n : ℕ). BeginWithin n 0 patches) (omega (arith, past, fronts, backs)) lays.fit.begin)
-    (λ (inside : length b ≤ from + length bytes). begin_at (length b) (length a) 0 patches k from bytes is inside (omega (arith, long, fronts)) formed.rise lays.fit.begin)
+    (λ (past : from + length bytes < length b). subst (λ (n : ℕ). BeginWithin n 0 patches) (omega (arith, past, fronts, backs)) applies.fit.begin)
+    (λ (inside : length b ≤ from + length bytes). begin_at (length b) (length a) 0 patches k from bytes is inside (omega (arith, long, fronts)) formed.rise applies.fit.begin)
     (cases_lt (from + length bytes) (length b)))
     (cases_lt (length b) from) in
-    let fit : Fit patches final (length a) = record { begin = begin; ends = omega (arith, lays.fit.ends, fronts, backs, within) } in
-    record { fit = fit; makes = lay-same patches final a b formed.rise fit lays.fit (λ i below outside. agree i (outside_one patches k from bytes i is outside)) ∙ lays.makes }
+    let fit : Fit patches final (length a) = record { begin = begin; ends = omega (arith, applies.fit.ends, fronts, backs, within) } in
+    record { fit = fit; makes = patched-same patches final a b formed.rise fit applies.fit (λ i below outside. agree i (outside_one patches k from bytes i is outside)) ∙ applies.makes }
   where
     agree : (i : ℕ) → (i < from) ⊎ (from + length bytes ≤ i) → get_or a i 0 ≡ get_or b i 0
     agree i (inl first) = sym (get_or-take from a i 0 first) ∙ ap (λ (t : List ℕ). get_or t i 0) before ∙ get_or-take from b i 0 first
@@ -133,11 +133,11 @@ LayTo-written patches final a b to k from bytes formed is before after lays =
         ∙ get_or-drop (from + length bytes) b (i - (from + length bytes)) 0 ∙ ap (λ (j : ℕ). get_or b j 0) place
 
 -- equal below the final length: what a cut to it, done in part, may leave
-pub LayTo-cut : (patches : List (ℕ × List ℕ)) (final : ℕ) (a b to : List ℕ) → AreWellFormed patches final → take final a ≡ take final b → LayTo patches final b to → LayTo patches final a to
-LayTo-cut patches final a b to formed same lays =
+pub PatchedTo-cut : (patches : List (ℕ × List ℕ)) (final : ℕ) (a b to : List ℕ) → AreWellFormed patches final → take final a ≡ take final b → PatchedTo patches final b to → PatchedTo patches final a to
+PatchedTo-cut patches final a b to formed same applies =
     let fronts : min final (length a) ≡ min final (length b) = sym (length-take final a) ∙ ap length same ∙ length-take final b in
-    let fit : Fit patches final (length a) = Fit-between patches final (length b) (length a) formed.rise formed.within (omega (arith, fronts)) lays.fit in
+    let fit : Fit patches final (length a) = Fit-between patches final (length b) (length a) formed.rise formed.within (omega (arith, fronts)) applies.fit in
     record {
       fit = fit;
-      makes = lay-same patches final a b formed.rise fit lays.fit (λ i below outside. sym (get_or-take final a i 0 below) ∙ ap (λ (t : List ℕ). get_or t i 0) same ∙ get_or-take final b i 0 below) ∙ lays.makes;
+      makes = patched-same patches final a b formed.rise fit applies.fit (λ i below outside. sym (get_or-take final a i 0 below) ∙ ap (λ (t : List ℕ). get_or t i 0) same ∙ get_or-take final b i 0 below) ∙ applies.makes;
     }

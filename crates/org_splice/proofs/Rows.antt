@@ -1,20 +1,20 @@
 -- Worked examples, by computing.
 use Rattle.std.proofs.Common.{◌≡◌, List, [], ◌∷◌, refl}
 use Rattle.org_splice.specs.declared.Span.{Span}
-use Rattle.org_splice.specs.Patches.{lay}
+use Rattle.org_splice.specs.Patches.{patched}
 use Rattle.org_splice.specs.Ranges.{joined, last_two_joined}
 use Rattle.org_splice.specs.Texts.{EditedText, settled, spliced, patches_of}
 
 -- the second letters of two headings, changed in place
-headings : lay ((2, 67 ∷ []) ∷ (6, 68 ∷ []) ∷ []) 8 (42 ∷ 32 ∷ 65 ∷ 10 ∷ 42 ∷ 32 ∷ 66 ∷ 10 ∷ []) ≡ 42 ∷ 32 ∷ 67 ∷ 10 ∷ 42 ∷ 32 ∷ 68 ∷ 10 ∷ []
+headings : patched ((2, 67 ∷ []) ∷ (6, 68 ∷ []) ∷ []) 8 (42 ∷ 32 ∷ 65 ∷ 10 ∷ 42 ∷ 32 ∷ 66 ∷ 10 ∷ []) ≡ 42 ∷ 32 ∷ 67 ∷ 10 ∷ 42 ∷ 32 ∷ 68 ∷ 10 ∷ []
 headings = refl
 
 -- a patch at the end makes a text longer
-longer : lay ((2, 67 ∷ 68 ∷ []) ∷ []) 4 (65 ∷ 66 ∷ []) ≡ 65 ∷ 66 ∷ 67 ∷ 68 ∷ []
+longer : patched ((2, 67 ∷ 68 ∷ []) ∷ []) 4 (65 ∷ 66 ∷ []) ≡ 65 ∷ 66 ∷ 67 ∷ 68 ∷ []
 longer = refl
 
 -- an empty patch and a smaller final length cut it
-shorter : lay ((0, []) ∷ []) 1 (65 ∷ 66 ∷ []) ≡ 65 ∷ []
+shorter : patched ((0, []) ∷ []) 1 (65 ∷ 66 ∷ []) ≡ 65 ∷ []
 shorter = refl
 
 -- two headings, each a star, a blank, a letter and a newline

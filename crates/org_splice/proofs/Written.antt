@@ -7,10 +7,10 @@ use Rattle.std.proofs.lemmas.List.{take-append-drop, drop-drop, length-map, take
 use Rattle.std.proofs.lemmas.Option.{slice_get-get_or, slice_get_within, unwrap_or-slice_get}
 use Rattle.org_splice.specs.declared.Span.{Span}
 use Rattle.org_splice.specs.Overwritten.{overwritten}
-use Rattle.org_splice.specs.Patches.{lay_each, lay, end_of, last_end, Rise, AreWellFormed, BeginWithin, Fit, LayTo, IsOutside}
+use Rattle.org_splice.specs.Patches.{patched_each, patched, end_of, last_end, Rise, AreWellFormed, BeginWithin, Fit, PatchedTo, IsOutside}
 use Rattle.org_splice.specs.Ranges.{AreChanged, LieApart, IsUnchanged}
 use Rattle.org_splice.specs.Texts.{IsEditOf, patch_of, patches_of}
-use Rattle.org_splice.proofs.Laying.{lay-same}
+use Rattle.org_splice.proofs.Patching.{patched-same}
 use Rattle.org_splice.proofs.Apart.{LieApart-earlier}
 
 -- no changed range reaches a position before all of them
@@ -60,9 +60,9 @@ module _ (bytes : List ℕ) where
       ∙ ap (λ (t : List ℕ). take range.start bytes ++ t) (take-append-drop (range.end - range.start) (drop range.start bytes))
       ∙ take-append-drop range.start bytes
 
-  lay_each-own : (place : ℕ) (ranges : List Span) → LieApart place (length bytes) ranges → lay_each (map (patch_of bytes) ranges) bytes ≡ bytes
-  lay_each-own place [] apart = refl
-  lay_each-own place (range ∷ ranges) apart = ap (lay_each (map (patch_of bytes) ranges)) (overwritten-own range apart.1 apart.2) ∙ lay_each-own (range.end + 1) ranges apart.3
+  patched_each-own : (place : ℕ) (ranges : List Span) → LieApart place (length bytes) ranges → patched_each (map (patch_of bytes) ranges) bytes ≡ bytes
+  patched_each-own place [] apart = refl
+  patched_each-own place (range ∷ ranges) apart = ap (patched_each (map (patch_of bytes) ranges)) (overwritten-own range apart.1 apart.2) ∙ patched_each-own (range.end + 1) ranges apart.3
 
   begin-own : (place other : ℕ) (ranges : List Span) → LieApart place (length bytes) ranges → BeginWithin (length bytes) other (map (patch_of bytes) ranges)
   begin-own place other [] apart = tt
@@ -121,14 +121,14 @@ module _ (old bytes : List ℕ) (changed : List Span) (are : AreChanged (length 
     ends = ends-ranges bytes (length old) 0 changed are.apart (λ i from below outside. slice_get_within old i (get_or bytes i 0) (read i below outside));
   }
 
-  makes : lay (map (patch_of bytes) changed) (length bytes) old ≡ bytes
+  makes : patched (map (patch_of bytes) changed) (length bytes) old ≡ bytes
   makes =
-      lay-same (map (patch_of bytes) changed) (length bytes) old bytes (Rise-ranges bytes 0 changed are.apart) fit (record { begin = begin-own bytes 0 0 changed are.apart; ends = omega arith }) (λ i below outside.
+      patched-same (map (patch_of bytes) changed) (length bytes) old bytes (Rise-ranges bytes 0 changed are.apart) fit (record { begin = begin-own bytes 0 0 changed are.apart; ends = omega arith }) (λ i below outside.
       let is = read i below (IsUnchanged-ranges bytes 0 changed i are.apart outside) in
       sym (unwrap_or-slice_get old i 0) ∙ ap (λ (o : Option ℕ). unwrap_or o 0) is)
-      ∙ ap (take (length bytes)) (lay_each-own bytes 0 changed are.apart)
+      ∙ ap (take (length bytes)) (patched_each-own bytes 0 changed are.apart)
       ∙ take_all (length bytes) bytes (omega arith)
 
-pub LayTo-patches_of : (old bytes : List ℕ) (changed : List Span) → AreChanged (length bytes) changed → IsEditOf old (record { bytes = bytes; changed = changed }) → LayTo (patches_of (record { bytes = bytes; changed = changed })) (length bytes) old bytes
-LayTo-patches_of old bytes [] are edit = record { fit = record { begin = (omega arith, tt); ends = (fit old bytes [] are edit).ends }; makes = makes old bytes [] are edit }
-LayTo-patches_of old bytes (range ∷ ranges) are edit = record { fit = fit old bytes (range ∷ ranges) are edit; makes = makes old bytes (range ∷ ranges) are edit }
+pub PatchedTo-patches_of : (old bytes : List ℕ) (changed : List Span) → AreChanged (length bytes) changed → IsEditOf old (record { bytes = bytes; changed = changed }) → PatchedTo (patches_of (record { bytes = bytes; changed = changed })) (length bytes) old bytes
+PatchedTo-patches_of old bytes [] are edit = record { fit = record { begin = (omega arith, tt); ends = (fit old bytes [] are edit).ends }; makes = makes old bytes [] are edit }
+PatchedTo-patches_of old bytes (range ∷ ranges) are edit = record { fit = fit old bytes (range ∷ ranges) are edit; makes = makes old bytes (range ∷ ranges) are edit }

@@ -3,16 +3,16 @@ use Rattle.std.specs.Prelude.{◌≢◌, ℕ, Bool, true, ◌==◌, List, [], �
 use Rattle.std.specs.List.{AllByRecursion}
 
 -- t with a newline at its end, where it has bytes and does not end in one
-abbrev pub closed : List ℕ → List ℕ
-closed [] = []
-closed (b ∷ []) = if b == 10 then b ∷ [] else b ∷ 10 ∷ []
-closed (b ∷ c ∷ bs) = b ∷ closed (c ∷ bs)
+abbrev pub terminated : List ℕ → List ℕ
+terminated [] = []
+terminated (b ∷ []) = if b == 10 then b ∷ [] else b ∷ 10 ∷ []
+terminated (b ∷ c ∷ bs) = b ∷ terminated (c ∷ bs)
 
--- whether a text is closed: it is empty, or ends in a newline
-abbrev pub is_closed : List ℕ → Bool
-is_closed [] = true
-is_closed (b ∷ []) = b == 10
-is_closed (b ∷ c ∷ bs) = is_closed (c ∷ bs)
+-- whether a text is terminated: it is empty, or ends in a newline
+abbrev pub is_terminated : List ℕ → Bool
+is_terminated [] = true
+is_terminated (b ∷ []) = b == 10
+is_terminated (b ∷ c ∷ bs) = is_terminated (c ∷ bs)
 
 -- the lines, each with its newline
 abbrev pub print_lines : List (List ℕ) → List ℕ

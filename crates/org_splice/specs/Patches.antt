@@ -1,17 +1,17 @@
--- Patches: bytes with the places where they stand in a text, laid over it in order. Here a patch is a pair, the byte
+-- Patches: bytes with the places where they stand in a text, applied to it in order. Here a patch is a pair, the byte
 -- position from which on its bytes stand, and the bytes.
 use Rattle.std.specs.Prelude.{◌≡◌, ◌⊎◌, ℕ, ◌+◌, ◌<◌, ◌≤◌, min, max, List, [], ◌∷◌, length, take, slice_index}
 use Rattle.std.specs.List.{AllByRecursion}
 use Rattle.org_splice.specs.Overwritten.{overwritten}
 
--- the patches laid over a text, one after the other
-abbrev pub lay_each : List (ℕ × List ℕ) → List ℕ → List ℕ
-lay_each [] text = text
-lay_each (patch ∷ patches) text = lay_each patches (overwritten patch.0 patch.1 text)
+-- the patches applied to a text, one after the other
+abbrev pub patched_each : List (ℕ × List ℕ) → List ℕ → List ℕ
+patched_each [] text = text
+patched_each (patch ∷ patches) text = patched_each patches (overwritten patch.0 patch.1 text)
 
--- what the patches make of a text: they are laid over it, and `final` bytes are kept
-abbrev pub lay : List (ℕ × List ℕ) → ℕ → List ℕ → List ℕ
-lay patches final text = take final (lay_each patches text)
+-- what the patches make of a text: they are applied to it, and `final` bytes are kept
+abbrev pub patched : List (ℕ × List ℕ) → ℕ → List ℕ → List ℕ
+patched patches final text = take final (patched_each patches text)
 
 -- the place behind a patch
 abbrev pub end_of : ℕ × List ℕ → ℕ
@@ -47,9 +47,9 @@ pub record Fit (patches : List (ℕ × List ℕ)) (final size : ℕ) : Type 0 wh
   pub ends : final ≤ max size (last_end 0 patches)
 
 -- the patches fit this text, and make that one of it
-pub record LayTo (patches : List (ℕ × List ℕ)) (final : ℕ) (text to : List ℕ) : Type 0 where
+pub record PatchedTo (patches : List (ℕ × List ℕ)) (final : ℕ) (text to : List ℕ) : Type 0 where
   pub fit : Fit patches final (length text)
-  pub makes : lay patches final text ≡ to
+  pub makes : patched patches final text ≡ to
 
 -- a position in none of the patches
 abbrev pub IsOutside : List (ℕ × List ℕ) → ℕ → Type 0
@@ -58,7 +58,7 @@ IsOutside (patch ∷ patches) i = ((i < patch.0) ⊎ (end_of patch ≤ i)) × Is
 
 -- A text on which a part of the work may have been done: its length lies between the text's and the final one, and
 -- below the final length it has the text's bytes outside the patches.
-pub record IsPartlyLaid (patches : List (ℕ × List ℕ)) (final : ℕ) (text part : List ℕ) : Type 0 where
+pub record IsPartlyPatched (patches : List (ℕ × List ℕ)) (final : ℕ) (text part : List ℕ) : Type 0 where
   pub no_shorter : min (length text) final ≤ length part
   pub no_longer : length part ≤ max (length text) final
   pub same : (i : ℕ) → i < final → IsOutside patches i → slice_index part i ≡ slice_index text i

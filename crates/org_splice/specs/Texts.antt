@@ -3,7 +3,7 @@ use Rattle.std.specs.Prelude.{◌≡◌, ℕ, ◌+◌, ◌-◌, ◌<◌, List, [
 use Rattle.org_splice.specs.declared.Span.{Span}
 use Rattle.org_splice.specs.declared.edit.Edit.{Edit}
 use Rattle.org_splice.specs.declared.patch.Patch.{Patch}
-use Rattle.org_splice.specs.Lines.{is_closed}
+use Rattle.org_splice.specs.Lines.{is_terminated}
 use Rattle.org_splice.specs.Ranges.{IsUnchanged, changed_by}
 
 pub record EditedText : Type 0 where
@@ -26,8 +26,8 @@ spliced at removed bytes text = record {
 }
 
 -- a text with a newline put at its end, where it has bytes and doesn't end in one
-abbrev pub closed_text : EditedText → EditedText
-closed_text text = if is_closed text.bytes then text else spliced (length text.bytes) 0 (10 ∷ []) text
+abbrev pub terminated_text : EditedText → EditedText
+terminated_text text = if is_terminated text.bytes then text else spliced (length text.bytes) 0 (10 ∷ []) text
 
 -- a text with edits, one after another
 abbrev pub spliced_each : List Edit → EditedText → EditedText

@@ -1,9 +1,9 @@
 //! Texts under edit, whose edits can all be taken back.
 ghost use Rattle.std.specs.Prelude.{◌≡◌, ◌+◌, ◌≤◌, length, map, vec_capacity, IsFalse, IfOk, OnOk, OnErr, List, ℕ};
-ghost use Rattle.org_splice.specs.Lines.{closed};
-ghost use Rattle.org_splice.specs.Patches.{AreWellFormed, LayTo};
+ghost use Rattle.org_splice.specs.Lines.{terminated};
+ghost use Rattle.org_splice.specs.Patches.{AreWellFormed, PatchedTo};
 ghost use Rattle.org_splice.specs.Ranges.{AreChanged};
-ghost use Rattle.org_splice.specs.Texts.{IsEditOf, closed_text, settled, spliced, patches_of, pairs_of};
+ghost use Rattle.org_splice.specs.Texts.{IsEditOf, terminated_text, settled, spliced, patches_of, pairs_of};
 ghost use Rattle.org_splice.specs.Versions.{AreUndos, revised, text_of_parts, unedited, undone_all};
 
 use crate::bytes::Bytes;
@@ -108,9 +108,9 @@ impl Editing {
 
     /// Puts a newline at the end of a text that has bytes and doesn't end in one. Where there is no memory the text
     /// stays as it is.
-    pub fn close_line(&mut self) -> Result<(), AllocError>
-        ensures ok { OnOk result (self.new ≡ revised self.old (closed_text self.old.text)) }
-        ensures bytes { OnOk result (self.new.text.bytes ≡ closed self.old.text.bytes) }
+    pub fn terminate(&mut self) -> Result<(), AllocError>
+        ensures ok { OnOk result (self.new ≡ revised self.old (terminated_text self.old.text)) }
+        ensures bytes { OnOk result (self.new.text.bytes ≡ terminated self.old.text.bytes) }
         ensures edit { (old : List ℕ) → IsEditOf old self.old.text → IsEditOf old self.new.text }
         ensures err { OnErr result (self.new ≡ self.old) }
     {
@@ -152,9 +152,10 @@ impl Editing {
         ensures well_formed { IfOk result
             (λ patches. AreWellFormed (pairs_of patches.items) (length self.now.text.bytes)) }
 
-        // Laid over any text that this one was made from, they make this one.
-        ensures laid { IfOk result (λ patches. (old : List ℕ) → IsEditOf old self.now.text
-            → LayTo (pairs_of patches.items) (length self.now.text.bytes) old self.now.text.bytes) }
+        // Applied to any text that this one was made from, they make this one.
+        ensures makes { IfOk result (λ patches. (old : List ℕ) → IsEditOf old self.now.text
+            → PatchedTo (pairs_of patches.items) (length self.now.text.bytes) old
+            self.now.text.bytes) }
     {
         patches_of(*self.bytes.allocator(), &self.bytes, &self.changed)
     }

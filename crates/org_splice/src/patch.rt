@@ -1,6 +1,6 @@
 //! What is to be written of a text.
 ghost use Rattle.std.specs.Prelude.{◌≡◌, length, map, IfOk, List, ℕ};
-ghost use Rattle.org_splice.specs.Patches.{AreWellFormed, LayTo};
+ghost use Rattle.org_splice.specs.Patches.{AreWellFormed, PatchedTo};
 ghost use Rattle.org_splice.specs.Ranges.{AreChanged};
 ghost use Rattle.org_splice.specs.Texts.{IsEditOf, patches_of, pairs_of};
 ghost use Rattle.org_splice.specs.Versions.{text_of_parts};
@@ -27,9 +27,9 @@ pub(crate) fn patches_of(
         (λ patches. pairs_of patches.items ≡ patches_of (text_of_parts text.now changed.now)) }
     ensures well_formed { IfOk result
         (λ patches. AreWellFormed (pairs_of patches.items) (length text.now)) }
-    ensures laid { IfOk result
+    ensures makes { IfOk result
         (λ patches. (old : List ℕ) → IsEditOf old (text_of_parts text.now changed.now)
-        → LayTo (pairs_of patches.items) (length text.now) old text.now) }
+        → PatchedTo (pairs_of patches.items) (length text.now) old text.now) }
 {
     let mut patches = Vec::new(alloc);
     for range in changed {

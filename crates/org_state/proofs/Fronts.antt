@@ -1,14 +1,14 @@
 -- The parts of a section before its rest.
 use Rattle.std.proofs.Common.{◌≡◌, ℕ, ◌-◌, ◌≤◌, List, [], ◌++◌, length, take, sym, ap, ◌∙◌, arith, append_assoc, length-append}
 use Rattle.std.proofs.lemmas.List.{take_at, append-nil}
-use Rattle.org_splice.specs.Lines.{closed, lines_of, print_lines}
+use Rattle.org_splice.specs.Lines.{terminated, lines_of, print_lines}
 use Rattle.org_splice.proofs.Lines.{print_lines-append}
 use Rattle.org_meta.specs.declared.parts.Sections.{Sections}
 use Rattle.org_meta.specs.Sections.{SectionParts, AreSections, split, joined}
 use Rattle.org_meta.proofs.Puts.{section_bytes, joined_split}
 
 -- a section's bytes without those of its rest
-pub front_bytes : (section : List ℕ) (slices : Sections) → closed section ≡ section → AreSections slices (split (lines_of section))
+pub front_bytes : (section : List ℕ) (slices : Sections) → terminated section ≡ section → AreSections slices (split (lines_of section))
     → take (length section - length slices.rest.now) section ≡ print_lines (joined (record (split (lines_of section)) { rest = [] }))
 front_bytes section slices shut are =
     let p : SectionParts = split (lines_of section) in

@@ -3,7 +3,7 @@ use Rattle.std.proofs.Common.{◌≡◌, ℕ, ◌+◌, ◌<◌, ◌≤◌, List,
 use Rattle.std.specs.Prelude.{◌≢◌}
 use Rattle.std.proofs.lemmas.List.{length-replicate, append-nil}
 use Rattle.std.specs.List.{AllByRecursion}
-use Rattle.org_splice.specs.Lines.{closed, print_lines, lines_of, IsLine}
+use Rattle.org_splice.specs.Lines.{terminated, print_lines, lines_of, IsLine}
 use Rattle.org_splice.specs.declared.Span.{Span}
 use Rattle.org_splice.specs.Edits.{edited, applied, AreEdits}
 use Rattle.org_splice.specs.declared.edit.Edit.{Edit}
@@ -23,7 +23,7 @@ use Rattle.org_meta.specs.Notes.{with_note}
 use Rattle.org_meta.specs.Sections.{SectionParts, split, joined, put, put_in_drawer, property_line}
 use Rattle.org_state.specs.Edits.{rest_start, section_start, moved, GivesRest, EditsRest}
 
-pub prints : (t : List ℕ) → closed t ≡ t → print (tree t) ≡ t
+pub prints : (t : List ℕ) → terminated t ≡ t → print (tree t) ≡ t
 prints t shut = (tree-is t).prints ∙ shut
 
 -- an edit of the first lines of a text leaves those behind them as they are
@@ -104,7 +104,7 @@ module _ (i : ℕ) (r : List ℕ) (s : List (List ℕ)) (d : Document) (lt : i <
       one_edit (moved (rest_start d i) e) d2 (with_own_lines i new s d) (omega (arith, room, g.within)) is
 
 -- where a section begins and ends
-pub section_bounds : (t : List ℕ) (i : ℕ) (s : Span) → closed t ≡ t → i < node_count (tree t) → IsSection t (node_at (tree t) i) s → (s.start ≤ s.end) × (s.end ≤ length t)
+pub section_bounds : (t : List ℕ) (i : ℕ) (s : Span) → terminated t ≡ t → i < node_count (tree t) → IsSection t (node_at (tree t) i) s → (s.start ≤ s.end) × (s.end ≤ length t)
 section_bounds t i s shut lt is =
     let d : Document = tree t in
     let n : Node = (node_at d i).node in
@@ -137,7 +137,7 @@ section_steps i r (e ∷ es) s new d lt same all =
     (section_steps i r es all.0 new d lt same all.2)
 
 -- edits of a section, and then one of the rest of the heading line
-pub own_edits : (t : List ℕ) (i : ℕ) (es : List Edit) (k : Edit) (s : List (List ℕ)) (r : List ℕ) → closed t ≡ t → i < node_count (tree t)
+pub own_edits : (t : List ℕ) (i : ℕ) (es : List Edit) (k : Edit) (s : List (List ℕ)) (r : List ℕ) → terminated t ≡ t → i < node_count (tree t)
     → EditLines es (node_at (tree t) i).node.section s → EditsRest k (tree t) i r
     → AreEdits (map (moved (section_start (tree t) i)) es ++ k ∷ []) t (print (with_own_lines i r s (tree t)))
 own_edits t i es k s r shut lt all rest =
@@ -153,14 +153,14 @@ own_edits t i es k s r shut lt all rest =
 
 -- ---- a changed section, and a changed keyword
 
-pub one_made : (t : List ℕ) (i : ℕ) (k : Edit) (r : List ℕ) (edits : List Edit) → closed t ≡ t → i < node_count (tree t)
+pub one_made : (t : List ℕ) (i : ℕ) (k : Edit) (r : List ℕ) (edits : List Edit) → terminated t ≡ t → i < node_count (tree t)
     → EditsRest k (tree t) i r → edits ≡ k ∷ []
     → (edits ≢ []) × AreEdits edits t (print (with_own_lines i r (node_at (tree t) i).node.section (tree t)))
 one_made t i k r edits shut lt rest is =
     let made = own_edits t i [] k (node_at (tree t) i).node.section r shut lt refl rest in
     (λ none. absurd (let no : k ∷ [] ≡ [] = sym is ∙ none in cc), subst (λ (es : List Edit). AreEdits es t (print (with_own_lines i r (node_at (tree t) i).node.section (tree t)))) (sym is) made)
 
-pub two_made : (t : List ℕ) (i : ℕ) (e e2 k : Edit) (new : List (List ℕ)) (r : List ℕ) (edits : List Edit) → closed t ≡ t → i < node_count (tree t)
+pub two_made : (t : List ℕ) (i : ℕ) (e e2 k : Edit) (new : List (List ℕ)) (r : List ℕ) (edits : List Edit) → terminated t ≡ t → i < node_count (tree t)
     → e2 ≡ moved (section_start (tree t) i) e → Gives e (print_lines (node_at (tree t) i).node.section) new → EditsRest k (tree t) i r → edits ≡ e2 ∷ k ∷ []
     → (edits ≢ []) × AreEdits edits t (print (with_own_lines i r new (tree t)))
 two_made t i e e2 k new r edits shut lt at gives rest is =
@@ -198,7 +198,7 @@ repeat_lines ls note property planning n name value line g1 g2 g3 =
     (gives_in_front property (p.planning ++ p.drawer) (p.planning ++ (put_in ++ [])) below g2)) in
     (s1, g1, (s2, second, (line ∷ (put_in ++ below), gives_in_front planning p.planning (line ∷ []) (put_in ++ below) g3, refl)))
 
-pub four_made : (t : List ℕ) (i : ℕ) (a b c a2 b2 c2 k : Edit) (new : List (List ℕ)) (r : List ℕ) (edits : List Edit) → closed t ≡ t → i < node_count (tree t)
+pub four_made : (t : List ℕ) (i : ℕ) (a b c a2 b2 c2 k : Edit) (new : List (List ℕ)) (r : List ℕ) (edits : List Edit) → terminated t ≡ t → i < node_count (tree t)
     → a2 ≡ moved (section_start (tree t) i) a → b2 ≡ moved (section_start (tree t) i) b → c2 ≡ moved (section_start (tree t) i) c
     → EditLines (a ∷ b ∷ c ∷ []) (node_at (tree t) i).node.section new → EditsRest k (tree t) i r → edits ≡ a2 ∷ b2 ∷ c2 ∷ k ∷ []
     → (edits ≢ []) × AreEdits edits t (print (with_own_lines i r new (tree t)))

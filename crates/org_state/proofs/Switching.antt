@@ -7,11 +7,11 @@ use Rattle.std.specs.Result.{result_map_both}
 use Rattle.std.proofs.lemmas.Bool.{cases_Bool}
 use Rattle.std.proofs.lemmas.List.{take_at, drop_at}
 use Rattle.std.proofs.lemmas.List.Quantifiers.{position-Some}
-use Rattle.org_splice.specs.Lines.{closed, print_lines, lines_of, IsLine}
+use Rattle.org_splice.specs.Lines.{terminated, print_lines, lines_of, IsLine}
 use Rattle.org_splice.specs.declared.Span.{Span}
 use Rattle.org_splice.specs.declared.edit.Edit.{Edit}
 use Rattle.org_splice.specs.Edits.{edited, AreEdits}
-use Rattle.org_splice.proofs.Lines.{print_lines-append, lines_of-append, closed-print_lines}
+use Rattle.org_splice.proofs.Lines.{print_lines-append, lines_of-append, terminated-print_lines}
 use Rattle.org_splice.proofs.Places.{edits_in_place}
 use Rattle.org_stamp.specs.Calendar.{CivilMinute}
 use Rattle.org_stamp.proofs.Found.{bind_ok}
@@ -42,7 +42,7 @@ section_made_in d i e new lt edits =
     subst (λ (e : Edit). AreEdits (e ∷ []) (print d) (print (with_section_at i d new))) (sym edits.is)
     (subst (λ (u : List ℕ). AreEdits (moved (section_start d i) edits.own ∷ []) u (print (with_section_at i d new))) (ap print (same-rewritten i d)) step)
 
-pub section_made : (t : List ℕ) (i : ℕ) (e : Edit) (new : List (List ℕ)) → closed t ≡ t → i < node_count (tree t) → EditsSection e (tree t) i new
+pub section_made : (t : List ℕ) (i : ℕ) (e : Edit) (new : List (List ℕ)) → terminated t ≡ t → i < node_count (tree t) → EditsSection e (tree t) i new
     → AreEdits (e ∷ []) t (print (with_section_at i (tree t) new))
 section_made t i e new shut lt edits =
     subst (λ (u : List ℕ). AreEdits (e ∷ []) u (print (with_section_at i (tree t) new))) (prints t shut) (section_made_in (tree t) i e new lt edits)
@@ -70,7 +70,7 @@ pub record FirstOpen (section : List (List ℕ)) (span : Span) : Type 0 where
   pub start : span.start ≡ length (print_lines before)
   pub end : span.end ≡ length (print_lines before) + length line + 1
   pub runs : is_open line ≡ true
-  pub closes : (now : CivilMinute) (closed : List ℕ) → closed_line now line ≡ Ok closed → closed_first now section ≡ Ok (before ++ (closed ∷ after))
+  pub closes : (now : CivilMinute) (terminated : List ℕ) → closed_line now line ≡ Ok terminated → closed_first now section ≡ Ok (before ++ (terminated ∷ after))
   pub refuses : (now : CivilMinute) (fault : ClockFault) → closed_line now line ≡ Err fault → closed_first now section ≡ Err fault
 
 map_some : {A B : Type 0} (f : A → B) (o : Option A) (y : B) → option_map f o ≡ Some y → (x : A) × (o ≡ Some x) × (f x ≡ y)
@@ -78,8 +78,8 @@ map_some f None y e = absurd cc
 map_some f (Some x) y e = (x, refl, cc)
 
 first_closes : (now : CivilMinute) (l : List ℕ) (ls : List (List ℕ)) (r : Result (List ℕ) ClockFault) → is_open l ≡ true → closed_line now l ≡ r
-    → closed_first now (l ∷ ls) ≡ result_map_both (λ closed. closed ∷ ls) (λ fault. fault) r
-first_closes now l ls r runs is = rw runs (ap (result_map_both (λ closed. closed ∷ ls) (λ fault. fault)) is)
+    → closed_first now (l ∷ ls) ≡ result_map_both (λ terminated. terminated ∷ ls) (λ fault. fault) r
+first_closes now l ls r runs is = rw runs (ap (result_map_both (λ terminated. terminated ∷ ls) (λ fault. fault)) is)
 
 later_closes : (now : CivilMinute) (l : List ℕ) (ls : List (List ℕ)) (r : Result (List (List ℕ)) ClockFault) → is_open l ≡ false → closed_first now ls ≡ r
     → closed_first now (l ∷ ls) ≡ result_map_both (λ more. l ∷ more) (λ fault. fault) r
@@ -97,7 +97,7 @@ open_here l ls span runs e =
       start = ap (λ (s : Span). s.start) (sym same);
       end = ap (λ (s : Span). s.end) (sym same) ∙ length-append l (10 ∷ []) ∙ (let n : length l + 1 ≡ 0 + length l + 1 = omega arith in n);
       runs = runs;
-      closes = λ now closed is. first_closes now l ls (Ok closed) runs is;
+      closes = λ now terminated is. first_closes now l ls (Ok terminated) runs is;
       refuses = λ now fault is. first_closes now l ls (Err fault) runs is;
     }
 
@@ -120,7 +120,7 @@ open_later l ls k span other same f =
       start = ap (λ (s : Span). s.start) (sym same) ∙ at.0 ∙ ap (λ n. length l + 1 + n) f.start ∙ sym long;
       end = ap (λ (s : Span). s.end) (sym same) ∙ at.1 ∙ ap (λ n. length l + 1 + n) f.end ∙ omega (arith, long);
       runs = f.runs;
-      closes = λ now closed is. later_closes now l ls (Ok (f.before ++ (closed ∷ f.after))) other (f.closes now closed is);
+      closes = λ now terminated is. later_closes now l ls (Ok (f.before ++ (terminated ∷ f.after))) other (f.closes now terminated is);
       refuses = λ now fault is. later_closes now l ls (Err fault) other (f.refuses now fault is);
     }
 
@@ -156,7 +156,7 @@ one_of : (a : List (List ℕ)) (l : List ℕ) (b : List (List ℕ)) → AllByRec
 one_of [] l b p = p.0
 one_of (x ∷ a) l b p = one_of a l b p.1
 
-stands_at : (t : List ℕ) (i : ℕ) (span : Span) → closed t ≡ t → i < node_count (tree t) → open_line (node_at (tree t) i).node.section ≡ Some span
+stands_at : (t : List ℕ) (i : ℕ) (span : Span) → terminated t ≡ t → i < node_count (tree t) → open_line (node_at (tree t) i).node.section ≡ Some span
     → Stands t (record { heading = i; line = span_from (section_start (tree t) i) span })
 stands_at t i span shut lt e =
     let d : Document = tree t in
@@ -190,7 +190,7 @@ stands_at t i span shut lt e =
       line = one_of f.before f.line f.after (subst (AllByRecursion IsLine) f.is (section_is_lines t i lt));
     }
 
-pub stands : (t : List ℕ) (r : Running) → closed t ≡ t → running_in (tree t) ≡ Some r → Stands t r
+pub stands : (t : List ℕ) (r : Running) → terminated t ≡ t → running_in (tree t) ≡ Some r → Stands t r
 stands t r shut runs =
     let d : Document = tree t in
     let found = bind_ok (running_heading d) (running_at d) r runs in
@@ -202,8 +202,8 @@ stands t r shut runs =
 -- ---- the line alone
 
 module _ (t : List ℕ) (r : Running) (s : Stands t r) where
-  pub line_closed : closed (part t r.line) ≡ part t r.line
-  line_closed = ap closed s.bytes ∙ closed-print_lines (s.first.line ∷ []) ∙ sym s.bytes
+  pub line_terminated : terminated (part t r.line) ≡ part t r.line
+  line_terminated = ap terminated s.bytes ∙ terminated-print_lines (s.first.line ∷ []) ∙ sym s.bytes
 
   pub line_alone : IsOpenAt (part t r.line) (record { start = 0; end = length (part t r.line) }) [] s.first.line []
   line_alone = record {
@@ -242,8 +242,8 @@ module _ (t : List ℕ) (r : Running) (s : Stands t r) where
             ∙ sym (print_lines-append s.first.before (new ∷ s.first.after));
       }
 
-  ok_line : (e : Edit) (q : Result (List ℕ) ClockFault) → MatchResult q (λ closed. Gives e (part t r.line) (closed ∷ [])) (λ fault. ⊥)
-      → (closed : List ℕ) × (q ≡ Ok closed) × Gives e (part t r.line) (closed ∷ [])
+  ok_line : (e : Edit) (q : Result (List ℕ) ClockFault) → MatchResult q (λ terminated. Gives e (part t r.line) (terminated ∷ [])) (λ fault. ⊥)
+      → (terminated : List ℕ) × (q ≡ Ok terminated) × Gives e (part t r.line) (terminated ∷ [])
   ok_line e (Ok new) g = (new, refl, g)
   ok_line e (Err fault) g = absurd g
 
@@ -262,7 +262,7 @@ module _ (t : List ℕ) (r : Running) (s : Stands t r) where
       )
 
   -- it lies in the text
-  pub closing_in : (e2 : Edit) (new : List (List ℕ)) → closed t ≡ t → EditsSection e2 (tree t) r.heading new → e2.at + e2.removed ≤ length t
+  pub closing_in : (e2 : Edit) (new : List (List ℕ)) → terminated t ≡ t → EditsSection e2 (tree t) r.heading new → e2.at + e2.removed ≤ length t
   closing_in e2 new shut edits = (section_made t r.heading e2 new shut s.heading edits).0
 
   pub closing_refused : (now : CivilMinute) (fault : ClockFault) → ClosesNot now (part t r.line) (record { start = 0; end = length (part t r.line) }) fault
@@ -272,7 +272,7 @@ module _ (t : List ℕ) (r : Running) (s : Stands t r) where
   closing_refused now clock.OutOfMemory why =
       let can = why [] s.first.line [] line_alone in (s.first.before ++ (can.0 ∷ s.first.after), s.first.closes now can.0 can.1)
 
-  pub closing_answers : (now : CivilMinute) (result : Result Edit StateFault) → closed t ≡ t → ClosesSection now (tree t) r.heading result → AnswersClosing now t r.heading result
+  pub closing_answers : (now : CivilMinute) (result : Result Edit StateFault) → terminated t ≡ t → ClosesSection now (tree t) r.heading result → AnswersClosing now t r.heading result
   closing_answers now (Ok e) shut a =
       let d : Document = tree t in
       (with_section_at r.heading d a.0, ap (result_map_both (with_section_at r.heading d) fault_of_clock) a.1, section_made t r.heading e a.0 shut s.heading a.2)

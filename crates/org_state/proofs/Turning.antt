@@ -5,7 +5,7 @@ use Rattle.std.specs.Result.{result_map_both}
 use Rattle.std.specs.Str.{bytes_eq}
 use Rattle.std.specs.Global.{Global}
 use Rattle.std.proofs.lemmas.List.{append-nil}
-use Rattle.org_splice.specs.Lines.{closed, lines_of, print_lines, IsLine}
+use Rattle.org_splice.specs.Lines.{terminated, lines_of, print_lines, IsLine}
 use Rattle.org_splice.specs.Edits.{AreEdits}
 use Rattle.org_splice.specs.declared.edit.Edit.{Edit}
 use Rattle.org_splice.proofs.Lines.{lines_of-print_lines}
@@ -195,7 +195,7 @@ property_put ls front name value stamp e all is same g =
 
 -- The edits of a repeated task: a note, a property, a planning line and a keyword.
 pub repeat_made : (states : Keywords) (state : List ℕ) (now : CivilMinute) (t : List ℕ) (i : ℕ) (section front old stamp active : List ℕ) (a b c a2 b2 c2 k : Edit) (items : List Edit)
-    → closed t ≡ t → i < node_count (tree t)
+    → terminated t ≡ t → i < node_count (tree t)
     → section ≡ print_lines (node_at (tree t) i).node.section → lines_of section ≡ (node_at (tree t) i).node.section
     → front ≡ print_lines (joined (record (split (node_at (tree t) i).node.section) { rest = [] }))
     → old ≡ keyword_in states (node_at (tree t) i).node.rest → stamp ≡ moment_text now → active ≡ first_active states

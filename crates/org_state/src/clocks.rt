@@ -1,6 +1,6 @@
 //! Clocks of a text: which one runs, clocking in and out, and the time clocked.
 ghost use Rattle.std.specs.Prelude.{◌≡◌, ◌≢◌, ◌<◌, ◌≤◌, ◌∷◌, [], length, Some, Ok, IfOk};
-ghost use Rattle.org_splice.specs.Lines.{closed, print_lines};
+ghost use Rattle.org_splice.specs.Lines.{terminated, print_lines};
 ghost use Rattle.org_outline.specs.Paths.{find_path, titles_of};
 ghost use Rattle.org_outline.specs.Tree.{node_at, node_count, tree};
 ghost use Rattle.org_state.specs.Clock.{span_from, running_in, opened_section, clocked_minutes, clocked_at};
@@ -58,7 +58,7 @@ fn opening(
     requires { node < node_count (tree outline.now.text) }
     ensures edits { let d = tree outline.now.text in
         IfOk result (λ edit. EditsSection edit d node (opened_section now d node)) }
-    ensures closed { closed outline.now.text ≡ outline.now.text }
+    ensures terminated { terminated outline.now.text ≡ outline.now.text }
 {
     let edit = open_clock(alloc, section_of(outline, node), now)?;
     Ok(in_section(outline, node, edit))
@@ -84,7 +84,7 @@ pub fn clock_in(
 
 /// The edit that closes the clock that runs in the text.
 fn closing(alloc: Global, text: &[u8], running: Running, now: Moment) -> Result<Edit, StateFault>
-    requires closed { closed text.now ≡ text.now }
+    requires terminated { terminated text.now ≡ text.now }
     requires runs { running_in (tree text.now) ≡ Some running }
     ensures { ClosesSection now (tree text.now) running.heading result }
 {
@@ -113,7 +113,7 @@ pub fn clock_out(
     running: Running,
     now: Moment,
 ) -> Result<Edit, StateFault>
-    requires closed { closed text.now ≡ text.now }
+    requires terminated { terminated text.now ≡ text.now }
     requires runs { running_in (tree text.now) ≡ Some running }
     ensures { AnswersClosing now text.now running.heading result }
 {

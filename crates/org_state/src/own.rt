@@ -1,6 +1,6 @@
 //! Edits of a heading's own lines, as edits of its text.
 ghost use Rattle.std.specs.Prelude.{◌≡◌, ◌<◌, ◌≤◌, ◌+◌, length, IfOk, []};
-ghost use Rattle.org_splice.specs.Lines.{closed, lines_of, print_lines};
+ghost use Rattle.org_splice.specs.Lines.{terminated, lines_of, print_lines};
 ghost use Rattle.org_meta.specs.Sections.{joined, parts_of};
 ghost use Rattle.org_outline.specs.Tree.{node_at, node_count, tree};
 ghost use Rattle.org_state.specs.Keyword.{with_keyword};
@@ -17,8 +17,8 @@ pub(crate) fn section_of<'a>(outline: &Outline<'a>, node: Node) -> &'a [u8]
     requires { node < node_count (tree outline.now.text) }
     ensures bytes { result.now ≡ print_lines (node_at (tree outline.now.text) node).node.section }
     ensures lines { lines_of result.now ≡ (node_at (tree outline.now.text) node).node.section }
-    ensures closed { closed result.now ≡ result.now }
-    ensures whole { closed outline.now.text ≡ outline.now.text }
+    ensures terminated { terminated result.now ≡ result.now }
+    ensures whole { terminated outline.now.text ≡ outline.now.text }
 {
     let span = outline.section(node);
     &outline.text()[span.start..span.end]
@@ -26,10 +26,10 @@ pub(crate) fn section_of<'a>(outline: &Outline<'a>, node: Node) -> &'a [u8]
 
 /// The planning line and the property drawer of a section.
 pub(crate) fn above_rest(section: &[u8]) -> &[u8]
-    requires { closed section.now ≡ section.now }
+    requires { terminated section.now ≡ section.now }
     ensures bytes { result.now
         ≡ print_lines (joined (record (parts_of section.now) { rest = [] })) }
-    ensures closed { closed result.now ≡ result.now }
+    ensures terminated { terminated result.now ≡ result.now }
 {
     let rest = sections(section).rest;
     section.split_at(section.len() - rest.len()).0
@@ -61,7 +61,7 @@ pub(crate) fn keyword_edit(
     ensures edits { let d = tree outline.now.text in
         IfOk result (λ edit. EditsRest edit d node
         (with_keyword outline.now.states word.now (node_at d node).node.rest)) }
-    ensures closed { closed outline.now.text ≡ outline.now.text }
+    ensures terminated { terminated outline.now.text ≡ outline.now.text }
 {
     let rest = outline.rest(node);
     let start = outline.section(node).start - 1 - rest.len();

@@ -4,14 +4,14 @@ use Rattle.std.specs.Option.{IsSome}
 use Rattle.std.specs.Str.{bytes_eq}
 use Rattle.std.proofs.lemmas.Bool.{false≢true}
 use Rattle.std.proofs.lemmas.Slice.Eq.{bytes_eq-Decides}
-use Rattle.org_splice.specs.Lines.{closed}
+use Rattle.org_splice.specs.Lines.{terminated}
 use Rattle.org_splice.specs.Edits.{AreEdits}
 use Rattle.org_splice.specs.Texts.{EditedText}
-use Rattle.org_splice.proofs.Lines.{lines_of-closed}
-use Rattle.org_journal.specs.Standing.{Image}
+use Rattle.org_splice.proofs.Lines.{lines_of-terminated}
+use Rattle.org_journal.specs.Recovered.{Image}
 use Rattle.org_outline.specs.States.{Keywords}
 use Rattle.org_outline.specs.Tree.{Document, print, tree}
-use Rattle.org_outline.proofs.Trees.{tree-closed}
+use Rattle.org_outline.proofs.Trees.{tree-terminated}
 use Rattle.org_stamp.specs.Calendar.{CivilMinute}
 use Rattle.org_texts.specs.declared.plan.FileEdits.{FileEdits}
 use Rattle.org_texts.specs.declared.plan.Plan.{Plan}
@@ -48,9 +48,9 @@ the_text (Some text) some = (text, refl, refl)
 pub is_ready : (ready : List (List ℕ)) (held : Holding) (file : List ℕ) → AreReady ready held → is_name ready file ≡ true → IsReady file held
 is_ready ready held file are there = record { held = now_held ready held file are there; ready = are.ready file there }
 
--- what is held is the store's text of the file, closed
+-- what is held is the store's text of the file, terminated
 pub store_text : {D : Type 0} (texts : D → Image) (states : Keywords) (files : OpenFiles D) (tally : Tally) (s : Session) (ready : List (List ℕ)) (file : List ℕ) → session_over texts states files tally ≡ s → AreReady ready files.held
-    → is_name ready file ≡ true → is_name files.names file ≡ true → (text : List ℕ) × (text_at s.names s.files file ≡ Some text) × (held_bytes files.held file ≡ closed text)
+    → is_name ready file ≡ true → is_name files.names file ≡ true → (text : List ℕ) × (text_at s.names s.files file ≡ Some text) × (held_bytes files.held file ≡ terminated text)
 store_text texts states files tally s ready file is are there named =
     let seen = the_text (text_of files.held.now file) (now_held ready files.held file are there) in
     let old = ready_text ready files.held file seen.0 are there seen.1 in
@@ -62,8 +62,8 @@ no_text texts states files tally s file is missing =
     subst (λ (t : Session). text_at t.names t.files file ≡ None) is (none_at (held_over files.held.before (texts files.disk)) files.names file missing)
 
 -- a text that is found twice is one
-pub same_shut : (text other seen : List ℕ) → Some text ≡ Some other → seen ≡ closed other → seen ≡ closed text
-same_shut text other seen is shut = let same : text ≡ other = cc in shut ∙ ap closed (sym same)
+pub same_shut : (text other seen : List ℕ) → Some text ≡ Some other → seen ≡ terminated other → seen ≡ terminated text
+same_shut text other seen is shut = let same : text ≡ other = cc in shut ∙ ap terminated (sym same)
 
 -- ---- the plans
 
@@ -126,8 +126,8 @@ module _ (states given : Keywords) (file : List ℕ) (path : List (List ℕ)) (t
 
 -- ---- the outcome
 
-location_closed : (states : Keywords) (name : List ℕ) (path : List (List ℕ)) (text : List ℕ) → location states name path (closed text) ≡ location states name path text
-location_closed states name path text = rw (lines_of-closed text) refl
+location_terminated : (states : Keywords) (name : List ℕ) (path : List (List ℕ)) (text : List ℕ) → location states name path (terminated text) ≡ location states name path text
+location_terminated states name path text = rw (lines_of-terminated text) refl
 
 module _ (s : Session) (file : List ℕ) (path : List (List ℕ)) (moment : CivilMinute) where
   -- what an archiving is to do with the store's text of the file
@@ -137,14 +137,14 @@ module _ (s : Session) (file : List ℕ) (path : List (List ℕ)) (moment : Civi
   abbrev pub told_to : List ℕ → Destination → Outcome
   told_to text to = archive_to s file path moment text to (text_at s.names s.files to.file)
 
-  -- the planner sees the text closed
-  told_at : (text seen : List ℕ) → text_at s.names s.files file ≡ Some text → seen ≡ closed text → told ≡ archive_at s file path moment text (location s.states file path seen)
+  -- the planner sees the text terminated
+  told_at : (text seen : List ℕ) → text_at s.names s.files file ≡ Some text → seen ≡ terminated text → told ≡ archive_at s file path moment text (location s.states file path seen)
   told_at text seen at shut =
       ap (archive s file path moment) at
-      ∙ ap (archive_at s file path moment text) (sym (ap (location s.states file path) shut ∙ location_closed s.states file path text))
+      ∙ ap (archive_at s file path moment text) (sym (ap (location s.states file path) shut ∙ location_terminated s.states file path text))
 
   -- an archiving without a location
-  pub place_refused : (text seen : List ℕ) (result : Result Destination MoveFault) (why : MoveFault) → s.broken ≡ false → text_at s.names s.files file ≡ Some text → seen ≡ closed text → result ≡ Err why
+  pub place_refused : (text seen : List ℕ) (result : Result Destination MoveFault) (why : MoveFault) → s.broken ≡ false → text_at s.names s.files file ≡ Some text → seen ≡ terminated text → result ≡ Err why
       → GivesPlace (location s.states file path seen) result → Does s told (Err (fault_of_move why)) s
   place_refused text seen result why unbroken at shut was gives = go why (subst (GivesPlace said) was gives)
     where
@@ -164,7 +164,7 @@ module _ (s : Session) (file : List ℕ) (path : List (List ℕ)) (moment : Civi
       go fault.NoSuchFile gives = (unbroken, refuses fault.NoSuchFile gives, refl)
 
   -- .. and one with a location
-  pub place_found : (text seen : List ℕ) (to : Destination) → text_at s.names s.files file ≡ Some text → seen ≡ closed text → GivesPlace (location s.states file path seen) (Ok to) → told ≡ told_to text to
+  pub place_found : (text seen : List ℕ) (to : Destination) → text_at s.names s.files file ≡ Some text → seen ≡ terminated text → GivesPlace (location s.states file path seen) (Ok to) → told ≡ told_to text to
   place_found text seen to at shut found = told_at text seen at shut ∙ ap (archive_at s file path moment text) found
 
   -- its file is none of the store's
@@ -172,21 +172,21 @@ module _ (s : Session) (file : List ℕ) (path : List (List ℕ)) (moment : Civi
   no_place text to is none = is ∙ ap (archive_to s file path moment text to) none
 
   -- it is the file itself
-  pub within_is : (text seen : List ℕ) (to : Destination) → told ≡ told_to text to → text_at s.names s.files file ≡ Some text → seen ≡ closed text → file ≡ to.file
+  pub within_is : (text seen : List ℕ) (to : Destination) → told ≡ told_to text to → text_at s.names s.files file ≡ Some text → seen ≡ terminated text → file ≡ to.file
       → told ≡ with_moved s (text_within file) (archive_within s.states file path moment to (tree seen))
   within_is text seen to is at shut own =
       let there : text_at s.names s.files to.file ≡ Some text = subst (λ (n : List ℕ). text_at s.names s.files n ≡ Some text) own at in
       let t : bytes_eq file to.file ≡ true = (bytes_eq-Decides file to.file).1 own in
       let here : archive_to s file path moment text to (Some text) ≡ with_moved s (text_within file) (archive_within s.states file path moment to (tree text)) = rw t refl in
       is ∙ ap (archive_to s file path moment text to) there ∙ here
-      ∙ ap (λ (d : Document). with_moved s (text_within file) (archive_within s.states file path moment to d)) (sym (ap tree shut ∙ tree-closed text))
+      ∙ ap (λ (d : Document). with_moved s (text_within file) (archive_within s.states file path moment to d)) (sym (ap tree shut ∙ tree-terminated text))
 
   -- it is another one
-  pub across_is : (text seen target found : List ℕ) (to : Destination) → told ≡ told_to text to → text_at s.names s.files to.file ≡ Some target → seen ≡ closed text → found ≡ closed target → file ≢ to.file
+  pub across_is : (text seen target found : List ℕ) (to : Destination) → told ≡ told_to text to → text_at s.names s.files to.file ≡ Some target → seen ≡ terminated text → found ≡ terminated target → file ≢ to.file
       → told ≡ with_moved s (texts_across file to.file) (archive_across s.states file path moment (tree seen) s.states to (tree found))
   across_is text seen target found to is there shut closes apart =
       let f : bytes_eq file to.file ≡ false = not_equal file to.file apart in
       let other : archive_to s file path moment text to (Some target) ≡ with_moved s (texts_across file to.file) (archive_across s.states file path moment (tree text) s.states to (tree target)) = rw f refl in
       is ∙ ap (archive_to s file path moment text to) there ∙ other
-      ∙ ap (λ (d : Document). with_moved s (texts_across file to.file) (archive_across s.states file path moment d s.states to (tree target))) (sym (ap tree shut ∙ tree-closed text))
-      ∙ ap (λ (d : Document). with_moved s (texts_across file to.file) (archive_across s.states file path moment (tree seen) s.states to d)) (sym (ap tree closes ∙ tree-closed target))
+      ∙ ap (λ (d : Document). with_moved s (texts_across file to.file) (archive_across s.states file path moment d s.states to (tree target))) (sym (ap tree shut ∙ tree-terminated text))
+      ∙ ap (λ (d : Document). with_moved s (texts_across file to.file) (archive_across s.states file path moment (tree seen) s.states to d)) (sym (ap tree closes ∙ tree-terminated target))

@@ -4,7 +4,7 @@ use Rattle.std.specs.Prelude.{slice_get, Some, IsErrOf}
 use Rattle.std.proofs.lemmas.Bool.{cases_Bool, false≢true}
 use Rattle.org_disk.specs.Disk.{FileState, AreImages, LeavesOnly}
 use Rattle.org_disk.proofs.Moments.{passes_as}
-use Rattle.org_journal.specs.Standing.{Image, IsFit, contents}
+use Rattle.org_journal.specs.Recovered.{Image, IsRecoverable, contents}
 use Rattle.org_fileset.specs.Replay.{IsAtRest}
 use Rattle.org_store.specs.declared.command.Command.TheVariants.{Settle}
 use Rattle.org_store.specs.declared.command.Reply.{Reply}
@@ -65,7 +65,7 @@ module _ {D : Type 0} (files : D → List ℕ → FileState) (moment : D → ℕ
               (λ image left. left_as old.session (contents (files old.disk)) AsksToSettle answer (reply_of n answer) new.session.accepted image (settle_wrote n answer) left);
           others = λ fine. ran.disk.others (λ failed. fine (ap (reply_of n) failed));
           rest = λ fine. ran.disk.rest (λ failed. fine (ap (reply_of n) failed));
-          fit = ran.disk.fit;
+          recoverable = ran.disk.recoverable;
         };
         untouched = λ broken. ran.untouched (fault_of_reply n answer Broken broken);
         nothing = λ is. ran.nothing;
@@ -144,19 +144,19 @@ module _ {D : Type 0} (files : D → List ℕ → FileState) (moment : D → ℕ
   rest_call old new (Settled answer) sound rest made = made.0.disk.rest ((settling_ends old.store.session new.store.session answer made.0.step).1 sound).0 rest
   rest_call old new (Grouped group) sound rest made = subst (λ (k : Kept D). IsAtRest (files k.disk)) (sym made.0) rest
 
-  fit_call : (old new : Past D) (call : Call) → IsAtRest (files old.store.disk) → Made old call new → IsFit (files new.store.disk)
-  fit_call old new (Ran command answer) rest made = made.0.disk.fit rest
-  fit_call old new (Settled answer) rest made = made.0.disk.fit rest
-  fit_call old new (Grouped group) rest made = subst (λ (k : Kept D). IsFit (files k.disk)) (sym made.0) (inl (λ name not. rest.stable name))
+  fit_call : (old new : Past D) (call : Call) → IsAtRest (files old.store.disk) → Made old call new → IsRecoverable (files new.store.disk)
+  fit_call old new (Ran command answer) rest made = made.0.disk.recoverable rest
+  fit_call old new (Settled answer) rest made = made.0.disk.recoverable rest
+  fit_call old new (Grouped group) rest made = subst (λ (k : Kept D). IsRecoverable (files k.disk)) (sym made.0) (inl (λ name not. rest.stable name))
 
   same_disk : (old new : Past D) → Keeps old new → new.store.disk ≡ old.store.disk
   same_disk old new keeps = ap (λ (k : Kept D). k.disk) keeps.store
 
-  pub calls_fit : (old new : Past D) (calls : List Call) → IsAtRest (files old.store.disk) → AllMade old calls new → IsFit (files new.store.disk)
-  calls_fit old new [] rest run = subst (λ (p : Past D). IsFit (files p.store.disk)) (sym run) (inl (λ name not. rest.stable name))
-  calls_fit old new (call ∷ calls) rest run = ⊎_elim
-      (λ fell. subst (λ d. IsFit (files d)) (sym (same_disk run.0 new (broken_calls run.0 new calls fell run.2))) (fit_call old run.0 call rest run.1))
-      (λ sound. calls_fit run.0 new calls (rest_call old run.0 call sound rest run.1) run.2)
+  pub calls_recoverable : (old new : Past D) (calls : List Call) → IsAtRest (files old.store.disk) → AllMade old calls new → IsRecoverable (files new.store.disk)
+  calls_recoverable old new [] rest run = subst (λ (p : Past D). IsRecoverable (files p.store.disk)) (sym run) (inl (λ name not. rest.stable name))
+  calls_recoverable old new (call ∷ calls) rest run = ⊎_elim
+      (λ fell. subst (λ d. IsRecoverable (files d)) (sym (same_disk run.0 new (broken_calls run.0 new calls fell run.2))) (fit_call old run.0 call rest run.1))
+      (λ sound. calls_recoverable run.0 new calls (rest_call old run.0 call sound rest run.1) run.2)
       (cases_Bool run.0.store.session.broken)
 
   pub calls_rest : (old new : Past D) (calls : List Call) → new.store.session.broken ≡ false → IsAtRest (files old.store.disk) → AllMade old calls new → IsAtRest (files new.store.disk)
@@ -174,7 +174,7 @@ module _ {D : Type 0} (files : D → List ℕ → FileState) (moment : D → ℕ
         (λ reached. inr (reached.0, (reached.1.0, record { no_fewer = reached.1.1.no_fewer; no_more = reached.1.1.no_more }, later reached.0 reached.1.2), reached.2))
         left);
     rest = course.rest;
-    fit = course.fit;
+    recoverable = course.recoverable;
     others = course.others;
     onward = λ ok. let on = course.onward ok in record { names = on.names; broken = on.broken; settled = on.settled; texts = on.texts };
     stays = λ fell. absurd (false≢true (sym sound ∙ fell));
@@ -245,7 +245,7 @@ module _ {D : Type 0} (files : D → List ℕ → FileState) (moment : D → ℕ
       (course_to run.0 new calls (call_lists old run.0 call run.1 lists) run.2) call run.1)
       (cases_Bool old.store.session.broken)
 
-  -- What a stop leaves.
+  -- What a crash leaves.
   module _ (first last : Past D) (calls : List Call) (lists : Lists first.store.session first.texts) (run : AllMade first calls last) (sound : first.store.session.broken ≡ false) where
     abbrev others : Image
     others = contents (files first.store.disk)

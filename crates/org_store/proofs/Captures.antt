@@ -3,11 +3,11 @@ use Rattle.std.proofs.Common.{◌≡◌, ℕ, false, List, [], ◌∷◌, Option
 use Rattle.std.specs.Global.{Global}
 use Rattle.std.specs.Option.{IsSome}
 use Rattle.std.proofs.lemmas.Bool.{false≢true}
-use Rattle.org_splice.specs.Lines.{closed}
-use Rattle.org_splice.proofs.Lines.{closed_twice}
+use Rattle.org_splice.specs.Lines.{terminated}
+use Rattle.org_splice.proofs.Lines.{terminated_twice}
 use Rattle.org_outline.specs.declared.moves.Place.{Place}
 use Rattle.org_outline.specs.Tree.{Document, Node, print, tree}
-use Rattle.org_outline.proofs.Trees.{tree-closed}
+use Rattle.org_outline.proofs.Trees.{tree-terminated}
 use Rattle.org_stamp.specs.Calendar.{CivilMinute}
 use Rattle.org_texts.specs.declared.plan.Plan.{Plan}
 use Rattle.org_capture.specs.declared.fault.CaptureFault.{CaptureFault}
@@ -15,7 +15,7 @@ use Rattle.org_capture.specs.declared.fault.CaptureFault.TheVariants as fault
 use Rattle.org_capture.specs.declared.target.Target.{Target}
 use Rattle.org_capture.specs.Answers.{AnswersBytes, AnswersEdit}
 use Rattle.org_capture.specs.Capture.{captured}
-use Rattle.org_capture.specs.Entry.{IsEntry, closed_if_one, entry_in, entry_text, only_root}
+use Rattle.org_capture.specs.Entry.{IsEntry, terminated_if_one, entry_in, entry_text, only_root}
 use Rattle.org_store.specs.Capture.{MakesEntry, PlansDocument, entry_of_text, new_entry, one_entry}
 use Rattle.org_store.specs.Keeping.{fault_of_capture}
 use Rattle.org_store.specs.Outcome.{Refuses, capture, changed, refusal_of, with_document, with_entry}
@@ -24,16 +24,16 @@ use Rattle.org_store.specs.Step.{Does}
 
 -- ---- the entry
 
-entry_closed : (text : List ℕ) → entry_in (closed text) ≡ entry_in text
-entry_closed text = ap (λ (d : Document). only_root d.preamble d.forest) (tree-closed text)
+entry_terminated : (text : List ℕ) → entry_in (terminated text) ≡ entry_in text
+entry_terminated text = ap (λ (d : Document). only_root d.preamble d.forest) (tree-terminated text)
 
-one_made : (bytes made : List ℕ) (found : Option Node) → entry_in bytes ≡ found → closed_if_one found bytes ≡ Ok made → (node : Node) × (one_entry found ≡ Ok node) × IsEntry made node
+one_made : (bytes made : List ℕ) (found : Option Node) → entry_in bytes ≡ found → terminated_if_one found bytes ≡ Ok made → (node : Node) × (one_entry found ≡ Ok node) × IsEntry made node
 one_made bytes made None is text = absurd (cc)
 one_made bytes made (Some node) is text =
-    let same : closed bytes ≡ made = cc in
-    (node, refl, subst (λ (t : List ℕ). IsEntry t node) same (record { shut = closed_twice bytes; one = entry_closed bytes ∙ is }))
+    let same : terminated bytes ≡ made = cc in
+    (node, refl, subst (λ (t : List ℕ). IsEntry t node) same (record { shut = terminated_twice bytes; one = entry_terminated bytes ∙ is }))
 
-no_one : (bytes : List ℕ) (found : Option Node) (why : CaptureFault) → closed_if_one found bytes ≡ Err why → one_entry found ≡ Err why
+no_one : (bytes : List ℕ) (found : Option Node) (why : CaptureFault) → terminated_if_one found bytes ≡ Err why → one_entry found ≡ Err why
 no_one bytes None why is = cc
 no_one bytes (Some node) why is = absurd (cc)
 
@@ -94,18 +94,18 @@ entry_refused s name target place moment template initial (Some text) result why
     go fault.NotFound makes = (unbroken, refuses fault.NotFound makes, refl)
     go fault.NotUnique makes = (unbroken, refuses fault.NotUnique makes, refl)
 
--- what a capture is to do with its entry and the text, which the planner sees closed
+-- what a capture is to do with its entry and the text, which the planner sees terminated
 document_is : (s : Session) (name : List ℕ) (target : Target) (place : Place) (moment : CivilMinute) (template initial text seen : List ℕ) (node : Node) (said : Result Document CaptureFault)
-    → new_entry moment template initial ≡ Ok node → seen ≡ closed text → captured s.states target place moment node (tree seen) ≡ said
+    → new_entry moment template initial ≡ Ok node → seen ≡ terminated text → captured s.states target place moment node (tree seen) ≡ said
     → capture s name target place moment template initial (Some text) ≡ with_document s name said
 document_is s name target place moment template initial text seen node said made shut is =
     ap (λ entry. with_entry s name target place moment entry text) made
-    ∙ ap (λ (d : Document). with_document s name (captured s.states target place moment node d)) (sym (ap tree shut ∙ tree-closed text))
+    ∙ ap (λ (d : Document). with_document s name (captured s.states target place moment node d)) (sym (ap tree shut ∙ tree-terminated text))
     ∙ ap (with_document s name) is
 
 -- what is refused for its target
 pub target_refused : (s : Session) (name : List ℕ) (target : Target) (place : Place) (moment : CivilMinute) (template initial text seen : List ℕ) (node : Node) (result : Result Plan CaptureFault) (why : CaptureFault)
-    → s.broken ≡ false → new_entry moment template initial ≡ Ok node → seen ≡ closed text → result ≡ Err why → PlansDocument name seen (captured s.states target place moment node (tree seen)) result
+    → s.broken ≡ false → new_entry moment template initial ≡ Ok node → seen ≡ terminated text → result ≡ Err why → PlansDocument name seen (captured s.states target place moment node (tree seen)) result
     → Does s (capture s name target place moment template initial (Some text)) (Err (fault_of_capture why)) s
 target_refused s name target place moment template initial text seen node result why unbroken made shut was plans = go why (subst (PlansDocument name seen said) was plans)
   where
@@ -123,7 +123,7 @@ target_refused s name target place moment template initial text seen node result
     go fault.NotUnique plans = (unbroken, refuses fault.NotUnique plans, refl)
 
 pub target_planned : (s : Session) (name : List ℕ) (target : Target) (place : Place) (moment : CivilMinute) (template initial text seen : List ℕ) (node : Node) (plan : Plan) (changes : List (List ℕ × List ℕ))
-    → new_entry moment template initial ≡ Ok node → seen ≡ closed text → (plans : PlansDocument name seen (captured s.states target place moment node (tree seen)) (Ok plan)) → changes ≡ (name, print plans.0) ∷ []
+    → new_entry moment template initial ≡ Ok node → seen ≡ terminated text → (plans : PlansDocument name seen (captured s.states target place moment node (tree seen)) (Ok plan)) → changes ≡ (name, print plans.0) ∷ []
     → capture s name target place moment template initial (Some text) ≡ changed s changes
 target_planned s name target place moment template initial text seen node plan changes made shut plans are =
     document_is s name target place moment template initial text seen node (Ok plans.0) made shut plans.1 ∙ ap (changed s) (sym are)

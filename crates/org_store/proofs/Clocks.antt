@@ -8,13 +8,13 @@ use Rattle.org_disk.proofs.Names.{name_cases}
 use Rattle.org_splice.specs.declared.edit.Edit.{Edit}
 use Rattle.org_splice.specs.Edits.{AreEdits}
 use Rattle.org_splice.specs.Texts.{EditedText}
-use Rattle.org_journal.specs.Standing.{Image}
+use Rattle.org_journal.specs.Recovered.{Image}
 use Rattle.org_outline.specs.declared.paths.PathFault.{PathFault}
 use Rattle.org_outline.specs.declared.paths.PathFault.TheVariants as path
 use Rattle.org_outline.specs.States.{Keywords}
 use Rattle.org_outline.specs.Paths.{find_path}
 use Rattle.org_outline.specs.Tree.{Document, print, tree}
-use Rattle.org_outline.proofs.Trees.{tree-closed}
+use Rattle.org_outline.proofs.Trees.{tree-terminated}
 use Rattle.org_stamp.specs.Calendar.{CivilMinute}
 use Rattle.org_texts.specs.declared.plan.Plan.{Plan}
 use Rattle.org_texts.specs.Texts.{Holding, held_over, text_of}
@@ -200,7 +200,7 @@ ready_document texts states opened tally s names file seen same ready there name
     let old = ready_text names opened.held file seen ready there at in
     let before : text_at opened.names (texts_of (held_over opened.held.before (texts opened.disk)) opened.names) file ≡ Some old.0.bytes = text_held opened.names opened.held (texts opened.disk) file old.0 named old.1 in
     let found : text_at s.names s.files file ≡ Some old.0.bytes = subst (λ (t : Session). text_at t.names t.files file ≡ Some old.0.bytes) same before in
-    ap (λ (o : Option (List ℕ)). tree (unwrap_or o [])) found ∙ sym (ap tree old.2 ∙ tree-closed old.0.bytes)
+    ap (λ (o : Option (List ℕ)). tree (unwrap_or o [])) found ∙ sym (ap tree old.2 ∙ tree-terminated old.0.bytes)
 
 -- a clock that runs in a text that is held runs where the text is ready
 pub still_runs : (old new : Holding) (names : List (List ℕ)) (file : List ℕ) (running : Running) (seen : EditedText) → RunsHeld old file running → KeepsHeld old new → AreReady names new → is_name names file ≡ true
@@ -209,7 +209,7 @@ still_runs old new names file running seen (text, held, runs) keeps ready there 
     let was = ready_text names new file seen ready there at in
     let both : Some was.0 ≡ Some text = sym was.1 ∙ keeps file (ap is_some held) ∙ held in
     let one : was.0 ≡ text = cc in
-    ap running_in (ap tree was.2 ∙ tree-closed was.0.bytes) ∙ ap (λ (t : EditedText). running_in (tree t.bytes)) one ∙ runs
+    ap running_in (ap tree was.2 ∙ tree-terminated was.0.bytes) ∙ ap (λ (t : EditedText). running_in (tree t.bytes)) one ∙ runs
 
 -- ---- a heading looked up
 

@@ -11,7 +11,7 @@ use Rattle.org_disk.specs.Accounts.{LeavesOver}
 use Rattle.org_disk.specs.Disk.{FileState}
 use Rattle.org_disk.proofs.Names.{name_cases, same_name}
 use Rattle.org_splice.specs.Texts.{EditedText, IsEditOf, settled}
-use Rattle.org_journal.specs.Standing.{Image, SameFiles, contents}
+use Rattle.org_journal.specs.Recovered.{Image, SameFiles, contents}
 use Rattle.org_fileset.specs.Entries.{changed}
 use Rattle.org_fileset.specs.declared.fault.SetFault.{SetFault}
 use Rattle.org_fileset.specs.declared.fault.SetFault.TheVariants as set_fault
@@ -152,7 +152,7 @@ module _ {D : Type 0} (files : D → List ℕ → FileState) (moment : D → ℕ
 
   pub commit_failed : {A E : Type 0} (result : Result A E) (fault : E) → Commits files moment left_since (changed (pairs set) before) old new result
       → CommitsTexts {A = A} files moment left_since names after old new (Err fault)
-  commit_failed result fault commits = record { texts = tt; others = tt; rest = tt; any_moment = any_moment result commits; fit = commits.fit }
+  commit_failed result fault commits = record { texts = tt; others = tt; rest = tt; any_moment = any_moment result commits; recoverable = commits.recoverable }
 
   pub made_held : SameFiles (contents (files new)) (changed (pairs set) before) → SameFiles (contents (files new)) (held_over set before)
   made_held made name not = made name not ∙ is_held name
@@ -166,7 +166,7 @@ module _ {D : Type 0} (files : D → List ℕ → FileState) (moment : D → ℕ
         others = subst (λ (texts : List (List ℕ)). SameFiles (contents (files new)) (with_texts names texts before)) now (others_committed names before (contents (files new)) (changed (pairs set) before) outside commits.done.made);
         rest = commits.done.rest;
         any_moment = any_moment (Ok a) commits;
-        fit = commits.fit;
+        recoverable = commits.recoverable;
       }
 
 -- where a commit failed and broke nothing, memory was refused

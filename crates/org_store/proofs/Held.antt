@@ -11,19 +11,19 @@ use Rattle.std.proofs.lemmas.Slice.Eq.{bytes_eq-Decides}
 use Rattle.org_disk.specs.Names.{journal_name}
 use Rattle.org_disk.proofs.Names.{name_cases, same_name}
 use Rattle.org_splice.specs.Edits.{CanApply}
-use Rattle.org_splice.specs.Lines.{closed}
-use Rattle.org_splice.specs.Texts.{EditedText, closed_text, settled, spliced_each}
-use Rattle.org_journal.specs.Standing.{Image}
+use Rattle.org_splice.specs.Lines.{terminated}
+use Rattle.org_splice.specs.Texts.{EditedText, terminated_text, settled, spliced_each}
+use Rattle.org_journal.specs.Recovered.{Image}
 use Rattle.org_fileset.specs.Names.{limit}
 use Rattle.org_texts.specs.declared.plan.FileEdits.{FileEdits}
 use Rattle.org_texts.specs.declared.plan.Plan.{Plan}
 use Rattle.org_texts.specs.Files.{StandOver, waits}
 use Rattle.org_texts.specs.Plan.{CanEdit, IsPlan, planned, with_edits, with_second}
-use Rattle.org_texts.specs.Texts.{Holding, TextSet, bytes_or, closed_in, held_over, text_of, text_or_none, with_change, with_name, with_text}
-use Rattle.org_splice.proofs.Lines.{closed_twice}
-use Rattle.org_texts.proofs.Heads.{closed_text-bytes, is_closed-closed}
+use Rattle.org_texts.specs.Texts.{Holding, TextSet, bytes_or, terminated_in, held_over, text_of, text_or_none, with_change, with_name, with_text}
+use Rattle.org_splice.proofs.Lines.{terminated_twice}
+use Rattle.org_texts.proofs.Heads.{terminated_text-bytes, is_terminated-terminated}
 use Rattle.org_texts.proofs.Looking.{change_this, change_other, held_over-held, not_equal, the_value}
-use Rattle.org_texts.proofs.Standing.{StandOver-closed, StandOver-edits, StandOver-held}
+use Rattle.org_texts.proofs.Standing.{StandOver-terminated, StandOver-edits, StandOver-held}
 use Rattle.org_store.specs.Files.{AreReady, AreSmallToWrite, AreTextsOf, IsSound, KeepsHeld, files_of, has_large, new_texts, second_file, texts_in}
 use Rattle.org_store.specs.InOrder.{is_name}
 
@@ -113,7 +113,7 @@ ready_held own bytes names old new none none_before now before ready are =
     record {
       held = λ name there. subst (λ o. IsSome o) (sym (before_other name (apart name there))) (are.held name there);
       ready = λ name there has at. are.ready name there has (sym (ap (λ (l : List (List ℕ × Bool)). lookup (bytes_eq name) l) ready ∙ lookup_more old.ready own false name (apart name there)) ∙ at);
-      shut = λ name there. now_other name (apart name there) ∙ are.shut name there ∙ ap (option_map closed_text) (sym (before_other name (apart name there)));
+      shut = λ name there. now_other name (apart name there) ∙ are.shut name there ∙ ap (option_map terminated_text) (sym (before_other name (apart name there)));
       others = λ name out. elim (name_cases own name) [
         | inl is ↦
             let one : text_of new.now own ≡ Some (settled bytes) = ap (λ (s : TextSet). text_of s own) now ∙ held_this own bytes old.now none in
@@ -180,21 +180,21 @@ some_change own f es name = elim (name_cases own name) [
   | inr apart ↦ ap is_some (change_other own name f es apart.0)
 ]
 
-pub texts_closed : (own : List ℕ) (names : List (List ℕ)) (live : Type 0) (files : Image) (set : TextSet) → IsSome (text_of set own) → AreTextsOf names live files set → AreTextsOf names live files (closed_in own set)
-texts_closed own names live files set some are = record {
-  named = λ name there. are.named name (sym (some_change own closed_text set.texts name) ∙ there);
-  waiting = λ name waits. some_change own closed_text set.texts name ∙ elim (name_cases own name) [
+pub texts_terminated : (own : List ℕ) (names : List (List ℕ)) (live : Type 0) (files : Image) (set : TextSet) → IsSome (text_of set own) → AreTextsOf names live files set → AreTextsOf names live files (terminated_in own set)
+texts_terminated own names live files set some are = record {
+  named = λ name there. are.named name (sym (some_change own terminated_text set.texts name) ∙ there);
+  waiting = λ name waits. some_change own terminated_text set.texts name ∙ elim (name_cases own name) [
     | inl is ↦ subst (λ (n : List ℕ). IsSome (text_of set n)) is.0 some
     | inr apart ↦ are.waiting name (waits_more own set.waiting name waits apart.0)
   ];
-  stand = λ l. StandOver-closed own files set some (are.stand l);
+  stand = λ l. StandOver-terminated own files set some (are.stand l);
 }
 
-pub sound_closed : (own : List ℕ) (names : List (List ℕ)) (live : Type 0) (files : Image) (held next : Holding) → IsSome (text_of held.now own) → next.now ≡ closed_in own held.now → next.before ≡ held.before
+pub sound_terminated : (own : List ℕ) (names : List (List ℕ)) (live : Type 0) (files : Image) (held next : Holding) → IsSome (text_of held.now own) → next.now ≡ terminated_in own held.now → next.before ≡ held.before
     → IsSound names live files held → IsSound names live files next
-sound_closed own names live files held next some now before sound = record {
+sound_terminated own names live files held next some now before sound = record {
   apart = sound.apart;
-  now = subst (AreTextsOf names live files) (sym now) (texts_closed own names live files held.now some sound.now);
+  now = subst (AreTextsOf names live files) (sym now) (texts_terminated own names live files held.now some sound.now);
   before = subst (AreTextsOf names live files) (sym before) sound.before;
   small = subst AreSmallToWrite (sym before) sound.small;
 }
@@ -218,16 +218,16 @@ sound_kept names live files held next now before small sound = record {
 }
 
 -- closing twice is closing once
-closed_again : (text : EditedText) → closed_text (closed_text text) ≡ closed_text text
-closed_again text =
-    let bytes = closed_text-bytes text in
-    let shut : closed (closed_text text).bytes ≡ (closed_text text).bytes = ap closed bytes ∙ closed_twice text.bytes ∙ sym bytes in
-    let t = is_closed-closed (closed_text text).bytes shut in
+terminated_again : (text : EditedText) → terminated_text (terminated_text text) ≡ terminated_text text
+terminated_again text =
+    let bytes = terminated_text-bytes text in
+    let shut : terminated (terminated_text text).bytes ≡ (terminated_text text).bytes = ap terminated bytes ∙ terminated_twice text.bytes ∙ sym bytes in
+    let t = is_terminated-terminated (terminated_text text).bytes shut in
     rw t refl
 
-pub ready_closed : (own : List ℕ) (names : List (List ℕ)) (old new : Holding) → IsSome (text_of old.now own) → new.now ≡ closed_in own old.now → new.before ≡ old.before
+pub ready_terminated : (own : List ℕ) (names : List (List ℕ)) (old new : Holding) → IsSome (text_of old.now own) → new.now ≡ terminated_in own old.now → new.before ≡ old.before
     → new.ready ≡ with_change own (λ _. true) old.ready → AreReady names old → AreReady (own ∷ names) new
-ready_closed own names old new some now before ready are = record {
+ready_terminated own names old new some now before ready are = record {
   held = λ name there. subst (λ (s : TextSet). IsSome (text_of s name)) (sym before) (held_before name there);
   ready = λ name there has at.
       let was : lookup (bytes_eq name) (with_change own (λ (b : Bool). true) old.ready) ≡ Some has = sym (ap (λ (l : List (List ℕ × Bool)). lookup (bytes_eq name) l) ready) ∙ at in
@@ -238,16 +238,16 @@ ready_closed own names old new some now before ready are = record {
   shut = λ name there.
       ap (λ (s : TextSet). text_of s name) now
       ∙ elim (name_cases own name) [
-        | inl is ↦ subst (λ (n : List ℕ). text_of (closed_in own old.now) n ≡ option_map closed_text (text_of old.before n)) is.0 (change_this own closed_text old.now.texts ∙ own_closed)
-        | inr apart ↦ change_other own name closed_text old.now.texts apart.0 ∙ are.shut name (later name apart.0 there)
+        | inl is ↦ subst (λ (n : List ℕ). text_of (terminated_in own old.now) n ≡ option_map terminated_text (text_of old.before n)) is.0 (change_this own terminated_text old.now.texts ∙ own_terminated)
+        | inr apart ↦ change_other own name terminated_text old.now.texts apart.0 ∙ are.shut name (later name apart.0 there)
       ]
-      ∙ ap (λ (s : TextSet). option_map closed_text (text_of s name)) (sym before);
+      ∙ ap (λ (s : TextSet). option_map terminated_text (text_of s name)) (sym before);
   others = λ name out.
       let no = not_one own names name out in
-      ap (λ (s : TextSet). text_of s name) now ∙ change_other own name closed_text old.now.texts no.0 ∙ are.others name no.1 ∙ ap (λ (s : TextSet). text_of s name) (sym before);
+      ap (λ (s : TextSet). text_of s name) now ∙ change_other own name terminated_text old.now.texts no.0 ∙ are.others name no.1 ∙ ap (λ (s : TextSet). text_of s name) (sym before);
   waiting = λ name out there.
       let no = not_one own names name out in
-      let was : waits (closed_in own old.now) name ≡ true = sym (ap (λ (s : TextSet). waits s name) now) ∙ there in
+      let was : waits (terminated_in own old.now) name ≡ true = sym (ap (λ (s : TextSet). waits s name) now) ∙ there in
       ap (λ (s : TextSet). waits s name) before ∙ are.waiting name no.1 (waits_more own old.now.waiting name was no.0);
 }
   where
@@ -261,14 +261,14 @@ ready_closed own names old new some now before ready are = record {
     all_true None has at = absurd (cc)
     all_true (Some b) has at = let same : true ≡ has = cc in sym same
 
-    both : (o : Option EditedText) → option_map closed_text (option_map closed_text o) ≡ option_map closed_text o
+    both : (o : Option EditedText) → option_map terminated_text (option_map terminated_text o) ≡ option_map terminated_text o
     both None = refl
-    both (Some t) = ap Some (closed_again t)
+    both (Some t) = ap Some (terminated_again t)
 
-    own_closed : option_map closed_text (text_of old.now own) ≡ option_map closed_text (text_of old.before own)
-    own_closed = elim (cases_Bool (is_name names own)) [
-      | inl t ↦ ap (option_map closed_text) (are.shut own t) ∙ both (text_of old.before own)
-      | inr f ↦ ap (option_map closed_text) (are.others own f)
+    own_terminated : option_map terminated_text (text_of old.now own) ≡ option_map terminated_text (text_of old.before own)
+    own_terminated = elim (cases_Bool (is_name names own)) [
+      | inl t ↦ ap (option_map terminated_text) (are.shut own t) ∙ both (text_of old.before own)
+      | inr f ↦ ap (option_map terminated_text) (are.others own f)
     ]
 
     own_held : IsSome (text_of old.before own)
@@ -401,13 +401,13 @@ small_put plan held ready small none name there = elim (cases_Bool (is_name (fil
 
 -- a text that is made ready, or the command's edits that were taken back
 pub sound_made_ready : {E : Type 0} (result : Result (Unit {0}) E) (own : List ℕ) (names : List (List ℕ)) (live : Type 0) (files : Image) (held next : Holding) → IsSome (text_of held.now own)
-    → OnOk result (next.now ≡ closed_in own held.now) → OnErr result (next.now ≡ held.before) → next.before ≡ held.before → IsSound names live files held → IsSound names live files next
-sound_made_ready (Ok _) own names live files held next some now undone before sound = sound_closed own names live files held next some now before sound
+    → OnOk result (next.now ≡ terminated_in own held.now) → OnErr result (next.now ≡ held.before) → next.before ≡ held.before → IsSound names live files held → IsSound names live files next
+sound_made_ready (Ok _) own names live files held next some now undone before sound = sound_terminated own names live files held next some now before sound
 sound_made_ready (Err e) own names live files held next some now undone before sound = sound_undone names live files held next undone before sound
 
-pub ready_made : {E : Type 0} (result : Result (Unit {0}) E) (own : List ℕ) (old new : Holding) → IsSome (text_of old.now own) → OnOk result (new.now ≡ closed_in own old.now)
+pub ready_made : {E : Type 0} (result : Result (Unit {0}) E) (own : List ℕ) (old new : Holding) → IsSome (text_of old.now own) → OnOk result (new.now ≡ terminated_in own old.now)
     → OnOk result (new.ready ≡ with_change own (λ _. true) old.ready) → new.before ≡ old.before → OnOk result ((names : List (List ℕ)) → AreReady names old → AreReady (own ∷ names) new)
-ready_made (Ok _) own old new some now ready before = λ names are. ready_closed own names old new some now before ready are
+ready_made (Ok _) own old new some now ready before = λ names are. ready_terminated own names old new some now before ready are
 ready_made (Err e) own old new some now ready before = tt
 
 -- nothing is held of a name that isn't found

@@ -5,8 +5,8 @@ use Rattle.std.proofs.lemmas.Bool.{false≢true}
 use Rattle.std.proofs.lemmas.Slice.Eq.{bytes_eq-Decides}
 use Rattle.org_disk.specs.Names.{journal_name}
 use Rattle.org_disk.proofs.Names.{name_cases}
-use Rattle.org_journal.specs.Standing.{Image, StandsFor}
-use Rattle.org_fileset.proofs.Stands.{stands_as}
+use Rattle.org_journal.specs.Recovered.{Image, RecoversTo}
+use Rattle.org_fileset.proofs.Recovers.{recovers_as}
 use Rattle.org_store.specs.InOrder.{HoldsTexts, texts_of, is_name, text_at, with_text, with_texts}
 
 -- the text of a file, and for which names there is one
@@ -91,5 +91,5 @@ told_by_texts names new old name outside = go (is_name names name) refl ∙ sym 
     go true is = refl
     go false is = outside is
 
-pub holds_told : (names : List (List ℕ)) (new old image : Image) → ((name : List ℕ) → is_name names name ≡ false → new name ≡ old name) → StandsFor new image → HoldsTexts names old (texts_of new names) image
-holds_told names new old image outside = stands_as new (with_texts names (texts_of new names) old) image (λ name not. told_by_texts names new old name (outside name))
+pub holds_told : (names : List (List ℕ)) (new old image : Image) → ((name : List ℕ) → is_name names name ≡ false → new name ≡ old name) → RecoversTo new image → HoldsTexts names old (texts_of new names) image
+holds_told names new old image outside = recovers_as new (with_texts names (texts_of new names) old) image (λ name not. told_by_texts names new old name (outside name))

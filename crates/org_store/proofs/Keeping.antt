@@ -1,9 +1,9 @@
--- What the calls of a store do to its session, and what a stop may leave.
+-- What the calls of a store do to its session, and what a crash may leave.
 use Rattle.std.proofs.Common.{◌≡◌, inl, inr, ⊎_elim, ℕ, ◌+◌, true, false, List, Result, Err, refl, sym, ◌∙◌, ap, subst, if◌then◌else◌}
 use Rattle.org_disk.specs.Disk.{FileState, AreImages}
-use Rattle.org_journal.specs.Standing.{Image, SameFiles, contents}
+use Rattle.org_journal.specs.Recovered.{Image, SameFiles, contents}
 use Rattle.org_fileset.specs.Replay.{IsAtRest}
-use Rattle.org_fileset.proofs.Commits.{at_rest_stands}
+use Rattle.org_fileset.proofs.Commits.{at_rest_recovers}
 use Rattle.org_store.specs.declared.command.Reply.{Reply}
 use Rattle.org_store.specs.declared.command.RunFault.{RunFault}
 use Rattle.org_store.specs.declared.command.Refusal.TheVariants.{TooLarge}
@@ -16,9 +16,9 @@ use Rattle.org_store.specs.Counts.{SameCounts}
 use Rattle.org_store.specs.Left.{IsLeft, MayHaveWritten}
 use Rattle.org_store.proofs.InOrder.{told_by_texts, holds_told}
 
--- what a stop leaves of files at rest
+-- what a crash leaves of files at rest
 pub at_rest_holds : (s : Session) (files : List ℕ → FileState) → IsAtRest files → (image : Image) → AreImages files image → Holds s (contents files) (texts_of (contents files) s.names) image
-at_rest_holds s files rest image left = holds_told s.names (contents files) (contents files) image (λ name outside. refl) (at_rest_stands files rest image left)
+at_rest_holds s files rest image left = holds_told s.names (contents files) (contents files) image (λ name outside. refl) (at_rest_recovers files rest image left)
 
 pub others_same : (names : List (List ℕ)) (files : Image) → SameFiles files (with_texts names (texts_of files names) files)
 others_same names files name not = told_by_texts names files files name (λ outside. refl)
@@ -29,7 +29,7 @@ pub others_unwritten : (names : List (List ℕ)) (settled : List (List ℕ)) (ol
 others_unwritten names settled old new own same =
     rw own (subst (λ (f : List ℕ → FileState). SameFiles (contents new) (with_texts names (texts_of (contents new) names) (contents f))) same (others_same names (contents new)))
 
--- what a stop leaves of the files of a store at rest
+-- what a crash leaves of the files of a store at rest
 pub left_at_rest : (s : Session) (files : List ℕ → FileState) → s.settled ≡ texts_of (contents files) s.names → IsAtRest files → (image : Image) → AreImages files image → Holds s (contents files) s.settled image
 left_at_rest s files own rest image left = subst (λ texts. Holds s (contents files) texts image) (sym own) (at_rest_holds s files rest image left)
 

@@ -2,7 +2,7 @@
 use Rattle.std.proofs.Common.{◌≡◌, inl, ℕ, List, sym, ap, subst}
 use Rattle.org_disk.specs.Disk.{FileState, AreImages, Passes}
 use Rattle.org_disk.proofs.Moments.{passes_none, passes_as, passes_then, leaves_only}
-use Rattle.org_journal.specs.Standing.{Image, SameFiles, IsFit, contents}
+use Rattle.org_journal.specs.Recovered.{Image, SameFiles, IsRecoverable, contents}
 use Rattle.org_fileset.specs.Replay.{IsAtRest}
 use Rattle.org_store.specs.InOrder.{texts_of, with_texts}
 use Rattle.org_store.proofs.Committing.{leaves_as}
@@ -11,18 +11,18 @@ use Rattle.org_store.specs.Runs.{LeavesDisk}
 use Rattle.org_store.proofs.Keeping.{left_at_rest, others_unwritten}
 
 module _ {D : Type 0} (files : D → List ℕ → FileState) (moment : D → ℕ) (left_since : D → ℕ → Image → Type 0) where
-  -- less is said of what a stop leaves, and of failures
+  -- less is said of what a crash leaves, and of failures
   pub leaves_weaker : (old new : Kept D) (Was Left : Image → Type 0) (Fell Failed : Type 0) → LeavesDisk files moment left_since old new Was Fell → ((image : Image) → Was image → Left image) → (Fell → Failed)
       → LeavesDisk files moment left_since old new Left Failed
   leaves_weaker old new Was Left Fell Failed leaves weaker failed = record {
     any_moment = λ rest. leaves_as (leaves.any_moment rest) weaker;
     others = λ fine. leaves.others (λ fell. fine (failed fell));
     rest = λ fine. leaves.rest (λ fell. fine (failed fell));
-    fit = leaves.fit;
+    recoverable = leaves.recoverable;
   }
 
-  -- The settled texts are those of the disk's files, and a stop at the start leaves an image of these. What is left then
-  -- stands for what is settled, and that is allowed.
+  -- The settled texts are those of the disk's files, and a crash at the start leaves an image of these. What is left
+  -- then recovers to what is settled, and that is allowed.
   module _ (old : Kept D) (Left : Image → Type 0) (Failed : Type 0) (start : (image : Image) → left_since old.disk (moment old.disk) image → AreImages (files old.disk) image)
       (own : old.session.settled ≡ texts_of (contents (files old.disk)) old.session.names) (quiet : (image : Image) → Holds old.session (contents (files old.disk)) old.session.settled image → Left image) where
     still : IsAtRest (files old.disk) → (image : Image) → AreImages (files old.disk) image → Left image
@@ -35,7 +35,7 @@ module _ {D : Type 0} (files : D → List ℕ → FileState) (moment : D → ℕ
       any_moment = λ rest. leaves_only (passes_as passes (still rest)) (λ image since. still rest image (start image since));
       others = λ fine. others_unwritten new.session.names new.session.settled (files old.disk) (files new.disk) now same;
       rest = λ fine rest. subst IsAtRest (sym same) rest;
-      fit = λ rest. subst IsFit (sym same) (inl (λ name not. rest.stable name));
+      recoverable = λ rest. subst IsRecoverable (sym same) (inl (λ name not. rest.stable name));
     }
 
     -- a call that made no call of the disk
@@ -54,5 +54,5 @@ module _ {D : Type 0} (files : D → List ℕ → FileState) (moment : D → ℕ
           (passes_then (passes_as passes (still rest)) (later.any_moment (subst IsAtRest (sym same) rest)).passes weaker) (λ image since. still rest image (start image since));
       others = λ fine. subst (λ (f : List ℕ → FileState). SameFiles (contents (files new.disk)) (with_texts new.session.names new.session.settled (contents f))) same (later.others (λ fell. fine (failed fell)));
       rest = λ fine rest. later.rest (λ fell. fine (failed fell)) (subst IsAtRest (sym same) rest);
-      fit = λ rest. later.fit (subst IsAtRest (sym same) rest);
+      recoverable = λ rest. later.recoverable (subst IsAtRest (sym same) rest);
     }

@@ -8,7 +8,7 @@ use Rattle.std.proofs.lemmas.Bool.{cases_Bool}
 use Rattle.std.proofs.lemmas.List.Elements.{All-push}
 use Rattle.std.proofs.lemmas.Option.{slice_get_within, get_or_from_slice_get}
 use Rattle.org_disk.specs.Disk.{FileState}
-use Rattle.org_journal.specs.Standing.{Image}
+use Rattle.org_journal.specs.Recovered.{Image}
 use Rattle.org_fileset.specs.Names.{with_archives, AreSorted, AreFew}
 use Rattle.org_store.specs.declared.command.Command.{Command}
 use Rattle.org_store.specs.declared.command.Command.TheVariants.{Settle}
@@ -117,7 +117,7 @@ keeps_nodes names base apart s command files same refile kept accepts = (
       accepted_keeps s command files (subst (IsDistinct bytes_eq) (sym same) apart) (subst (λ ns. AreSmall ns s.files) (sym same) kept.0) refile accepts rest section ∙ kept.1 rest section,
 )
 
--- What an image that stands for one of the texts is.
+-- What an image that recovers to one of the texts is.
 
 in_prefix : (P : Image → Type 0) (Q : List (List ℕ) → Type 0) (first : Session) (others : Image) (texts : Texts) (least : ℕ) (image : Image) → All Q texts
     → ((files : List (List ℕ)) → Q files → Holds first others files image → P image) → HoldsPrefix first others texts least image → P image

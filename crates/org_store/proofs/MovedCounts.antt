@@ -10,7 +10,7 @@ use Rattle.std.proofs.lemmas.List.Sums.{sum_by-append}
 use Rattle.std.proofs.lemmas.Option.{slice_get_within}
 use Rattle.org_disk.specs.Disk.{FileState}
 use Rattle.org_disk.specs.Names.{IsDiskName}
-use Rattle.org_journal.specs.Standing.{Image}
+use Rattle.org_journal.specs.Recovered.{Image}
 use Rattle.org_stamp.specs.Calendar.{CivilMinute}
 use Rattle.org_outline.specs.Tree.{Node, node_at, tree}
 use Rattle.org_move.specs.Archive.{archived_section}

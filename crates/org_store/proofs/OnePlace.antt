@@ -11,7 +11,7 @@ use Rattle.std.proofs.lemmas.Map.Keys.{IsDistinct-from_sorted, IsDistinct-head, 
 use Rattle.std.proofs.lemmas.Map.Text.{is_eq-slice_cmp}
 use Rattle.std.proofs.lemmas.Slice.Eq.{bytes_eq-Decides}
 use Rattle.org_disk.proofs.Names.{name_cases}
-use Rattle.org_journal.specs.Standing.{Image, SameFiles, stands}
+use Rattle.org_journal.specs.Recovered.{Image, SameFiles, recovered}
 use Rattle.org_move.specs.Counts.{count_over}
 use Rattle.org_store.specs.declared.command.Command.{Command}
 use Rattle.org_store.specs.declared.command.Reply.{Reply}
@@ -51,7 +51,7 @@ texts_back (one ∷ names) (text ∷ texts) others apart size =
     ∙ texts_back names texts others (IsDistinct-tail bytes_eq one names apart) (omega (arith, size)) in
     rw (own, rest) refl
 
--- ---- what an image stands for
+-- ---- what an image recovers to
 
 over_some : {A : Type 0} (P Q : A → Type 0) (found : Option A) → ((a : A) → P a → Q a) → IsSomeAnd found P → IsSomeAnd found Q
 over_some P Q None weaker has = absurd has
@@ -59,7 +59,7 @@ over_some P Q (Some a) weaker has = weaker a has
 
 pub nodes_as : (names texts others : List (List ℕ)) (image : Image) → HaveSameNodes texts others → HasNodesOf names texts image → HasNodesOf names others image
 nodes_as names texts others image same =
-    over_some (λ (files : Image). HaveSameNodes (texts_of files names) texts) (λ (files : Image). HaveSameNodes (texts_of files names) others) (stands image)
+    over_some (λ (files : Image). HaveSameNodes (texts_of files names) texts) (λ (files : Image). HaveSameNodes (texts_of files names) others) (recovered image)
     (λ files has rest section. has rest section ∙ same rest section)
 
 module _ (given : List (List ℕ)) (s : Session) (of : IsSessionOf given s) where
@@ -69,7 +69,7 @@ module _ (given : List (List ℕ)) (s : Session) (of : IsSessionOf given s) wher
   pub holds_nodes : (others : Image) (texts : List (List ℕ)) (image : Image) → AreSmall s.names texts → Holds s others texts image → HasNodesOf s.names texts image
   holds_nodes others texts image small =
       let found = with_texts s.names texts others in
-      over_some (λ (files : Image). SameFiles files found) (λ (files : Image). HaveSameNodes (texts_of files s.names) texts) (stands image)
+      over_some (λ (files : Image). SameFiles files found) (λ (files : Image). HaveSameNodes (texts_of files s.names) texts) (recovered image)
       (λ files same rest section. ap (count_over rest section)
       (texts_same files found s.names (λ name there. same name (apart_from s.names (apart_names given s.names of.org of.sorted) name there))
       ∙ texts_back s.names texts others names_apart small.one_each))

@@ -5,7 +5,7 @@ use Rattle.std.proofs.lemmas.Bool.{false≢true}
 use Rattle.org_disk.proofs.Names.{name_cases, same_name}
 use Rattle.std.specs.Option.{IsSome}
 use Rattle.org_splice.specs.Texts.{EditedText}
-use Rattle.org_journal.specs.Standing.{Image}
+use Rattle.org_journal.specs.Recovered.{Image}
 use Rattle.org_texts.specs.declared.plan.Plan.{Plan}
 use Rattle.org_texts.specs.Plan.{IsPlan, planned}
 use Rattle.org_texts.specs.Texts.{Holding, TextSet, bytes_or, held_over, text_of}

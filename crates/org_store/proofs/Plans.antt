@@ -9,15 +9,15 @@ use Rattle.std.proofs.lemmas.Bool.{false≢true}
 use Rattle.org_disk.proofs.Names.{name_cases, same_name}
 use Rattle.org_splice.specs.declared.edit.Edit.{Edit}
 use Rattle.org_splice.specs.Edits.{AreEdits, CanApply}
-use Rattle.org_splice.specs.Lines.{closed}
-use Rattle.org_splice.specs.Texts.{EditedText, closed_text, spliced_each}
+use Rattle.org_splice.specs.Lines.{terminated}
+use Rattle.org_splice.specs.Texts.{EditedText, terminated_text, spliced_each}
 use Rattle.org_splice.proofs.Applying.{AreEdits-applied, AreEdits-can, spliced_each-bytes}
-use Rattle.org_journal.specs.Standing.{Image}
+use Rattle.org_journal.specs.Recovered.{Image}
 use Rattle.org_texts.specs.declared.plan.FileEdits.{FileEdits}
 use Rattle.org_texts.specs.declared.plan.Plan.{Plan}
 use Rattle.org_texts.specs.Plan.{CanEdit, with_edits, with_second}
 use Rattle.org_texts.specs.Texts.{Holding, TextSet, bytes_or, held_over, text_of}
-use Rattle.org_texts.proofs.Heads.{closed_text-bytes}
+use Rattle.org_texts.proofs.Heads.{terminated_text-bytes}
 use Rattle.org_texts.proofs.Looking.{change_other, change_this}
 use Rattle.org_texts.proofs.Standing.{CanEdit-second}
 use Rattle.org_store.specs.Files.{AreReady, IsPlanFor, files_of, new_texts, second_file, texts_in}
@@ -58,16 +58,16 @@ plan_of_one plan names held file text new own none at edits there ready =
       ready = subst (λ (fs : List (List ℕ)). AreReady fs held) (sym files) ready;
     }
 
-the_held : (o : Option EditedText) (seen : EditedText) → Some seen ≡ option_map closed_text o → (old : EditedText) × (o ≡ Some old) × (seen ≡ closed_text old)
+the_held : (o : Option EditedText) (seen : EditedText) → Some seen ≡ option_map terminated_text o → (old : EditedText) × (o ≡ Some old) × (seen ≡ terminated_text old)
 the_held None seen is = absurd (cc)
-the_held (Some old) seen is = let same : seen ≡ closed_text old = cc in (old, refl, same)
+the_held (Some old) seen is = let same : seen ≡ terminated_text old = cc in (old, refl, same)
 
 -- what was held of a file that is ready
 pub ready_text : (names : List (List ℕ)) (held : Holding) (file : List ℕ) (seen : EditedText) → AreReady names held → is_name names file ≡ true → text_of held.now file ≡ Some seen
-    → (old : EditedText) × (text_of held.before file ≡ Some old) × (seen.bytes ≡ closed old.bytes)
+    → (old : EditedText) × (text_of held.before file ≡ Some old) × (seen.bytes ≡ terminated old.bytes)
 ready_text names held file seen ready there at =
     let old = the_held (text_of held.before file) seen (sym at ∙ ready.shut file there) in
-    (old.0, old.1, ap (λ (t : EditedText). t.bytes) old.2 ∙ closed_text-bytes old.0)
+    (old.0, old.1, ap (λ (t : EditedText). t.bytes) old.2 ∙ terminated_text-bytes old.0)
 
 -- .. is the store's text of it
 pub text_held : (names : List (List ℕ)) (held : Holding) (files : Image) (file : List ℕ) (old : EditedText) → is_name names file ≡ true → text_of held.before file ≡ Some old
@@ -80,7 +80,7 @@ one_name file = let t = same_name file in rw t refl
 pub now_held : (names : List (List ℕ)) (held : Holding) (file : List ℕ) → AreReady names held → is_name names file ≡ true → IsSome (text_of held.now file)
 now_held names held file ready there = subst (λ (o : Option EditedText). IsSome o) (sym (ready.shut file there)) (mapped (text_of held.before file) (ready.held file there))
   where
-    mapped : (o : Option EditedText) → IsSome o → IsSome (option_map closed_text o)
+    mapped : (o : Option EditedText) → IsSome o → IsSome (option_map terminated_text o)
     mapped None some = absurd (false≢true some)
     mapped (Some text) some = refl
 

@@ -6,15 +6,15 @@ use Rattle.std.specs.Prelude.{OnErr, OnOk, Result, Ok, Err}
 use Rattle.std.specs.Option.{option_map}
 use Rattle.std.specs.Str.{bytes_eq}
 use Rattle.org_disk.proofs.Names.{name_cases}
-use Rattle.org_splice.specs.Texts.{EditedText, closed_text, settled}
+use Rattle.org_splice.specs.Texts.{EditedText, terminated_text, settled}
 use Rattle.org_outline.specs.Tree.{tree}
-use Rattle.org_outline.proofs.Trees.{tree-closed}
+use Rattle.org_outline.proofs.Trees.{tree-terminated}
 use Rattle.org_state.specs.declared.run.Running.{Running}
 use Rattle.org_state.specs.Clock.{running_in}
 use Rattle.org_texts.specs.declared.plan.Plan.{Plan}
 use Rattle.org_texts.specs.Plan.{planned}
-use Rattle.org_texts.specs.Texts.{Holding, TextSet, closed_in, settled_set, text_of, with_text}
-use Rattle.org_texts.proofs.Heads.{closed_text-bytes}
+use Rattle.org_texts.specs.Texts.{Holding, TextSet, terminated_in, settled_set, text_of, with_text}
+use Rattle.org_texts.proofs.Heads.{terminated_text-bytes}
 use Rattle.org_texts.proofs.Looking.{change_other, change_this, text_of-settled}
 use Rattle.org_store.specs.Clocks.{RunsIn}
 use Rattle.org_store.specs.Files.{files_of}
@@ -37,17 +37,17 @@ runs_held own bytes set name none runs = elim (name_cases own name) [
   | inr apart ↦ same_text set (with_text own bytes set) name None (held_other own bytes set name apart.0) runs
 ]
 
--- a text is closed
-runs_closed : (own : List ℕ) (set : TextSet) (name : List ℕ) → RunsIn set name None → RunsIn (closed_in own set) name None
-runs_closed own set name runs = elim (name_cases own name) [
+-- a text is terminated
+runs_terminated : (own : List ℕ) (set : TextSet) (name : List ℕ) → RunsIn set name None → RunsIn (terminated_in own set) name None
+runs_terminated own set name runs = elim (name_cases own name) [
   | inl is ↦
       let here : text_of set own ≡ Some runs.0 = ap (text_of set) is.0 ∙ runs.1 in
-      subst (λ (n : List ℕ). RunsIn (closed_in own set) n None) is.0 (
-        closed_text runs.0,
-        change_this own closed_text set.texts ∙ ap (option_map closed_text) here,
-        ap (λ (b : List ℕ). running_in (tree b)) (closed_text-bytes runs.0) ∙ ap running_in (tree-closed runs.0.bytes) ∙ runs.2,
+      subst (λ (n : List ℕ). RunsIn (terminated_in own set) n None) is.0 (
+        terminated_text runs.0,
+        change_this own terminated_text set.texts ∙ ap (option_map terminated_text) here,
+        ap (λ (b : List ℕ). running_in (tree b)) (terminated_text-bytes runs.0) ∙ ap running_in (tree-terminated runs.0.bytes) ∙ runs.2,
       )
-  | inr apart ↦ same_text set (closed_in own set) name None (change_other own name closed_text set.texts apart.0) runs
+  | inr apart ↦ same_text set (terminated_in own set) name None (change_other own name terminated_text set.texts apart.0) runs
 ]
 
 -- the texts are on the disk
@@ -90,9 +90,9 @@ noted_settled names quiet held next now before noted =
 
 -- a text that is made ready, or the command's edits that were taken back
 pub noted_made_ready : {E : Type 0} (result : Result (Unit {0}) E) (own : List ℕ) (names : List (List ℕ)) (quiet : List Bool) (held next : Holding)
-    → OnOk result (next.now ≡ closed_in own held.now) → OnErr result (next.now ≡ held.before) → next.before ≡ held.before → IsNoted names quiet held → IsNoted names quiet next
+    → OnOk result (next.now ≡ terminated_in own held.now) → OnErr result (next.now ≡ held.before) → next.before ≡ held.before → IsNoted names quiet held → IsNoted names quiet next
 noted_made_ready (Ok _) own names quiet held next now undone before noted = record {
-  now = subst (AreQuiet names quiet) (sym now) (quiet_still names quiet held.now (closed_in own held.now) (runs_closed own held.now) noted.now);
+  now = subst (AreQuiet names quiet) (sym now) (quiet_still names quiet held.now (terminated_in own held.now) (runs_terminated own held.now) noted.now);
   before = subst (AreQuiet names quiet) (sym before) noted.before;
 }
 noted_made_ready (Err e) own names quiet held next now undone before noted = noted_undone names quiet held next undone before noted

@@ -1,10 +1,10 @@
 -- Refiles: what their planner finds is what the outcome says.
 use Rattle.std.proofs.Common.{◌≡◌, ◌≢◌, inl, inr, ℕ, false, List, Option, Some, None, Result, Ok, Err, refl, sym, ◌∙◌, ap, subst}
 use Rattle.org_disk.proofs.Names.{name_cases, same_name}
-use Rattle.org_splice.specs.Lines.{closed}
+use Rattle.org_splice.specs.Lines.{terminated}
 use Rattle.org_outline.specs.declared.moves.Place.{Place}
 use Rattle.org_outline.specs.Tree.{Document, tree}
-use Rattle.org_outline.proofs.Trees.{tree-closed}
+use Rattle.org_outline.proofs.Trees.{tree-terminated}
 use Rattle.org_move.specs.declared.fault.MoveFault.{MoveFault}
 use Rattle.org_move.specs.declared.fault.MoveFault.TheVariants as fault
 use Rattle.org_move.specs.Answers.{Gives}
@@ -16,21 +16,21 @@ use Rattle.org_store.specs.Refile.{text_within, texts_across}
 use Rattle.org_store.specs.Session.{Session}
 use Rattle.org_store.specs.Step.{Does}
 
--- what a refile is to do with the texts, which the planner sees closed
-pub within_is : (s : Session) (file : List ℕ) (path to : List (List ℕ)) (place : Place) (text seen : List ℕ) → seen ≡ closed text
+-- what a refile is to do with the texts, which the planner sees terminated
+pub within_is : (s : Session) (file : List ℕ) (path to : List (List ℕ)) (place : Place) (text seen : List ℕ) → seen ≡ terminated text
     → refile s file path file to place (Some text) (Some text) ≡ with_moved s (text_within file) (refile_within s.states path to place (tree seen))
 within_is s file path to place text seen shut =
     let t = same_name file in
-    rw t (ap (λ (d : Document). with_moved s (text_within file) (refile_within s.states path to place d)) (sym (ap tree shut ∙ tree-closed text)))
+    rw t (ap (λ (d : Document). with_moved s (text_within file) (refile_within s.states path to place d)) (sym (ap tree shut ∙ tree-terminated text)))
 
-pub across_is : (s : Session) (file : List ℕ) (path : List (List ℕ)) (to_file : List ℕ) (to : List (List ℕ)) (place : Place) (text seen target found : List ℕ) → file ≢ to_file → seen ≡ closed text → found ≡ closed target
+pub across_is : (s : Session) (file : List ℕ) (path : List (List ℕ)) (to_file : List ℕ) (to : List (List ℕ)) (place : Place) (text seen target found : List ℕ) → file ≢ to_file → seen ≡ terminated text → found ≡ terminated target
     → refile s file path to_file to place (Some text) (Some target) ≡ with_moved s (texts_across file to_file) (refile_across s.states path (tree seen) s.states to (tree found) place)
 across_is s file path to_file to place text seen target found apart shut closes = elim (name_cases file to_file) [
   | inl same ↦ absurd (apart same.0)
   | inr not ↦
       let f = not.1 in
-      rw f (ap (λ (d : Document). with_moved s (texts_across file to_file) (refile_across s.states path d s.states to (tree target) place)) (sym (ap tree shut ∙ tree-closed text))
-      ∙ ap (λ (d : Document). with_moved s (texts_across file to_file) (refile_across s.states path (tree seen) s.states to d place)) (sym (ap tree closes ∙ tree-closed target)))
+      rw f (ap (λ (d : Document). with_moved s (texts_across file to_file) (refile_across s.states path d s.states to (tree target) place)) (sym (ap tree shut ∙ tree-terminated text))
+      ∙ ap (λ (d : Document). with_moved s (texts_across file to_file) (refile_across s.states path (tree seen) s.states to d place)) (sym (ap tree closes ∙ tree-terminated target)))
 ]
 
 -- a subtree that isn't moved

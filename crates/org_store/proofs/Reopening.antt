@@ -1,4 +1,4 @@
--- An image that stands for small files is opened again.
+-- An image that recovers to small files is opened again.
 use Rattle.std.proofs.Common.{◌≡◌, ◌≢◌, ◌⊎◌, inl, inr, ⊎_elim, ℕ, ◌+◌, ◌≤◌, nat_lt, Bool, true, false, List, [], ◌∷◌, length, Option, Some, None, Result, Ok, Err, refl, sym, ◌∙◌, ap, subst, if◌then◌else◌, arith}
 use Rattle.std.specs.Prelude.{IsSomeAnd}
 use Rattle.std.specs.List.{All, AllByRecursion, Contains}
@@ -8,7 +8,7 @@ use Rattle.std.proofs.lemmas.Bool.Decides.{nat_tests}
 use Rattle.std.proofs.lemmas.List.Elements.{All-from_recursion, recursion_from_All}
 use Rattle.org_disk.specs.Names.{journal_name, IsOrgFile}
 use Rattle.org_disk.proofs.Names.{name_cases}
-use Rattle.org_journal.specs.Standing.{Image, SameFiles, stands}
+use Rattle.org_journal.specs.Recovered.{Image, SameFiles, recovered}
 use Rattle.org_fileset.specs.Names.{with_archives, AreSorted, AreFew, AreTooMany, first_large, limit}
 use Rattle.org_fileset.specs.Opening.{IsReason}
 use Rattle.org_fileset.specs.declared.open.OpenFault.{OpenFault}
@@ -38,8 +38,8 @@ same_large : (one other : Image) (names : List (List ℕ)) → AllByRecursion (�
 same_large one other [] apart same = refl
 same_large one other (name ∷ names) apart same = rw (same name apart.0, same_large one other names apart.1 same) refl
 
--- what the disk stood for, and what lies on it once that was brought about
-agreeing : (stood : Option Image) (now texts : Image) → IsSomeAnd stood (SameFiles now) → IsSomeAnd stood (λ found. SameFiles found texts) → SameFiles now texts
+-- what the disk recovered to, and what lies on it once that was brought about
+agreeing : (recovered_then : Option Image) (now texts : Image) → IsSomeAnd recovered_then (SameFiles now) → IsSomeAnd recovered_then (λ found. SameFiles found texts) → SameFiles now texts
 agreeing (Some found) now texts made is = λ name not. made name not ∙ is name not
 agreeing None now texts made is = absurd made
 
@@ -53,11 +53,11 @@ pub only_faults : (given : List (List ℕ)) (honest : Type 0) (image now : Image
     → (fault ≡ OutOfMemory) ⊎ (fault ≡ Device)
 only_faults given honest image now TooManyFiles all is can many = absurd (never_both given can.few many)
 only_faults given honest image now BadJournal all is can reason =
-    absurd (subst (λ (o : Option Image). IsSomeAnd o (λ found. SameFiles found can.texts)) (reason.1 is).0 can.stands_for)
+    absurd (subst (λ (o : Option Image). IsSomeAnd o (λ found. SameFiles found can.texts)) (reason.1 is).0 can.recovers_to)
 only_faults given honest image now (TooLarge name) all is can reason =
     let found = reason.1 is in
     let one_names : found.0 ≡ can.names = one_sorting (with_archives given) found.0 can.names found.1 can.sorted in
-    let same : SameFiles now can.texts = agreeing (stands image) now can.texts found.3 can.stands_for in
+    let same : SameFiles now can.texts = agreeing (recovered image) now can.texts found.3 can.recovers_to in
     let large : first_large can.texts can.names ≡ Some name =
     sym (same_large now can.texts can.names (apart_names given can.names all can.sorted) same) ∙ ap (first_large now) (sym one_names) ∙ found.2 in
     let small = can.small in
@@ -85,7 +85,7 @@ any_order given more image same can = record {
   sorted = in_order (with_archives given) (with_archives more) can.names
       (λ name. (archives_grow given more (λ one there. (same one).0 there) name, archives_grow more given (λ one there. (same one).1 there) name)) can.sorted;
   texts = can.texts;
-  stands_for = can.stands_for;
+  recovers_to = can.recovers_to;
   small = can.small;
 }
 
@@ -115,7 +115,7 @@ held_opens given s others image texts few sorted are holds = record {
   names = s.names;
   sorted = sorted;
   texts = with_texts s.names texts others;
-  stands_for = holds;
+  recovers_to = holds;
   small = none_large (with_texts s.names texts others) s.names
       (λ name there. of_each (λ text. length text ≤ limit) s.names texts others name are.one_each (recursion_from_All (λ text. length text ≤ limit) texts are.small) there);
 }
@@ -172,7 +172,7 @@ small_with_all names texts (change ∷ changes) each are =
 pub accepted_small : (s : Session) (command : Command) (files : List (List ℕ)) → AreSmall s.names s.files → outcome s command ≡ Accepts files → AreSmall s.names files
 accepted_small s command files are accepts = let put = accepted_puts s command files accepts in subst (AreSmall s.names) put.2 (small_with_all s.names s.files put.0 put.1 are)
 
--- what a stop leaves while a command runs
+-- what a crash leaves while a command runs
 small_put : (s : Session) (outcome : Outcome) (accepted : ℕ) (texts : List (List ℕ)) → AreSmall s.names s.files → ((files : List (List ℕ)) → outcome ≡ Accepts files → AreSmall s.names files)
     → PutsOnDisk s outcome accepted texts → AreSmall s.names texts
 small_put s (Accepts files) accepted texts are small puts = subst (AreSmall s.names) (sym puts.0) (small files refl)

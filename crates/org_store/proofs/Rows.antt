@@ -39,8 +39,8 @@ absent_file = refl
 into_an_empty_file : captured_in (store [] []) (codes "a.org") (codes "* TODO Call Ann") ≡ Accepts (line (codes "* TODO Call Ann") ∷ [] ∷ [])
 into_an_empty_file = refl
 
-only_the_changed_file_is_closed : captured_in (store (codes "* A") (codes "* Z")) (codes "a.org") (codes "* B") ≡ Accepts ((line (codes "* A") ++ line (codes "* B")) ∷ codes "* Z" ∷ [])
-only_the_changed_file_is_closed = refl
+only_the_changed_file_is_terminated : captured_in (store (codes "* A") (codes "* Z")) (codes "a.org") (codes "* B") ≡ Accepts ((line (codes "* A") ++ line (codes "* B")) ∷ codes "* Z" ∷ [])
+only_the_changed_file_is_terminated = refl
 
 below_level_one : captured_in (store [] []) (codes "a.org") (line (codes "** A") ++ codes "*** B") ≡ Accepts ((line (codes "* A") ++ line (codes "** B")) ∷ [] ∷ [])
 below_level_one = refl
@@ -73,7 +73,7 @@ within_a_file : refiled_in (store deep []) (codes "a.org") (codes "S" ∷ codes 
     ≡ Accepts ((line (codes "* S") ++ line (codes "* T") ++ line (codes "** U") ++ line (codes "*** V") ++ line (codes "**** B") ++ line (codes "****** C")) ∷ [] ∷ [])
 within_a_file = refl
 
--- both files are closed
+-- both files are terminated
 across_files : refiled_in (store (line (codes "* A") ++ line (codes "** B") ++ codes "b") (line (codes "* T") ++ codes "** K")) (codes "a.org") (codes "A" ∷ codes "B" ∷ []) (codes "b.org") (codes "T" ∷ []) First
     ≡ Accepts (line (codes "* A") ∷ (line (codes "* T") ++ line (codes "** B") ++ line (codes "b") ++ line (codes "** K")) ∷ [])
 across_files = refl

@@ -5,9 +5,9 @@ use Rattle.std.proofs.lemmas.List.{drop_all, drop_more}
 use Rattle.std.proofs.lemmas.Option.{slice_get-get_or}
 use Rattle.org_disk.proofs.Names.{name_cases, same_name}
 use Rattle.org_splice.specs.Texts.{EditedText}
-use Rattle.org_journal.specs.Standing.{Image}
+use Rattle.org_journal.specs.Recovered.{Image}
 use Rattle.org_outline.specs.Tree.{tree}
-use Rattle.org_outline.proofs.Trees.{tree-closed}
+use Rattle.org_outline.proofs.Trees.{tree-terminated}
 use Rattle.org_texts.specs.Texts.{Holding, TextSet, bytes_or, held_over, text_of}
 use Rattle.org_state.specs.declared.run.Running.{Running}
 use Rattle.org_state.specs.Clock.{running_in}
@@ -23,7 +23,7 @@ use Rattle.org_store.proofs.Plans.{one_name, ready_text}
 pub runs_ready : (held : Holding) (set : TextSet) (file : List ℕ) (seen : EditedText) → AreReady (file ∷ []) held → text_of held.now file ≡ Some seen → set ≡ held.before → RunsIn set file (running_in (tree seen.bytes))
 runs_ready held set file seen ready at same =
     let old = ready_text (file ∷ []) held file seen ready (one_name file) at in
-    (old.0, ap (λ (s : TextSet). text_of s file) same ∙ old.1, ap running_in (sym (tree-closed old.0.bytes)) ∙ ap (λ (b : List ℕ). running_in (tree b)) (sym old.2))
+    (old.0, ap (λ (s : TextSet). text_of s file) same ∙ old.1, ap running_in (sym (tree-terminated old.0.bytes)) ∙ ap (λ (b : List ℕ). running_in (tree b)) (sym old.2))
 
 -- .. and that of the file
 pub runs_over : (set : TextSet) (files : Image) (name : List ℕ) (found : Option Running) → RunsIn set name found → running_in (tree (held_over set files name)) ≡ found

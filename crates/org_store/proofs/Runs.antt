@@ -1,14 +1,14 @@
--- Runs of commands over a disk: what a stop leaves meanwhile, and what the disk is after them.
+-- Runs of commands over a disk: what a crash leaves meanwhile, and what the disk is after them.
 use Rattle.std.proofs.Common.{◌≡◌, ◌⊎◌, inl, inr, ⊎_elim, ℕ, ◌+◌, ◌≤◌, true, false, List, [], ◌∷◌, is_some, Result, Ok, Err, refl, sym, ◌∙◌, ap, subst, arith, IsTrue}
 use Rattle.std.specs.Prelude.{IsErrOf}
 use Rattle.std.specs.Str.{bytes_eq}
 use Rattle.std.proofs.lemmas.Bool.{cases_Bool, false≢true}
 use Rattle.org_disk.specs.Disk.{FileState, AreImages, Passes, LeavesOnly}
 use Rattle.org_disk.proofs.Moments.{passes_none, passes_as, passes_then, leaves_only}
-use Rattle.org_journal.specs.Standing.{Image, SameFiles, IsFit, StandsFor, contents}
+use Rattle.org_journal.specs.Recovered.{Image, SameFiles, IsRecoverable, RecoversTo, contents}
 use Rattle.org_fileset.specs.Replay.{IsAtRest}
-use Rattle.org_fileset.proofs.Commits.{at_rest_stands}
-use Rattle.org_fileset.proofs.Stands.{stands_as}
+use Rattle.org_fileset.proofs.Commits.{at_rest_recovers}
+use Rattle.org_fileset.proofs.Recovers.{recovers_as}
 use Rattle.org_store.specs.declared.command.Command.{Command}
 use Rattle.org_store.specs.declared.command.Reply.{Reply}
 use Rattle.org_store.specs.declared.command.Reply.TheVariants.{Done, Safe, Text, Time}
@@ -148,12 +148,12 @@ pub record IsBetween (old new mid : Session) : Type 0 where
   pub no_fewer : old.accepted ≤ mid.accepted
   pub no_more : mid.accepted ≤ new.accepted
 
--- What a stop leaves stands for the files after the commands that were acknowledged, or for those of a session that was
--- reached; `others` are the files that aren't the store's.
+-- What a crash leaves recovers to the files after the commands that were acknowledged, or for those of a session that
+-- was reached; `others` are the files that aren't the store's.
 abbrev pub IsLeftOf : Session → Image → (Session → Type 0) → Image → Type 0
 IsLeftOf old others IsReached image = Holds old others old.settled image ⊎ ((mid : Session) × IsReached mid × Holds old others mid.files image)
 
--- what a stop leaves has Q too
+-- what a crash leaves has Q too
 pub leaves_as : {m n : ℕ} {s u : ℕ → Image → Type 0} {P Q : Image → Type 0} → LeavesOnly m n s u P → ((image : Image) → P image → Q image) → LeavesOnly m n s u Q
 leaves_as leaves weaker = record { each = λ image left. weaker image (leaves.each image left); passes = passes_as leaves.passes weaker }
 
@@ -213,8 +213,8 @@ others_over old mid before after onward disk same texts which name not =
 pub holds_back : (old mid : Session) (before after image : Image) → Onward old mid → IsOnDisk old before → SameFiles after (with_texts mid.names mid.settled before)
     → (texts : List (List ℕ)) → (texts ≡ mid.settled) ⊎ HaveTexts mid.names mid.files texts → Holds mid after texts image → Holds old before texts image
 holds_back old mid before after image onward disk same texts which holds =
-    subst (λ names. StandsFor (with_texts names texts before) image) onward.names
-    (stands_as (with_texts mid.names texts after) (with_texts mid.names texts before) image (others_over old mid before after onward disk same texts which) holds)
+    subst (λ names. RecoversTo (with_texts names texts before) image) onward.names
+    (recovers_as (with_texts mid.names texts after) (with_texts mid.names texts before) image (others_over old mid before after onward disk same texts which) holds)
 
 pub on_disk_after : (names settled : List (List ℕ)) (before after : Image) → SameFiles after (with_texts names settled before) → SameFiles after (with_texts names settled after)
 on_disk_after names settled before after same name not =
@@ -229,7 +229,7 @@ pub record Course {D : Type 0} (files : D → List ℕ → FileState) (moment : 
   pub passes : IsAtRest (files old.disk) → IsOnDisk old.session (contents (files old.disk)) → old.session.broken ≡ false
       → Passes (moment old.disk) (moment new.disk) (left_since old.disk) (left_since new.disk) (IsLeftOf old.session (contents (files old.disk)) (Reached old.session new.session P))
   pub rest : new.session.broken ≡ false → IsAtRest (files old.disk) → IsAtRest (files new.disk)
-  pub fit : IsAtRest (files old.disk) → IsFit (files new.disk)
+  pub recoverable : IsAtRest (files old.disk) → IsRecoverable (files new.disk)
   pub others : new.session.broken ≡ false → IsOnDisk old.session (contents (files old.disk))
       → SameFiles (contents (files new.disk)) (with_texts new.session.names new.session.settled (contents (files old.disk)))
   pub onward : new.session.broken ≡ false → Onward old.session new.session
@@ -293,7 +293,7 @@ module _ {D : Type 0} (files : D → List ℕ → FileState) (moment : D → ℕ
   course_none old P self = record {
     passes = λ rest disk sound. passes_none _ _ _;
     rest = λ sound rest. rest;
-    fit = λ rest. inl (λ name not. rest.stable name);
+    recoverable = λ rest. inl (λ name not. rest.stable name);
     others = λ sound disk. disk;
     onward = λ sound. onward_none old.session;
     stays = λ fell. refl;
@@ -306,7 +306,7 @@ module _ {D : Type 0} (files : D → List ℕ → FileState) (moment : D → ℕ
     passes = λ rest disk sound.
         passes_as (course.passes rest disk sound) (λ image left. ⊎_elim (λ held. inl held) (λ reached. inr (reached.0, (reached.1.0, reached.1.1, weaker reached.0 reached.1.2), reached.2)) left);
     rest = course.rest;
-    fit = course.fit;
+    recoverable = course.recoverable;
     others = course.others;
     onward = course.onward;
     stays = course.stays;
@@ -352,7 +352,7 @@ module _ {D : Type 0} (files : D → List ℕ → FileState) (moment : D → ℕ
               (passes_as (ran.disk.any_moment rest).passes
               (λ image left. left_of old.session (contents (files old.disk)) (outcome old.session command) answer mid.session.accepted image (Reached old.session new.session P) self_reached reached left));
           rest = λ sound. absurd (false≢true (sym sound ∙ broken));
-          fit = λ rest. subst (λ (k : Kept D). IsFit (files k.disk)) (sym same) (ran.disk.fit rest);
+          recoverable = λ rest. subst (λ (k : Kept D). IsRecoverable (files k.disk)) (sym same) (ran.disk.recoverable rest);
           others = λ sound. absurd (false≢true (sym sound ∙ broken));
           onward = λ sound. absurd (false≢true (sym sound ∙ broken));
           stays = stays;
@@ -398,7 +398,7 @@ module _ {D : Type 0} (files : D → List ℕ → FileState) (moment : D → ℕ
               (course.passes (ran.disk.rest fine rest) now ((goes sound).0.broken ∙ sound))
               (back sound disk);
           rest = λ sound rest. course.rest sound (ran.disk.rest fine rest);
-          fit = λ rest. course.fit (ran.disk.rest fine rest);
+          recoverable = λ rest. course.recoverable (ran.disk.rest fine rest);
           others = λ sound disk name not.
               let o = (goes (sound_then sound)).0 in
               let l = course.onward sound in
@@ -423,7 +423,7 @@ module _ {D : Type 0} (files : D → List ℕ → FileState) (moment : D → ℕ
               (λ image left. left_of old.session (contents (files old.disk)) AsksToSettle answer new.session.accepted image (Reached old.session new.session P) (λ name. refl, self_between old.session new.session ends.0, self)
               (λ texts (accepts : AsksToSettle ≡ Accepts texts). absurd (cc)) left);
           rest = λ sound rest. ran.disk.rest (ends.1 sound).0 rest;
-          fit = ran.disk.fit;
+          recoverable = ran.disk.recoverable;
           others = λ sound disk. ran.disk.others (ends.1 sound).0;
           onward = λ sound. (ends.1 sound).1;
           stays = λ fell. ran.untouched (ends.2 fell);
@@ -438,5 +438,5 @@ module _ {D : Type 0} (files : D → List ℕ → FileState) (moment : D → ℕ
   course_leaves old new P course rest disk sound start =
       leaves_only
       (passes_as (course.passes rest disk sound) (λ image left. ⊎_elim (λ held. inl held) (λ reached. inr (reached.0, (reached.1.2, reached.1.1), reached.2)) left))
-      (λ image left. inl (stands_as (contents (files old.disk)) (with_texts old.session.names old.session.settled (contents (files old.disk))) image disk
-      (at_rest_stands (files old.disk) rest image (start image left))))
+      (λ image left. inl (recovers_as (contents (files old.disk)) (with_texts old.session.names old.session.settled (contents (files old.disk))) image disk
+      (at_rest_recovers (files old.disk) rest image (start image left))))

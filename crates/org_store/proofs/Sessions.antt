@@ -3,7 +3,7 @@ use Rattle.std.proofs.Common.{◌≡◌, inl, inr, ⊎_elim, ℕ, false, true, L
 use Rattle.std.specs.Prelude.{◌↔◌, IsErrOf, IsTrue}
 use Rattle.org_disk.specs.Disk.{FileState, AreImages, LeavesOnly}
 use Rattle.org_outline.specs.States.{Keywords}
-use Rattle.org_journal.specs.Standing.{Image, IsFit, contents}
+use Rattle.org_journal.specs.Recovered.{Image, IsRecoverable, contents}
 use Rattle.org_fileset.specs.declared.fault.SetFault.{SetFault}
 use Rattle.org_fileset.specs.declared.fault.SetFault.TheVariants as set
 use Rattle.org_fileset.specs.Replay.{IsAtRest}
@@ -56,14 +56,14 @@ module _ {D : Type 0} (files : D → List ℕ → FileState) (moment : D → ℕ
 
   pub settle_leaves : (result : Result (Unit {0}) SetFault) (fault : SetFault) → Fails old new result fault
       → (IsAtRest (files old.disk) → LeavesOnly (moment old.disk) (moment new.disk) (left_since old.disk) (left_since new.disk) (HoldsEither old.names (contents (files old.disk)) before.session.files))
-      → (IsAtRest (files old.disk) → IsFit (files new.disk))
+      → (IsAtRest (files old.disk) → IsRecoverable (files new.disk))
       → LeavesDisk files moment left_since before now (IsLeft {A = Unit {0}} before.session (contents (files old.disk)) AsksToSettle (Err (fault_of_set fault)) now.session.accepted) (IsErrOf {T = Unit {0}} (Err (fault_of_set fault)) Device)
   settle_leaves result set.OutOfMemory fails leaves fit = settle_unwritten OutOfMemory (fails.memory fails.is)
   settle_leaves result set.Device fails leaves fit = record {
     any_moment = λ rest. leaves_as (leaves rest) (λ image either. ⊎_elim (λ held. inl held) (λ all. inr (refl, (before.session.files, refl, all))) either);
     others = λ fine. absurd (fine refl);
     rest = λ fine. absurd (fine refl);
-    fit = fit;
+    recoverable = fit;
   }
   settle_leaves result set.Broken fails leaves fit = absurd (fails.works fails.is)
 

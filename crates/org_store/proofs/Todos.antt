@@ -4,11 +4,11 @@ use Rattle.std.specs.Global.{Global}
 use Rattle.std.specs.Option.{ForSome}
 use Rattle.org_splice.specs.declared.edit.Edit.{Edit}
 use Rattle.org_splice.specs.Edits.{AreEdits}
-use Rattle.org_splice.specs.Lines.{closed}
+use Rattle.org_splice.specs.Lines.{terminated}
 use Rattle.org_splice.specs.Texts.{EditedText}
 use Rattle.org_outline.specs.States.{Keywords}
 use Rattle.org_outline.specs.Tree.{Document, print, tree}
-use Rattle.org_outline.proofs.Trees.{tree-closed}
+use Rattle.org_outline.proofs.Trees.{tree-terminated}
 use Rattle.org_stamp.specs.Calendar.{CivilMinute}
 use Rattle.org_texts.specs.declared.plan.Plan.{Plan}
 use Rattle.org_texts.specs.Texts.{Holding, text_of}
@@ -64,10 +64,10 @@ module _ (states : Keywords) (path : List (List ℕ)) (state : List ℕ) (now : 
 
 -- ---- the outcome
 
--- what is to be done with the text, which the planner sees closed
-pub todo_is : (s : Session) (file : List ℕ) (path : List (List ℕ)) (state : List ℕ) (moment : CivilMinute) (text seen : List ℕ) → seen ≡ closed text
+-- what is to be done with the text, which the planner sees terminated
+pub todo_is : (s : Session) (file : List ℕ) (path : List (List ℕ)) (state : List ℕ) (moment : CivilMinute) (text seen : List ℕ) → seen ≡ terminated text
     → todo s file path state moment (Some text) ≡ with_state s file (in_state s.states path state moment (tree seen))
-todo_is s file path state moment text seen shut = ap (λ (d : Document). with_state s file (in_state s.states path state moment d)) (sym (ap tree shut ∙ tree-closed text))
+todo_is s file path state moment text seen shut = ap (λ (d : Document). with_state s file (in_state s.states path state moment d)) (sym (ap tree shut ∙ tree-terminated text))
 
 -- what is refused
 pub state_not_made : (s : Session) (file : List ℕ) (seen : List ℕ) (told : Outcome) (said : Result (Option Document) StateFault) (result : Result (Option Plan) StateFault) (why : StateFault) → s.broken ≡ false → told ≡ with_state s file said
@@ -87,7 +87,7 @@ state_not_made s file seen told said result why unbroken is was plans = go why (
     go fault.DateRange plans = (unbroken, refuses fault.DateRange plans, refl)
     go fault.ClockBackwards plans = (unbroken, refuses fault.ClockBackwards plans, refl)
 
-pub todo_refused : (s : Session) (file : List ℕ) (path : List (List ℕ)) (state : List ℕ) (moment : CivilMinute) (text seen : List ℕ) (result : Result (Option Plan) StateFault) (why : StateFault) → s.broken ≡ false → seen ≡ closed text
+pub todo_refused : (s : Session) (file : List ℕ) (path : List (List ℕ)) (state : List ℕ) (moment : CivilMinute) (text seen : List ℕ) (result : Result (Option Plan) StateFault) (why : StateFault) → s.broken ≡ false → seen ≡ terminated text
     → result ≡ Err why → PlansState file seen (in_state s.states path state moment (tree seen)) result → Does s (todo s file path state moment (Some text)) (Err (fault_of_state why)) s
 todo_refused s file path state moment text seen result why unbroken shut was plans =
     state_not_made s file seen (todo s file path state moment (Some text)) (in_state s.states path state moment (tree seen)) result why unbroken (todo_is s file path state moment text seen shut) was plans

@@ -5,10 +5,10 @@ use Rattle.std.specs.Map.{lookup}
 use Rattle.std.specs.Option.{option_map}
 use Rattle.std.specs.Str.{bytes_eq}
 use Rattle.org_disk.specs.Names.{journal_name}
-use Rattle.org_splice.specs.Texts.{closed_text}
+use Rattle.org_splice.specs.Texts.{terminated_text}
 use Rattle.org_disk.specs.Disk.{FileState}
 use Rattle.org_disk.specs.Accounts.{LeavesOver}
-use Rattle.org_journal.specs.Standing.{Image, IsFit, SameFiles, contents}
+use Rattle.org_journal.specs.Recovered.{Image, IsRecoverable, SameFiles, contents}
 use Rattle.org_fileset.specs.Names.{limit}
 use Rattle.org_fileset.specs.Replay.{IsAtRest}
 use Rattle.org_texts.specs.declared.plan.FileEdits.{FileEdits}
@@ -46,12 +46,12 @@ pub record IsSound (names : List (List ℕ)) (live : Type 0) (files : Image) (he
   pub before : AreTextsOf names live files held.before
   pub small : AreSmallToWrite held.before
 
--- The texts are as they were before the command that runs, but those of these names, which are held, are closed, with
--- their headings.
+-- The texts are as they were before the command that runs, but those of these names, which are held, are terminated,
+-- with their headings.
 pub record AreReady (names : List (List ℕ)) (holding : Holding) : Type 0 where
   pub held : (name : List ℕ) → is_name names name ≡ true → IsSome (text_of holding.before name)
   pub ready : (name : List ℕ) → is_name names name ≡ true → (has : Bool) → lookup (bytes_eq name) holding.ready ≡ Some has → has ≡ true
-  pub shut : (name : List ℕ) → is_name names name ≡ true → text_of holding.now name ≡ option_map closed_text (text_of holding.before name)
+  pub shut : (name : List ℕ) → is_name names name ≡ true → text_of holding.now name ≡ option_map terminated_text (text_of holding.before name)
   pub others : (name : List ℕ) → is_name names name ≡ false → text_of holding.now name ≡ text_of holding.before name
   pub waiting : (name : List ℕ) → is_name names name ≡ false → waits holding.now name ≡ true → waits holding.before name ≡ true
 
@@ -106,7 +106,7 @@ pub record CommitsTexts {D A E : Type 0} (files : D → List ℕ → FileState) 
   pub texts : OnOk result (texts_of (contents (files new)) names ≡ after)
   pub others : OnOk result (SameFiles (contents (files new)) (with_texts names after (contents (files old))))
   pub rest : OnOk result (IsAtRest (files old) → IsAtRest (files new))
-  -- where all was on the disk: what a stop at any moment since the call began leaves
+  -- where all was on the disk: what a crash at any moment since the call began leaves
   pub any_moment : IsAtRest (files old) → LeavesOver moment left_since old new (HoldsEither names (contents (files old)) after)
   -- after a failure too, it may be opened again
-  pub fit : IsAtRest (files old) → IsFit (files new)
+  pub recoverable : IsAtRest (files old) → IsRecoverable (files new)

@@ -1,7 +1,7 @@
 -- A store over a disk with the one list by which a whole run is told: the texts of all files after each accepted
 -- command.
 use Rattle.std.specs.Prelude.{◌≡◌, ◌⊎◌, ℕ, ◌+◌, ◌≤◌, List, [], ◌∷◌, ◌++◌, length, slice_get, Some, IsFalse, IsSomeAnd}
-use Rattle.org_journal.specs.Standing.{Image}
+use Rattle.org_journal.specs.Recovered.{Image}
 use Rattle.org_store.specs.Outcome.{Outcome, Accepts}
 use Rattle.org_store.specs.Session.{Session, Kept, Holds}
 
@@ -24,8 +24,8 @@ Adds outcome before now old new =
     ((now ≡ before) × (new ≡ old))
     ⊎ ((now ≡ before + 1) × ((texts : List (List ℕ)) × (outcome ≡ Accepts texts) × (new ≡ old ++ texts ∷ [])))
 
--- The image stands for the files after one prefix of the accepted commands, which has at least so many of them. `first`
--- is the session as it began, and `others` are the files that aren't the store's.
+-- The image recovers to the files after one prefix of the accepted commands, which has at least so many of them.
+-- `first` is the session as it began, and `others` are the files that aren't the store's.
 abbrev pub HoldsPrefix : Session → Image → List (List (List ℕ)) → ℕ → Image → Type 0
 HoldsPrefix first others texts least image =
     (k : ℕ) × (least ≤ k) × IsSomeAnd (slice_get texts k) (λ files. Holds first others files image)

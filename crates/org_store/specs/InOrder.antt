@@ -2,7 +2,7 @@
 use Rattle.std.specs.Prelude.{◌⊎◌, ℕ, Bool, List, [], ◌∷◌, Option, Some, None, if◌then◌else◌}
 use Rattle.std.specs.List.{list_any}
 use Rattle.std.specs.Str.{bytes_eq}
-use Rattle.org_journal.specs.Standing.{Image, StandsFor}
+use Rattle.org_journal.specs.Recovered.{Image, RecoversTo}
 
 -- the texts of the files of these names, in their order
 abbrev pub texts_of : Image → List (List ℕ) → List (List ℕ)
@@ -36,10 +36,10 @@ with_texts [] texts files name = files name
 with_texts (one ∷ names) [] files name = files name
 with_texts (one ∷ names) (text ∷ texts) files name = if bytes_eq one name then text else with_texts names texts files name
 
--- the image stands for these texts of the files of these names, and for these other files
+-- the image recovers to these texts of the files of these names, and for these other files
 abbrev pub HoldsTexts : List (List ℕ) → Image → List (List ℕ) → Image → Type 0
-HoldsTexts names others texts image = StandsFor (with_texts names texts others) image
+HoldsTexts names others texts image = RecoversTo (with_texts names texts others) image
 
--- the image stands for the files as they are, or with these texts
+-- the image recovers to the files as they are, or with these texts
 abbrev pub HoldsEither : List (List ℕ) → Image → List (List ℕ) → Image → Type 0
 HoldsEither names files texts image = HoldsTexts names files (texts_of files names) image ⊎ HoldsTexts names files texts image

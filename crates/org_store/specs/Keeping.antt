@@ -1,7 +1,7 @@
 -- How a command is planned on the texts of a store's files, and how it is accepted.
 use Rattle.std.specs.Prelude.{◌≡◌, ◌↔◌, ℕ, ◌+◌, List, [], Option, None, Some, Result, Ok, Err, IsErrOf, IsTrue, if◌then◌else◌}
 use Rattle.org_disk.specs.Disk.{FileState}
-use Rattle.org_journal.specs.Standing.{Image, contents}
+use Rattle.org_journal.specs.Recovered.{Image, contents}
 use Rattle.org_fileset.specs.declared.fault.SetFault.{SetFault}
 use Rattle.org_fileset.specs.declared.fault.SetFault.TheVariants as set
 use Rattle.org_outline.specs.declared.paths.PathFault.{PathFault}

@@ -1,7 +1,7 @@
--- What a stop may leave while a call of a store runs: the files after the commands that were acknowledged when it
+-- What a crash may leave while a call of a store runs: the files after the commands that were acknowledged when it
 -- began, or those that the call puts on the disk.
 use Rattle.std.specs.Prelude.{◌≡◌, ◌⊎◌, ℕ, ◌+◌, List, Result, Ok, Err, IsTrue}
-use Rattle.org_journal.specs.Standing.{Image}
+use Rattle.org_journal.specs.Recovered.{Image}
 use Rattle.org_store.specs.declared.command.RunFault.{RunFault}
 use Rattle.org_store.specs.declared.command.RunFault.TheVariants.{Device}
 use Rattle.org_store.specs.Session.{Session, Holds}
@@ -22,8 +22,8 @@ abbrev pub MayHaveWritten : {A : Type 0} → Result A RunFault → Type 0
 MayHaveWritten (Ok _) = Unit {0}
 MayHaveWritten (Err fault) = fault ≡ Device
 
--- What a stop leaves while a call runs that is to do this and gets this answer, and so many commands are accepted when it
--- ends; `others` are the files that aren't the store's.
+-- What a crash leaves while a call runs that is to do this and gets this answer, and so many commands are accepted when
+-- it ends; `others` are the files that aren't the store's.
 abbrev pub IsLeft : {A : Type 0} → Session → Image → Outcome → Result A RunFault → ℕ → Image → Type 0
 IsLeft old others outcome answer accepted image =
     Holds old others old.settled image

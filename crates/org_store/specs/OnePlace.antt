@@ -1,4 +1,4 @@
--- Each node in one place: how often it is there over all files of a store, in what a stop leaves.
+-- Each node in one place: how often it is there over all files of a store, in what a crash leaves.
 use Rattle.std.specs.Prelude.{◌≡◌, ◌⊎◌, ℕ, ◌+◌, ◌≤◌, List, [], ◌∷◌, length, slice_get, Option, Some, Result, Ok, Err, IsSomeAnd}
 use Rattle.std.specs.List.{All, sum_by}
 use Rattle.org_disk.specs.Names.{IsDiskName, IsOrgFile}
@@ -6,7 +6,7 @@ use Rattle.org_stamp.specs.Calendar.{CivilMinute}
 use Rattle.org_outline.specs.declared.moves.Place.{Place}
 use Rattle.org_outline.specs.Paths.{find_path}
 use Rattle.org_outline.specs.Tree.{node_at, tree}
-use Rattle.org_journal.specs.Standing.{Image, stands}
+use Rattle.org_journal.specs.Recovered.{Image, recovered}
 use Rattle.org_fileset.specs.Names.{with_archives, AreSorted}
 use Rattle.org_move.specs.Archive.{archived_section, target_heading}
 use Rattle.org_move.specs.Counts.{count_over, made_count, one_of}
@@ -28,11 +28,11 @@ use Rattle.org_store.specs.Session.{Session}
 abbrev pub HaveSameNodes : List (List ℕ) → List (List ℕ) → Type 0
 HaveSameNodes texts others = (rest : List ℕ) (section : List (List ℕ)) → count_over rest section texts ≡ count_over rest section others
 
--- the image stands for files, and over those of these names each node is as often as over these texts
+-- the image recovers to files, and over those of these names each node is as often as over these texts
 abbrev pub HasNodesOf : List (List ℕ) → List (List ℕ) → Image → Type 0
-HasNodesOf names texts image = IsSomeAnd (stands image) (λ files. HaveSameNodes (texts_of files names) texts)
+HasNodesOf names texts image = IsSomeAnd (recovered image) (λ files. HaveSameNodes (texts_of files names) texts)
 
--- The image stands for files, and over those of these names each node is as often as after one prefix of the accepted
+-- The image recovers to files, and over those of these names each node is as often as after one prefix of the accepted
 -- commands, which has at least so many of them.
 abbrev pub HasNodesOfPrefix : List (List ℕ) → List (List (List ℕ)) → ℕ → Image → Type 0
 HasNodesOfPrefix names texts least image = (k : ℕ) × (least ≤ k) × IsSomeAnd (slice_get texts k) (λ files. HasNodesOf names files image)

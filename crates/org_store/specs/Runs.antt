@@ -1,7 +1,8 @@
--- Calls of a store over a disk: what each of them promises of it, and what a stop leaves meanwhile.
+-- Calls of a store over a disk: what each of them promises of it, and what a crash leaves
+-- meanwhile.
 use Rattle.std.specs.Prelude.{◌≡◌, ℕ, List, Result, IsErrOf}
 use Rattle.org_disk.specs.Disk.{FileState, LeavesOnly}
-use Rattle.org_journal.specs.Standing.{Image, SameFiles, IsFit, contents}
+use Rattle.org_journal.specs.Recovered.{Image, SameFiles, IsRecoverable, contents}
 use Rattle.org_fileset.specs.Replay.{IsAtRest}
 use Rattle.org_store.specs.declared.command.Command.{Command}
 use Rattle.org_store.specs.declared.command.Command.TheVariants.{Settle}
@@ -15,17 +16,17 @@ use Rattle.org_store.specs.Step.{Step, Settles}
 use Rattle.org_store.specs.Left.{IsLeft}
 
 -- What a call of a store leaves of its disk, where the disk is honest after it. `files`, `moment` and `left_since` are
--- what is seen of a disk of the type D; `Left` is what a stop may leave while the call runs, and `Failed` says that the
--- call answers Device.
+-- what is seen of a disk of the type D; `Left` is what a crash may leave while the call runs, and `Failed` says that
+-- the call answers Device.
 pub record LeavesDisk {D : Type 0} (files : D → List ℕ → FileState) (moment : D → ℕ) (left_since : D → ℕ → Image → Type 0) (old new : Kept D) (Left : Image → Type 0) (Failed : Type 0) : Type 0 where
-  -- where all was on the disk: what a stop at any moment since the call began leaves
+  -- where all was on the disk: what a crash at any moment since the call began leaves
   pub any_moment : IsAtRest (files old.disk) → LeavesOnly (moment old.disk) (moment new.disk) (left_since old.disk) (left_since new.disk) Left
   -- where the disk didn't fail: the store's files have the texts that are settled, and all others are as they were
   pub others : (Failed → ⊥) → SameFiles (contents (files new.disk)) (with_texts new.session.names new.session.settled (contents (files old.disk)))
   -- .. and all is on the disk again
   pub rest : (Failed → ⊥) → IsAtRest (files old.disk) → IsAtRest (files new.disk)
   -- after a failure too, it may be opened again
-  pub fit : IsAtRest (files old.disk) → IsFit (files new.disk)
+  pub recoverable : IsAtRest (files old.disk) → IsRecoverable (files new.disk)
 
 -- A command was run over a disk of the type D that is honest after it: the store was `old`, this was answered, and the
 -- store is `new`. These are the clauses of `Store::run`.

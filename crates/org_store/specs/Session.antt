@@ -2,7 +2,7 @@
 use Rattle.std.specs.Prelude.{ℕ, Bool, List}
 use Rattle.org_disk.specs.Disk.{FileState}
 use Rattle.org_outline.specs.States.{Keywords}
-use Rattle.org_journal.specs.Standing.{Image, contents}
+use Rattle.org_journal.specs.Recovered.{Image, contents}
 use Rattle.org_texts.specs.Texts.{held_over}
 use Rattle.org_store.specs.declared.tally.Tally.{Tally}
 use Rattle.org_store.specs.Files.{OpenFiles}
@@ -16,7 +16,7 @@ pub record Session : Type 0 where
   pub names : List (List ℕ)
   -- the text of each of them after all accepted commands
   pub files : List (List ℕ)
-  -- the text of each of them as the disk stands for it: after the acknowledged commands
+  -- the text of each of them as the disk recovers to it: after the acknowledged commands
   pub settled : List (List ℕ)
   -- how many commands were accepted, and how many of these are on the disk for certain
   pub accepted : ℕ
@@ -31,7 +31,7 @@ pub record Kept (D : Type 0) : Type 0 where
   pub disk : D
   pub session : Session
 
--- the image stands for these texts of the store's files, and for these other files
+-- the image recovers to these texts of the store's files, and for these other files
 abbrev pub Holds : Session → Image → List (List ℕ) → Image → Type 0
 Holds s others texts image = HoldsTexts s.names others texts image
 

@@ -2,7 +2,7 @@
 ghost use Rattle.std.specs.Prelude.{◌≡◌, ◌≤◌, ◌<◌, ◌+◌, ◌^◌, ◌↔◌, [], IfOk, IsErrOf, IsOk, IsTrue, OnErr, OnOk, false};
 ghost use Rattle.std.specs.Option.{ForSome};
 ghost use Rattle.org_disk.specs.Accounts.{Accounts, Looks};
-ghost use Rattle.org_journal.specs.Standing.{contents};
+ghost use Rattle.org_journal.specs.Recovered.{contents};
 ghost use Rattle.org_outline.specs.States.{Keywords};
 ghost use Rattle.org_texts.specs.Texts.{held_over};
 ghost use Rattle.org_store.specs.declared.tally.Tally.{Tally as Counted};

@@ -6,7 +6,7 @@ ghost use Rattle.std.specs.Option.{ForSome, option_map};
 ghost use Rattle.std.specs.Str.{bytes_eq};
 ghost use Rattle.org_disk.specs.Accounts.{Accounts, Looks};
 ghost use Rattle.org_disk.specs.Names.{IsOrgFile};
-ghost use Rattle.org_journal.specs.Standing.{contents};
+ghost use Rattle.org_journal.specs.Recovered.{contents};
 ghost use Rattle.org_fileset.specs.Names.{with_archives, AreSorted, AreFew, first_large};
 ghost use Rattle.org_fileset.specs.Opening.{IsDeviceRefusal, IsReason, disk_in};
 ghost use Rattle.org_fileset.specs.Recovery.{Reopens};
@@ -45,7 +45,7 @@ pub(crate) struct Files<D: Disk> {
 
 impl<D: Disk> Model for Files<D> {
     ghost use Rattle.std.specs.Prelude.{◌≡◌, false};
-    ghost use Rattle.org_journal.specs.Standing.{contents};
+    ghost use Rattle.org_journal.specs.Recovered.{contents};
     ghost use Rattle.org_store.specs.Files.{OpenFiles, IsSound};
     ghost use Rattle.org_store.specs.Quiet.{IsNoted};
 
@@ -64,7 +64,7 @@ impl<D: Disk> Model for Files<D> {
 
 impl<D: Disk> Files<D> {
     /// The files of the given names and of their archive files, with nothing held. No name is an archive file's or the
-    /// journal's; a repeated one counts once. What a stop cut short is brought to an end first: see `FileSet::open`,
+    /// journal's; a repeated one counts once. What a crash cut short is brought to an end first: see `FileSet::open`,
     /// whose faults it answers.
     pub(crate) fn open(
         alloc: Global,
@@ -129,11 +129,11 @@ impl<D: Disk> Files<D> {
     }
 
     /// The disk as it is. What was changed and not committed is given up.
-    pub(crate) fn close(self) -> D
+    pub(crate) fn into_disk(self) -> D
         ensures { result ≡ self.disk }
     {
         let Files { set, .. } = self;
-        set.close()
+        set.into_disk()
     }
 
     /// What is held of this name. Takes no memory.
@@ -326,7 +326,8 @@ fn is_large_text(texts: &Texts, name: &FileName) -> bool
 /// Whether a text that a plan changed is past the limit.
 fn is_large(texts: &Texts, plan: &Plan) -> bool
     requires first { IsSome (text_of texts.now.now plan.now.first.file) }
-    requires second { ForSome plan.now.second (λ change. IsSome (text_of texts.now.now change.file)) }
+    requires second { ForSome plan.now.second
+        (λ change. IsSome (text_of texts.now.now change.file)) }
     ensures { result ≡ has_large (texts_in texts.now.now (files_of plan.now)) }
 {
     if is_large_text(texts, &plan.first.file) {

@@ -4,7 +4,7 @@ ghost use Rattle.std.specs.List.{All, IsDistinct};
 ghost use Rattle.std.specs.Str.{bytes_eq};
 ghost use Rattle.org_disk.specs.Disk.{HasRisen};
 ghost use Rattle.org_disk.specs.Accounts.{LeavesOver};
-ghost use Rattle.org_journal.specs.Standing.{Image, IsFit, contents};
+ghost use Rattle.org_journal.specs.Recovered.{Image, IsRecoverable, contents};
 ghost use Rattle.org_disk.specs.Names.{IsDiskName, IsOrgFile};
 ghost use Rattle.org_fileset.specs.Names.{with_archives, AreSorted, AreFew, first_large};
 ghost use Rattle.org_fileset.specs.Opening.{IsReason};
@@ -80,11 +80,11 @@ pub fn settled_is_on_disk<D: Disk>()
         → IsOnDisk new.session (contents (D.files new.disk)) }
 {}
 
-/// What a stop leaves of a run of the calls that change a store: commands, settlings and new sizes of the group. A run
+/// What a crash leaves of a run of the calls that change a store: commands, settlings and new sizes of the group. A run
 /// is told with one list, of the texts of all files after each accepted command. On a disk that was at rest and honest
-/// when it began, under a store that wasn't broken, a stop since then leaves the files as they were settled then, or as
-/// they were after one prefix of the accepted commands, which has all that were accepted then; a command in which the
-/// disk failed may be the last of them. What is settled is on the disk between calls (`settled_is_on_disk`).
+/// when it began, under a store that wasn't broken, a crash since then leaves the files as they were settled then, or
+/// as they were after one prefix of the accepted commands, which has all that were accepted then; a command in which
+/// the disk failed may be the last of them. What is settled is on the disk between calls (`settled_is_on_disk`).
 ///
 /// `CallPast` is what a call promises where the disk is honest after it, with what it adds to the list. The list needs
 /// the texts only where the session tells them: others may be any.
@@ -116,15 +116,16 @@ pub fn calls_leave_a_prefix<D: Disk>()
         → CallsPast D.files D.moment D.left_since first calls last
         → (last.store ≡ grouped last.store.session.group first.store)
         × (last.texts ≡ first.texts) }
-    // the disk is fit to be opened then, and at rest where the store isn't broken
-    ensures fit { (first last : Past D) (calls : List Call) → IsAtRest (D.files first.store.disk)
+    // the disk is recoverable then, and at rest where the store isn't broken
+    ensures recoverable { (first last : Past D) (calls : List Call)
+        → IsAtRest (D.files first.store.disk)
         → CallsPast D.files D.moment D.left_since first calls last
-        → IsFit (D.files last.store.disk) }
+        → IsRecoverable (D.files last.store.disk) }
     ensures rest { (first last : Past D) (calls : List Call) → IsFalse last.store.session.broken
         → IsAtRest (D.files first.store.disk)
         → CallsPast D.files D.moment D.left_since first calls last
         → IsAtRest (D.files last.store.disk) }
-    // what a stop leaves of such a run is opened again, as in `every_image_opens`
+    // what a crash leaves of such a run is opened again, as in `every_image_opens`
     ensures opens { (given : List (List ℕ)) (first last : Past D) (calls : List Call)
         (others image : Image) (least : ℕ) → AreFew given
         → AreSorted (with_archives given) first.store.session.names
@@ -135,10 +136,11 @@ pub fn calls_leave_a_prefix<D: Disk>()
         → IsOpenable given image }
 {}
 
-/// Each node in one place. What a stop leaves of a run of calls (`calls_leave_a_prefix`) has each node as often, over
-/// all files of the store, as the texts that it stands for: as after the commands that were acknowledged when the run
+/// Each node in one place. What a crash leaves of a run of calls (`calls_leave_a_prefix`) has each node as often, over
+/// all files of the store, as the texts that it recovers to: as after the commands that were acknowledged when the run
 /// began, or after one prefix of the accepted commands. Where no command but refiles is accepted, that is as often as
-/// when the run began: a stop within a refile loses no node of the subtree and doubles none, in the old place or the new.
+/// when the run began: a crash within a refile loses no node of the subtree and doubles none, in the old place or the
+/// new.
 pub fn one_place<D: Disk>()
     ensures held { (given : List (List ℕ)) (s : Session) (others image : Image)
         (texts : List (List ℕ)) → IsSessionOf given s → AreSmall s.names texts
@@ -229,11 +231,11 @@ pub fn every_image_opens<D: Disk>()
         → IsReason given (D.honest now) (contents (D.files disk)) (contents (D.files now)) fault
         → (fault ≡ Device → HasRisen (D.failures disk) (D.failures now))
         → (fault ≡ OutOfMemory) ⊎ ((fault ≡ Device) × HasRisen (D.failures disk) (D.failures now)) }
-    // what a stop left of a store's files is such an image, as long as no text of them was past the limit
+    // what a crash left of a store's files is such an image, as long as no text of them was past the limit
     ensures held { (given : List (List ℕ)) (s : Session) (others image : Image)
         (texts : List (List ℕ)) → AreFew given → AreSorted (with_archives given) s.names
         → AreSmall s.names texts → Holds s others texts image → IsOpenable given image }
-    // so is what a stop leaves while a command runs; of a run of calls: `calls_leave_a_prefix`
+    // so is what a crash leaves while a command runs; of a run of calls: `calls_leave_a_prefix`
     ensures left { (given : List (List ℕ)) (s : Session) (others image : Image) (command : Command)
         (answer : Result Reply RunFault) (accepted : ℕ) → AreFew given
         → AreSorted (with_archives given) s.names

@@ -3,7 +3,7 @@ ghost use Rattle.std.specs.Prelude.{◌≡◌, ◌⊎◌, ◌↔◌, IfOk, IfErr
 ghost use Rattle.std.specs.List.{All};
 ghost use Rattle.org_disk.specs.Accounts.{Accounts};
 ghost use Rattle.org_disk.specs.Names.{IsOrgFile};
-ghost use Rattle.org_journal.specs.Standing.{contents};
+ghost use Rattle.org_journal.specs.Recovered.{contents};
 ghost use Rattle.org_fileset.specs.Names.{with_archives, AreSorted, AreFew, first_large};
 ghost use Rattle.org_fileset.specs.Opening.{IsDeviceRefusal, IsReason, disk_in};
 ghost use Rattle.org_fileset.specs.Recovery.{Reopens};
@@ -32,10 +32,10 @@ use std::marker::Model;
 
 /// Org files on a disk, and what was done to them since the store was opened.
 ///
-/// A clause sees its disk and its session (specs/Session.antt). What is said of files and of stops is said where the
-/// disk is honest after the call; of stops in `run` and `settle` also only where it was at rest, as an opening of a fit
-/// disk and each call without a failure leave it (`LeavesDisk`, specs/Runs.antt). A store that is broken does nothing
-/// any more: open its files anew.
+/// A clause sees its disk and its session (specs/Session.antt). What is said of files and of crashes is said where the
+/// disk is honest after the call; of crashes in `run` and `settle` also only where it was at rest, as an opening of a
+/// recoverable disk and each call without a failure leave it (`LeavesDisk`, specs/Runs.antt). A store that is broken
+/// does nothing any more: open its files anew.
 #[derive(Drop)]
 pub struct Store<D: Disk> {
     files: Files<D>,
@@ -62,15 +62,16 @@ impl<D: Disk> Model for Store<D> {
 
 impl<D: Disk> Store<D> {
     /// A store over the files of the given names and of their archive files, with nothing accepted and a group of 1. No
-    /// name is an archive file's or the journal's; a repeated one counts once. What a stop cut short is brought to an
+    /// name is an archive file's or the journal's; a repeated one counts once. What a crash cut short is brought to an
     /// end first; a journal whose gate is closed stays as it is.
     ///
-    /// On a disk that is fit, and honest after the call, of which each image stands for files, every image at every
-    /// moment since the call began stands for what an image at the start stood for, whatever is answered; so it may be
-    /// stopped, and called again. Where the journal is bad, as it reads, a stop leaves what it might have left before.
+    /// On a disk that is recoverable, and honest after the call, of which each image recovers to files, every image at
+    /// every moment since the call began recovers to what an image at the start recovered to, whatever is answered; so
+    /// it may be crashed, and called again. Where the journal is bad, as it reads, a crash leaves what it might have
+    /// left before.
     ///
     /// The faults come in the order of `OpenFault`; `Device` and `OutOfMemory` as they are met, and they alone on a
-    /// disk that stands for files of these names, none past the limit. A refused call hands the disk back.
+    /// disk that recovers to files of these names, none past the limit. A refused call hands the disk back.
     pub fn open(
         alloc: Global,
         disk: D,
@@ -144,16 +145,16 @@ impl<D: Disk> Store<D> {
     }
 
     /// The disk. What is accepted and not acknowledged is given up.
-    pub fn close(self) -> D
+    pub fn into_disk(self) -> D
         ensures { result ≡ self.disk }
     {
         let Store { files, .. } = self;
-        files.close()
+        files.into_disk()
     }
 
     /// Puts all accepted commands on the disk.
     ///
-    /// At every moment since the call began, what a stop leaves stands for the files after the commands that were
+    /// At every moment since the call began, what a crash leaves recovers to the files after the commands that were
     /// acknowledged then, or for those after all that are accepted. `OutOfMemory` leaves files and counts as they were.
     /// `Device` comes only where the disk counted a failure in this call, and breaks the store; `Broken` comes exactly
     /// where it was broken before. Where no accepted command waits to be acknowledged, it does nothing.
@@ -186,7 +187,7 @@ impl<D: Disk> Store<D> {
 
     /// Runs one command.
     ///
-    /// At every moment since the call began, what a stop leaves stands for the files after the commands that were
+    /// At every moment since the call began, what a crash leaves recovers to the files after the commands that were
     /// acknowledged then, or, where this command settles, for those after all that are accepted when it ends.
     ///
     /// `Refused` and `OutOfMemory` leave files and counts as they were; where a settling finds no memory, this command

@@ -2,10 +2,10 @@
 ghost use Rattle.std.specs.List.{All};
 ghost use Rattle.org_disk.specs.Names.{IsOrgFile};
 
+mod crashes;
 mod failures;
 mod groups;
 mod paths;
-mod stops;
 
 use org_capture::Target;
 use org_disk::{FileName, MemoryDisk};
@@ -125,5 +125,5 @@ fn has_counts(store: &Store<MemoryDisk>, accepted: u64, acknowledged: u64) -> bo
 
 // How many calls of the disk an opening makes.
 fn calls_of_opening(rt: &impl Abort, alloc: Global) -> u64 {
-    store_over(rt, alloc, b"* A\n", b"").close().calls()
+    store_over(rt, alloc, b"* A\n", b"").into_disk().calls()
 }

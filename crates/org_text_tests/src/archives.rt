@@ -2,7 +2,7 @@
 use crate::edits::titles;
 use org_disk::{FileName, NameFault};
 use org_move::{Location, MoveFault, location};
-use org_outline::{Outline, States, is_closed};
+use org_outline::{Outline, States, is_terminated};
 use std::alloc::Global;
 use std::process::Abort;
 
@@ -32,7 +32,7 @@ fn found(
     text: &[u8],
     path: &[&str],
 ) -> Result<Location, MoveFault> {
-    assert!(rt; is_closed(text));
+    assert!(rt; is_terminated(text));
     let alloc = rt.alloc();
     let name = named(alloc, name)?;
     let path = titles(alloc, path)?;

@@ -1,7 +1,7 @@
 // Clocks that are opened where another one may run, which no command leaves open: rows worked by hand from the rules of
 // clocking.
 use crate::edits::{edited, titles};
-use org_outline::{Outline, States, is_closed};
+use org_outline::{Outline, States, is_terminated};
 use org_stamp::Moment;
 use org_state::{StateFault, clock_in};
 use std::process::Abort;
@@ -29,7 +29,7 @@ fn opened(
     text: &[u8],
 ) -> Result<Vec<u8>, StateFault> {
     let alloc = rt.alloc();
-    assert!(rt; is_closed(text));
+    assert!(rt; is_terminated(text));
     let path = titles(alloc, &["A"])?;
     let outline = Outline::read(alloc, text, states)?;
     let now = Moment::new(2026, 7, 1, 10, 0).expect(rt, "a moment");

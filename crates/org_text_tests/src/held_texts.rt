@@ -4,7 +4,7 @@ ghost use Rattle.org_splice.specs.Edits.{AreEdits, CanApply};
 ghost use Rattle.org_texts.specs.Plan.{CanEdit, IsPlan};
 
 use org_disk::FileName;
-use org_outline::{Outline, States, is_closed};
+use org_outline::{Outline, States, is_terminated};
 use org_splice::{Bytes, Changes, Edit, Editing, Span};
 use org_texts::{FileEdits, Plan, Texts};
 use std::alloc::{AllocError, Global};
@@ -20,7 +20,7 @@ fn must<T>(rt: &impl Abort, given: Result<T, Fail>) -> T {
     }
 }
 
-// Makes an edit, if it can be made of the text and leaves a closed one.
+// Makes an edit, if it can be made of the text and leaves a terminated one.
 fn can_make(now: &mut Editing, edit: &Edit) -> Result<bool, AllocError>
     ensures { IfOk result (λ can. can ≡ true
         → AreEdits (edit.now ∷ []) now.old.text.bytes now.new.text.bytes) }
@@ -33,7 +33,7 @@ fn can_make(now: &mut Editing, edit: &Edit) -> Result<bool, AllocError>
         return Ok(false);
     }
     now.apply(edit)?;
-    Ok(is_closed(now.bytes()))
+    Ok(is_terminated(now.bytes()))
 }
 
 // Whether the edits can be made of a text, one after another.
@@ -257,7 +257,7 @@ fn second_subtree(alloc: Global, texts: &Texts) -> Result<Span, Fail> {
 }
 
 #[test]
-fn a_text_is_closed_and_its_headings_follow(rt: HostRuntime) {
+fn a_text_is_terminated_and_its_headings_follow(rt: HostRuntime) {
     let mut texts = Texts::new(rt.alloc());
     must(
         &rt,
@@ -320,7 +320,7 @@ fn holds(alloc: Global, texts: &Texts, name: &str) -> Result<bool, Fail> {
     Ok(texts.get(&FileName::new(alloc, name)?).is_some())
 }
 
-// The first is closed as it is, and waits before the second, which gets a newline.
+// The first is terminated as it is, and waits before the second, which gets a newline.
 #[test]
 fn texts_wait_in_the_order_they_are_ready(rt: HostRuntime) {
     let mut texts = Texts::new(rt.alloc());

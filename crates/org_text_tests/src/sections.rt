@@ -1,13 +1,13 @@
 // Each public call once, on rows whose bytes the rules of sections, TODO changes and clocking fix.
 ghost use Rattle.std.specs.Prelude.{◌≡◌};
-ghost use Rattle.org_splice.specs.Lines.{closed};
+ghost use Rattle.org_splice.specs.Lines.{terminated};
 
 use crate::edits::edited;
 use org_meta::{
     ClockFault, PlanningFault, add_note, clear_closed, close_clock, find_open, open_clock,
     property, put_property, repeat_planning, sections, set_closed, total,
 };
-use org_outline::is_closed;
+use org_outline::is_terminated;
 use org_splice::Edit;
 use org_stamp::Moment;
 use std::alloc::Global;
@@ -40,7 +40,7 @@ fn moment(time: Time) -> Option<Moment> {
 
 /// The edit of a section, if there is one.
 fn edit_of(alloc: Global, section: &[u8], change: Change) -> Option<Edit>
-    requires { closed section.now ≡ section.now }
+    requires { terminated section.now ≡ section.now }
 {
     match change {
         Change::Put(name, value) => put_property(alloc, section, name, value).ok(),
@@ -57,7 +57,7 @@ fn edit_of(alloc: Global, section: &[u8], change: Change) -> Option<Edit>
 
 /// The section after its edit, if there is one.
 fn after(rt: &impl Abort, alloc: Global, section: &[u8], change: Change) -> Option<Vec<u8>> {
-    assert!(rt; is_closed(section));
+    assert!(rt; is_terminated(section));
     let edit = edit_of(alloc, section, change)?;
     Some(edited(rt, alloc, section, &edit))
 }
@@ -104,7 +104,7 @@ const PARTS: [(&[u8], &[u8], &[u8], &[u8]); 4] = [
 #[test]
 fn parts_of_sections(rt: HostRuntime) {
     for (i, (section, planning, drawer, rest)) in PARTS.iter().enumerate() {
-        assert!(rt; is_closed(section));
+        assert!(rt; is_terminated(section));
         let parts = sections(section);
         let are = parts.planning == *planning && parts.drawer == *drawer && parts.rest == *rest;
         assert!(rt; are, "row {i}");
@@ -115,7 +115,7 @@ fn parts_of_sections(rt: HostRuntime) {
 fn properties_read(rt: HostRuntime) {
     let section: &[u8] =
         b":PROPERTIES:\r\n :a: \n:CATEGORY:  home \r\n:category: b\n:END:\n:x: y\n";
-    assert!(rt; is_closed(section));
+    assert!(rt; is_terminated(section));
     assert!(rt; property(section, b"category") == Some(b"home"));
     assert!(rt; property(section, b"A") == Some(b""));
     assert!(rt; property(section, b"x").is_none());
@@ -181,7 +181,7 @@ fn entries_closed(rt: HostRuntime) {
 fn odd_planning_is_not_closed(rt: HostRuntime) {
     let now = moment((2026, 7, 1, 10, 0)).expect(&rt, "a moment");
     let odd: &[u8] = b"DEADLINE: soon\n";
-    assert!(rt; is_closed(odd));
+    assert!(rt; is_terminated(odd));
     let fault = set_closed(rt.alloc(), odd, now).err();
     assert!(rt; fault == Some(PlanningFault::OddPlanning));
 }
@@ -240,7 +240,7 @@ const UNREPEATABLE: [(&[u8], PlanningFault); 3] = [
 fn plans_refused(rt: HostRuntime) {
     let now = moment((2026, 7, 1, 10, 0)).expect(&rt, "a moment");
     for (i, (section, expected)) in UNREPEATABLE.iter().enumerate() {
-        assert!(rt; is_closed(section));
+        assert!(rt; is_terminated(section));
         let fault = repeat_planning(rt.alloc(), section, now).err();
         assert!(rt; fault == Some(*expected), "row {i}");
     }
@@ -295,7 +295,7 @@ fn clocks_closed(rt: HostRuntime) {
 
 /// Why the open clock isn't closed at this moment.
 fn closing_fault(alloc: Global, section: &[u8], now: Moment) -> Option<ClockFault>
-    requires { closed section.now ≡ section.now }
+    requires { terminated section.now ≡ section.now }
 {
     close_clock(alloc, section, find_open(section)?, now).err()
 }
@@ -304,7 +304,7 @@ fn closing_fault(alloc: Global, section: &[u8], now: Moment) -> Option<ClockFaul
 fn clocks_not_closed_before_their_start(rt: HostRuntime) {
     let early = moment((2026, 7, 1, 9, 59)).expect(&rt, "a moment");
     for (i, (section, _)) in CLOSED.iter().enumerate() {
-        assert!(rt; is_closed(section));
+        assert!(rt; is_terminated(section));
         let fault = closing_fault(rt.alloc(), section, early);
         assert!(rt; fault == Some(ClockFault::ClockBackwards), "row {i}");
     }
@@ -331,7 +331,7 @@ const TOTALS: [(&[u8], u64); 4] = [
 #[test]
 fn minutes_clocked(rt: HostRuntime) {
     for (i, (section, minutes)) in TOTALS.iter().enumerate() {
-        assert!(rt; is_closed(section));
+        assert!(rt; is_terminated(section));
         assert!(rt; total(section) == *minutes, "row {i}");
     }
 }

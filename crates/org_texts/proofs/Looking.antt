@@ -8,14 +8,14 @@ use Rattle.std.proofs.lemmas.Bool.{cases_Bool}
 use Rattle.std.proofs.lemmas.Map.Made.{lookup-map_values}
 use Rattle.std.proofs.lemmas.Slice.Eq.{bytes_eq-Decides}
 use Rattle.org_splice.specs.Edits.{applied_each, CanApply}
-use Rattle.org_splice.specs.Lines.{closed}
-use Rattle.org_splice.specs.Texts.{EditedText, closed_text, settled, spliced_each}
+use Rattle.org_splice.specs.Lines.{terminated}
+use Rattle.org_splice.specs.Texts.{EditedText, terminated_text, settled, spliced_each}
 use Rattle.org_splice.proofs.Applying.{spliced_each-bytes}
 use Rattle.org_texts.specs.declared.plan.FileEdits.{FileEdits}
-use Rattle.org_texts.specs.Files.{files_closed, files_with}
+use Rattle.org_texts.specs.Files.{files_terminated, files_with}
 use Rattle.org_texts.specs.Plan.{CanEdit, with_edits}
-use Rattle.org_texts.specs.Texts.{TextSet, bytes_or, closed_in, held_over, settled_set, text_of, with_change, with_text}
-use Rattle.org_texts.proofs.Heads.{closed_text-bytes}
+use Rattle.org_texts.specs.Texts.{TextSet, bytes_or, terminated_in, held_over, settled_set, text_of, with_change, with_text}
+use Rattle.org_texts.proofs.Heads.{terminated_text-bytes}
 
 pub not_equal : (a b : List ℕ) → (a ≡ b → ⊥) → bytes_eq a b ≡ false
 not_equal a b apart = elim (cases_Bool (bytes_eq a b)) [
@@ -74,23 +74,23 @@ held_over-edits change set can files name = elim (cases_Bool (bytes_eq change.fi
       rw f (ap (bytes_or (files name)) (change_other change.file name (spliced_each change.edits.items) set.texts apart))
 ]
 
-pub held_over-closed : (own : List ℕ) (set : TextSet) → IsSome (text_of set own) → (files : List ℕ → List ℕ) (name : List ℕ)
-    → held_over (closed_in own set) files name ≡ files_closed own (held_over set files) name
-held_over-closed own set some files name = elim (cases_Bool (bytes_eq own name)) [
+pub held_over-terminated : (own : List ℕ) (set : TextSet) → IsSome (text_of set own) → (files : List ℕ → List ℕ) (name : List ℕ)
+    → held_over (terminated_in own set) files name ≡ files_terminated own (held_over set files) name
+held_over-terminated own set some files name = elim (cases_Bool (bytes_eq own name)) [
   | inl t ↦
       let same : own ≡ name = (bytes_eq-Decides own name).0 t in
-      let new : text_of (closed_in own set) own ≡ option_map closed_text (text_of set own) = change_this own closed_text set.texts in
-      let made : bytes_or (files own) (text_of (closed_in own set) own) ≡ closed (bytes_or (files own) (text_of set own)) =
+      let new : text_of (terminated_in own set) own ≡ option_map terminated_text (text_of set own) = change_this own terminated_text set.texts in
+      let made : bytes_or (files own) (text_of (terminated_in own set) own) ≡ terminated (bytes_or (files own) (text_of set own)) =
       ap (bytes_or (files own)) new ∙ of_some (text_of set own) some in
-      rw t (subst (λ (n : List ℕ). bytes_or (files n) (text_of (closed_in own set) n) ≡ closed (bytes_or (files n) (text_of set n))) same made)
+      rw t (subst (λ (n : List ℕ). bytes_or (files n) (text_of (terminated_in own set) n) ≡ terminated (bytes_or (files n) (text_of set n))) same made)
   | inr f ↦
       let apart : own ≡ name → ⊥ = λ same. let yes : true ≡ false = sym ((bytes_eq-Decides own name).1 same) ∙ f in absurd (cc) in
-      rw f (ap (bytes_or (files name)) (change_other own name closed_text set.texts apart))
+      rw f (ap (bytes_or (files name)) (change_other own name terminated_text set.texts apart))
 ]
   where
-    of_some : (o : Option EditedText) → IsSome o → bytes_or (files own) (option_map closed_text o) ≡ closed (bytes_or (files own) o)
+    of_some : (o : Option EditedText) → IsSome o → bytes_or (files own) (option_map terminated_text o) ≡ terminated (bytes_or (files own) o)
     of_some None is = absurd (let no : false ≡ true = is in cc)
-    of_some (Some x) is = closed_text-bytes x
+    of_some (Some x) is = terminated_text-bytes x
 
 -- a file that is held as it is
 pub held_over-held : (own : List ℕ) (files : List ℕ → List ℕ) (set : TextSet) (name : List ℕ) → held_over (with_text own (files own) set) files name ≡ held_over set files name

@@ -10,16 +10,16 @@ use Rattle.std.proofs.lemmas.List.{map-append}
 use Rattle.std.proofs.lemmas.Map.Made.{is_some-lookup}
 use Rattle.std.proofs.lemmas.Slice.Eq.{bytes_eq-Decides}
 use Rattle.org_splice.specs.Edits.{CanApply}
-use Rattle.org_splice.specs.Lines.{is_closed}
+use Rattle.org_splice.specs.Lines.{is_terminated}
 use Rattle.org_splice.specs.Ranges.{AreChanged}
-use Rattle.org_splice.specs.Texts.{EditedText, IsEditOf, closed_text, settled, spliced_each}
+use Rattle.org_splice.specs.Texts.{EditedText, IsEditOf, terminated_text, settled, spliced_each}
 use Rattle.org_splice.proofs.Applying.{AreChanged-spliced, IsEditOf-spliced_each}
 use Rattle.org_splice.proofs.Edited.{IsEditOf-spliced}
 use Rattle.org_texts.specs.declared.plan.FileEdits.{FileEdits}
 use Rattle.org_texts.specs.Files.{IsTextOf, StandOver, waits}
 use Rattle.org_texts.specs.Inside.{AreAmong}
 use Rattle.org_texts.specs.Plan.{CanEdit, with_edits}
-use Rattle.org_texts.specs.Texts.{TextSet, closed_in, settled_set, text_of, with_name, with_text}
+use Rattle.org_texts.specs.Texts.{TextSet, terminated_in, settled_set, text_of, with_name, with_text}
 use Rattle.org_texts.proofs.Looking.{change_names, change_other, change_this, text_of-settled}
 use Rattle.org_texts.proofs.Names.{among_more, among_name, any_more, some_of}
 
@@ -123,38 +123,38 @@ StandOver-settled files set written = record {
   held = tt;
 }
 
--- a text is closed
-closed_one : (file : List ℕ) (text : EditedText) → AreChanged (length text.bytes) text.changed → IsEditOf file text → IsEditOf file (closed_text text) × AreChanged (length (closed_text text).bytes) (closed_text text).changed
-closed_one file text are edit = elim (cases_Bool (is_closed text.bytes)) [
+-- a text is terminated
+terminated_one : (file : List ℕ) (text : EditedText) → AreChanged (length text.bytes) text.changed → IsEditOf file text → IsEditOf file (terminated_text text) × AreChanged (length (terminated_text text).bytes) (terminated_text text).changed
+terminated_one file text are edit = elim (cases_Bool (is_terminated text.bytes)) [
   | inl t ↦ rw t (edit, are)
   | inr f ↦
       let within : length text.bytes + 0 ≤ length text.bytes = omega arith in
       rw f (IsEditOf-spliced file (length text.bytes) 0 (10 ∷ []) text within are edit, AreChanged-spliced (length text.bytes) 0 (10 ∷ []) text within are)
 ]
 
-pub StandOver-closed : (own : List ℕ) (files : List ℕ → List ℕ) (set : TextSet) → IsSome (text_of set own) → StandOver files set → StandOver files (closed_in own set)
-StandOver-closed own files set some stand = record {
+pub StandOver-terminated : (own : List ℕ) (files : List ℕ → List ℕ) (set : TextSet) → IsSome (text_of set own) → StandOver files set → StandOver files (terminated_in own set)
+StandOver-terminated own files set some stand = record {
   each = λ name text at. elim (cases_Bool (bytes_eq own name)) [
     | inl t ↦
         let same : own ≡ name = (bytes_eq-Decides own name).0 t in
-        let at_own : text_of (closed_in own set) own ≡ Some text = subst (λ (n : List ℕ). text_of (closed_in own set) n ≡ Some text) (sym same) at in
-        let old = the_old closed_text (text_of set own) text (sym (change_this own closed_text set.texts) ∙ at_own) in
+        let at_own : text_of (terminated_in own set) own ≡ Some text = subst (λ (n : List ℕ). text_of (terminated_in own set) n ≡ Some text) (sym same) at in
+        let old = the_old terminated_text (text_of set own) text (sym (change_this own terminated_text set.texts) ∙ at_own) in
         let was = stand.each own old.0 old.1 in
-        let made = closed_one (files own) old.0 was.ranges was.edit in
-        let is : IsTextOf (files own) (waits (closed_in own set) own) (closed_text old.0) = record {
+        let made = terminated_one (files own) old.0 was.ranges was.edit in
+        let is : IsTextOf (files own) (waits (terminated_in own set) own) (terminated_text old.0) = record {
           edit = made.0;
           ranges = made.1;
           same = λ none. let no : true ≡ false = sym (marked own set.waiting) ∙ none in absurd (cc);
         } in
-        subst (λ (n : List ℕ). IsTextOf (files n) (waits (closed_in own set) n) text) same
-        (subst (IsTextOf (files own) (waits (closed_in own set) own)) (sym old.2) is)
+        subst (λ (n : List ℕ). IsTextOf (files n) (waits (terminated_in own set) n) text) same
+        (subst (IsTextOf (files own) (waits (terminated_in own set) own)) (sym old.2) is)
     | inr f ↦
         let apart : own ≡ name → ⊥ = λ same. let yes : true ≡ false = sym ((bytes_eq-Decides own name).1 same) ∙ f in absurd (cc) in
-        let was = stand.each name text (sym (change_other own name closed_text set.texts apart) ∙ at) in
+        let was = stand.each name text (sym (change_other own name terminated_text set.texts apart) ∙ at) in
         record { edit = was.edit; ranges = was.ranges; same = λ none. was.same (not_marked own name set.waiting none) }
   ];
   held =
-      subst (λ (l : List (List ℕ)). AreAmong l (with_name own set.waiting)) (sym (change_names own closed_text set.texts))
+      subst (λ (l : List (List ℕ)). AreAmong l (with_name own set.waiting)) (sym (change_names own terminated_text set.texts))
       (among_name (keys_of set.texts) set.waiting own stand.held (held_name set own some));
 }
 

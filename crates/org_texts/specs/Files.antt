@@ -4,7 +4,7 @@ use Rattle.std.specs.List.{list_any}
 use Rattle.std.specs.Map.{keys_of}
 use Rattle.std.specs.Str.{bytes_eq}
 use Rattle.org_splice.specs.Edits.{applied_each}
-use Rattle.org_splice.specs.Lines.{closed}
+use Rattle.org_splice.specs.Lines.{terminated}
 use Rattle.org_splice.specs.Ranges.{AreChanged}
 use Rattle.org_splice.specs.Texts.{EditedText, IsEditOf}
 use Rattle.org_texts.specs.declared.plan.FileEdits.{FileEdits}
@@ -40,6 +40,6 @@ files_with_second (Some change) files = files_with change files
 abbrev pub files_planned : Plan → (List ℕ → List ℕ) → List ℕ → List ℕ
 files_planned plan files = files_with_second plan.second (files_with plan.first files)
 
--- the files with this one closed
-abbrev pub files_closed : List ℕ → (List ℕ → List ℕ) → List ℕ → List ℕ
-files_closed own files name = if bytes_eq own name then closed (files name) else files name
+-- the files with this one terminated
+abbrev pub files_terminated : List ℕ → (List ℕ → List ℕ) → List ℕ → List ℕ
+files_terminated own files name = if bytes_eq own name then terminated (files name) else files name

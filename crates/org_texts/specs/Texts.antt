@@ -3,7 +3,7 @@ use Rattle.std.specs.Prelude.{ℕ, Bool, Option, Some, None, List, [], ◌∷◌
 use Rattle.std.specs.List.{list_any}
 use Rattle.std.specs.Map.{lookup}
 use Rattle.std.specs.Str.{bytes_eq}
-use Rattle.org_splice.specs.Texts.{EditedText, closed_text, settled}
+use Rattle.org_splice.specs.Texts.{EditedText, terminated_text, settled}
 use Rattle.org_texts.specs.Held.{HeldText}
 
 -- Texts under the names of their files, each name once; and the names of those that wait for a commit, in the order of
@@ -47,10 +47,10 @@ with_change name change (e ∷ es) = if bytes_eq name e.0 then (e.0, change e.1)
 abbrev pub with_name : List ℕ → List (List ℕ) → List (List ℕ)
 with_name name names = if list_any (bytes_eq name) names then names else names ++ name ∷ []
 
--- the texts with the one of this name closed; a command touches it by that, and it waits
-abbrev pub closed_in : List ℕ → TextSet → TextSet
-closed_in name set = record {
-  texts = with_change name closed_text set.texts;
+-- the texts with the one of this name terminated; a command touches it by that, and it waits
+abbrev pub terminated_in : List ℕ → TextSet → TextSet
+terminated_in name set = record {
+  texts = with_change name terminated_text set.texts;
   waiting = with_name name set.waiting;
 }
 

@@ -1,8 +1,8 @@
 //! The text of one file, edited in place, with its headings.
 ghost use Rattle.std.specs.Prelude.{◌≡◌, ◌+◌, ◌≤◌, false, true, is_some, length, IfSome, OnOk};
 ghost use Rattle.org_splice.specs.Edits.{CanApply, applied};
-ghost use Rattle.org_splice.specs.Lines.{closed};
-ghost use Rattle.org_splice.specs.Texts.{closed_text, settled, spliced, spliced_each};
+ghost use Rattle.org_splice.specs.Lines.{terminated};
+ghost use Rattle.org_splice.specs.Texts.{terminated_text, settled, spliced, spliced_each};
 ghost use Rattle.org_outline.specs.Outline.{headings_of};
 
 use org_outline::Heads;
@@ -59,28 +59,29 @@ impl Held {
         &self.text
     }
 
-    /// The headings of the text, where they are held; the text is closed then.
+    /// The headings of the text, where they are held; the text is terminated then.
     pub fn heads(&self) -> Option<&Heads>
         ensures ready { is_some result ≡ self.now.ready }
         ensures heads { IfSome result (λ heads. heads.now ≡ headings_of self.now.text.bytes) }
-        ensures shut { IfSome result (λ heads. closed self.now.text.bytes ≡ self.now.text.bytes) }
+        ensures shut { IfSome result
+            (λ heads. terminated self.now.text.bytes ≡ self.now.text.bytes) }
     {
         self.heads.as_ref()
     }
 
     /// Makes the text ready for a command: a last line without a newline gets one, and the headings are read where they
-    /// aren't held. `AllocError` comes where there is no memory; the text may be closed then.
+    /// aren't held. `AllocError` comes where there is no memory; the text may be terminated then.
     pub fn make_ready(&mut self, alloc: Global) -> Result<(), AllocError>
         ensures ok { OnOk result
             (self.new
             ≡ record
-            { text = closed_text self.old.text; before = self.old.before; ready = true }) }
+            { text = terminated_text self.old.text; before = self.old.before; ready = true }) }
         ensures before { self.new.before ≡ self.old.before }
     {
         if self.heads.is_some() {
             return Ok(());
         }
-        self.text.close_line()?;
+        self.text.terminate()?;
         let heads = Heads::read(alloc, self.text.bytes())?;
         self.heads = Some(heads);
         Ok(())
@@ -102,7 +103,7 @@ impl Held {
     // Makes one edit. Where it is made and the headings find no memory, they are let go.
     fn apply_one(&mut self, edit: &Edit) -> Result<(), AllocError>
         requires within { edit.now.at + edit.now.removed ≤ length self.old.text.bytes }
-        requires shut { closed (applied edit.now self.old.text.bytes)
+        requires shut { terminated (applied edit.now self.old.text.bytes)
             ≡ applied edit.now self.old.text.bytes }
         ensures text { OnOk result
             (self.new.text ≡ spliced edit.now.at edit.now.removed edit.now.bytes self.old.text) }

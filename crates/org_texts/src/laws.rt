@@ -3,9 +3,9 @@
 ghost use Rattle.std.specs.Prelude.{◌≡◌, ◌≢◌, ℕ, List, Some, None, IsSome};
 ghost use Rattle.org_splice.specs.Texts.{EditedText};
 ghost use Rattle.org_texts.specs.declared.plan.FileEdits.{FileEdits};
-ghost use Rattle.org_texts.specs.Files.{StandOver, files_closed, files_with};
+ghost use Rattle.org_texts.specs.Files.{StandOver, files_terminated, files_with};
 ghost use Rattle.org_texts.specs.Plan.{CanEdit, with_edits};
-ghost use Rattle.org_texts.specs.Texts.{TextSet, closed_in, held_over, settled_set, text_of, with_text};
+ghost use Rattle.org_texts.specs.Texts.{TextSet, terminated_in, held_over, settled_set, text_of, with_text};
 
 /// Edits of a text are edits of its file, and the texts stay made of their files.
 pub fn edits_are_of_files()
@@ -23,13 +23,14 @@ pub fn plans_of_two_files()
         → first.file ≢ second.file → CanEdit second (with_edits first set) }
 {}
 
-/// A text that is made ready is its file, closed, and the texts stay made of their files.
-pub fn ready_texts_are_closed()
+/// A text that is made ready is its file, terminated, and the texts stay made of their files.
+pub fn ready_texts_are_terminated()
     ensures over { (own : List ℕ) (set : TextSet) → IsSome (text_of set own)
         → (files : List ℕ → List ℕ) (name : List ℕ)
-        → held_over (closed_in own set) files name ≡ files_closed own (held_over set files) name }
+        → held_over (terminated_in own set) files name
+        ≡ files_terminated own (held_over set files) name }
     ensures stand { (own : List ℕ) (files : List ℕ → List ℕ) (set : TextSet)
-        → IsSome (text_of set own) → StandOver files set → StandOver files (closed_in own set) }
+        → IsSome (text_of set own) → StandOver files set → StandOver files (terminated_in own set) }
 {}
 
 /// A file that is held as it is stays as it is, and the texts stay made of their files.

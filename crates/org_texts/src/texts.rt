@@ -5,10 +5,10 @@ ghost use Rattle.std.specs.Map.{keys_of, lookup, set_value};
 ghost use Rattle.std.specs.Option.{option_map};
 ghost use Rattle.std.specs.Str.{bytes_eq};
 ghost use Rattle.org_splice.specs.Edits.{CanApply};
-ghost use Rattle.org_splice.specs.Texts.{closed_text, settled, spliced_each};
+ghost use Rattle.org_splice.specs.Texts.{terminated_text, settled, spliced_each};
 ghost use Rattle.org_texts.specs.Inside.{IsHolding};
 ghost use Rattle.org_texts.specs.Plan.{CanEdit, IsPlan, planned, with_edits};
-ghost use Rattle.org_texts.specs.Texts.{before_of, closed_in, nothing_held, now_of, on_disk, pairs, ready_of, settled_set, text_of, with_change, with_name, with_text};
+ghost use Rattle.org_texts.specs.Texts.{before_of, terminated_in, nothing_held, now_of, on_disk, pairs, ready_of, settled_set, text_of, with_change, with_name, with_text};
 
 use crate::held::Held;
 use crate::plan::{FileEdits, Plan};
@@ -91,7 +91,7 @@ impl Texts {
     /// texts wait in the order in which a command makes them ready. `AllocError` takes all edits of the command back.
     pub fn make_ready(&mut self, name: &FileName) -> Result<(), AllocError>
         requires { IsSome (text_of self.old.now name.now) }
-        ensures now { OnOk result (self.new.now ≡ closed_in name.now self.old.now) }
+        ensures now { OnOk result (self.new.now ≡ terminated_in name.now self.old.now) }
         ensures ready { OnOk result
             (self.new.ready ≡ with_change name.now (λ _. true) self.old.ready) }
         ensures before { self.new.before ≡ self.old.before }
@@ -107,7 +107,7 @@ impl Texts {
     // `make_ready` as far as there is memory.
     fn close(&mut self, name: &FileName) -> Result<(), AllocError>
         requires { IsSome (text_of self.old.now name.now) }
-        ensures now { OnOk result (self.new.now ≡ closed_in name.now self.old.now) }
+        ensures now { OnOk result (self.new.now ≡ terminated_in name.now self.old.now) }
         ensures ready { OnOk result
             (self.new.ready ≡ with_change name.now (λ _. true) self.old.ready) }
         ensures before { self.new.before ≡ self.old.before }
@@ -236,7 +236,7 @@ fn ready_at(held: &mut IndexMap<FileName, Held>, name: &FileName) -> Result<(), 
     requires { IsSome (lookup (bytes_eq name.now) (map now_of held.old.entries)) }
     ensures now { OnOk result
         (map now_of held.new.entries
-        ≡ with_change name.now closed_text (map now_of held.old.entries)) }
+        ≡ with_change name.now terminated_text (map now_of held.old.entries)) }
     ensures ready { OnOk result
         (map ready_of held.new.entries
         ≡ with_change name.now (λ _. true) (map ready_of held.old.entries)) }

@@ -19,7 +19,7 @@ files_of world disk = files world (record_of disk)
 abbrev pub moment_of : {R S A B F : Type 0} → CallsDisk (SystemCalls R S A B) F → ℕ
 moment_of disk = length (record_of disk)
 
--- what a stop since the call of this number might have left
+-- what a crash since the call of this number might have left
 abbrev pub left_of : {R S A B F : Type 0} → World → CallsDisk (SystemCalls R S A B) F → ℕ → (List ℕ → List ℕ) → Type 0
 left_of world disk = LeftSince world (record_of disk)
 

@@ -2,10 +2,10 @@
 ghost use Rattle.std.specs.Prelude.{◌≡◌, ◌≢◌, ◌⊎◌, None, Ok, IfOk, IfErr, IsErr, All, []};
 ghost use Rattle.org_disk.specs.Disk.{AreImages, IsCounted};
 ghost use Rattle.org_disk.specs.Accounts.{Accounts, LeavesOver};
-ghost use Rattle.org_journal.specs.Standing.{IsFit, contents, stands};
+ghost use Rattle.org_journal.specs.Recovered.{IsRecoverable, contents, recovered};
 ghost use Rattle.org_disk.specs.Names.{IsOrgFile};
 ghost use Rattle.org_fileset.specs.Opening.{IsReason};
-ghost use Rattle.org_fileset.specs.Recovery.{EachStands, StandsAsBefore};
+ghost use Rattle.org_fileset.specs.Recovery.{EachRecovers, RecoversAsBefore};
 ghost use Rattle.org_folder.specs.FolderDisk.{record_of};
 ghost use Rattle.org_serve.specs.Counts.{HasRisenBy};
 ghost use Rattle.org_store.specs.Group.{IsGroup};
@@ -29,20 +29,20 @@ const TURNS: u64 = 4_294_967_295;
 /// and is empty at first, where the files are those of `S`. What is said of a step is said where each answer in the
 /// record was right up to the end of that step (`is_right`): a wrong one later takes nothing from it.
 ///
-/// Where the input was read to its end, what was written is the transcript of its lines; where a read failed, that of the
-/// complete lines before it; and up to each store on the way, that of the lines so far. An opening brings to an end what a
-/// stop had cut short, and leaves a journal whose gate is closed as it is. If the folder was fit at first, and each image of
-/// it stood for files, each image that a stop might have left, at any moment since this began up to a store on the way,
-/// stands for what the folder stood for, or for the files after one prefix of the commands accepted by then; since an
-/// earlier store on the way, for one that has all commands that were acknowledged there; and after an end with `End` for
-/// all of them. The folder is left as one of which all this can be said again.
+/// Where the input was read to its end, what was written is the transcript of its lines; where a read failed, that of
+/// the complete lines before it; and up to each store on the way, that of the lines so far. An opening brings to an end
+/// what a crash had cut short, and leaves a journal whose gate is closed as it is. If the folder was recoverable at
+/// first, and each image of it recovered to files, each image that a crash might have left, at any moment since this
+/// began up to a store on the way, recovers to what the folder recovered to, or to the files after one prefix of the
+/// commands accepted by then; since an earlier store on the way, for one that has all commands that were acknowledged
+/// there; and after an end with `End` for all of them. The folder is left as one of which all this can be said again.
 ///
-/// The store's own files are synced before it is opened: its journal, the files of its names, and their archive files. So
-/// only the other files of the folder have to be on the device at first. Where they are, what another program had written
-/// and not synced may be lost by a stop before the syncs end: then it leaves one of the images of the folder as it was
-/// found. What it leaves later stands for what the files read as when this began, or for the files after one prefix of the
-/// commands, as above. Where the journal is bad, as it reads, a stop leaves one of the images of the folder as it was found,
-/// whatever fault is told.
+/// The store's own files are synced before it is opened: its journal, the files of its names, and their archive files.
+/// So only the other files of the folder have to be on the device at first. Where they are, what another program had
+/// written and not synced may be lost by a crash before the syncs end: then it leaves one of the images of the folder
+/// as it was found. What it leaves later recovers to what the files read as when this began, or to the files after one
+/// prefix of the commands, as above. Where the journal is bad, as it reads, a crash leaves one of the images of the
+/// folder as it was found, whatever fault is told.
 ///
 /// An opening is refused for its reason alone, and then nothing is read or written. It ends with Read or Write for a cause
 /// alone: one failed call of the reader or the writer, which is always told so, or 4,294,967,295 reads; with Device, or an
@@ -63,26 +63,29 @@ where
         (is_right S.world) (files_of S.world) moment_of (left_of S.world) setup.states setup.group
         setup.names.items disk result.disk end (R.left reader.old) (R.left reader.new)
         (W.written writer.old) (W.written writer.new))
-        × (IsFit (files_of S.world disk) → EachStands (files_of S.world disk)
+        × (IsRecoverable (files_of S.world disk) → EachRecovers (files_of S.world disk)
         → Lasts served)
         × (OutsideStable setup.names.items (files_of S.world disk)
         → LastsFrom (IsAsFound (files_of S.world disk)) served)) }
-    ensures unopened { is_right S.world result.disk → IsFit (files_of S.world disk)
-        → EachStands (files_of S.world disk) → IfErr result.end (λ _. LeavesOver moment_of
-        (left_of S.world) disk result.disk (StandsAsBefore (files_of S.world disk))) }
+    ensures unopened { is_right S.world result.disk → IsRecoverable (files_of S.world disk)
+        → EachRecovers (files_of S.world disk) → IfErr result.end (λ _. LeavesOver moment_of
+        (left_of S.world) disk result.disk (RecoversAsBefore (files_of S.world disk))) }
     ensures unopened_as_found { is_right S.world result.disk
         → OutsideStable setup.names.items (files_of S.world disk) → IfErr result.end (λ _.
-        LeavesOver moment_of (left_of S.world) disk result.disk (IsAsFound (files_of S.world disk))) }
+        LeavesOver moment_of (left_of S.world) disk result.disk
+        (IsAsFound (files_of S.world disk))) }
     ensures unopened_bad { is_right S.world result.disk
-        → stands (contents (files_of S.world disk)) ≡ None
+        → recovered (contents (files_of S.world disk)) ≡ None
         → IsErr result.end × LeavesOver moment_of (left_of S.world) disk result.disk
         (AreImages (files_of S.world disk)) }
-    ensures fit { is_right S.world result.disk → IsFit (files_of S.world disk)
-        → EachStands (files_of S.world disk)
-        → IsFit (files_of S.world result.disk) × EachStands (files_of S.world result.disk) }
-    ensures fit_once_synced { is_right S.world result.disk
+    ensures recoverable { is_right S.world result.disk → IsRecoverable (files_of S.world disk)
+        → EachRecovers (files_of S.world disk)
+        → IsRecoverable (files_of S.world result.disk)
+        × EachRecovers (files_of S.world result.disk) }
+    ensures recoverable_once_synced { is_right S.world result.disk
         → OutsideStable setup.names.items (files_of S.world disk)
-        → (IsFit (files_of S.world result.disk) × EachStands (files_of S.world result.disk))
+        → (IsRecoverable (files_of S.world result.disk)
+        × EachRecovers (files_of S.world result.disk))
         ⊎ (IsErr result.end × OutsideStable setup.names.items (files_of S.world result.disk)) }
     ensures unserved { IfErr result.end (λ _. (reader.new ≡ reader.old)
         × (writer.new ≡ writer.old)) }

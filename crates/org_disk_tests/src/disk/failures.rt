@@ -85,7 +85,7 @@ fn blown_fuse(rt: HostRuntime) {
     }
 }
 
-// Whatever a stop leaves from then on, it holds what was written first.
+// Whatever a crash leaves from then on, it holds what was written first.
 fn write_sync_write<D: Disk>(
     disk: &mut D,
     name: &FileName,

@@ -1,7 +1,7 @@
-// Commits: whole, stopped and failing ones.
+// Commits: whole, crashed and failing ones.
 ghost use Rattle.std.specs.Prelude.{IfOk, OnOk};
 ghost use Rattle.org_disk.specs.Memory.{memory_files};
-ghost use Rattle.org_journal.specs.Standing.{contents};
+ghost use Rattle.org_journal.specs.Recovered.{contents};
 ghost use Rattle.org_fileset.specs.Set.{AreCommittable};
 
 use super::edited::Edited;
@@ -100,7 +100,7 @@ fn change(
         Ok(set) => {
             let mut set = set;
             let answer = must(rt, commit(alloc, &mut set, edits));
-            (set.close(), answer)
+            (set.into_disk(), answer)
         }
         Err(refused) => (refused.disk, Err(SetFault::Device)),
     }
@@ -172,7 +172,7 @@ fn an_old_record_is_ended_and_a_new_one_follows(rt: HostRuntime) {
     assert!(rt; matches!(held.journal.as_slice(), [0, _, _, _, _, 2, ..]));
 }
 
-// Whether the gate was opened for what the stop leaves, at the write of the gate and at the sync after it.
+// Whether the gate was opened for what the crash leaves, at the write of the gate and at the sync after it.
 fn is_gate_open(is_write: bool, outcome: Outcome) -> bool {
     match outcome {
         Outcome::All | Outcome::Fill(1) => true,
@@ -181,16 +181,16 @@ fn is_gate_open(is_write: bool, outcome: Outcome) -> bool {
     }
 }
 
-// Whether both files are changed after a stop at this call of a commit of both.
-fn stop_commit(rt: &impl Abort, alloc: Global, k: u64, outcome: Outcome, journal: &[u8]) -> bool {
+// Whether both files are changed after a crash at this call of a commit of both.
+fn crash_commit(rt: &impl Abort, alloc: Global, k: u64, outcome: Outcome, journal: &[u8]) -> bool {
     let mut disk = with_journal(rt, alloc, journal);
-    disk.stop_at(k, outcome);
+    disk.crash_at(k, outcome);
     let (disk, answer) = change(rt, alloc, disk, &BOTH);
-    assert!(rt; answer.is_err(), "it isn't stopped");
+    assert!(rt; answer.is_err(), "it isn't crashed");
     are_changed(rt, alloc, image_of(rt, alloc, &disk))
 }
 
-// Whether both files are changed after a stop at this call, the first of the commit being 1.
+// Whether both files are changed after a crash at this call, the first of the commit being 1.
 fn is_done(call: u64, outcome: Outcome) -> bool {
     // the body is written and synced, and then the gate
     match call {
@@ -202,14 +202,14 @@ fn is_done(call: u64, outcome: Outcome) -> bool {
 }
 
 #[test]
-fn a_stopped_commit_changes_both_files_or_none(rt: HostRuntime) {
+fn a_crashed_commit_changes_both_files_or_none(rt: HostRuntime) {
     let alloc = rt.alloc();
     let before = calls_before_commit(&rt, alloc, b"");
     for k in 1..=calls_with(&rt, alloc, &BOTH) {
         for outcome in OUTCOMES {
             let expected = is_done(k.saturating_sub(before), outcome);
-            let changed = stop_commit(&rt, alloc, k, outcome, b"");
-            assert!(rt; changed == expected, "stopped at call {k}");
+            let changed = crash_commit(&rt, alloc, k, outcome, b"");
+            assert!(rt; changed == expected, "crashed at call {k}");
         }
     }
 }
@@ -219,7 +219,7 @@ fn a_body_behind_a_short_journal_opens_nothing(rt: HostRuntime) {
     let alloc = rt.alloc();
     let before = calls_before_commit(&rt, alloc, &[1]);
     for outcome in OUTCOMES {
-        let changed = stop_commit(&rt, alloc, before.saturating_add(1), outcome, &[1]);
+        let changed = crash_commit(&rt, alloc, before.saturating_add(1), outcome, &[1]);
         assert!(rt; !changed);
     }
 }
@@ -246,7 +246,7 @@ fn a_failed_sync_of_the_gate_breaks_the_set(rt: HostRuntime) {
     let alloc = rt.alloc();
     let mut set = open(&rt, alloc, failing(&rt, alloc, 4));
     commit_failing(&rt, alloc, &mut set);
-    let disk = set.close();
+    let disk = set.into_disk();
     assert!(rt; are_changed(&rt, alloc, image_of(&rt, alloc, &disk)));
     assert!(rt; are_changed(&rt, alloc, disk));
 }

@@ -1,7 +1,7 @@
-// What opening a set finds, and how it ends a record that a stop left.
+// What opening a set finds, and how it ends a record that a crash left.
 use super::{
-    has_texts, held_in, holds, image_of, open, opened_disk, opened_over, opened_then_closed,
-    set_file, stopped, with_byte, with_journal, with_one,
+    crashed, has_texts, held_in, holds, image_of, open, opened_disk, opened_over,
+    opened_then_closed, set_file, with_byte, with_journal, with_one,
 };
 use crate::disk::must;
 use org_disk::{Disk, FileName, MemoryDisk, Outcome};
@@ -18,7 +18,7 @@ fn length_of(alloc: Global, disk: &mut MemoryDisk, name: &str) -> Result<u64, Fa
 #[test]
 fn opening_ends_a_record(rt: HostRuntime) {
     let alloc = rt.alloc();
-    let held = held_in(&rt, alloc, stopped(&rt, alloc, 1));
+    let held = held_in(&rt, alloc, crashed(&rt, alloc, 1));
     assert!(rt; has_texts(&held, b"* A\n", &TEXT));
 }
 
@@ -36,7 +36,7 @@ fn names_are_in_byte_order(rt: HostRuntime) {
 // The disk once a set over a.org alone was opened.
 fn opened_beside(rt: &impl Abort, alloc: Global, disk: MemoryDisk) -> MemoryDisk {
     match must(rt, opened_over(alloc, disk, &["a.org"])) {
-        Ok(set) => set.close(),
+        Ok(set) => set.into_disk(),
         Err(_) => panic!(rt; "not opened"),
     }
 }
@@ -50,8 +50,8 @@ fn inbox_beside(rt: &impl Abort, alloc: Global, disk: MemoryDisk) -> u64 {
 #[test]
 fn a_record_counts_for_other_files_too(rt: HostRuntime) {
     let alloc = rt.alloc();
-    assert!(rt; inbox_beside(&rt, alloc, stopped(&rt, alloc, 1)) == 16);
-    assert!(rt; inbox_beside(&rt, alloc, stopped(&rt, alloc, 0)) == 4);
+    assert!(rt; inbox_beside(&rt, alloc, crashed(&rt, alloc, 1)) == 16);
+    assert!(rt; inbox_beside(&rt, alloc, crashed(&rt, alloc, 0)) == 4);
 }
 
 #[test]
@@ -59,12 +59,13 @@ fn a_closed_record_is_left(rt: HostRuntime) {
     let alloc = rt.alloc();
     for gate in [0, 2, 0x55, 0xff] {
         let journal = with_one(&rt, alloc, &NEW, 0, gate);
-        let held = held_in(&rt, alloc, stopped(&rt, alloc, gate));
+        let held = held_in(&rt, alloc, crashed(&rt, alloc, gate));
         assert!(rt; holds(&held, &journal, b"* TO"), "gate {gate}");
     }
 }
 
-// Opens with a stop at the k-th call, and opens what is left: whether inbox.org has this text then.
+// Opens with a crash at the k-th call, and opens what is left: whether inbox.org has this text
+// then.
 fn has_opened_twice(
     rt: &impl Abort,
     alloc: Global,
@@ -72,26 +73,26 @@ fn has_opened_twice(
     (k, outcome): (u64, Outcome),
     text: &[u8],
 ) -> bool {
-    let mut disk = stopped(rt, alloc, gate);
-    disk.stop_at(k, outcome);
+    let mut disk = crashed(rt, alloc, gate);
+    disk.crash_at(k, outcome);
     let disk = opened_disk(rt, alloc, disk);
     let held = held_in(rt, alloc, image_of(rt, alloc, &disk));
     held.inbox.as_slice() == text
 }
 
-fn stop_opening(rt: &impl Abort, alloc: Global, gate: u8, text: &[u8]) {
+fn crash_opening(rt: &impl Abort, alloc: Global, gate: u8, text: &[u8]) {
     for k in 1..24u64 {
         for outcome in OUTCOMES {
             let has = has_opened_twice(rt, alloc, gate, (k, outcome), text);
-            assert!(rt; has, "stopped at call {k}");
+            assert!(rt; has, "crashed at call {k}");
         }
     }
 }
 
 #[test]
-fn a_stopped_opening_goes_on(rt: HostRuntime) {
-    stop_opening(&rt, rt.alloc(), 1, &TEXT);
-    stop_opening(&rt, rt.alloc(), 0x55, b"* TO");
+fn a_crashed_opening_goes_on(rt: HostRuntime) {
+    crash_opening(&rt, rt.alloc(), 1, &TEXT);
+    crash_opening(&rt, rt.alloc(), 0x55, b"* TO");
 }
 
 // The disk that is handed back where a journal of these bytes is bad, over a.org and an absent inbox.org.
@@ -161,9 +162,9 @@ fn make_large(alloc: Global, disk: &mut MemoryDisk, length: usize) -> Result<(),
     set_file(alloc, disk, "a.org", &text)
 }
 
-// What opening answers over an a.org of this length and what a stop left, and how long inbox.org is then.
+// What opening answers over an a.org of this length and what a crash left, and how long inbox.org is then.
 fn open_large(rt: &impl Abort, alloc: Global, length: usize) -> (Option<OpenFault>, u64) {
-    let mut disk = stopped(rt, alloc, 1);
+    let mut disk = crashed(rt, alloc, 1);
     must(rt, make_large(alloc, &mut disk, length));
     let (mut disk, fault) = opened_then_closed(rt, alloc, disk);
     let inbox = must(rt, length_of(alloc, &mut disk, "inbox.org"));
@@ -177,7 +178,7 @@ fn is_too_large(fault: &Option<OpenFault>, file: &str) -> bool {
     }
 }
 
-// What the stop had cut short is brought to an end, also where the opening is refused.
+// What the crash had cut short is brought to an end, also where the opening is refused.
 #[test]
 fn files_up_to_the_limit_are_taken(rt: HostRuntime) {
     let alloc = rt.alloc();
@@ -201,7 +202,7 @@ fn read_failing(rt: &impl Abort, set: &mut FileSet<MemoryDisk>, name: &FileName)
 fn a_failed_read_breaks_the_set(rt: HostRuntime) {
     let alloc = rt.alloc();
     let name = FileName::new(alloc, "a.org").expect(&rt, "a name");
-    let mut disk = opened_disk(&rt, alloc, stopped(&rt, alloc, 1));
+    let mut disk = opened_disk(&rt, alloc, crashed(&rt, alloc, 1));
     disk.fail_at(12);
     let mut set = open(&rt, alloc, disk);
     read_failing(&rt, &mut set, &name);

@@ -1,8 +1,8 @@
-// Archives over a disk that stops or fails: both files are as before, or both after.
+// Archives over a disk that crashes or fails: both files are as before, or both after.
+use super::crashes::{calls, crashed};
 use super::journals::gate_opened;
-use super::moves::{BOTH, Step, disk_of, fail_at_every_call, is_done, stop_at_every_call};
+use super::moves::{BOTH, Step, crash_at_every_call, disk_of, fail_at_every_call, is_done};
 use super::must;
-use super::stops::{calls, stopped};
 use org_disk::{MemoryDisk, Outcome};
 use std::alloc::Global;
 use std::test::Fail;
@@ -56,21 +56,21 @@ const TWO: Step = Step {
 };
 
 #[test]
-fn an_archive_stopped(rt: HostRuntime) -> Result<(), Fail> {
-    stop_at_every_call(&rt, 1, &TO_THE_ARCHIVE)?;
-    stop_at_every_call(&rt, 1, &TO_ANOTHER_FILE)
+fn an_archive_crashed(rt: HostRuntime) -> Result<(), Fail> {
+    crash_at_every_call(&rt, 1, &TO_THE_ARCHIVE)?;
+    crash_at_every_call(&rt, 1, &TO_ANOTHER_FILE)
 }
 
 #[test]
-fn an_archive_within_a_file_stopped(rt: HostRuntime) -> Result<(), Fail> {
-    stop_at_every_call(&rt, 1, &WITHIN)
+fn an_archive_within_a_file_crashed(rt: HostRuntime) -> Result<(), Fail> {
+    crash_at_every_call(&rt, 1, &WITHIN)
 }
 
 // Settled as a group, and at the end of the input.
 #[test]
-fn archives_in_a_group_stopped(rt: HostRuntime) -> Result<(), Fail> {
-    stop_at_every_call(&rt, 2, &TWO)?;
-    stop_at_every_call(&rt, 3, &TO_THE_ARCHIVE)
+fn archives_in_a_group_crashed(rt: HostRuntime) -> Result<(), Fail> {
+    crash_at_every_call(&rt, 2, &TWO)?;
+    crash_at_every_call(&rt, 3, &TO_THE_ARCHIVE)
 }
 
 // Both files are asked for their length and read, though the archive file isn't there; the record is written and synced,
@@ -80,25 +80,25 @@ const GATE: u64 = 7;
 // Behind the gate's sync the source's patch is written, and it is asked for its length and cut; then the archive file's.
 const ARCHIVE_FILE: u64 = 12;
 
-// What a stop at this call behind the opening leaves.
-fn stopped_behind(alloc: Global, call: u64, outcome: Outcome) -> Result<MemoryDisk, Fail> {
+// What a crash at this call behind the opening leaves.
+fn crashed_behind(alloc: Global, call: u64, outcome: Outcome) -> Result<MemoryDisk, Fail> {
     let step = &TO_THE_ARCHIVE;
     let opening = calls(alloc, disk_of(alloc, step)?, 1, b"")?;
     let call = opening.saturating_add(call);
-    let (_, left) = stopped(alloc, disk_of(alloc, step)?, 1, step.lines, call, outcome)?;
+    let (_, left) = crashed(alloc, disk_of(alloc, step)?, 1, step.lines, call, outcome)?;
     Ok(left)
 }
 
-fn is_done_stopped(alloc: Global, call: u64, outcome: Outcome) -> Result<bool, Fail> {
+fn is_done_crashed(alloc: Global, call: u64, outcome: Outcome) -> Result<bool, Fail> {
     is_done(
         alloc,
-        stopped_behind(alloc, call, outcome)?,
+        crashed_behind(alloc, call, outcome)?,
         &TO_THE_ARCHIVE,
     )
 }
 
 fn gate_left(alloc: Global) -> Result<u8, Fail> {
-    gate_opened(alloc, stopped_behind(alloc, GATE, Outcome::Fill(0x55))?)
+    gate_opened(alloc, crashed_behind(alloc, GATE, Outcome::Fill(0x55))?)
 }
 
 // A call, what of it goes out, and whether the archive is done then.
@@ -114,8 +114,8 @@ const AT_THE_GATE: [(u64, Outcome, bool); 6] = [
 #[test]
 fn the_gate_decides(rt: HostRuntime) {
     for (call, outcome, wanted) in AT_THE_GATE {
-        let done = must(&rt, is_done_stopped(rt.alloc(), call, outcome));
-        assert!(rt; done == wanted, "stopped at {call}");
+        let done = must(&rt, is_done_crashed(rt.alloc(), call, outcome));
+        assert!(rt; done == wanted, "crashed at {call}");
     }
 }
 

@@ -1,5 +1,5 @@
 // A clock that starts, stops or goes from one file to another over a disk that stops or fails.
-use super::moves::{BOTH, Step, fail_at_every_call, stop_at_every_call};
+use super::moves::{BOTH, Step, crash_at_every_call, fail_at_every_call};
 use std::test::Fail;
 
 // The clock that is closed stands in the file that comes later by its name, and neither file ends in a newline.
@@ -35,19 +35,19 @@ const IN_AND_OUT: Step = Step {
 };
 
 #[test]
-fn a_clock_that_goes_to_another_file_stopped(rt: HostRuntime) -> Result<(), Fail> {
-    stop_at_every_call(&rt, 1, &ELSEWHERE)
+fn a_clock_that_goes_to_another_file_crashed(rt: HostRuntime) -> Result<(), Fail> {
+    crash_at_every_call(&rt, 1, &ELSEWHERE)
 }
 
 #[test]
-fn clocks_in_a_group_stopped(rt: HostRuntime) -> Result<(), Fail> {
-    stop_at_every_call(&rt, 2, &IN_AND_OUT)?;
-    stop_at_every_call(&rt, 3, &ELSEWHERE)
+fn clocks_in_a_group_crashed(rt: HostRuntime) -> Result<(), Fail> {
+    crash_at_every_call(&rt, 2, &IN_AND_OUT)?;
+    crash_at_every_call(&rt, 3, &ELSEWHERE)
 }
 
 #[test]
-fn a_clock_that_stops_stopped(rt: HostRuntime) -> Result<(), Fail> {
-    stop_at_every_call(&rt, 1, &OUT)
+fn a_clock_that_stops_crashed(rt: HostRuntime) -> Result<(), Fail> {
+    crash_at_every_call(&rt, 1, &OUT)
 }
 
 // The files up to that of the clock that runs, three, are asked for their length and read. Of the two that change each is

@@ -1,7 +1,7 @@
 // Calls of the disk that fail.
 ghost use Rattle.org_serve.specs.Group.{IsGroup};
 
-use super::stops::{CAPTURE, calls_over_files, files, image, is_prefix, prefix_in, prefix_left};
+use super::crashes::{CAPTURE, calls_over_files, files, image, is_prefix, prefix_in, prefix_left};
 use super::{Ended, must, run};
 use org_disk::{MemoryDisk, Outcome};
 use org_fixtures::OUTCOMES;

@@ -1,8 +1,8 @@
 // Groups of commands that are settled together.
 ghost use Rattle.org_serve.specs.Group.{IsGroup};
 
+use super::crashes::{CAPTURES, calls, prefix_left};
 use super::pipes::{Page, in_pieces, pipe};
-use super::stops::{CAPTURES, calls, prefix_left};
 use super::{is_answered, must};
 use org_disk::MemoryDisk;
 use org_fixtures::{OUTCOMES, two_files};

@@ -1,5 +1,7 @@
-// Journals that a stop or an older program left.
-use super::stops::{CAPTURE, calls_of_opening, files, image, prefix_in, stopped, stopped_opening};
+// Journals that a crash or an older program left.
+use super::crashes::{
+    CAPTURE, calls_of_opening, crashed, crashed_opening, files, image, prefix_in,
+};
 use super::{Ended, is_answered, must, run};
 use org_disk::{FileName, MemoryDisk, Outcome};
 use org_fixtures::{OLD, OUTCOMES, bytes_of};
@@ -13,21 +15,21 @@ const RECORD: u64 = 3;
 
 const GATE: u64 = 5;
 
-// What a stop at this call behind the opening leaves, in a capture over the disk.
-fn stopped_behind(
+// What a crash at this call behind the opening leaves, in a capture over the disk.
+fn crashed_behind(
     alloc: Global,
     disk: &MemoryDisk,
     call: u64,
     outcome: Outcome,
 ) -> Result<MemoryDisk, Fail> {
     let call = calls_of_opening(alloc, disk)?.saturating_add(call);
-    let (_, left) = stopped(alloc, image(alloc, disk)?, 1, CAPTURE, call, outcome)?;
+    let (_, left) = crashed(alloc, image(alloc, disk)?, 1, CAPTURE, call, outcome)?;
     Ok(left)
 }
 
-// What a stop at the write that opens the gate leaves.
-fn stopped_at_gate(alloc: Global, outcome: Outcome) -> Result<MemoryDisk, Fail> {
-    stopped_behind(alloc, &files(alloc)?, GATE, outcome)
+// What a crash at the write that opens the gate leaves.
+fn crashed_at_gate(alloc: Global, outcome: Outcome) -> Result<MemoryDisk, Fail> {
+    crashed_behind(alloc, &files(alloc)?, GATE, outcome)
 }
 
 fn journal_of(alloc: Global, disk: MemoryDisk) -> Result<Vec<u8>, Fail> {
@@ -44,9 +46,9 @@ fn gate_of(alloc: Global, disk: MemoryDisk) -> Result<u8, Fail> {
 #[test]
 fn the_gate_goes_out(rt: HostRuntime) {
     let alloc = rt.alloc();
-    let left = must(&rt, stopped_at_gate(alloc, Outcome::Fill(1)));
+    let left = must(&rt, crashed_at_gate(alloc, Outcome::Fill(1)));
     assert!(rt; must(&rt, gate_of(alloc, left)) == 1);
-    let left = must(&rt, stopped_at_gate(alloc, Outcome::Fill(1)));
+    let left = must(&rt, crashed_at_gate(alloc, Outcome::Fill(1)));
     assert!(rt; must(&rt, prefix_in(alloc, left)) == 1);
 }
 
@@ -60,7 +62,7 @@ fn keeps_gate(rt: &(impl Abort + AllocGlobal), left: &MemoryDisk, call: u64) {
     let alloc = rt.alloc();
     for outcome in OUTCOMES {
         let image = must(rt, image(alloc, left));
-        let again = must(rt, stopped_opening(alloc, image, call, outcome));
+        let again = must(rt, crashed_opening(alloc, image, call, outcome));
         assert!(rt; must(rt, gate_opened(alloc, again)) == 0x55);
     }
 }
@@ -76,11 +78,11 @@ fn keeps_gate_at_every_call(rt: &(impl Abort + AllocGlobal), left: &MemoryDisk) 
 fn another_byte_goes_out(rt: HostRuntime) {
     let alloc = rt.alloc();
     let outcome = Outcome::Fill(0x55);
-    let left = must(&rt, stopped_at_gate(alloc, outcome));
+    let left = must(&rt, crashed_at_gate(alloc, outcome));
     assert!(rt; must(&rt, gate_opened(alloc, left)) == 0x55);
-    let left = must(&rt, stopped_at_gate(alloc, outcome));
+    let left = must(&rt, crashed_at_gate(alloc, outcome));
     assert!(rt; must(&rt, prefix_in(alloc, left)) == 0);
-    keeps_gate_at_every_call(&rt, &must(&rt, stopped_at_gate(alloc, outcome)));
+    keeps_gate_at_every_call(&rt, &must(&rt, crashed_at_gate(alloc, outcome)));
 }
 
 // The two files, and a journal of these bytes.
@@ -96,7 +98,7 @@ fn a_journal_of_one_byte(rt: HostRuntime) {
     let alloc = rt.alloc();
     for outcome in OUTCOMES {
         let disk = must(&rt, with_journal(alloc, b"\x01"));
-        let left = must(&rt, stopped_behind(alloc, &disk, RECORD, outcome));
+        let left = must(&rt, crashed_behind(alloc, &disk, RECORD, outcome));
         assert!(rt; must(&rt, prefix_in(alloc, left)) == 0);
     }
 }

@@ -1,7 +1,8 @@
-// Refiles, and captures that make headings, over a disk that stops or fails: both files are as before, or both as after.
+// Refiles, and captures that make headings, over a disk that crashes or fails: both files are as before, or both as
+// after.
 ghost use Rattle.org_serve.specs.Group.{IsGroup};
 
-use super::stops::{calls, image, stopped, stopped_opening};
+use super::crashes::{calls, crashed, crashed_opening, image};
 use super::{Ended, run, served};
 use org_disk::{MemoryDisk, Outcome};
 use org_fixtures::{OUTCOMES, two_files};
@@ -106,8 +107,8 @@ pub fn is_done(alloc: Global, disk: MemoryDisk, step: &Step) -> Result<bool, Fai
     Ok(is_after(&shown, step).ok_or("neither before nor after")?)
 }
 
-// A stop at any call of an opening leaves what the disk stood for.
-fn stop_opening(
+// A crash at any call of an opening leaves what the disk recovered to.
+fn crash_opening(
     rt: &(impl Abort + AllocGlobal),
     disk: &MemoryDisk,
     call: u64,
@@ -116,13 +117,13 @@ fn stop_opening(
 ) -> Result<(), Fail> {
     let alloc = rt.alloc();
     for outcome in OUTCOMES {
-        let left = stopped_opening(alloc, image(alloc, disk)?, call, outcome)?;
+        let left = crashed_opening(alloc, image(alloc, disk)?, call, outcome)?;
         assert_eq!(rt; is_done(alloc, left, step)?, done);
     }
     Ok(())
 }
 
-fn stop_each_opening(
+fn crash_each_opening(
     rt: &(impl Abort + AllocGlobal),
     disk: &MemoryDisk,
     step: &Step,
@@ -130,7 +131,7 @@ fn stop_each_opening(
 ) -> Result<(), Fail> {
     let opening = calls(rt.alloc(), image(rt.alloc(), disk)?, 1, b"")?;
     for call in 0..opening {
-        stop_opening(rt, disk, call + 1, step, done)?;
+        crash_opening(rt, disk, call + 1, step, done)?;
     }
     Ok(())
 }
@@ -140,8 +141,8 @@ fn is_told_safe(written: &[u8]) -> bool {
     written.ends_with(b"safe 1\n") || written.ends_with(b"safe 2\n")
 }
 
-// A stop at this call leaves both files as before or both as after, and opening them again may be stopped in turn.
-fn stop_at(
+// A crash at this call leaves both files as before or both as after, and opening them again may be stopped in turn.
+fn crash_at(
     rt: &(impl Abort + AllocGlobal),
     group: u32,
     step: &Step,
@@ -152,13 +153,13 @@ fn stop_at(
 {
     let alloc = rt.alloc();
     let disk = disk_of(alloc, step)?;
-    let (written, left) = stopped(alloc, disk, group, step.lines, call, outcome)?;
+    let (written, left) = crashed(alloc, disk, group, step.lines, call, outcome)?;
     let done = is_done(alloc, image(alloc, &left)?, step)?;
     assert!(rt; done || !is_told_safe(&written), "after {call}");
-    stop_each_opening(rt, &left, step, done)
+    crash_each_opening(rt, &left, step, done)
 }
 
-fn stop_in_each_way(
+fn crash_in_each_way(
     rt: &(impl Abort + AllocGlobal),
     group: u32,
     step: &Step,
@@ -167,7 +168,7 @@ fn stop_in_each_way(
     requires { IsGroup group }
 {
     for outcome in OUTCOMES {
-        stop_at(rt, group, step, call, outcome)?;
+        crash_at(rt, group, step, call, outcome)?;
     }
     Ok(())
 }
@@ -180,7 +181,7 @@ fn is_done_at_last(alloc: Global, group: u32, step: &Step) -> Result<bool, Fail>
     is_done(alloc, disk, step)
 }
 
-pub fn stop_at_every_call(
+pub fn crash_at_every_call(
     rt: &(impl Abort + AllocGlobal),
     group: u32,
     step: &Step,
@@ -189,38 +190,38 @@ pub fn stop_at_every_call(
 {
     let all = calls(rt.alloc(), disk_of(rt.alloc(), step)?, group, step.lines)?;
     for call in 0..all {
-        stop_in_each_way(rt, group, step, call + 1)?;
+        crash_in_each_way(rt, group, step, call + 1)?;
     }
     assert!(rt; is_done_at_last(rt.alloc(), group, step)?);
     Ok(())
 }
 
 #[test]
-fn a_refile_across_files_stopped(rt: HostRuntime) -> Result<(), Fail> {
-    stop_at_every_call(&rt, 1, &ACROSS)?;
-    stop_at_every_call(&rt, 1, &BACK)
+fn a_refile_across_files_crashed(rt: HostRuntime) -> Result<(), Fail> {
+    crash_at_every_call(&rt, 1, &ACROSS)?;
+    crash_at_every_call(&rt, 1, &BACK)
 }
 
 #[test]
-fn a_refile_within_a_file_stopped(rt: HostRuntime) -> Result<(), Fail> {
-    stop_at_every_call(&rt, 1, &WITHIN)
+fn a_refile_within_a_file_crashed(rt: HostRuntime) -> Result<(), Fail> {
+    crash_at_every_call(&rt, 1, &WITHIN)
 }
 
 // Settled as a group, and at the end of the input.
 #[test]
-fn refiles_in_a_group_stopped(rt: HostRuntime) -> Result<(), Fail> {
-    stop_at_every_call(&rt, 2, &THERE_AND_BACK)?;
-    stop_at_every_call(&rt, 3, &ACROSS)
+fn refiles_in_a_group_crashed(rt: HostRuntime) -> Result<(), Fail> {
+    crash_at_every_call(&rt, 2, &THERE_AND_BACK)?;
+    crash_at_every_call(&rt, 3, &ACROSS)
 }
 
 #[test]
-fn a_capture_below_a_new_head_stopped(rt: HostRuntime) -> Result<(), Fail> {
-    stop_at_every_call(&rt, 1, &TO_A_HEAD)
+fn a_capture_below_a_new_head_crashed(rt: HostRuntime) -> Result<(), Fail> {
+    crash_at_every_call(&rt, 1, &TO_A_HEAD)
 }
 
 #[test]
-fn a_capture_to_a_new_day_stopped(rt: HostRuntime) -> Result<(), Fail> {
-    stop_at_every_call(&rt, 1, &TO_A_DAY)
+fn a_capture_to_a_new_day_crashed(rt: HostRuntime) -> Result<(), Fail> {
+    crash_at_every_call(&rt, 1, &TO_A_DAY)
 }
 
 // How serving ended where a call of the disk failed, what was written, and whether the step is done.

@@ -1,5 +1,5 @@
-// TODO changes over a disk that stops or fails: the file is as before, or as after.
-use super::moves::{BOTH, Step, fail_at_every_call, stop_at_every_call};
+// TODO changes over a disk that crashes or fails: the file is as before, or as after.
+use super::moves::{BOTH, Step, crash_at_every_call, fail_at_every_call};
 use std::test::Fail;
 
 const REPEATED: Step = Step {
@@ -14,8 +14,8 @@ const REPEATED: Step = Step {
 };
 
 #[test]
-fn a_repetition_stopped(rt: HostRuntime) -> Result<(), Fail> {
-    stop_at_every_call(&rt, 1, &REPEATED)
+fn a_repetition_crashed(rt: HostRuntime) -> Result<(), Fail> {
+    crash_at_every_call(&rt, 1, &REPEATED)
 }
 
 // The file is written in two places, at its keyword and from its planning line on: one write more than a refile within it

@@ -1,5 +1,5 @@
 // Files that were written and not synced, and a store that syncs them before it is opened.
-use super::stops::image;
+use super::crashes::image;
 use super::{Ended, must, run_synced, served};
 use org_disk::{Disk, MemoryDisk, Outcome};
 use org_fixtures::{OUTCOMES, file_name, two_files};
@@ -23,9 +23,9 @@ fn unsynced(alloc: Global) -> Result<MemoryDisk, Fail> {
 }
 
 // What was written of a run over them that is stopped at this call, and what it left.
-fn stopped(alloc: Global, call: u64, outcome: Outcome) -> Result<(Vec<u8>, MemoryDisk), Fail> {
+fn crashed(alloc: Global, call: u64, outcome: Outcome) -> Result<(Vec<u8>, MemoryDisk), Fail> {
     let mut disk = unsynced(alloc)?;
-    disk.stop_at(call, outcome);
+    disk.crash_at(call, outcome);
     let Ended {
         written,
         end: _,
@@ -34,8 +34,8 @@ fn stopped(alloc: Global, call: u64, outcome: Outcome) -> Result<(Vec<u8>, Memor
     Ok((written, image(alloc, &disk)?))
 }
 
-// A stop may take what wasn't synced until its file is synced, which is the first call; nothing takes it after that. What was
-// told as safe is there.
+// A crash may take what wasn't synced until its file is synced, which is the first call; nothing takes it after that.
+// What was told as safe is there.
 fn is_right(call: u64, written: &[u8], shown: &[u8]) -> bool {
     let is_kept = shown.starts_with(b"text 8\n* A\n* B\n\n");
     let is_captured = shown.ends_with(b"\ntext 8\n* Z\n* K\n\n");
@@ -44,15 +44,15 @@ fn is_right(call: u64, written: &[u8], shown: &[u8]) -> bool {
     (call == 1 || is_kept) && is_b_whole && (!is_safe || is_captured)
 }
 
-fn stop_at(rt: &(impl Abort + AllocGlobal), call: u64, outcome: Outcome) {
+fn crash_at(rt: &(impl Abort + AllocGlobal), call: u64, outcome: Outcome) {
     let alloc = rt.alloc();
-    let (written, left) = must(rt, stopped(alloc, call, outcome));
+    let (written, left) = must(rt, crashed(alloc, call, outcome));
     let shown = must(rt, served(alloc, left, 1, SHOW));
     assert!(rt; is_right(call, &written, &shown), "after {call}");
 }
 
 #[test]
-fn stopped_over_files_that_were_not_synced(rt: HostRuntime) {
+fn crashed_over_files_that_were_not_synced(rt: HostRuntime) {
     let ended = must(&rt, unsynced(rt.alloc()));
     let all = must(&rt, run_synced(rt.alloc(), ended, CAPTURE))
         .disk
@@ -60,7 +60,7 @@ fn stopped_over_files_that_were_not_synced(rt: HostRuntime) {
     for outcome in OUTCOMES {
         // the write that wasn't synced is the first call of the disk
         for call in 1..all {
-            stop_at(&rt, call, outcome);
+            crash_at(&rt, call, outcome);
         }
     }
 }

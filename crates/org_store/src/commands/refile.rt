@@ -29,7 +29,8 @@ pub(crate) fn edits_of<const N: usize>(
     file: &FileName,
     edits: [Edit; N],
 ) -> Result<FileEdits, AllocError>
-    ensures { IfOk result (λ change. (change.file ≡ file.now) × (change.edits.items ≡ edits.entry)) }
+    ensures { IfOk result (λ change. (change.file ≡ file.now)
+        × (change.edits.items ≡ edits.entry)) }
 {
     let file = file.clone()?;
     let edits = Vec::from_array(alloc, edits)?;

@@ -47,7 +47,7 @@ fn is_done_or_not(rt: &impl Abort, alloc: Global, disk: MemoryDisk) -> bool {
 fn fail_at(rt: &impl Abort, alloc: Global, call: u64, accepted: u64) {
     let mut store = failing(rt, alloc, call);
     fail_in_capture(rt, alloc, &mut store, accepted);
-    assert!(rt; is_done_or_not(rt, alloc, store.close()));
+    assert!(rt; is_done_or_not(rt, alloc, store.into_disk()));
 }
 
 // A capture reads a length and a text; then it writes the record, opens the gate, writes the file, asks for its length,

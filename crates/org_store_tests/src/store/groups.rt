@@ -40,6 +40,6 @@ fn settles_by_command(rt: HostRuntime) {
     let alloc = rt.alloc();
     let mut store = store_over(&rt, alloc, b"", b"");
     settle_by_command(&rt, alloc, &mut store);
-    let (a, b) = left_on(&rt, alloc, store.close());
+    let (a, b) = left_on(&rt, alloc, store.into_disk());
     assert!(rt; a.as_slice() == b"* B\n* C\n".as_slice() && b.is_empty());
 }

@@ -1,9 +1,9 @@
 // Headings that are kept follow an edit of their text.
 ghost use Rattle.std.specs.Prelude.{◌≡◌, ◌+◌, ◌++◌, ◌≤◌, IfOk, length, take, drop};
-ghost use Rattle.org_splice.specs.Lines.{closed};
+ghost use Rattle.org_splice.specs.Lines.{terminated};
 ghost use Rattle.org_outline.specs.Outline.{headings_of};
 
-use org_outline::{Heads, Outline, States, is_closed};
+use org_outline::{Heads, Outline, States, is_terminated};
 use std::alloc::{AllocError, Global};
 use std::process::Abort;
 use std::test::Fail;
@@ -27,9 +27,9 @@ fn spliced(
     Ok(after)
 }
 
-/// Where each heading of a closed text begins, and its level, as kept headings have it.
+/// Where each heading of a terminated text begins, and its level, as kept headings have it.
 fn listed(alloc: Global, text: &[u8], heads: &Heads) -> Result<Vec<(usize, usize)>, Fail>
-    requires closed { closed text.now ≡ text.now }
+    requires terminated { terminated text.now ≡ text.now }
     requires heads { heads.now ≡ headings_of text.now }
 {
     let states = States::new(alloc, &["TODO"], &["DONE"])?;
@@ -42,7 +42,7 @@ fn listed(alloc: Global, text: &[u8], heads: &Heads) -> Result<Vec<(usize, usize
     Ok(list)
 }
 
-/// The kept headings of a text after an edit, or none where there is no such edit between closed texts.
+/// The kept headings of a text after an edit, or none where there is no such edit between terminated texts.
 /// Asserts that they are those of a fresh reading, also on a copy.
 fn followed(
     rt: &impl Abort,
@@ -52,12 +52,12 @@ fn followed(
     removed: usize,
     added: &[u8],
 ) -> Result<Option<Vec<(usize, usize)>>, Fail> {
-    if removed > text.len() || at > text.len() - removed || !is_closed(text) {
+    if removed > text.len() || at > text.len() - removed || !is_terminated(text) {
         return Ok(None);
     }
     let bytes = spliced(alloc, text, at, removed, added)?;
     let after = bytes.as_slice();
-    if !is_closed(after) {
+    if !is_terminated(after) {
         return Ok(None);
     }
     let mut heads = Heads::read(alloc, text)?;

@@ -1,5 +1,5 @@
 // The parts of headings.
-use org_outline::{HeadParts, Outline, States, heading_level, is_closed};
+use org_outline::{HeadParts, Outline, States, heading_level, is_terminated};
 use std::process::Abort;
 
 /// Whether these are the parts of a text's one heading: gap, keyword, priority, title and tags.
@@ -19,7 +19,7 @@ fn has_parts(outline: &Outline<'_>, expected: &[&str; 5]) -> bool {
 fn assert_parts(rt: &(impl Abort + AllocGlobal), rows: &[(&str, [&str; 5])]) {
     let states = States::new(rt.alloc(), &["TODO"], &["DONE"]).expect(rt, "memory");
     for (text, expected) in rows {
-        assert!(rt; is_closed(text.as_bytes()), "{text}");
+        assert!(rt; is_terminated(text.as_bytes()), "{text}");
         let outline = Outline::read(rt.alloc(), text.as_bytes(), &states).expect(rt, "memory");
         assert!(rt; has_parts(&outline, expected), "{text}");
     }

@@ -41,7 +41,7 @@ fn edits_taken_back(rt: HostRuntime) {
         &[(2, 1, b"CC"), (0, 3, b""), (2, 0, b"* Long\n")],
     )
     .expect(&rt, "memory");
-    text.close_line().expect(&rt, "memory");
+    text.terminate().expect(&rt, "memory");
     assert!(rt; text.bytes() == b"C\n* Long\n* B\n".as_slice());
     assert!(rt; text.is_edited());
     text.undo();

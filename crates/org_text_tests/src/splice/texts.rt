@@ -125,7 +125,7 @@ fn texts_with_a_newline_at_their_end(rt: HostRuntime) {
     ];
     for (i, (old, new, expected)) in rows.iter().enumerate() {
         let mut text = edited(&rt, old, &[]).expect(&rt, "memory");
-        text.close_line().expect(&rt, "memory");
+        text.terminate().expect(&rt, "memory");
         assert!(rt; has(&text, new, expected).expect(&rt, "memory"), "row {i}");
     }
 }

@@ -62,4 +62,4 @@ returns t c = λ node entry.
     let edit : Edit = record { at = c.dated_place-at.result; removed = 0; bytes = c.new-bytes.result } in
     let Put : List ℕ → Type 0 = λ k. Inserts text (print (put_dated (first_dated states d up kind k Greater) up made d)) c.dated_place-at.result (print_node (shift_node level made)) in
     let put : Put (key_on kind day) = subst Put key2 (c.dated_place-at.ensures made) in
-    (new, ap Ok (dated_made states c.args.place day node d c.args.kinds.now rest kind up cut none), makes text new edit (print_node (shift_node level made)) c.text.ensures.closed refl bytes put)
+    (new, ap Ok (dated_made states c.args.place day node d c.args.kinds.now rest kind up cut none), makes text new edit (print_node (shift_node level made)) c.text.ensures.terminated refl bytes put)

@@ -12,4 +12,4 @@ returns-in-Some c = λ node.
     let d : Document = tree c.args.outline.now.text in
     let found : first_dated c.args.outline.now.states d c.args.parent.now c.args.kind c.args.key.now Greater ≡ Some c.in-Some.later = sym c.first_dated.ensures.value ∙ c.in-Some.is in
     dated_before c.args.outline.now.states c.args.outline.now.text c.args.parent.now c.args.kind c.args.key.now c.in-Some.later c.subtree-at.result.start node
-    c.text.ensures.closed c.in-Some.ensures.within found c.subtree-at.ensures.start
+    c.text.ensures.terminated c.in-Some.ensures.within found c.subtree-at.ensures.start

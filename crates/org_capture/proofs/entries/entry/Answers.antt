@@ -1,7 +1,7 @@
 use Rattle.std.proofs.Common.{◌≡◌, ◌∙◌, ℕ, List, Ok, sym, ap, subst}
 use Rattle.std.proofs.lemmas.Bool.{false≢true}
-use Rattle.org_splice.specs.Lines.{closed}
-use Rattle.org_splice.proofs.Lines.{closed_twice}
+use Rattle.org_splice.specs.Lines.{terminated}
+use Rattle.org_splice.proofs.Lines.{terminated_twice}
 use Rattle.org_outline.specs.Tree.{Node, tree, node_at}
 use Rattle.org_capture.specs.Entry.{IsEntry}
 use Rattle.org_capture.proofs.OneHeading.{entry_bad, entry_good}
@@ -9,8 +9,8 @@ use Rattle.org_capture.proofs.entries.entry.Goals as goal
 
 pub is_entry-requires : goal.is_entry-requires
 is_entry-requires c =
-    let shut : c.as_slice.result.now ≡ closed c.args.bytes.now = c.as_slice.ensures.value ∙ c.in_ok-text.ensures in
-    ap closed shut ∙ closed_twice c.args.bytes.now ∙ sym shut
+    let shut : c.as_slice.result.now ≡ terminated c.args.bytes.now = c.as_slice.ensures.value ∙ c.in_ok-text.ensures in
+    ap terminated shut ∙ terminated_twice c.args.bytes.now ∙ sym shut
 
 pub returns-then-not-branch-clause-value : goal.returns-then-not-branch-clause-value
 returns-then-not-branch-clause-value c =

@@ -20,7 +20,7 @@ returns c = λ node entry.
     ∙ ap (λ l. print_node (shift_node l first)) c.level_below-level.ensures.value ∙ ap (λ n. print_node (shift_node level n)) (sym (entry_node c.args.entry.now node entry)) in
     let edit : Edit = record { at = c.place-at.result; removed = 0; bytes = c.new-bytes.result } in
     let new : Document = insert c.args.parent c.args.place node d in
-    (new, refl, makes text new edit (print_node (shift_node level node)) c.text.ensures.closed refl bytes (c.place-at.ensures node))
+    (new, refl, makes text new edit (print_node (shift_node level node)) c.text.ensures.terminated refl bytes (c.place-at.ensures node))
 
 pub prove-unreachable-requires : goal.prove-unreachable-requires
 prove-unreachable-requires c =

@@ -21,4 +21,4 @@ returns c = λ node entry.
     let bytes : c.new-bytes-2.result ≡ line ++ below = c.new-bytes-2.ensures ∙ c.in_ok-extend_from_slice.ensures.items
     ∙ ap (λ l. l ++ c.as_slice.result.now) headed ∙ ap (λ l. line ++ l) filled in
     let edit : Edit = record { at = length c.text-at.result.now; removed = 0; bytes = c.new-bytes-2.result } in
-    makes_head text c.args.title.now c.args.place node edit c.text-at.ensures.closed (ap length c.text-at.ensures.value) refl bytes
+    makes_head text c.args.title.now c.args.place node edit c.text-at.ensures.terminated (ap length c.text-at.ensures.value) refl bytes

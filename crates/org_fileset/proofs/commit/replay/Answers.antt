@@ -4,57 +4,57 @@ use Rattle.org_disk.specs.Names.{journal_name}
 use Rattle.org_disk.proofs.Moments.{passes_as, passes_then}
 use Rattle.org_disk.proofs.Names.{name_cases}
 use Rattle.org_journal.specs.Gate.{front_size, Puts}
-use Rattle.org_journal.specs.Standing.{contents}
+use Rattle.org_journal.specs.Recovered.{contents}
 use Rattle.org_fileset.specs.Replay.{IsReplayable}
 use Rattle.org_fileset.proofs.Takes.{journal_unnamed}
-use Rattle.org_fileset.proofs.Stands.{replayed-takes}
-use Rattle.org_fileset.proofs.Armed.{replays_then, taking_stands, replayable_armed, still_open, still_replayable, IsDone, closing_stands, closed_after, rest_after, open_long, on_ok_both, on_ok_never}
+use Rattle.org_fileset.proofs.Recovers.{replayed-takes}
+use Rattle.org_fileset.proofs.Armed.{replays_then, taking_recovers, replayable_armed, still_open, still_replayable, IsDone, closing_recovers, closed_after, rest_after, open_long, on_ok_both, on_ok_never}
 use Rattle.org_fileset.proofs.commit.replay.Goals as goal
 
-pub returns-in_err-lay_all-clause-replays : goal.returns-in_err-lay_all-clause-replays
-returns-in_err-lay_all-clause-replays g c ended =
-    let honest = c.lay_all.ensures.accounts.was_honest ended in
+pub returns-in_err-apply_all-clause-replays : goal.returns-in_err-apply_all-clause-replays
+returns-in_err-apply_all-clause-replays g c ended =
+    let honest = c.apply_all.ensures.accounts.was_honest ended in
     let files = g.D.Disk.files c.args.disk.now in
     let entries = c.args.entries.now in
-    let layable = c.requires.layable honest in
+    let applicable = c.requires.applicable honest in
     let is = c.requires.opened honest in
-    let laid = λ (can : IsReplayable entries files). c.lay_all.ensures.replays ended is.stable can.texts can.takes in
-    let new = g.D.Disk.files c.lay_all.new.disk in
+    let applied = λ (can : IsReplayable entries files). c.apply_all.ensures.replays ended is.stable can.texts can.takes in
+    let new = g.D.Disk.files c.apply_all.new.disk in
     let failed : IsErr c.from_residual.result = search rules in
     record {
-      any_moment = λ can. passes_as (laid can).any_moment (taking_stands entries can.texts (files journal_name).content layable is.opened is.found);
-      fit = λ can. inr (replayable_armed entries new layable (still_open entries files new layable is (c.lay_all.ensures.others ended)) (still_replayable can (laid can)));
+      any_moment = λ can. passes_as (applied can).any_moment (taking_recovers entries can.texts (files journal_name).content applicable is.opened is.found);
+      recoverable = λ can. inr (replayable_armed entries new applicable (still_open entries files new applicable is (c.apply_all.ensures.others ended)) (still_replayable can (applied can)));
       done = on_ok_never _ c.from_residual.result failed;
     }
 
 pub returns-in_err-sync_all-clause-replays : goal.returns-in_err-sync_all-clause-replays
 returns-in_err-sync_all-clause-replays g c ended =
     let h1 = c.sync_all.ensures.accounts.was_honest ended in
-    let honest = c.lay_all.ensures.accounts.was_honest h1 in
+    let honest = c.apply_all.ensures.accounts.was_honest h1 in
     let files = g.D.Disk.files c.args.disk.now in
     let entries = c.args.entries.now in
-    let layable = c.requires.layable honest in
+    let applicable = c.requires.applicable honest in
     let is = c.requires.opened honest in
-    let is1 = still_open entries files (g.D.Disk.files c.lay_all.new.disk) layable is (c.lay_all.ensures.others h1) in
+    let is1 = still_open entries files (g.D.Disk.files c.apply_all.new.disk) applicable is (c.apply_all.ensures.others h1) in
     let last = g.D.Disk.files c.sync_all.new.disk in
-    let is2 = still_open entries (g.D.Disk.files c.lay_all.new.disk) last layable is1 (c.sync_all.ensures.others ended) in
+    let is2 = still_open entries (g.D.Disk.files c.apply_all.new.disk) last applicable is1 (c.sync_all.ensures.others ended) in
     let synced = λ (can : IsReplayable entries files).
-    let laid = c.lay_all.ensures.replays h1 is.stable can.texts can.takes in
-    replays_then layable laid (c.sync_all.ensures.replays ended is1.stable can.texts laid.takes) in
+    let applied = c.apply_all.ensures.replays h1 is.stable can.texts can.takes in
+    replays_then applicable applied (c.sync_all.ensures.replays ended is1.stable can.texts applied.takes) in
     let failed : IsErr c.from_residual-in_err-sync_all.result = search rules in
     record {
-      any_moment = λ can. passes_as (synced can).any_moment (taking_stands entries can.texts (files journal_name).content layable is.opened is.found);
-      fit = λ can. inr (replayable_armed entries last layable is2 (still_replayable can (synced can)));
+      any_moment = λ can. passes_as (synced can).any_moment (taking_recovers entries can.texts (files journal_name).content applicable is.opened is.found);
+      recoverable = λ can. inr (replayable_armed entries last applicable is2 (still_replayable can (synced can)));
       done = on_ok_never _ c.from_residual-in_err-sync_all.result failed;
     }
 
 pub close_gate-requires-clause-nonempty : goal.close_gate-requires-clause-nonempty
 close_gate-requires-clause-nonempty g c ended =
     let h1 = c.sync_all.ensures.accounts.was_honest ended in
-    let honest = c.lay_all.ensures.accounts.was_honest h1 in
-    let is1 = still_open c.args.entries.now (g.D.Disk.files c.args.disk.now) (g.D.Disk.files c.lay_all.new.disk) (c.requires.layable honest) (c.requires.opened honest) (c.lay_all.ensures.others h1) in
+    let honest = c.apply_all.ensures.accounts.was_honest h1 in
+    let is1 = still_open c.args.entries.now (g.D.Disk.files c.args.disk.now) (g.D.Disk.files c.apply_all.new.disk) (c.requires.applicable honest) (c.requires.opened honest) (c.apply_all.ensures.others h1) in
     let last = g.D.Disk.files c.sync_all.new.disk in
-    let is2 = still_open c.args.entries.now (g.D.Disk.files c.lay_all.new.disk) last (c.requires.layable honest) is1 (c.sync_all.ensures.others ended) in
+    let is2 = still_open c.args.entries.now (g.D.Disk.files c.apply_all.new.disk) last (c.requires.applicable honest) is1 (c.sync_all.ensures.others ended) in
     let long : front_size ≤ length (last journal_name).content = open_long (last journal_name).content is2.opened in
     let P : List ℕ → Type 0 = λ n. 1 ≤ length (last n).content in
     subst P (sym c.requires.journal) (omega arith)
@@ -63,20 +63,20 @@ pub returns-clause-replays : goal.returns-clause-replays
 returns-clause-replays g c ended =
     let h2 = c.close_gate.ensures.accounts.was_honest ended in
     let h1 = c.sync_all.ensures.accounts.was_honest h2 in
-    let honest = c.lay_all.ensures.accounts.was_honest h1 in
+    let honest = c.apply_all.ensures.accounts.was_honest h1 in
     let files = g.D.Disk.files c.args.disk.now in
     let entries = c.args.entries.now in
-    let layable = c.requires.layable honest in
+    let applicable = c.requires.applicable honest in
     let is = c.requires.opened honest in
-    let laid = λ (can : IsReplayable entries files). c.lay_all.ensures.replays h1 is.stable can.texts can.takes in
-    let is1 = still_open entries files (g.D.Disk.files c.lay_all.new.disk) layable is (c.lay_all.ensures.others h1) in
-    let synced = λ (can : IsReplayable entries files). replays_then layable (laid can) (c.sync_all.ensures.replays h2 is1.stable can.texts (laid can).takes) in
+    let applied = λ (can : IsReplayable entries files). c.apply_all.ensures.replays h1 is.stable can.texts can.takes in
+    let is1 = still_open entries files (g.D.Disk.files c.apply_all.new.disk) applicable is (c.apply_all.ensures.others h1) in
+    let synced = λ (can : IsReplayable entries files). replays_then applicable (applied can) (c.sync_all.ensures.replays h2 is1.stable can.texts (applied can).takes) in
     let last = g.D.Disk.files c.sync_all.new.disk in
-    let is2 = still_open entries (g.D.Disk.files c.lay_all.new.disk) last layable is1 (c.sync_all.ensures.others h2) in
-    let made = λ (name : List ℕ). c.in_ok-sync_all.ensures.contents h2 name ∙ c.in_ok-lay_all.ensures.contents h1 name in
+    let is2 = still_open entries (g.D.Disk.files c.apply_all.new.disk) last applicable is1 (c.sync_all.ensures.others h2) in
+    let made = λ (name : List ℕ). c.in_ok-sync_all.ensures.contents h2 name ∙ c.in_ok-apply_all.ensures.contents h1 name in
     let stable : IsReplayable entries files → (name : List ℕ) → IsStable (last name) = λ can name. c.in_ok-sync_all.ensures.stable h2 name (λ none. elim (name_cases name journal_name) [
-      | inl same ↦ subst (λ (n : List ℕ). IsStable (g.D.Disk.files c.lay_all.new.disk n)) (sym same.0) is1.stable
-      | inr apart ↦ subst IsStable (sym ((laid can).others name none)) (can.others name apart.0 none)
+      | inl same ↦ subst (λ (n : List ℕ). IsStable (g.D.Disk.files c.apply_all.new.disk n)) (sym same.0) is1.stable
+      | inr apart ↦ subst IsStable (sym ((applied can).others name none)) (can.others name apart.0 none)
     ]) in
     let has : (can : IsReplayable entries files) → IsDone entries can.texts last = λ can. record {
       takes = (synced can).takes;
@@ -85,15 +85,15 @@ returns-clause-replays g c ended =
           ∙ replayed-takes entries (contents files) name (can.texts name) (can.takes.each name not (contents files name) (g.met.D.Disk.content_is_image c.args.disk.now name honest));
       found = is2.found;
     } in
-    let none = journal_unnamed entries layable.each in
-    let same : last journal_name ≡ files journal_name = c.sync_all.ensures.others h2 journal_name none ∙ c.lay_all.ensures.others h1 journal_name none in
+    let none = journal_unnamed entries applicable.each in
+    let same : last journal_name ≡ files journal_name = c.sync_all.ensures.others h2 journal_name none ∙ c.apply_all.ensures.others h1 journal_name none in
     let after = g.D.Disk.files c.close_gate.new.disk in
     let puts = subst (λ (n : List ℕ). Puts n (0 ∷ drop 1 (last n).content) last after c.close_gate.result) c.requires.journal (c.close_gate.ensures.puts ended) in
     record {
-      any_moment = λ can. passes_then (passes_as (synced can).any_moment (taking_stands entries can.texts (files journal_name).content layable is.opened is.found))
+      any_moment = λ can. passes_then (passes_as (synced can).any_moment (taking_recovers entries can.texts (files journal_name).content applicable is.opened is.found))
           (c.close_gate.ensures.any_moment ended)
-          (closing_stands entries can.texts last c.args.journal.now c.requires.journal layable (λ name. g.met.D.Disk.content_is_image c.sync_all.new.disk name h2) (has can));
-      fit = λ can. inl (λ name not. subst IsStable (sym (puts.others name not)) (stable can name));
+          (closing_recovers entries can.texts last c.args.journal.now c.requires.journal applicable (λ name. g.met.D.Disk.content_is_image c.sync_all.new.disk name h2) (has can));
+      recoverable = λ can. inl (λ name not. subst IsStable (sym (puts.others name not)) (stable can name));
       done = on_ok_both c.close_gate.result puts.stable puts.is (λ only zero. record {
         gate = closed_after (after journal_name) (drop 1 (last journal_name).content) only zero;
         journal = zero ∙ ap (λ (f : FileState). 0 ∷ drop 1 f.content) same;

@@ -1,7 +1,7 @@
 use Rattle.std.proofs.Common.{◌≤◌, ℕ, List, length, ◌∙◌, ap, arith}
 use Rattle.org_disk.specs.Disk.{FileState}
 use Rattle.org_disk.proofs.Accounting.{accounts_then, accounts_call_ok, looks_then}
-use Rattle.org_journal.specs.Standing.{contents}
+use Rattle.org_journal.specs.Recovered.{contents}
 use Rattle.org_fileset.specs.Names.{limit}
 use Rattle.org_fileset.proofs.Sorted.{first_large-next}
 use Rattle.org_fileset.proofs.open.check_sizes.Goals as goal

@@ -1,6 +1,6 @@
 use Rattle.std.proofs.Common.{◌≡◌, drop}
 use Rattle.org_disk.specs.Accounts.{Accounts, Looks}
-use Rattle.org_journal.specs.Standing.{contents}
+use Rattle.org_journal.specs.Recovered.{contents}
 use Rattle.org_fileset.specs.Names.{first_large}
 use Rattle.org_fileset.proofs.open.check_sizes.Given as goal
 

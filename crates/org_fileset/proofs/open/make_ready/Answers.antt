@@ -1,7 +1,7 @@
 use Rattle.std.proofs.Common.{rules, List, ℕ, Option, IsErr, sym, subst}
 use Rattle.std.specs.Prelude.{IsSomeAnd}
 use Rattle.org_disk.proofs.Moments.{passes_then}
-use Rattle.org_journal.specs.Standing.{Image, SameFiles, IsFit, contents}
+use Rattle.org_journal.specs.Recovered.{Image, SameFiles, IsRecoverable, contents}
 use Rattle.org_fileset.specs.Recovery.{IsReopened}
 use Rattle.org_fileset.proofs.Armed.{on_ok_always, on_ok_never}
 use Rattle.org_fileset.proofs.Starting.{since_start}
@@ -13,7 +13,7 @@ pub returns-in_err-recover-clause-reopens : goal.returns-in_err-recover-clause-r
 returns-in_err-recover-clause-reopens g c ended =
     let made = c.recover.ensures.reopens ended in
     let failed : IsErr c.from_residual.result = search rules in
-    record { done = on_ok_never _ c.from_residual.result failed; any_moment = made.any_moment; fit = made.fit; bad = made.bad }
+    record { done = on_ok_never _ c.from_residual.result failed; any_moment = made.any_moment; recoverable = made.recoverable; bad = made.bad }
 
 pub returns-clause-reopens : goal.returns-clause-reopens
 returns-clause-reopens g c ended =
@@ -26,8 +26,8 @@ returns-clause-reopens g c ended =
     let own = λ (name : List ℕ). g.met.D.Disk.content_is_image c.args.disk.now name honest in
     record {
       done = on_ok_always c.check_sizes.result (subst (IsReopened old) (sym looks.same) made.done);
-      any_moment = λ fit each. since_start (passes_then (made.any_moment fit each).passes looks.time (left_after old mid own made.done.stood (made.done.rest fit each)))
+      any_moment = λ fit each. since_start (passes_then (made.any_moment fit each).passes looks.time (left_after old mid own made.done.recovered_then (made.done.rest fit each)))
           old (g.met.D.Disk.only_now c.args.disk.now) honest (as_before old each);
-      fit = λ fit each. subst IsFit (sym looks.same) (made.fit fit each);
-      bad = λ none. absurd (subst (λ (o : Option Image). IsSomeAnd o (SameFiles (contents mid))) none made.done.stood);
+      recoverable = λ fit each. subst IsRecoverable (sym looks.same) (made.recoverable fit each);
+      bad = λ none. absurd (subst (λ (o : Option Image). IsSomeAnd o (SameFiles (contents mid))) none made.done.recovered_then);
     }

@@ -11,12 +11,12 @@ use Rattle.org_journal.specs.declared.finding.Found.{Found}
 use Rattle.org_journal.specs.declared.finding.Found.TheVariants.{Armed}
 use Rattle.org_journal.specs.Gate.{front_size, is_open, HasClosedGate, LeavesClosed, Puts}
 use Rattle.org_journal.specs.Finding.{Finds, IsWritable}
-use Rattle.org_journal.specs.Standing.{contents, stands, SameFiles, IsFit}
+use Rattle.org_journal.specs.Recovered.{contents, recovered, SameFiles, IsRecoverable}
 use Rattle.org_fileset.specs.Recovery.{closed_journal}
-use Rattle.org_fileset.specs.Replay.{IsOpenOver, AreLayable, IsAtRest}
+use Rattle.org_fileset.specs.Replay.{IsOpenOver, AreApplicable, IsAtRest}
 use Rattle.org_fileset.proofs.Starting.{since_start}
 use Rattle.org_fileset.proofs.Armed.{closed_after, on_ok_never}
-use Rattle.org_fileset.proofs.Recovering.{as_before, sync_left, sync_fit, looked_at, armed_before, closed_before, formed_layable, fit_replayable, closed_stable, closed_rest, found_good, shut_gate, closed_open, closed_short, closed_shut, stood_closed}
+use Rattle.org_fileset.proofs.Recovering.{as_before, sync_left, sync_recoverable, looked_at, armed_before, closed_before, formed_applicable, recoverable_replayable, closed_stable, closed_rest, found_good, shut_gate, closed_open, closed_short, closed_shut, recovered_closed}
 use Rattle.org_fileset.proofs.recover.recover.Goals as goal
 
 pub returns-in_err-sync-clause-reopens : goal.returns-in_err-sync-clause-reopens
@@ -31,7 +31,7 @@ returns-in_err-sync-clause-reopens g c ended =
       any_moment = λ fit each. since_start (passes_as (c.sync.ensures.time ended) (λ image left.
           as_before old each image (sync_left journal_name old image own (subst (λ (n : List ℕ). AreLeftBy sync n old image) c.requires left))))
           old (g.met.D.Disk.only_now c.args.disk.now) honest (as_before old each);
-      fit = λ fit each. sync_fit old mid c.sync.result own (λ name. g.met.D.Disk.content_is_image c.sync.new.self name ended)
+      recoverable = λ fit each. sync_recoverable old mid c.sync.result own (λ name. g.met.D.Disk.content_is_image c.sync.new.self name ended)
           (subst (λ (n : List ℕ). Changes sync n old mid c.sync.result) c.requires (c.sync.ensures.effect ended)) fit;
       bad = λ none. since_start (passes_as (c.sync.ensures.time ended) (λ image left. sync_left journal_name old image own (subst (λ (n : List ℕ). AreLeftBy sync n old image) c.requires left)))
           old (g.met.D.Disk.only_now c.args.disk.now) honest (λ image left. left);
@@ -51,7 +51,7 @@ returns-in_err-record-clause-bad g c bad ended =
     let both : Err told.0 ≡ Err BadJournal = sym told.1 ∙ bad in
     let fault : c.in_err-record.field-0.0 ≡ BadJournal = sym one ∙ cc in
     let found = subst (λ (e : FindFault). Finds (contents mid) (Err e)) fault (c.in_err-record.ensures.found ended) in
-    (ap stands (sym look.is.same ∙ ap (λ (f : List ℕ → FileState). contents f) looks.same) ∙ found.1, look.is.same)
+    (ap recovered (sym look.is.same ∙ ap (λ (f : List ℕ → FileState). contents f) looks.same) ∙ found.1, look.is.same)
 
 pub returns-in_err-record-clause-reopens : goal.returns-in_err-record-clause-reopens
 returns-in_err-record-clause-reopens g c ended =
@@ -66,13 +66,13 @@ returns-in_err-record-clause-reopens g c ended =
     record {
       done = on_ok_never _ c.from_residual-in_err-record.result failed;
       any_moment = λ fit each. since_start (look.since each) old (g.met.D.Disk.only_now c.args.disk.now) honest (as_before old each);
-      fit = λ fit each. look.is.fit fit;
+      recoverable = λ fit each. look.is.recoverable fit;
       bad = λ none. since_start look.time old (g.met.D.Disk.only_now c.args.disk.now) honest (λ image left. left);
     }
 
-pub replay-requires-clause-layable : goal.replay-requires-clause-layable
-replay-requires-clause-layable g c h2 =
-    subst AreLayable (sym c.entries.ensures) (formed_layable c.in-Armed.record (subst IsWritable c.in-Armed.is c.in_ok-record.ensures.writable))
+pub replay-requires-clause-applicable : goal.replay-requires-clause-applicable
+replay-requires-clause-applicable g c h2 =
+    subst AreApplicable (sym c.entries.ensures) (formed_applicable c.in-Armed.record (subst IsWritable c.in-Armed.is c.in_ok-record.ensures.writable))
 
 pub returns-in_err-replay-in-Armed-clause-reopens : goal.returns-in_err-replay-in-Armed-clause-reopens
 returns-in_err-replay-in-Armed-clause-reopens g c ended =
@@ -90,17 +90,17 @@ returns-in_err-replay-in-Armed-clause-reopens g c ended =
     let entries = c.entries.result.now in
     let whole = subst (λ (f : List ℕ → FileState). Finds (contents f) (Ok c.in_ok-record.field-0)) (sym looks.same) (c.in_ok-record.ensures.found h2) in
     let found : Finds (contents now) (Ok (Armed entries)) = subst (λ (x : Found). Finds (contents now) (Ok x)) (c.in-Armed.is ∙ ap (λ (l : List Entry). let x : Found = Armed l in x) (sym c.entries.ensures)) whole in
-    let layable = subst AreLayable (sym c.entries.ensures) (formed_layable c.in-Armed.record (subst IsWritable c.in-Armed.is c.in_ok-record.ensures.writable)) in
+    let applicable = subst AreApplicable (sym c.entries.ensures) (formed_applicable c.in-Armed.record (subst IsWritable c.in-Armed.is c.in_ok-record.ensures.writable)) in
     let over : IsOpenOver entries now = record { stable = look.is.stable; opened = found.0; found = found.1 } in
-    let can = λ (fit : IsFit old). fit_replayable now owns entries layable over found.2 (look.is.fit fit) in
+    let can = λ (fit : IsRecoverable old). recoverable_replayable now owns entries applicable over found.2 (look.is.recoverable fit) in
     let replays = c.replay.ensures.replays ended in
     let failed : IsErr c.from_residual-in_err-replay-in-Armed.result = search rules in
     record {
       done = on_ok_never _ c.from_residual-in_err-replay-in-Armed.result failed;
-      any_moment = λ fit each. since_start (passes_then (look.since each) (replays.any_moment (can fit)) (armed_before old now entries look.is owns layable over found.2 (can fit)))
+      any_moment = λ fit each. since_start (passes_then (look.since each) (replays.any_moment (can fit)) (armed_before old now entries look.is owns applicable over found.2 (can fit)))
           old (g.met.D.Disk.only_now c.args.disk.now) honest (as_before old each);
-      fit = λ fit each. replays.fit (can fit);
-      bad = λ none. absurd (found_good (contents now) c.in_ok-record.field-0 whole (ap stands look.is.same ∙ none));
+      recoverable = λ fit each. replays.recoverable (can fit);
+      bad = λ none. absurd (found_good (contents now) c.in_ok-record.field-0 whole (ap recovered look.is.same ∙ none));
     }
 
 pub returns-in_ok-replay-in-Armed-clause-reopens : goal.returns-in_ok-replay-in-Armed-clause-reopens
@@ -119,26 +119,26 @@ returns-in_ok-replay-in-Armed-clause-reopens g c ended =
     let entries = c.entries.result.now in
     let whole = subst (λ (f : List ℕ → FileState). Finds (contents f) (Ok c.in_ok-record.field-0)) (sym looks.same) (c.in_ok-record.ensures.found h2) in
     let found : Finds (contents now) (Ok (Armed entries)) = subst (λ (x : Found). Finds (contents now) (Ok x)) (c.in-Armed.is ∙ ap (λ (l : List Entry). let x : Found = Armed l in x) (sym c.entries.ensures)) whole in
-    let layable = subst AreLayable (sym c.entries.ensures) (formed_layable c.in-Armed.record (subst IsWritable c.in-Armed.is c.in_ok-record.ensures.writable)) in
+    let applicable = subst AreApplicable (sym c.entries.ensures) (formed_applicable c.in-Armed.record (subst IsWritable c.in-Armed.is c.in_ok-record.ensures.writable)) in
     let over : IsOpenOver entries now = record { stable = look.is.stable; opened = found.0; found = found.1 } in
-    let can = λ (fit : IsFit old). fit_replayable now owns entries layable over found.2 (look.is.fit fit) in
+    let can = λ (fit : IsRecoverable old). recoverable_replayable now owns entries applicable over found.2 (look.is.recoverable fit) in
     let replays = c.in_ok-replay-in-Armed.ensures.replays ended in
     let new = contents (d.files c.replay.new.disk) in
     let opened = found.0 in
     let told = found.1 in
     let fits = found.2 in
-    let made : IsSomeAnd (stands (contents now)) (SameFiles new) = rw (opened, told, fits) replays.done.made in
+    let made : IsSomeAnd (recovered (contents now)) (SameFiles new) = rw (opened, told, fits) replays.done.made in
     record {
       done = record {
-        stood = subst (λ (f : Image). IsSomeAnd (stands f) (SameFiles new)) look.is.same made;
+        recovered_then = subst (λ (f : Image). IsSomeAnd (recovered f) (SameFiles new)) look.is.same made;
         journal = replays.done.journal ∙ sym (closed_open (contents now journal_name) opened) ∙ ap (λ (f : Image). closed_journal (f journal_name)) look.is.same;
         gate = replays.done.gate;
         rest = λ fit each. replays.done.rest (can fit);
       };
-      any_moment = λ fit each. since_start (passes_then (look.since each) (replays.any_moment (can fit)) (armed_before old now entries look.is owns layable over found.2 (can fit)))
+      any_moment = λ fit each. since_start (passes_then (look.since each) (replays.any_moment (can fit)) (armed_before old now entries look.is owns applicable over found.2 (can fit)))
           old (g.met.D.Disk.only_now c.args.disk.now) honest (as_before old each);
-      fit = λ fit each. replays.fit (can fit);
-      bad = λ none. absurd (found_good (contents now) c.in_ok-record.field-0 whole (ap stands look.is.same ∙ none));
+      recoverable = λ fit each. replays.recoverable (can fit);
+      bad = λ none. absurd (found_good (contents now) c.in_ok-record.field-0 whole (ap recovered look.is.same ∙ none));
     }
 
 pub returns-in_err-length-in-Closed-clause-reopens : goal.returns-in_err-length-in-Closed-clause-reopens
@@ -159,8 +159,8 @@ returns-in_err-length-in-Closed-clause-reopens g c ended =
       done = on_ok_never _ c.from_residual-in_err-length-in-Closed.result failed;
       any_moment = λ fit each. since_start (passes_then (look.since each) (c.length.ensures.looks ended).time (λ image left. as_before old each image (look.is.images image left)))
           old (g.met.D.Disk.only_now c.args.disk.now) honest (as_before old each);
-      fit = λ fit each. subst IsFit (sym again) (look.is.fit fit);
-      bad = λ none. absurd (found_good (contents now) c.in_ok-record.field-0 (subst (λ (f : List ℕ → FileState). Finds (contents f) (Ok c.in_ok-record.field-0)) (sym looks.same) (c.in_ok-record.ensures.found h2)) (ap stands look.is.same ∙ none));
+      recoverable = λ fit each. subst IsRecoverable (sym again) (look.is.recoverable fit);
+      bad = λ none. absurd (found_good (contents now) c.in_ok-record.field-0 (subst (λ (f : List ℕ → FileState). Finds (contents f) (Ok c.in_ok-record.field-0)) (sym looks.same) (c.in_ok-record.ensures.found h2)) (ap recovered look.is.same ∙ none));
     }
 
 pub returns-else-branch-lt-FRONT-clause-reopens : goal.returns-else-branch-lt-FRONT-clause-reopens
@@ -178,25 +178,25 @@ returns-else-branch-lt-FRONT-clause-reopens g c ended =
     let again = (c.length.ensures.looks ended).same in
     let shut : is_open (contents now journal_name) ≡ false = subst (λ (x : Found). Finds (contents now) (Ok x)) c.in-Closed.is
     (subst (λ (f : List ℕ → FileState). Finds (contents f) (Ok c.in_ok-record.field-0)) (sym looks.same) (c.in_ok-record.ensures.found h2)) in
-    let others = λ (fit : IsFit old). closed_stable now shut (look.is.fit fit) in
+    let others = λ (fit : IsRecoverable old). closed_stable now shut (look.is.recoverable fit) in
     let Q : List ℕ → Type 0 = λ n. front_size ≤ length (now n).content in
     let asked : length (d.files c.find.new.disk c.args.journal.now).content ≡ _ = sym (c.in_ok-length-in-Closed.ensures.value ended) in
     let long : front_size ≤ length (now journal_name).content = subst Q c.requires (omega (arith, asked, c.if-branch-lt-FRONT.false)) in
     let new = contents (d.files c.length.new.self) in
     let read : new ≡ contents now = ap (λ (f : List ℕ → FileState). contents f) again in
-    let stood : IsSomeAnd (stands (contents now)) (SameFiles new) = stood_closed (contents now) new shut (λ name not. ap (λ (f : Image). f name) read) in
+    let recovered_then : IsSomeAnd (recovered (contents now)) (SameFiles new) = recovered_closed (contents now) new shut (λ name not. ap (λ (f : Image). f name) read) in
     let gate = shut_gate (now journal_name) look.is.stable shut long in
     record {
       done = record {
-        stood = subst (λ (f : Image). IsSomeAnd (stands f) (SameFiles new)) look.is.same stood;
+        recovered_then = subst (λ (f : Image). IsSomeAnd (recovered f) (SameFiles new)) look.is.same recovered_then;
         journal = ap (λ (f : Image). f journal_name) read ∙ sym (closed_shut (contents now journal_name) shut long) ∙ ap (λ (f : Image). closed_journal (f journal_name)) look.is.same;
         gate = subst (λ (f : List ℕ → FileState). HasClosedGate (f journal_name)) (sym again) gate;
         rest = λ fit each. subst IsAtRest (sym again) (closed_rest now gate look.is.stable (others fit));
       };
       any_moment = λ fit each. since_start (passes_then (look.since each) (c.length.ensures.looks ended).time (λ image left. as_before old each image (look.is.images image left)))
           old (g.met.D.Disk.only_now c.args.disk.now) honest (as_before old each);
-      fit = λ fit each. subst IsFit (sym again) (look.is.fit fit);
-      bad = λ none. absurd (found_good (contents now) c.in_ok-record.field-0 (subst (λ (f : List ℕ → FileState). Finds (contents f) (Ok c.in_ok-record.field-0)) (sym looks.same) (c.in_ok-record.ensures.found h2)) (ap stands look.is.same ∙ none));
+      recoverable = λ fit each. subst IsRecoverable (sym again) (look.is.recoverable fit);
+      bad = λ none. absurd (found_good (contents now) c.in_ok-record.field-0 (subst (λ (f : List ℕ → FileState). Finds (contents f) (Ok c.in_ok-record.field-0)) (sym looks.same) (c.in_ok-record.ensures.found h2)) (ap recovered look.is.same ∙ none));
     }
 
 pub returns-in_err-prepare-in-Closed-clause-reopens : goal.returns-in_err-prepare-in-Closed-clause-reopens
@@ -215,7 +215,7 @@ returns-in_err-prepare-in-Closed-clause-reopens g c ended =
     let again = (c.length.ensures.looks h3).same in
     let shut : is_open (contents now journal_name) ≡ false = subst (λ (x : Found). Finds (contents now) (Ok x)) c.in-Closed.is
     (subst (λ (f : List ℕ → FileState). Finds (contents f) (Ok c.in_ok-record.field-0)) (sym looks.same) (c.in_ok-record.ensures.found h2)) in
-    let others = λ (fit : IsFit old). closed_stable now shut (look.is.fit fit) in
+    let others = λ (fit : IsRecoverable old). closed_stable now shut (look.is.recoverable fit) in
     let owns = λ (name : List ℕ). g.met.D.Disk.content_is_image c.find.new.disk name h2 in
     let last = d.files c.length.new.self in
     let new = d.files c.prepare.new.disk in
@@ -227,8 +227,8 @@ returns-in_err-prepare-in-Closed-clause-reopens g c ended =
           (c.prepare.ensures.any_moment ended) (λ image left. closed_before old now look.is owns shut (others fit) image
           (subst (λ (f : List ℕ → FileState). LeavesClosed journal_name f image) again (subst (λ (n : List ℕ). LeavesClosed n last image) c.requires left))))
           old (g.met.D.Disk.only_now c.args.disk.now) honest (as_before old each);
-      fit = λ fit each. inl (λ name not. subst IsStable (sym (puts.others name not ∙ ap (λ (f : List ℕ → FileState). f name) again)) (others fit name not));
-      bad = λ none. absurd (found_good (contents now) c.in_ok-record.field-0 (subst (λ (f : List ℕ → FileState). Finds (contents f) (Ok c.in_ok-record.field-0)) (sym looks.same) (c.in_ok-record.ensures.found h2)) (ap stands look.is.same ∙ none));
+      recoverable = λ fit each. inl (λ name not. subst IsStable (sym (puts.others name not ∙ ap (λ (f : List ℕ → FileState). f name) again)) (others fit name not));
+      bad = λ none. absurd (found_good (contents now) c.in_ok-record.field-0 (subst (λ (f : List ℕ → FileState). Finds (contents f) (Ok c.in_ok-record.field-0)) (sym looks.same) (c.in_ok-record.ensures.found h2)) (ap recovered look.is.same ∙ none));
     }
 
 pub returns-in_ok-prepare-in-Closed-clause-reopens : goal.returns-in_ok-prepare-in-Closed-clause-reopens
@@ -247,7 +247,7 @@ returns-in_ok-prepare-in-Closed-clause-reopens g c ended =
     let again = (c.length.ensures.looks h3).same in
     let shut : is_open (contents now journal_name) ≡ false = subst (λ (x : Found). Finds (contents now) (Ok x)) c.in-Closed.is
     (subst (λ (f : List ℕ → FileState). Finds (contents f) (Ok c.in_ok-record.field-0)) (sym looks.same) (c.in_ok-record.ensures.found h2)) in
-    let others = λ (fit : IsFit old). closed_stable now shut (look.is.fit fit) in
+    let others = λ (fit : IsRecoverable old). closed_stable now shut (look.is.recoverable fit) in
     let owns = λ (name : List ℕ). g.met.D.Disk.content_is_image c.find.new.disk name h2 in
     let last = d.files c.length.new.self in
     let new = d.files c.prepare.new.disk in
@@ -256,12 +256,12 @@ returns-in_ok-prepare-in-Closed-clause-reopens g c ended =
     let Q : List ℕ → Type 0 = λ n. length (now n).content < front_size in
     let asked : length (d.files c.find.new.disk c.args.journal.now).content ≡ _ = sym (c.in_ok-length-in-Closed.ensures.value h3) in
     let short : length (now journal_name).content < front_size = subst Q c.requires (omega (arith, asked, c.if-branch-lt-FRONT.true)) in
-    let stood : IsSomeAnd (stands (contents now)) (SameFiles (contents new)) = stood_closed (contents now) (contents new) shut (λ name not.
+    let recovered_then : IsSomeAnd (recovered (contents now)) (SameFiles (contents new)) = recovered_closed (contents now) (contents new) shut (λ name not.
     ap (λ (f : FileState). f.content) (puts.others name not) ∙ ap (λ (f : List ℕ → FileState). (f name).content) again) in
     let gate = closed_after (new journal_name) (drop 1 (last journal_name).content) puts.stable puts.is in
     record {
       done = record {
-        stood = subst (λ (f : Image). IsSomeAnd (stands f) (SameFiles (contents new))) look.is.same stood;
+        recovered_then = subst (λ (f : Image). IsSomeAnd (recovered f) (SameFiles (contents new))) look.is.same recovered_then;
         journal = puts.is ∙ ap (λ (l : List ℕ). 0 ∷ drop 1 l) journal ∙ sym (closed_short (contents now journal_name) short) ∙ ap (λ (f : Image). closed_journal (f journal_name)) look.is.same;
         gate = gate;
         rest = λ fit each. closed_rest new gate puts.stable
@@ -271,6 +271,6 @@ returns-in_ok-prepare-in-Closed-clause-reopens g c ended =
           (c.prepare.ensures.any_moment ended) (λ image left. closed_before old now look.is owns shut (others fit) image
           (subst (λ (f : List ℕ → FileState). LeavesClosed journal_name f image) again (subst (λ (n : List ℕ). LeavesClosed n last image) c.requires left))))
           old (g.met.D.Disk.only_now c.args.disk.now) honest (as_before old each);
-      fit = λ fit each. inl (λ name not. subst IsStable (sym (puts.others name not ∙ ap (λ (f : List ℕ → FileState). f name) again)) (others fit name not));
-      bad = λ none. absurd (found_good (contents now) c.in_ok-record.field-0 (subst (λ (f : List ℕ → FileState). Finds (contents f) (Ok c.in_ok-record.field-0)) (sym looks.same) (c.in_ok-record.ensures.found h2)) (ap stands look.is.same ∙ none));
+      recoverable = λ fit each. inl (λ name not. subst IsStable (sym (puts.others name not ∙ ap (λ (f : List ℕ → FileState). f name) again)) (others fit name not));
+      bad = λ none. absurd (found_good (contents now) c.in_ok-record.field-0 (subst (λ (f : List ℕ → FileState). Finds (contents f) (Ok c.in_ok-record.field-0)) (sym looks.same) (c.in_ok-record.ensures.found h2)) (ap recovered look.is.same ∙ none));
     }

@@ -4,7 +4,7 @@ use Rattle.org_disk.specs.Disk.{FileState}
 use Rattle.org_disk.proofs.Accounting.{accounts_call_ok, accounts_then, looks_then}
 use Rattle.org_splice.specs.declared.patch.Patch.{Patch}
 use Rattle.org_splice.specs.Texts.{pairs_of}
-use Rattle.org_journal.specs.Standing.{contents, fits, all_fit}
+use Rattle.org_journal.specs.Recovered.{contents, fits, all_fit}
 use Rattle.org_journal.proofs.Fitting.{patches_first, all_first}
 use Rattle.org_journal.proofs.finding.all_fit.Goals as goal
 

@@ -1,6 +1,6 @@
 use Rattle.std.proofs.Common.{◌≡◌, drop}
 use Rattle.org_disk.specs.Accounts.{Accounts, Looks}
-use Rattle.org_journal.specs.Standing.{contents, all_fit}
+use Rattle.org_journal.specs.Recovered.{contents, all_fit}
 use Rattle.org_journal.specs.Finding.{HaveWellFormedPatches}
 use Rattle.org_journal.proofs.finding.all_fit.Given as goal
 

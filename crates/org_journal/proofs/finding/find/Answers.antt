@@ -1,7 +1,7 @@
 use Rattle.std.proofs.Common.{subst, List, ℕ}
 use Rattle.std.specs.Prelude.{Err}
 use Rattle.std.proofs.lemmas.Result.{err_from_is_err_and}
-use Rattle.org_journal.specs.Standing.{contents}
+use Rattle.org_journal.specs.Recovered.{contents}
 use Rattle.org_journal.specs.Finding.{FindsSize}
 use Rattle.org_journal.proofs.Fitting.{bad_size}
 use Rattle.org_journal.proofs.finding.find.Goals as goal

@@ -1,10 +1,10 @@
 use Rattle.std.proofs.Common.{refl, ◌∙◌}
-use Rattle.org_meta.proofs.Logs.{rest_closed, opened_gives, new_log_gives, log_below}
+use Rattle.org_meta.proofs.Logs.{rest_terminated, opened_gives, new_log_gives, log_below}
 use Rattle.org_meta.proofs.Puts.{rest_below, new_drawer_bytes, property_bytes}
 use Rattle.org_meta.proofs.clocking.open_clock.Goals as goal
 
 pub log_place-requires : goal.log_place-requires
-log_place-requires c = rest_closed c.args.section.now c.sections.result c.sections.ensures
+log_place-requires c = rest_terminated c.args.section.now c.sections.result c.sections.ensures
 
 pub overflow_sub-result : goal.overflow_sub-result
 overflow_sub-result c = rest_below c.args.section.now c.sections.result c.requires c.sections.ensures

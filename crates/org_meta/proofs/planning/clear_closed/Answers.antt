@@ -3,11 +3,11 @@ use Rattle.std.proofs.lemmas.Result.{err_from_is_err_and}
 use Rattle.org_splice.specs.Lines.{print_lines}
 use Rattle.org_meta.specs.Planning.{PlanningLine, planning_of, without_closed, has_closed}
 use Rattle.std.proofs.lemmas.Bool.{false≢true}
-use Rattle.org_meta.proofs.Replanning.{planning_closed, plan_line, plan_fault, none_cleared, nothing_cleared, closed_there}
+use Rattle.org_meta.proofs.Replanning.{planning_terminated, plan_line, plan_fault, none_cleared, nothing_cleared, closed_there}
 use Rattle.org_meta.proofs.planning.clear_closed.Goals as goal
 
 pub first_line-requires : goal.first_line-requires
-first_line-requires c = planning_closed c.args.section.now _ c.sections.ensures
+first_line-requires c = planning_terminated c.args.section.now _ c.sections.ensures
 
 pub returns-in_default-clause-ok : goal.returns-in_default-clause-ok
 returns-in_default-clause-ok c = none_cleared c.args.section.now c.sections.result c.requires c.sections.ensures _ c.in_default.ensures.none c.nothing.ensures

@@ -1,11 +1,11 @@
 use Rattle.std.proofs.Common.{◌≡◌, Some, true, false, refl, sym, ap, ◌∙◌}
 use Rattle.std.proofs.lemmas.Result.{err_from_is_err_and}
 use Rattle.org_meta.specs.Planning.{PlanningLine, planning_of, has_repeater}
-use Rattle.org_meta.proofs.Replanning.{planning_closed, repeat_none, repeat_odd, repeat_nothing, repeat_fault, repeat_gives}
+use Rattle.org_meta.proofs.Replanning.{planning_terminated, repeat_none, repeat_odd, repeat_nothing, repeat_fault, repeat_gives}
 use Rattle.org_meta.proofs.planning.repeat_planning.Goals as goal
 
 pub first_line-requires : goal.first_line-requires
-first_line-requires c = planning_closed c.args.section.now _ c.sections.ensures
+first_line-requires c = planning_terminated c.args.section.now _ c.sections.ensures
 
 pub returns-in_default-clause-ok : goal.returns-in_default-clause-ok
 returns-in_default-clause-ok c = repeat_none c.args.section.now c.sections.result c.requires c.sections.ensures c.args.now c.in_default.ensures.none

@@ -1,11 +1,11 @@
 use Rattle.std.proofs.Common.{List, ℕ, [], ◌∷◌, ◌++◌, refl, ap, ◌∙◌}
 use Rattle.std.proofs.lemmas.Result.{err_from_is_err_and}
 use Rattle.org_meta.specs.Planning.{closed_text, with_closed}
-use Rattle.org_meta.proofs.Replanning.{planning_closed, plan_none, plan_line, plan_fault}
+use Rattle.org_meta.proofs.Replanning.{planning_terminated, plan_none, plan_line, plan_fault}
 use Rattle.org_meta.proofs.planning.set_closed.Goals as goal
 
 pub first_line-requires : goal.first_line-requires
-first_line-requires c = planning_closed c.args.section.now _ c.sections.ensures
+first_line-requires c = planning_terminated c.args.section.now _ c.sections.ensures
 
 pub returns-in_default-clause-ok : goal.returns-in_default-clause-ok
 returns-in_default-clause-ok c =

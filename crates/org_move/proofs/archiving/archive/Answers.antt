@@ -15,6 +15,6 @@ returns c =
     let lines = c.in_ok-lines.ensures
     ∙ ap (λ (above : Option ℕ). print_node (filled to above (node_at (tree c.deref.result.now) 0).node)) c.last_below-at.ensures.level
     ∙ ap (λ (node : Node). print_node (filled to (level_at up (tree target.text)) node)) root in
-    archive_made source.states c.args.name.now _ c.args.now source.text target.states to target.text _ _ _ _ _ _ _ _ c.in_ok-subtree.ensures.closed c.last_below-at.ensures.closed
+    archive_made source.states c.args.name.now _ c.args.now source.text target.states to target.text _ _ _ _ _ _ _ _ c.in_ok-subtree.ensures.terminated c.last_below-at.ensures.terminated
     c.find.ensures.value c.in_ok-node.was c.target_heading.ensures.value c.in_ok-up.was c.in_ok-node.ensures.within
     (λ node. c.last_below-at.ensures.place to node) c.without.ensures c.insertion-goes_in.ensures lines

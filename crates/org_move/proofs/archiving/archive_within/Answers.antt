@@ -33,6 +33,6 @@ returns c =
     let lines = c.in_ok-lines.ensures
     ∙ ap (λ (above : Option ℕ). print_node (filled to above (node_at (tree c.deref.result.now) 0).node)) c.last_below_without-at.ensures.level
     ∙ ap (λ (node : Node). print_node (filled to (level_at up (tree outline.text)) node)) root in
-    archived_within outline.states c.args.name.now _ c.args.now outline.text to _ _ _ c.in_ok-target_heading.field-0 up _ _ _ _ c.in_ok-subtree.ensures.closed
+    archived_within outline.states c.args.name.now _ c.args.now outline.text to _ _ _ c.in_ok-target_heading.field-0 up _ _ _ _ c.in_ok-subtree.ensures.terminated
     c.find.ensures.value c.in_ok-node.was c.target_heading.ensures.value c.in_ok-target_heading.was c.in_ok-up.ensures.value c.in_ok-node.ensures.within
     (λ node. c.last_below_without-at.ensures.place to node) c.without.ensures c.insertion-goes_in.ensures lines

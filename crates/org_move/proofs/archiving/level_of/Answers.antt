@@ -4,4 +4,4 @@ use Rattle.org_move.proofs.archiving.level_of.Goals as goal
 
 pub prove-unreachable-requires : goal.prove-unreachable-requires
 prove-unreachable-requires c =
-    omega (arith, c.if-prove.true, level_less _ _ _ _ c.text-end.ensures.value c.text-end.ensures.closed c.requires c.level-level.ensures.value)
+    omega (arith, c.if-prove.true, level_less _ _ _ _ c.text-end.ensures.value c.text-end.ensures.terminated c.requires c.level-level.ensures.value)

@@ -3,17 +3,17 @@ use Rattle.std.specs.Borrow.{Bor}
 use Rattle.org_outline.specs.Tree.{tree}
 use Rattle.org_move.specs.Archive.{category_of}
 use Rattle.org_move.proofs.Own.{section_within}
-use Rattle.org_move.proofs.Given.{all_good, category_found, category_none, section_made, start_closed}
+use Rattle.org_move.proofs.Given.{all_good, category_found, category_none, section_made, start_terminated}
 use Rattle.org_move.proofs.properties.archived_section.Goals as goal
 use Rattle.org_move.proofs.properties.archived_section.Goals.{in-Some, in-None}
 
 pub slice_bounds-from_slice-end : goal.slice_bounds-from_slice-end
 slice_bounds-from_slice-end c =
-    section_within c.args.outline.now.text _ c.args.node _ c.text.ensures.value c.text.ensures.closed c.requires.node c.section-span.ensures
+    section_within c.args.outline.now.text _ c.args.node _ c.text.ensures.value c.text.ensures.terminated c.requires.node c.section-span.ensures
 
-pub put_each-requires-clause-closed : goal.put_each-requires-clause-closed
-put_each-requires-clause-closed c =
-    start_closed c.args.outline.now.text c.text.result.now c.args.node _ _ c.text.ensures.value c.section-span.ensures c.in_ok-section.ensures.items
+pub put_each-requires-clause-terminated : goal.put_each-requires-clause-terminated
+put_each-requires-clause-terminated c =
+    start_terminated c.args.outline.now.text c.text.result.now c.args.node _ _ c.text.ensures.value c.section-span.ensures c.in_ok-section.ensures.items
 
 pub put_each-requires-clause-good : goal.put_each-requires-clause-good
 put_each-requires-clause-good c =

@@ -7,8 +7,8 @@ returns-clause-parts c =
     (put_together c.args.section.now.items c.deref-2.result.now c.deref-3.result.now _ _ _ _ c.in_ok-edit.edit c.deref-2.ensures.value c.deref-3.ensures.value
     c.in_ok-new.ensures.items c.as_slice.ensures c.in_ok-extend_from_slice.ensures.items c.in_ok-extend_from_slice-2.ensures.items)
 
-pub returns-clause-closed : goal.returns-clause-closed
-returns-clause-closed c =
+pub returns-clause-terminated : goal.returns-clause-terminated
+returns-clause-terminated c =
     put_shut c.args.name.now c.args.value.now c.args.section.now.items c.deref.result.now _ c.in_ok-edit.edit c.deref.ensures.value c.in_ok-edit.ensures
     (put_together c.args.section.now.items c.deref-2.result.now c.deref-3.result.now _ _ _ _ c.in_ok-edit.edit c.deref-2.ensures.value c.deref-3.ensures.value
     c.in_ok-new.ensures.items c.as_slice.ensures c.in_ok-extend_from_slice.ensures.items c.in_ok-extend_from_slice-2.ensures.items)

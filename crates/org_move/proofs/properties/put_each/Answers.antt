@@ -8,7 +8,7 @@ put_given-requires-clause-good c = good_at c.args.properties.now c.loop-property
 pub loop-property-preserved : goal.loop-property-preserved
 loop-property-preserved c = record {
   parts = each_more c.args.properties.now c.loop-property.property-index _ _ _ _ c.loop-property.invariant.parts c.loop-property-test.true c.in_ok-put_given.ensures.parts;
-  shut = c.in_ok-put_given.ensures.closed;
+  shut = c.in_ok-put_given.ensures.terminated;
 }
 
 pub returns-clause-parts : goal.returns-clause-parts

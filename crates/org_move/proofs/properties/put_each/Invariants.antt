@@ -1,5 +1,5 @@
 use Rattle.std.proofs.Common.{◌≡◌, take}
-use Rattle.org_splice.specs.Lines.{closed}
+use Rattle.org_splice.specs.Lines.{terminated}
 use Rattle.org_meta.specs.Sections.{parts_of}
 use Rattle.org_move.specs.Archive.{put_each}
 use Rattle.org_move.specs.Given.{given}
@@ -9,5 +9,5 @@ abbrev pub invariant-loop-property : goal.invariant-loop-property
 invariant-loop-property l =
     record {
       parts : parts_of l.section.items ≡ put_each (given (take l.property-index l.properties)) (parts_of l.initial.section.items);
-      shut : closed l.section.items ≡ l.section.items;
+      shut : terminated l.section.items ≡ l.section.items;
     }

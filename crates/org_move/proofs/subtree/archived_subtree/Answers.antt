@@ -9,8 +9,8 @@ use Rattle.org_move.proofs.subtree.archived_subtree.Goals as goal
 pub archived_section-requires-clause-file : goal.archived_section-requires-clause-file
 archived_section-requires-clause-file c = rw (c.as_bytes-file.ensures.value, c.as_str.ensures.value) c.as_str.ensures.valid
 
-pub with_section-requires-clause-closed : goal.with_section-requires-clause-closed
-with_section-requires-clause-closed c = rw c.deref.ensures.value c.in_ok-section.ensures.closed
+pub with_section-requires-clause-terminated : goal.with_section-requires-clause-terminated
+with_section-requires-clause-terminated c = rw c.deref.ensures.value c.in_ok-section.ensures.terminated
 
 pub returns-clause-printed : goal.returns-clause-printed
 returns-clause-printed c =

@@ -4,7 +4,7 @@ use Rattle.org_disk.specs.Accounts.{Accounts}
 use Rattle.org_serve.specs.Lines.{cut}
 use Rattle.org_serve.specs.Pending.{Stands}
 use Rattle.org_serve.specs.Serving.{HasBroken}
-use Rattle.org_serve.specs.Stops.{RunsLine}
+use Rattle.org_serve.specs.Crashes.{RunsLine}
 use Rattle.org_serve.proofs.Feeding.{Fed}
 use Rattle.org_serve.proofs.serving.feed.Given as goal
 

@@ -1,14 +1,14 @@
 use Rattle.std.proofs.Common.{◌≡◌, ◌∙◌, arith, ◌<◌, length, take, inl, inr}
 use Rattle.org_serve.specs.Lines.{cut}
 use Rattle.org_serve.specs.Serving.{Finishes, HasSettled}
-use Rattle.org_serve.specs.Stops.{HasSettledOver}
+use Rattle.org_serve.specs.Crashes.{HasSettledOver}
 use Rattle.org_serve.proofs.Cuts.{rest-free}
 use Rattle.org_serve.proofs.Inputs.{Served-more, Served-some, Served-no_more, Served-all_ran, Served-end, Served-settled, Served-lines}
 use Rattle.org_serve.proofs.Joins.{Consumes-kept}
 use Rattle.org_serve.proofs.Counting.{HasRisenBy-counted}
 use Rattle.org_serve.proofs.Breaking.{untouched_then, breaks_then}
 use Rattle.org_serve.proofs.Honest.{kept_end, kept_runs, kept_served, kept_settled, kept_some}
-use Rattle.org_serve.proofs.Stops.{session_of_served, session_of_ends, session_of_settled, session_of_some, runs_read, runs_finish, runs_some, runs_keep}
+use Rattle.org_serve.proofs.Crashes.{session_of_served, session_of_ends, session_of_settled, session_of_some, runs_read, runs_finish, runs_some, runs_keep}
 use Rattle.org_serve.proofs.serving.serve.Goals as goal
 
 pub returns-in-Ok-eq0-clause-end : goal.returns-in-Ok-eq0-clause-end

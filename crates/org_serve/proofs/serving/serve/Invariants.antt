@@ -3,7 +3,7 @@ use Rattle.std.specs.Prelude.{IsTrue}
 use Rattle.org_disk.specs.Accounts.{Accounts}
 use Rattle.org_serve.specs.Counts.{HasRisenBy}
 use Rattle.org_serve.specs.Serving.{HasBroken}
-use Rattle.org_serve.specs.Stops.{RunsLine}
+use Rattle.org_serve.specs.Crashes.{RunsLine}
 use Rattle.org_serve.proofs.Inputs.{Served}
 use Rattle.org_serve.proofs.serving.serve.Given as goal
 

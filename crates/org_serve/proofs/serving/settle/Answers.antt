@@ -3,7 +3,7 @@ use Rattle.org_store.specs.Runs.{SettlesOver}
 use Rattle.org_serve.specs.Replies.{settled_text}
 use Rattle.org_serve.specs.Serving.{EndsBroken}
 use Rattle.org_serve.proofs.Breaking.{ends_broken}
-use Rattle.org_serve.proofs.Stops.{finishes_settling}
+use Rattle.org_serve.proofs.Crashes.{finishes_settling}
 use Rattle.org_serve.proofs.serving.settle.Goals as goal
 
 pub returns-in-Ok-clause-told : goal.returns-in-Ok-clause-told

@@ -2,7 +2,7 @@ use Rattle.std.proofs.Common.{◌≡◌, List, ℕ, take}
 use Rattle.std.specs.List.{Contains}
 use Rattle.org_disk.specs.Disk.{IsImage, IsStable, AreImages}
 use Rattle.org_disk.specs.Accounts.{Accounts, PassesOver}
-use Rattle.org_journal.specs.Standing.{contents}
+use Rattle.org_journal.specs.Recovered.{contents}
 use Rattle.org_serve.proofs.syncing.sync_each.Given as goal
 
 -- the files so far are synced

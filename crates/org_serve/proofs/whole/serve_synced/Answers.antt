@@ -1,10 +1,10 @@
 use Rattle.std.proofs.Common.{inl, inr, ℕ, List, refl, ◌∙◌, ap, subst}
 use Rattle.std.proofs.lemmas.Result.{IfOk-weaker}
-use Rattle.org_journal.specs.Standing.{contents, stands}
+use Rattle.org_journal.specs.Recovered.{contents, recovered}
 use Rattle.org_fileset.proofs.Recovering.{as_before}
 use Rattle.org_serve.specs.Syncing.{AreSynced, stored}
-use Rattle.org_serve.proofs.Syncs.{all_images, each_image, some_or_none, still_fit, still_stands, still_outside, as_at_first, as_read, now_fit, now_stand}
-use Rattle.org_serve.proofs.Synced.{if_err, if_err_always, leaves_as, leaves_behind, reason_before, served_from, lasts_fit, lasts_found}
+use Rattle.org_serve.proofs.Syncs.{all_images, each_image, some_or_none, still_recoverable, still_recovers, still_outside, as_at_first, as_read, now_recoverable, now_recovers}
+use Rattle.org_serve.proofs.Synced.{if_err, if_err_always, leaves_as, leaves_behind, reason_before, served_from, lasts_recoverable, lasts_found}
 use Rattle.org_serve.proofs.whole.serve_synced.Goals as goal
 
 pub returns-in-Ok-clause-served : goal.returns-in-Ok-clause-served
@@ -20,7 +20,7 @@ returns-in-Ok-clause-served g c =
     let time = c.sync_files.ensures.any_moment in
     IfOk-weaker c.serve_disk.result.end _ _ (λ end had. (
       served_from d.honest d.files d.moment d.left_since given disk mid began own synced images time had.0,
-      lasts_fit d.honest d.files d.moment d.left_since given disk mid began own synced images time had.0 had.1,
+      lasts_recoverable d.honest d.files d.moment d.left_since given disk mid began own synced images time had.0 had.1,
       lasts_found d.honest d.files d.moment d.left_since given disk mid began own synced images time had.0 had.1,
     )) c.serve_disk.ensures.served
 
@@ -33,13 +33,13 @@ returns-in-Ok-clause-unopened g c honest fit each =
     let own = λ (name : List ℕ). g.met.D.Disk.content_is_image mid name h in
     let images = (c.sync_files.ensures.syncs h).images in
     if_err c.serve_disk.result.end (λ _ later. leaves_behind (c.sync_files.ensures.any_moment h) later (as_before old each) (as_at_first old (d.files mid) own images))
-    (c.serve_disk.ensures.unopened honest (still_fit old (d.files mid) own images fit) (still_stands old (d.files mid) own images each))
+    (c.serve_disk.ensures.unopened honest (still_recoverable old (d.files mid) own images fit) (still_recovers old (d.files mid) own images each))
 
 pub returns-in-Ok-clause-unopened_bad : goal.returns-in-Ok-clause-unopened_bad
 returns-in-Ok-clause-unopened_bad g c honest none =
     let h = c.serve_disk.ensures.accounts.was_honest honest in
     let synced = c.sync_files.ensures.syncs h in
-    let later = c.serve_disk.ensures.unopened_bad honest (ap stands (c.in-Ok.ensures.syncs h).done.same ∙ none) in
+    let later = c.serve_disk.ensures.unopened_bad honest (ap recovered (c.in-Ok.ensures.syncs h).done.same ∙ none) in
     (later.0, leaves_behind (c.sync_files.ensures.any_moment h) later.1 (λ image left. left) (all_images synced.images))
 
 pub returns-in-Ok-clause-unopened_as_found : goal.returns-in-Ok-clause-unopened_as_found
@@ -56,21 +56,21 @@ returns-in-Ok-clause-unopened_as_found g c honest outside = elim (some_or_none (
       let synced = subst (λ (names : List (List ℕ)). AreSynced (stored names) old (d.files mid)) c.deref.ensures.value (c.in-Ok.ensures.syncs h).done in
       if_err c.serve_disk.result.end
       (λ _ later. leaves_behind (c.sync_files.ensures.any_moment h) later (λ image left. inl left) (λ image before. inr (as_read old (d.files mid) own images given synced outside image before)))
-      (c.serve_disk.ensures.unopened honest (now_fit old (d.files mid) own images given synced outside) (now_stand old (d.files mid) own images given synced outside good))
+      (c.serve_disk.ensures.unopened honest (now_recoverable old (d.files mid) own images given synced outside) (now_recovers old (d.files mid) own images given synced outside good))
 ]
 
-pub returns-in-Ok-clause-fit : goal.returns-in-Ok-clause-fit
-returns-in-Ok-clause-fit g c honest fit each =
+pub returns-in-Ok-clause-recoverable : goal.returns-in-Ok-clause-recoverable
+returns-in-Ok-clause-recoverable g c honest fit each =
     let d = g.D.Disk in
     let old = d.files c.args.disk in
     let mid = c.sync_files.new.disk in
     let h = c.serve_disk.ensures.accounts.was_honest honest in
     let own = λ (name : List ℕ). g.met.D.Disk.content_is_image mid name h in
     let images = (c.sync_files.ensures.syncs h).images in
-    c.serve_disk.ensures.fit honest (still_fit old (d.files mid) own images fit) (still_stands old (d.files mid) own images each)
+    c.serve_disk.ensures.recoverable honest (still_recoverable old (d.files mid) own images fit) (still_recovers old (d.files mid) own images each)
 
-pub returns-in-Ok-clause-fit_once_synced : goal.returns-in-Ok-clause-fit_once_synced
-returns-in-Ok-clause-fit_once_synced g c honest outside =
+pub returns-in-Ok-clause-recoverable_once_synced : goal.returns-in-Ok-clause-recoverable_once_synced
+returns-in-Ok-clause-recoverable_once_synced g c honest outside =
     let d = g.D.Disk in
     let old = d.files c.args.disk in
     let mid = c.sync_files.new.disk in
@@ -81,9 +81,9 @@ returns-in-Ok-clause-fit_once_synced g c honest outside =
     let images = (c.sync_files.ensures.syncs h).images in
     let synced = subst (λ (names : List (List ℕ)). AreSynced (stored names) old (d.files mid)) c.deref.ensures.value (c.in-Ok.ensures.syncs h).done in
     elim (some_or_none (contents old)) [
-      | inl good ↦ inl (c.serve_disk.ensures.fit honest (now_fit old (d.files mid) own images given synced outside) (now_stand old (d.files mid) own images given synced outside good))
+      | inl good ↦ inl (c.serve_disk.ensures.recoverable honest (now_recoverable old (d.files mid) own images given synced outside) (now_recovers old (d.files mid) own images given synced outside good))
       | inr none ↦
-          let bad = c.serve_disk.ensures.unopened_bad honest (ap stands synced.same ∙ none) in
+          let bad = c.serve_disk.ensures.unopened_bad honest (ap recovered synced.same ∙ none) in
           let own_now = λ (name : List ℕ). g.met.D.Disk.content_is_image last name honest in
           let kept = each_image own_now (λ image left. bad.1.each image (g.met.D.Disk.counts_now last (d.moment mid) image honest bad.1.passes.later left)) in
           inr (bad.0, still_outside (d.files mid) (d.files last) own_now kept given (still_outside old (d.files mid) own images given outside))
@@ -107,16 +107,16 @@ returns-in-Err-clause-unopened_as_found g c honest outside = leaves_as (c.sync_f
 pub returns-in-Err-clause-unopened_bad : goal.returns-in-Err-clause-unopened_bad
 returns-in-Err-clause-unopened_bad g c honest none = (refl, c.sync_files.ensures.any_moment honest)
 
-pub returns-in-Err-clause-fit : goal.returns-in-Err-clause-fit
-returns-in-Err-clause-fit g c honest fit each =
+pub returns-in-Err-clause-recoverable : goal.returns-in-Err-clause-recoverable
+returns-in-Err-clause-recoverable g c honest fit each =
     let old = g.D.Disk.files c.args.disk in
     let new = g.D.Disk.files c.sync_files.new.disk in
     let own = λ (name : List ℕ). g.met.D.Disk.content_is_image c.sync_files.new.disk name honest in
     let images = (c.sync_files.ensures.syncs honest).images in
-    (still_fit old new own images fit, still_stands old new own images each)
+    (still_recoverable old new own images fit, still_recovers old new own images each)
 
-pub returns-in-Err-clause-fit_once_synced : goal.returns-in-Err-clause-fit_once_synced
-returns-in-Err-clause-fit_once_synced g c honest outside =
+pub returns-in-Err-clause-recoverable_once_synced : goal.returns-in-Err-clause-recoverable_once_synced
+returns-in-Err-clause-recoverable_once_synced g c honest outside =
     let old = g.D.Disk.files c.args.disk in
     let new = g.D.Disk.files c.sync_files.new.disk in
     let own = λ (name : List ℕ). g.met.D.Disk.content_is_image c.sync_files.new.disk name honest in

@@ -1,12 +1,12 @@
 use Rattle.std.proofs.Common.{◌≡◌, ◌<◌, ◌≤◌, ℕ, List, length, get_or, sym, subst, arith}
 use Rattle.std.proofs.lemmas.Grind.{common_steps}
 use Rattle.org_splice.specs.declared.Span.{Span}
-use Rattle.org_splice.specs.Patches.{AreWellFormed, LayTo}
+use Rattle.org_splice.specs.Patches.{AreWellFormed, PatchedTo}
 use Rattle.org_splice.specs.Ranges.{AreChanged}
 use Rattle.org_splice.specs.Texts.{patches_of, pairs_of}
 use Rattle.org_splice.specs.Versions.{text_of_parts}
 use Rattle.org_splice.proofs.Apart.{LieApart-at}
-use Rattle.org_splice.proofs.Written.{AreWellFormed-patches_of, LayTo-patches_of}
+use Rattle.org_splice.proofs.Written.{AreWellFormed-patches_of, PatchedTo-patches_of}
 use Rattle.org_splice.proofs.patch.patches_of.Goals as goal
 
 -- a changed range lies in its text
@@ -36,7 +36,7 @@ returns-clause-well_formed c =
     let exact : pairs_of c.if-is_empty.patches.items ≡ patches_of (text_of_parts c.args.text.now c.args.changed.now) = returns-clause-exact c in
     subst (λ (ps : List (ℕ × List ℕ)). AreWellFormed ps (length c.args.text.now)) (sym exact) (AreWellFormed-patches_of c.args.text.now c.args.changed.now c.requires)
 
-pub returns-clause-laid : goal.returns-clause-laid
-returns-clause-laid c = λ old edit.
+pub returns-clause-makes : goal.returns-clause-makes
+returns-clause-makes c = λ old edit.
     let exact : pairs_of c.if-is_empty.patches.items ≡ patches_of (text_of_parts c.args.text.now c.args.changed.now) = returns-clause-exact c in
-    subst (λ (ps : List (ℕ × List ℕ)). LayTo ps (length c.args.text.now) old c.args.text.now) (sym exact) (LayTo-patches_of old c.args.text.now c.args.changed.now c.requires edit)
+    subst (λ (ps : List (ℕ × List ℕ)). PatchedTo ps (length c.args.text.now) old c.args.text.now) (sym exact) (PatchedTo-patches_of old c.args.text.now c.args.changed.now c.requires edit)

@@ -47,6 +47,6 @@ returns c =
     let k : Edit = c.in_ok-keyword_edit.field-0 in (
       with_lines states state own own.section,
       keyword_alone (is_done states (keyword_in states own.rest)) (is_done states state) states state c.args.now own (sym was_is ∙ same ∙ is_is),
-      one_made c.args.outline.now.text c.args.node k _ c.push.new.self.items c.keyword_edit.ensures.closed c.requires c.in_ok-keyword_edit.ensures.edits
+      one_made c.args.outline.now.text c.args.node k _ c.push.new.self.items c.keyword_edit.ensures.terminated c.requires c.in_ok-keyword_edit.ensures.edits
           (c.in_ok-push.ensures.items ∙ ap (λ (es : List Edit). es ++ k ∷ []) c.new-edits.ensures.items),
     )

@@ -25,5 +25,5 @@ returns c =
     let items = pushed_four _ _ _ _ _ _ _ _ _ c.new-edits.ensures.items c.in_ok-push.ensures.items c.in_ok-push-2.ensures.items c.in_ok-push-3.ensures.items c.in_ok-push-4.ensures.items in
     repeat_made c.args.outline.now.states c.args.state.now c.args.now c.args.outline.now.text c.args.node c.section_of-section.result.now c.above_rest.result.now c.parts.result.keyword.now c.deref.result.now c.as_bytes-active.result.now
     c.in_ok-note.note c.in_ok-property.property c.args.planning c.in_section.result c.in_section-2.result c.in_section-3.result k c.push-4.new.self.items
-    c.keyword_edit.ensures.closed c.requires.node c.section_of-section.ensures.bytes c.section_of-section.ensures.lines front c.parts.ensures.keyword stamp active
+    c.keyword_edit.ensures.terminated c.requires.node c.section_of-section.ensures.bytes c.section_of-section.ensures.lines front c.parts.ensures.keyword stamp active
     c.in_ok-note.ensures c.in_ok-property.ensures c.requires.planning c.in_section.ensures c.in_section-2.ensures c.in_section-3.ensures c.in_ok-keyword_edit.ensures.edits items

@@ -4,14 +4,14 @@ use Rattle.org_splice.specs.Lines.{print_lines}
 use Rattle.org_outline.specs.Tree.{tree, node_at}
 use Rattle.org_meta.specs.Planning.{set_closed}
 use Rattle.org_meta.specs.Sections.{split}
-use Rattle.org_meta.proofs.Replanning.{planning_closed}
+use Rattle.org_meta.proofs.Replanning.{planning_terminated}
 use Rattle.org_state.specs.Todo.{own_at, repeating, TurnsDone}
 use Rattle.org_state.proofs.Steps.{section_is_lines}
 use Rattle.org_state.proofs.Turning.{faulted, replanned_within, replanned_made, repeat_refused, nothing_repeats, closed_refused, closed_made}
 use Rattle.org_state.proofs.changing.turn_done.Goals as goal
 
 pub repeat_planning-requires : goal.repeat_planning-requires
-repeat_planning-requires c = planning_closed c.section_of-section.result.now c.sections.result c.sections.ensures
+repeat_planning-requires c = planning_terminated c.section_of-section.result.now c.sections.result c.sections.ensures
 
 pub returns-in_err-planning : goal.returns-in_err-planning
 returns-in_err-planning c =

@@ -8,5 +8,5 @@ pub returns : goal.returns
 returns c = (
   c.in_ok-node.node,
   sym c.find.ensures.value ∙ c.in_ok-node.was,
-  section_made c.args.outline.now.text c.in_ok-node.node _ (opened_section c.args.now (tree c.args.outline.now.text) c.in_ok-node.node) c.opening.ensures.closed c.in_ok-node.ensures.within c.in_ok-opening.ensures.edits,
+  section_made c.args.outline.now.text c.in_ok-node.node _ (opened_section c.args.now (tree c.args.outline.now.text) c.in_ok-node.node) c.opening.ensures.terminated c.in_ok-node.ensures.within c.in_ok-opening.ensures.edits,
 )

@@ -3,4 +3,4 @@ use Rattle.org_state.proofs.clocks.clock_out.Goals as goal
 
 pub returns : goal.returns
 returns c =
-    closing_answers c.args.text.now c.args.running (stands c.args.text.now c.args.running c.requires.closed c.requires.runs) c.args.now c.closing.result c.requires.closed c.closing.ensures
+    closing_answers c.args.text.now c.args.running (stands c.args.text.now c.args.running c.requires.terminated c.requires.runs) c.args.now c.closing.result c.requires.terminated c.closing.ensures

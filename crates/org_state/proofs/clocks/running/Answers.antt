@@ -8,7 +8,7 @@ use Rattle.org_state.proofs.clocks.running.Goals as goal
 pub span_in_section-requires-clause-within : goal.span_in_section-requires-clause-within
 span_in_section-requires-clause-within c =
     let h = c.in-Some.ensures.stands in
-    omega (arith, ends_within c.section_of.result.now c.in-Some.line h.before h.line h.after c.section_of.ensures.closed h.is, ap length c.section_of.ensures.bytes)
+    omega (arith, ends_within c.section_of.result.now c.in-Some.line h.before h.line h.after c.section_of.ensures.terminated h.is, ap length c.section_of.ensures.bytes)
 
 pub returns-in-Some : goal.returns-in-Some
 returns-in-Some c =

@@ -27,15 +27,15 @@ returns-in_err-in_order-2 c =
 pub returns-then-number : goal.returns-then-number
 returns-then-number c =
     let t = c.args.outline.now.text in
-    let s = stands t c.args.running c.text.ensures.closed c.requires.runs in
+    let s = stands t c.args.running c.text.ensures.terminated c.requires.runs in
     let less : c.args.running.heading < c.args.node = omega (arith, c.if-number.true, c.number.ensures, c.number-2.ensures) in
-    switch_made t c.text.result.now c.args.node c.args.running.heading c.args.now c.in_ok-start.start c.in_ok-stop.stop _ c.text.ensures.value c.text.ensures.closed c.requires.node s.heading c.requires.other
+    switch_made t c.text.result.now c.args.node c.args.running.heading c.args.now c.in_ok-start.start c.in_ok-stop.stop _ c.text.ensures.value c.text.ensures.terminated c.requires.node s.heading c.requires.other
     c.in_ok-start.ensures.edits c.in_ok-stop.ensures (inl (less, c.in_ok-in_order.ensures))
 
 pub returns : goal.returns
 returns c =
     let t = c.args.outline.now.text in
-    let s = stands t c.args.running c.text.ensures.closed c.requires.runs in
+    let s = stands t c.args.running c.text.ensures.terminated c.requires.runs in
     let less : c.args.node ≤ c.args.running.heading = omega (arith, c.if-number.false, c.number.ensures, c.number-2.ensures) in
-    switch_made t c.text.result.now c.args.node c.args.running.heading c.args.now c.in_ok-start.start c.in_ok-stop.stop _ c.text.ensures.value c.text.ensures.closed c.requires.node s.heading c.requires.other
+    switch_made t c.text.result.now c.args.node c.args.running.heading c.args.now c.in_ok-start.start c.in_ok-stop.stop _ c.text.ensures.value c.text.ensures.terminated c.requires.node s.heading c.requires.other
     c.in_ok-start.ensures.edits c.in_ok-stop.ensures (inr (less, c.in_ok-in_order-2.ensures))

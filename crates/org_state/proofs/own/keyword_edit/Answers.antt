@@ -4,5 +4,5 @@ use Rattle.org_state.proofs.own.keyword_edit.Goals as goal
 
 pub prove-unreachable-requires : goal.prove-unreachable-requires
 prove-unreachable-requires c =
-    let b = section_bounds c.args.outline.now.text c.args.node c.section.result c.text-end.ensures.closed c.requires c.section.ensures in
+    let b = section_bounds c.args.outline.now.text c.args.node c.section.result c.text-end.ensures.terminated c.requires c.section.ensures in
     omega (arith, b.0, b.1, c.section.ensures.start, c.if-prove.true, ap length c.text-end.ensures.value)

@@ -1,13 +1,13 @@
 use Rattle.std.proofs.Common.{◌≡◌, ℕ, ◌-◌, List, length, take, drop, sym, ap, ◌∙◌, arith}
-use Rattle.org_splice.specs.Lines.{closed, lines_of, print_lines}
-use Rattle.org_splice.proofs.Lines.{closed-print_lines}
+use Rattle.org_splice.specs.Lines.{terminated, lines_of, print_lines}
+use Rattle.org_splice.proofs.Lines.{terminated-print_lines}
 use Rattle.org_outline.specs.Tree.{node_at, tree}
 use Rattle.org_state.proofs.Steps.{section_bounds, section_lines}
 use Rattle.org_state.proofs.own.section_of.Goals as goal
 
 pub slice_bounds-result-end : goal.slice_bounds-result-end
 slice_bounds-result-end c =
-    let b = section_bounds c.args.outline.now.text c.args.node c.section-span.result c.text.ensures.closed c.requires c.section-span.ensures in
+    let b = section_bounds c.args.outline.now.text c.args.node c.section-span.result c.text.ensures.terminated c.requires c.section-span.ensures in
     omega (arith, b.0, b.1, ap length c.text.ensures.value)
 
 pub returns-clause-lines : goal.returns-clause-lines
@@ -16,10 +16,10 @@ returns-clause-lines c =
     ap (λ (t : List ℕ). lines_of (take (span.end - span.start) (drop span.start t))) c.text.ensures.value
     ∙ ap lines_of c.section-span.ensures.bytes ∙ section_lines c.args.outline.now.text c.args.node c.requires
 
-pub returns-clause-closed : goal.returns-clause-closed
-returns-clause-closed c =
+pub returns-clause-terminated : goal.returns-clause-terminated
+returns-clause-terminated c =
     let span = c.section-span.result in
     let lines : List (List ℕ) = (node_at (tree c.args.outline.now.text) c.args.node).node.section in
     let bytes : take (span.end - span.start) (drop span.start c.text.result.now) ≡ print_lines lines =
     ap (λ (t : List ℕ). take (span.end - span.start) (drop span.start t)) c.text.ensures.value ∙ c.section-span.ensures.bytes in
-    ap closed bytes ∙ closed-print_lines lines ∙ sym bytes
+    ap terminated bytes ∙ terminated-print_lines lines ∙ sym bytes

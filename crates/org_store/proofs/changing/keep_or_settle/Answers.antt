@@ -1,5 +1,5 @@
 use Rattle.std.proofs.Common.{◌≡◌, ◌∙◌, inl, ◌+◌, Ok, Err, refl, ap, subst, rules}
-use Rattle.org_journal.specs.Standing.{contents}
+use Rattle.org_journal.specs.Recovered.{contents}
 use Rattle.org_texts.specs.Texts.{held_over}
 use Rattle.org_store.specs.declared.command.RunFault.TheVariants.{OutOfMemory}
 use Rattle.org_store.specs.Files.{OpenFiles}

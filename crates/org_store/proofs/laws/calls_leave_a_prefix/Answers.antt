@@ -1,5 +1,5 @@
 use Rattle.std.proofs.Common.{refl, arith}
-use Rattle.org_store.proofs.Calls.{broken_calls, call_listed, calls_fit, calls_leave, calls_list, calls_rest}
+use Rattle.org_store.proofs.Calls.{broken_calls, call_listed, calls_recoverable, calls_leave, calls_list, calls_rest}
 use Rattle.org_store.proofs.Listed.{calls_small, prefix_opens}
 use Rattle.org_store.proofs.laws.calls_leave_a_prefix.Goals as goal
 
@@ -21,8 +21,8 @@ pub returns-clause-broken : goal.returns-clause-broken
 returns-clause-broken g c = λ first last calls fell run.
     let keeps = broken_calls g.D.Disk.files g.D.Disk.moment g.D.Disk.left_since first last calls fell run in (keeps.store, keeps.texts)
 
-pub returns-clause-fit : goal.returns-clause-fit
-returns-clause-fit g c = λ first last calls rest run. calls_fit g.D.Disk.files g.D.Disk.moment g.D.Disk.left_since first last calls rest run
+pub returns-clause-recoverable : goal.returns-clause-recoverable
+returns-clause-recoverable g c = λ first last calls rest run. calls_recoverable g.D.Disk.files g.D.Disk.moment g.D.Disk.left_since first last calls rest run
 
 pub returns-clause-rest : goal.returns-clause-rest
 returns-clause-rest g c = λ first last calls sound rest run. calls_rest g.D.Disk.files g.D.Disk.moment g.D.Disk.left_since first last calls sound rest run

@@ -1,5 +1,5 @@
 use Rattle.org_disk.specs.Disk.{HasRisen}
-use Rattle.org_journal.specs.Standing.{contents}
+use Rattle.org_journal.specs.Recovered.{contents}
 use Rattle.org_store.proofs.Reopening.{counted_faults, held_opens, left_opens, any_order}
 use Rattle.org_store.proofs.laws.every_image_opens.Goals as goal
 

@@ -1,4 +1,4 @@
-use Rattle.org_journal.specs.Standing.{contents}
+use Rattle.org_journal.specs.Recovered.{contents}
 use Rattle.org_store.proofs.Keeping.{others_same}
 use Rattle.org_store.proofs.Runs.{on_disk_after}
 use Rattle.org_store.proofs.laws.settled_is_on_disk.Goals as goal

@@ -5,7 +5,7 @@ use Rattle.std.specs.Option.{is_some}
 use Rattle.std.specs.Str.{bytes_eq}
 use Rattle.std.proofs.lemmas.List.Quantifiers.{position-Some}
 use Rattle.std.proofs.lemmas.Result.{on_ok_weaker}
-use Rattle.org_splice.specs.Texts.{closed_text}
+use Rattle.org_splice.specs.Texts.{terminated_text}
 use Rattle.org_texts.specs.Held.{HeldText}
 use Rattle.org_texts.proofs.Names.{missing}
 use Rattle.org_texts.proofs.Values.{map_changed, map_kept, names_kept}
@@ -25,7 +25,7 @@ returns-clause-now c =
     let place : position (bytes_eq name) (keys_of es) ≡ Some c.in-Some.place = search rules in
     let first = position-Some (bytes_eq name) (keys_of es) c.in-Some.place [] place in
     on_ok_weaker c.make_ready.result
-    (λ is. map_changed (λ (h : HeldText). h.text) closed_text name [] es c.in-Some.place c.index_mut.result.now c.make_ready.new.self first.0 first.1 first.2 c.index_mut.ensures.value (ap (λ (h : HeldText). h.text) is))
+    (λ is. map_changed (λ (h : HeldText). h.text) terminated_text name [] es c.in-Some.place c.index_mut.result.now c.make_ready.new.self first.0 first.1 first.2 c.index_mut.ensures.value (ap (λ (h : HeldText). h.text) is))
     c.make_ready.ensures.ok
 
 pub returns-clause-ready : goal.returns-clause-ready

@@ -25,7 +25,7 @@ loop-i-preserved c =
     let held = one_more self.contents (IsLeft self) i (memory_files c.loop-i.image) (memory_files c.set.new.self) c.loop-i.invariant.0 name content c.in_ok-left.left.items more
     (subst (λ o. IfSome o (λ p. get bytes_eq self.contents p.0.now ≡ Some p.1.now)) c.unwrap.ensures c.get_index.ensures.value)
     (c.in_ok-set.ensures.ok ∙ ap stable c.deref.ensures.value) c.set.ensures.others left in
-    (held, c.set.ensures.failures ∙ c.loop-i.invariant.1, c.set.ensures.plan.fail_in ∙ c.loop-i.invariant.2, c.set.ensures.plan.stop ∙ c.loop-i.invariant.3, c.set.ensures.uncounted ∙ c.loop-i.invariant.4)
+    (held, c.set.ensures.failures ∙ c.loop-i.invariant.1, c.set.ensures.plan.fail_in ∙ c.loop-i.invariant.2, c.set.ensures.plan.crash ∙ c.loop-i.invariant.3, c.set.ensures.uncounted ∙ c.loop-i.invariant.4)
 
 pub returns-clause-left : goal.returns-clause-left
 returns-clause-left c name =

@@ -8,9 +8,9 @@ use Rattle.org_disk.proofs.memory.MemoryDisk.record.Goals as goal
 pub invariant_of-self-2 : goal.invariant_of-self-2
 invariant_of-self-2 c =
     let calls = c.args.self.now.calls.items in
-    let call : Call = call_of c.args.name.now c.args.effect c.args.stopped in
-    let copy : Call = call_of c.in_ok-clone.field-0 c.args.effect c.args.stopped in
-    let same : copy ≡ call = λ j. call_of (c.in_ok-clone.ensures.cases j) c.args.effect c.args.stopped in
+    let call : Call = call_of c.args.name.now c.args.effect c.args.crashed in
+    let copy : Call = call_of c.in_ok-clone.field-0 c.args.effect c.args.crashed in
+    let same : copy ≡ call = λ j. call_of (c.in_ok-clone.ensures.cases j) c.args.effect c.args.crashed in
     let pushed : c.push.new.self.items ≡ calls ++ call ∷ [] =
     c.push.ensures.items ∙ cond-true _ (c.reserve.new.self.items ++ copy ∷ []) c.reserve.new.self.items (c.push.ensures.succeeds (omega (arith, c.in_ok-reserve.ensures.ok)))
     ∙ (λ j. c.reserve.ensures.items j ++ same j ∷ []) in

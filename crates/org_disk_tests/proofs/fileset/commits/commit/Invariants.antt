@@ -1,5 +1,5 @@
 use Rattle.org_disk.specs.Memory.{memory_files}
-use Rattle.org_journal.specs.Standing.{contents}
+use Rattle.org_journal.specs.Recovered.{contents}
 use Rattle.org_fileset.specs.Set.{AreCommittable}
 use Rattle.org_disk_tests.proofs.fileset.commits.commit.Given as goal
 

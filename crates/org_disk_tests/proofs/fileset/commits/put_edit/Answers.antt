@@ -8,7 +8,7 @@ use Rattle.org_disk.specs.Memory.{memory_files}
 use Rattle.org_disk.proofs.Names.{name_cases}
 use Rattle.org_disk_tests.specs.Edited.{with_text}
 use Rattle.org_splice.specs.Texts.{EditedText, IsEditOf, settled}
-use Rattle.org_journal.specs.Standing.{contents}
+use Rattle.org_journal.specs.Recovered.{contents}
 use Rattle.org_fileset.specs.Names.{limit}
 use Rattle.org_fileset.specs.Set.{AreCommittable}
 use Rattle.org_disk_tests.proofs.fileset.commits.put_edit.Goals as goal

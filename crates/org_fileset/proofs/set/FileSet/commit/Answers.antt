@@ -6,12 +6,12 @@ use Rattle.org_splice.specs.Texts.{EditedText}
 use Rattle.org_journal.specs.declared.record.Entry.{Entry}
 use Rattle.org_journal.specs.declared.record.Version.TheVariants.{Two}
 use Rattle.org_journal.specs.Record.{IsWellFormed}
-use Rattle.org_journal.specs.Standing.{contents, all_fit, replayed}
+use Rattle.org_journal.specs.Recovered.{contents, all_fit, replayed}
 use Rattle.org_fileset.specs.Entries.{changed}
-use Rattle.org_fileset.specs.Replay.{AreLayable, Commits}
+use Rattle.org_fileset.specs.Replay.{AreApplicable, Commits}
 use Rattle.org_fileset.specs.declared.fault.SetFault.TheVariants.{Device}
 use Rattle.org_fileset.proofs.Armed.{on_ok_never}
-use Rattle.org_fileset.proofs.Recorded.{changes_layable, changes_fit}
+use Rattle.org_fileset.proofs.Recorded.{changes_applicable, changes_fit}
 use Rattle.org_fileset.proofs.Committing.{committable, all_edits, changes_formed, commits_none, commits_changes}
 use Rattle.org_fileset.proofs.set.FileSet.commit.Goals as goal
 
@@ -22,11 +22,11 @@ encode-requires g c =
     (changes_formed c.self.inside.names.items (g.C.Changes.pairs c.args.changes.now) c.in_ok-entries_of.field-0.items c.in_ok-entries_of.ensures.entries c.in_ok-entries_of.ensures.distinct
     (λ none. omega (arith, c.if-len-eq0.false, c.len.ensures.len ∙ ap length none)) c.self.invariant.each c.self.invariant.few named c.requires.small)
 
-pub commit_entries-requires-clause-layable : goal.commit_entries-requires-clause-layable
-commit_entries-requires-clause-layable g c honest =
+pub commit_entries-requires-clause-applicable : goal.commit_entries-requires-clause-applicable
+commit_entries-requires-clause-applicable g c honest =
     let named = rw (← c.self.view_is) at c.requires.named in
-    subst AreLayable (sym (c.entries.ensures ∙ c.new-record.ensures))
-    (changes_layable (g.C.Changes.pairs c.args.changes.now) c.in_ok-entries_of.field-0.items c.in_ok-entries_of.ensures.entries c.in_ok-entries_of.ensures.distinct
+    subst AreApplicable (sym (c.entries.ensures ∙ c.new-record.ensures))
+    (changes_applicable (g.C.Changes.pairs c.args.changes.now) c.in_ok-entries_of.field-0.items c.in_ok-entries_of.ensures.entries c.in_ok-entries_of.ensures.distinct
     (committable c.self.inside.names.items (g.C.Changes.pairs c.args.changes.now) c.self.invariant.each named c.requires.small))
 
 pub commit_entries-requires-clause-fits : goal.commit_entries-requires-clause-fits

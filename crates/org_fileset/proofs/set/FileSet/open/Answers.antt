@@ -1,6 +1,6 @@
 use Rattle.org_disk.specs.Disk.{AreImages}
 use Rattle.org_disk.proofs.Moments.{passes_none}
-use Rattle.org_fileset.specs.Recovery.{StandsAsBefore}
+use Rattle.org_fileset.specs.Recovery.{RecoversAsBefore}
 use Rattle.org_fileset.proofs.Starting.{since_start}
 use Rattle.org_fileset.proofs.Recovering.{as_before}
 use Rattle.org_fileset.proofs.set.FileSet.open.Goals as goal
@@ -10,9 +10,9 @@ returns-in-Err-clause-reopens g c honest =
     let old = g.D.Disk.files c.args.disk in
     record {
       done = tt;
-      any_moment = λ fit each. since_start (passes_none (g.D.Disk.moment c.args.disk) (g.D.Disk.left_since c.args.disk) (StandsAsBefore old))
+      any_moment = λ fit each. since_start (passes_none (g.D.Disk.moment c.args.disk) (g.D.Disk.left_since c.args.disk) (RecoversAsBefore old))
           old (g.met.D.Disk.only_now c.args.disk) honest (as_before old each);
-      fit = λ fit each. fit;
+      recoverable = λ fit each. fit;
       bad = λ none. since_start (passes_none (g.D.Disk.moment c.args.disk) (g.D.Disk.left_since c.args.disk) (AreImages old))
           old (g.met.D.Disk.only_now c.args.disk) honest (λ image left. left);
     }
@@ -20,9 +20,9 @@ returns-in-Err-clause-reopens g c honest =
 pub returns-in-Ok-make_ready-clause-reopens : goal.returns-in-Ok-make_ready-clause-reopens
 returns-in-Ok-make_ready-clause-reopens g c ended =
     let made = c.in-Ok-make_ready.ensures.reopens ended in
-    record { done = made.done; any_moment = made.any_moment; fit = made.fit; bad = made.bad }
+    record { done = made.done; any_moment = made.any_moment; recoverable = made.recoverable; bad = made.bad }
 
 pub returns-in-Err-make_ready-clause-reopens : goal.returns-in-Err-make_ready-clause-reopens
 returns-in-Err-make_ready-clause-reopens g c ended =
     let made = c.in-Err-make_ready.ensures.reopens ended in
-    record { done = tt; any_moment = made.any_moment; fit = made.fit; bad = made.bad }
+    record { done = tt; any_moment = made.any_moment; recoverable = made.recoverable; bad = made.bad }

@@ -2,4 +2,4 @@ use Rattle.org_outline.proofs.Nodes.{subtree_at}
 use Rattle.org_outline.proofs.outline.Outline.subtree.Goals as goal
 
 pub returns : goal.returns
-returns c = subtree_at _ _ _ _ _ _ _ c.text.ensures.value c.text.ensures.closed c.node.view_is c.headings-headings.ensures.value c.requires c.next_start.ensures
+returns c = subtree_at _ _ _ _ _ _ _ c.text.ensures.value c.text.ensures.terminated c.node.view_is c.headings-headings.ensures.value c.requires c.next_start.ensures

@@ -1,6 +1,6 @@
 use Rattle.std.proofs.Common.{◌≡◌, ◌∙◌, ◌∷◌, [], false, true, Some, Result, Ok, Err, List, ℕ, refl, sym, ap, subst, rules}
 use Rattle.std.specs.Option.{IsSome}
-use Rattle.org_journal.specs.Standing.{Image, contents}
+use Rattle.org_journal.specs.Recovered.{Image, contents}
 use Rattle.org_outline.specs.Tree.{print}
 use Rattle.org_capture.specs.Entry.{IsEntry}
 use Rattle.org_texts.specs.declared.plan.Plan.{Plan}

@@ -1,6 +1,6 @@
 use Rattle.std.proofs.Common.{◌≡◌, ◌∙◌, ◌∷◌, [], true, Option, Some, Result, Err, List, ℕ, sym, ap, subst, rules}
 use Rattle.std.specs.Option.{unwrap_or}
-use Rattle.org_journal.specs.Standing.{Image, contents}
+use Rattle.org_journal.specs.Recovered.{Image, contents}
 use Rattle.org_outline.specs.Paths.{find_path}
 use Rattle.org_outline.specs.Tree.{Document, tree}
 use Rattle.org_texts.specs.declared.plan.Plan.{Plan}

@@ -1,5 +1,5 @@
 use Rattle.std.proofs.Common.{◌≡◌, Err, subst, rules}
-use Rattle.org_journal.specs.Standing.{Image, contents}
+use Rattle.org_journal.specs.Recovered.{Image, contents}
 use Rattle.org_store.specs.Keeping.{Reads}
 use Rattle.org_store.specs.Session.{Session, session_over}
 use Rattle.org_store.proofs.Held.{keeps_then}

@@ -1,7 +1,7 @@
 use Rattle.std.proofs.Common.{◌≡◌, ◌∙◌, ◌<◌, ℕ, List, [], length, slice_get, get_or, true, false, Some, None, Err, sym, ap, subst, rules, arith}
 use Rattle.std.proofs.lemmas.Option.{slice_get-get_or}
 use Rattle.org_disk.proofs.Accounting.{accounts_fine, accounts_then, looks_then}
-use Rattle.org_journal.specs.Standing.{Image, contents}
+use Rattle.org_journal.specs.Recovered.{Image, contents}
 use Rattle.org_texts.specs.Texts.{held_over}
 use Rattle.org_store.specs.declared.command.RunFault.TheVariants.{OutOfMemory}
 use Rattle.org_store.specs.declared.commands.running.Clock.{Clock}

@@ -1,6 +1,6 @@
 use Rattle.std.proofs.Common.{◌≡◌, ◌∙◌, false, true, Some, Result, Ok, Err, List, ℕ, refl, sym, ap, subst, rules}
 use Rattle.std.proofs.lemmas.Bool.{false≢true}
-use Rattle.org_journal.specs.Standing.{contents}
+use Rattle.org_journal.specs.Recovered.{contents}
 use Rattle.org_texts.specs.Texts.{TextSet, held_over, text_of}
 use Rattle.org_store.specs.declared.command.Refusal.TheVariants.{NoSuchFile}
 use Rattle.org_store.specs.declared.command.Reply.{Reply}

@@ -1,6 +1,6 @@
 use Rattle.std.proofs.Common.{◌≡◌, ◌∙◌, ◌∷◌, [], true, Some, Result, Ok, Err, List, ℕ, sym, ap, subst, rules}
 use Rattle.std.specs.Result.{result_map_both}
-use Rattle.org_journal.specs.Standing.{Image, contents}
+use Rattle.org_journal.specs.Recovered.{Image, contents}
 use Rattle.org_outline.specs.declared.paths.PathFault.{PathFault}
 use Rattle.org_outline.specs.Tree.{tree}
 use Rattle.org_state.specs.Clock.{clocked_at}

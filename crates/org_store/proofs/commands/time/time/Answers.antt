@@ -1,7 +1,7 @@
 use Rattle.std.proofs.Common.{◌≡◌, ◌∙◌, false, Result, Ok, Err, refl, sym, ap, subst, rules}
 use Rattle.std.proofs.lemmas.Bool.{false≢true}
 use Rattle.org_disk.specs.Accounts.{Looks}
-use Rattle.org_journal.specs.Standing.{contents}
+use Rattle.org_journal.specs.Recovered.{contents}
 use Rattle.org_texts.specs.Texts.{held_over}
 use Rattle.org_store.specs.declared.command.Refusal.TheVariants.{NoSuchFile}
 use Rattle.org_store.specs.declared.command.Reply.{Reply}

@@ -1,5 +1,5 @@
 use Rattle.std.proofs.Common.{◌≡◌, ◌⊎◌, ⊎_elim, ◌∙◌, false, Err, refl, sym, ap, subst, rules}
-use Rattle.org_journal.specs.Standing.{contents}
+use Rattle.org_journal.specs.Recovered.{contents}
 use Rattle.org_texts.specs.Texts.{TextSet, held_over}
 use Rattle.org_store.specs.Files.{AreSmallToWrite, CommitsTexts}
 use Rattle.org_store.specs.InOrder.{texts_of}

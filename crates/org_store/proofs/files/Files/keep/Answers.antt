@@ -1,5 +1,5 @@
 use Rattle.std.proofs.Common.{◌≡◌, false}
-use Rattle.org_journal.specs.Standing.{contents}
+use Rattle.org_journal.specs.Recovered.{contents}
 use Rattle.org_store.specs.Files.{AreSmallToWrite}
 use Rattle.org_store.proofs.Held.{sound_kept}
 use Rattle.org_store.proofs.Quiet.{noted_kept}

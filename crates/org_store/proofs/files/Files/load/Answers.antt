@@ -1,6 +1,6 @@
 use Rattle.std.proofs.Common.{◌≡◌, ◌∙◌, List, ℕ, false, true, None, is_some, sym, ap, subst, rules}
 use Rattle.std.specs.Option.{IsSome}
-use Rattle.org_journal.specs.Standing.{Image, contents}
+use Rattle.org_journal.specs.Recovered.{Image, contents}
 use Rattle.org_texts.specs.Texts.{TextSet, text_of}
 use Rattle.org_store.specs.InOrder.{is_name}
 use Rattle.org_store.proofs.Held.{held_this, keeps_held, none_found, over_held, ready_held, sound_held, sound_still}

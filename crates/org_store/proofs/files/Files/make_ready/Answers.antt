@@ -1,6 +1,6 @@
 use Rattle.std.proofs.Common.{◌≡◌, false}
 use Rattle.std.specs.Option.{IsSome}
-use Rattle.org_journal.specs.Standing.{contents}
+use Rattle.org_journal.specs.Recovered.{contents}
 use Rattle.org_texts.specs.Texts.{text_of}
 use Rattle.org_store.proofs.Held.{ready_made, sound_made_ready}
 use Rattle.org_store.proofs.Quiet.{noted_made_ready}

@@ -1,6 +1,6 @@
 use Rattle.std.proofs.Common.{◌≡◌, ◌∙◌, ℕ, List, false, Ok, sym, ap, subst, rules}
 use Rattle.std.specs.Option.{ForSome, IsSome}
-use Rattle.org_journal.specs.Standing.{contents}
+use Rattle.org_journal.specs.Recovered.{contents}
 use Rattle.org_texts.specs.Plan.{IsPlan}
 use Rattle.org_texts.specs.Texts.{Holding, TextSet, text_of}
 use Rattle.org_store.specs.Files.{AreReady, AreSmallToWrite, OpenFiles, PutsPlan, files_of, has_large, new_texts, texts_in}

@@ -1,5 +1,5 @@
 use Rattle.std.proofs.Common.{◌≡◌, ◌∙◌, Err, sym, ap, subst, rules}
-use Rattle.org_journal.specs.Standing.{Image, contents}
+use Rattle.org_journal.specs.Recovered.{Image, contents}
 use Rattle.org_texts.specs.Texts.{TextSet, held_over}
 use Rattle.org_store.specs.declared.command.RunFault.TheVariants.{OutOfMemory}
 use Rattle.org_store.specs.Keeping.{Reads}

@@ -1,4 +1,4 @@
-use Rattle.org_journal.specs.Standing.{contents}
+use Rattle.org_journal.specs.Recovered.{contents}
 use Rattle.org_store.proofs.Reopening.{only_faults}
 use Rattle.org_store.proofs.store.Store.open.Goals as goal
 
@@ -11,9 +11,9 @@ returns-in-Err-clause-again g c = λ honest can.
 pub returns-in-Ok-clause-reopens : goal.returns-in-Ok-clause-reopens
 returns-in-Ok-clause-reopens g c ended =
     let made = c.in-Ok.ensures.reopens ended in
-    record { done = made.done; any_moment = made.any_moment; fit = made.fit; bad = made.bad }
+    record { done = made.done; any_moment = made.any_moment; recoverable = made.recoverable; bad = made.bad }
 
 pub returns-in-Err-clause-reopens : goal.returns-in-Err-clause-reopens
 returns-in-Err-clause-reopens g c ended =
     let made = c.in-Err.ensures.reopens ended in
-    record { done = tt; any_moment = made.any_moment; fit = made.fit; bad = made.bad }
+    record { done = tt; any_moment = made.any_moment; recoverable = made.recoverable; bad = made.bad }

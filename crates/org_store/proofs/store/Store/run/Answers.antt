@@ -1,6 +1,6 @@
 use Rattle.std.proofs.Common.{◌≡◌, ◌∙◌, inl, inr, ⊎_elim, false, Err, refl, sym, subst, rules}
 use Rattle.std.proofs.lemmas.Bool.{false≢true}
-use Rattle.org_journal.specs.Standing.{contents}
+use Rattle.org_journal.specs.Recovered.{contents}
 use Rattle.org_store.specs.declared.command.RunFault.TheVariants.{Broken}
 use Rattle.org_store.specs.declared.command.Command.{Command}
 use Rattle.org_store.specs.declared.command.Reply.{Reply}

@@ -1,5 +1,5 @@
 use Rattle.std.proofs.Common.{◌≡◌, inl, false, Ok, Err, refl, subst, rules}
-use Rattle.org_journal.specs.Standing.{contents}
+use Rattle.org_journal.specs.Recovered.{contents}
 use Rattle.org_store.specs.declared.command.RunFault.TheVariants.{Broken}
 use Rattle.org_disk.specs.Accounts.{LeavesOver}
 use Rattle.org_texts.specs.Texts.{TextSet, held_over}
@@ -56,4 +56,4 @@ returns-in_err-commit-clause-disk g c =
     settle_leaves d.files d.moment d.left_since inside.states inside.files c.commit.new.self inside.tally
     (λ image left. g.met.D.Disk.only_now inside.files.disk image (made.accounts.was_honest ended) left) c.commit.result fault fails
     (λ rest. subst (λ (s : TextSet). LeavesOver d.moment d.left_since inside.files.disk c.commit.new.self.disk (HoldsEither inside.files.names files (texts_of (held_over s files) inside.files.names))) c.self.invariant.1
-    ((made.commits ended).any_moment rest)) (made.commits ended).fit)
+    ((made.commits ended).any_moment rest)) (made.commits ended).recoverable)

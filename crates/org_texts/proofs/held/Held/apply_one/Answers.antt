@@ -1,5 +1,5 @@
 use Rattle.std.proofs.Common.{◌≡◌, ◌∙◌, ◌+◌, ◌≤◌, ◌++◌, ◌<◌, ◌^◌, Some, take, drop, length, sym, ap, subst, append_assoc, arith}
-use Rattle.org_splice.specs.Lines.{closed}
+use Rattle.org_splice.specs.Lines.{terminated}
 use Rattle.org_splice.specs.Texts.{EditedText, spliced}
 use Rattle.org_splice.specs.Versions.{Versions}
 use Rattle.org_outline.proofs.Edits.{spliced_edit}
@@ -16,7 +16,7 @@ edited-followed-requires c =
     let heads : AreHeadsOf before.bytes (Some c.in-Some.heads) = subst (AreHeadsOf before.bytes) c.in-Some.is c.self.invariant in
     let after : c.bytes.result.now ≡ (spliced at removed added before).bytes = c.bytes.ensures.bytes ∙ ap (λ (e : Versions). e.text.bytes) c.in_ok-apply.ensures.ok in
     let after_old : c.bytes.result.now ≡ (spliced at removed added c.args.self.now.text).bytes = after ∙ ap (λ (t : EditedText). (spliced at removed added t).bytes) was in
-    let shut : closed c.bytes.result.now ≡ c.bytes.result.now = ap closed after_old ∙ c.requires.shut ∙ sym after_old in
+    let shut : terminated c.bytes.result.now ≡ c.bytes.result.now = ap terminated after_old ∙ c.requires.shut ∙ sym after_old in
     let parts : c.bytes.result.now ≡ take at before.bytes ++ (added ++ drop (at + removed) before.bytes) = after ∙ append_assoc (take at before.bytes) added (drop (at + removed) before.bytes) in
     let small : length before.bytes < 2 ^ 64 = omega (arith, c.bytes-size.type_inv.0, ap length c.bytes-size.ensures.bytes) in
     let within : at + removed ≤ length before.bytes = subst (λ (t : EditedText). at + removed ≤ length t.bytes) (sym was) c.requires.within in

@@ -1,0 +1,103 @@
+use Rattle.std.proofs.Common.{length, refl, sym, ◌∙◌, ap, subst, arith}
+use Rattle.std.proofs.lemmas.Option.{slice_get_read}
+use Rattle.org_disk.specs.Disk.{FileState}
+use Rattle.org_splice.specs.Patches.{Fit, patched}
+use Rattle.org_splice.specs.Texts.{pairs_of}
+use Rattle.org_journal.specs.Recovered.{contents, replayed}
+use Rattle.org_fileset.proofs.Takes.{applicable_at, named_apart}
+use Rattle.org_fileset.proofs.Recovers.{replayed-entry, replayed-other}
+use Rattle.org_fileset.proofs.Replaying.{entry_takes, replays_none, replays_entry, texts_more, untouched_more, all_texts}
+use Rattle.org_disk.proofs.Accounting.{accounts_none, accounts_then, accounts_ok}
+use Rattle.org_fileset.proofs.apply.apply_all.Goals as goal
+
+pub loop-entry-init : goal.loop-entry-init
+loop-entry-init g c = record {
+  accounts = accounts_none g.D.Disk.steady g.D.Disk.honest g.D.Disk.failures c.args.disk.now;
+  replays = λ honest stable texts takes. replays_none (g.D.Disk.moment c.args.disk.now) (g.D.Disk.left_since c.args.disk.now) (g.D.Disk.files c.args.disk.now) takes;
+  have = λ honest j entry none is. absurd (omega arith);
+  untouched = λ honest j entry le is. refl;
+  others = λ honest name none. refl;
+}
+
+pub apply_entry-requires-clause-formed : goal.apply_entry-requires-clause-formed
+apply_entry-requires-clause-formed g c h =
+    let honest = c.loop-entry.invariant.accounts.was_honest h in
+    let i = c.loop-entry.entry-index in
+    let entry = c.entry-item.result in
+    let is = slice_get_read c.args.entries.now (length c.args.entries.now) i entry refl c.loop-entry-test.true c.entry-item.is in
+    (applicable_at c.args.entries.now i entry (c.requires.applicable honest).each is).patches
+
+pub apply_entry-requires-clause-small : goal.apply_entry-requires-clause-small
+apply_entry-requires-clause-small g c h =
+    let honest = c.loop-entry.invariant.accounts.was_honest h in
+    let i = c.loop-entry.entry-index in
+    let entry = c.entry-item.result in
+    let is = slice_get_read c.args.entries.now (length c.args.entries.now) i entry refl c.loop-entry-test.true c.entry-item.is in
+    let small = (applicable_at c.args.entries.now i entry (c.requires.applicable honest).each is).small in
+    omega (arith, small)
+
+pub apply_entry-requires-clause-fits : goal.apply_entry-requires-clause-fits
+apply_entry-requires-clause-fits g c h =
+    let sofar = c.loop-entry.invariant in
+    let honest = sofar.accounts.was_honest h in
+    let i = c.loop-entry.entry-index in
+    let entry = c.entry-item.result in
+    let is = slice_get_read c.args.entries.now (length c.args.entries.now) i entry refl c.loop-entry-test.true c.entry-item.is in
+    let old = g.D.Disk.files c.args.disk.now in
+    let applies = replayed-entry c.args.entries.now (contents old) i entry (c.requires.applicable honest) (c.requires.fits honest) is in
+    subst (λ (f : FileState). Fit (pairs_of entry.patches) entry.length (length f.content)) (sym (sofar.untouched h i entry (omega arith) is)) applies.fit
+
+pub returns-in_err-apply_entry-clause-replays : goal.returns-in_err-apply_entry-clause-replays
+returns-in_err-apply_entry-clause-replays g c ended stable texts takes =
+    let sofar = c.loop-entry.invariant in
+    let h = c.apply_entry.ensures.accounts.was_honest ended in
+    let honest = sofar.accounts.was_honest h in
+    let i = c.loop-entry.entry-index in
+    let entry = c.entry-item.result in
+    let is = slice_get_read c.args.entries.now (length c.args.entries.now) i entry refl c.loop-entry-test.true c.entry-item.is in
+    let now = sofar.replays h stable texts takes in
+    replays_entry i entry (c.requires.applicable honest) is stable now
+    (c.apply_entry.ensures.applies ended (texts entry.name) (entry_takes c.args.entries.now texts (g.D.Disk.files c.loop-entry.disk) i entry (c.requires.applicable honest) is now.takes))
+
+pub returns-in_err-apply_entry-clause-others : goal.returns-in_err-apply_entry-clause-others
+returns-in_err-apply_entry-clause-others g c ended name none =
+    let sofar = c.loop-entry.invariant in
+    let h = c.apply_entry.ensures.accounts.was_honest ended in
+    let i = c.loop-entry.entry-index in
+    let entry = c.entry-item.result in
+    let is = slice_get_read c.args.entries.now (length c.args.entries.now) i entry refl c.loop-entry-test.true c.entry-item.is in
+    c.apply_entry.ensures.others ended name (named_apart c.args.entries.now i entry name none is) ∙ sofar.others h name none
+
+pub loop-entry-preserved : goal.loop-entry-preserved
+loop-entry-preserved g c =
+    let sofar = c.loop-entry.invariant in
+    let i = c.loop-entry.entry-index in
+    let entry = c.entry-item.result in
+    let is = slice_get_read c.args.entries.now (length c.args.entries.now) i entry refl c.loop-entry-test.true c.entry-item.is in
+    let old = g.D.Disk.files c.args.disk.now in
+    let mid = g.D.Disk.files c.loop-entry.disk in
+    let back = c.apply_entry.ensures.accounts.was_honest in
+    record {
+      accounts = accounts_then sofar.accounts (accounts_ok c.in_ok-apply_entry.ensures.accounts);
+      replays = λ ended stable texts takes.
+          let now = sofar.replays (back ended) stable texts takes in
+          replays_entry i entry (c.requires.applicable (sofar.accounts.was_honest (back ended))) is stable now
+          (c.apply_entry.ensures.applies ended (texts entry.name) (entry_takes c.args.entries.now texts mid i entry (c.requires.applicable (sofar.accounts.was_honest (back ended))) is now.takes));
+      have = λ ended.
+          let applies = replayed-entry c.args.entries.now (contents old) i entry (c.requires.applicable (sofar.accounts.was_honest (back ended))) (c.requires.fits (sofar.accounts.was_honest (back ended))) is in
+          texts_more c.args.entries.now (replayed c.args.entries.now (contents old)) i entry mid (g.D.Disk.files c.apply_entry.new.disk) is
+          (c.in_ok-apply_entry.ensures.content ended ∙ ap (λ (f : FileState). patched (pairs_of entry.patches) entry.length f.content) (sofar.untouched (back ended) i entry (omega arith) is) ∙ applies.makes)
+          (c.apply_entry.ensures.others ended) (sofar.have (back ended));
+      untouched = λ ended.
+          untouched_more c.args.entries.now i entry old mid (g.D.Disk.files c.apply_entry.new.disk) (c.requires.applicable (sofar.accounts.was_honest (back ended))) is (c.apply_entry.ensures.others ended) (sofar.untouched (back ended));
+      others = λ ended name none.
+          c.apply_entry.ensures.others ended name (named_apart c.args.entries.now i entry name none is) ∙ sofar.others (back ended) name none;
+    }
+
+pub returns-clause-contents : goal.returns-clause-contents
+returns-clause-contents g c ended name =
+    let sofar = c.loop-entry.invariant in
+    let honest = sofar.accounts.was_honest ended in
+    let old = g.D.Disk.files c.args.disk.now in
+    all_texts c.args.entries.now (replayed c.args.entries.now (contents old)) c.loop-entry.entry-index old (g.D.Disk.files c.loop-entry.disk) name c.loop-entry-test.false (sofar.have ended)
+    (sofar.others ended) (λ none. replayed-other c.args.entries.now (contents old) name (c.requires.fits honest) none)

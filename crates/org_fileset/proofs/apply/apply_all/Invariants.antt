@@ -1,0 +1,23 @@
+use Rattle.std.proofs.Common.{◌≡◌, List, ℕ}
+use Rattle.std.specs.Prelude.{IsFalse}
+use Rattle.org_disk.specs.Disk.{IsStable}
+use Rattle.org_disk.specs.Accounts.{Accounts}
+use Rattle.org_disk.specs.Names.{journal_name}
+use Rattle.org_journal.specs.Record.{is_named}
+use Rattle.org_journal.specs.Recovered.{Image, contents, replayed}
+use Rattle.org_fileset.specs.Replay.{EachTakes, Replays}
+use Rattle.org_fileset.proofs.Replaying.{HaveTexts, AreUntouched}
+use Rattle.org_fileset.proofs.apply.apply_all.Given as goal
+
+-- the entries so far are applied
+abbrev pub invariant-loop-entry : goal.invariant-loop-entry
+invariant-loop-entry g l =
+    let disk = g.D.Disk in
+    record {
+      accounts : Accounts disk.steady disk.honest disk.failures l.fn.disk l.disk ⊥;
+      replays : disk.honest l.disk → IsStable (disk.files l.fn.disk journal_name) → (texts : Image) → EachTakes l.entries texts (disk.files l.fn.disk)
+          → Replays l.entries texts (disk.moment l.fn.disk) (disk.moment l.disk) (disk.left_since l.fn.disk) (disk.left_since l.disk) (disk.files l.fn.disk) (disk.files l.disk);
+      have : disk.honest l.disk → HaveTexts l.entries (replayed l.entries (contents (disk.files l.fn.disk))) l.entry-index (disk.files l.disk);
+      untouched : disk.honest l.disk → AreUntouched l.entries l.entry-index (disk.files l.fn.disk) (disk.files l.disk);
+      others : disk.honest l.disk → (name : List ℕ) → IsFalse (is_named name l.entries) → disk.files l.disk name ≡ disk.files l.fn.disk name;
+    }

@@ -1,0 +1,170 @@
+use Rattle.std.proofs.Common.{◌≤◌, ◌+◌, ℕ, List, length, refl, sym, ◌∙◌, ap, subst, arith}
+use Rattle.org_disk.specs.Disk.{FileState, write, cut}
+use Rattle.org_splice.specs.Texts.{pairs_of}
+use Rattle.org_fileset.proofs.Patching.{applies_none, applies_call, applies_read, takes_write, takes_cut}
+use Rattle.org_fileset.proofs.Steps.{pair_at, patched_each-more, next_within, next_small, long_enough}
+use Rattle.org_disk.proofs.Accounting.{accounts_none, accounts_then, accounts_call_ok}
+use Rattle.org_fileset.proofs.apply.apply_entry.Goals as goal
+
+pub loop-patch-init : goal.loop-patch-init
+loop-patch-init g c = record {
+  accounts = accounts_none g.D.Disk.steady g.D.Disk.honest g.D.Disk.failures c.args.disk.now;
+  content = λ honest. refl;
+  others = λ honest other apart. refl;
+  applies = λ honest to takes. applies_none (g.D.Disk.moment c.args.disk.now) (g.D.Disk.left_since c.args.disk.now) (g.D.Disk.files c.args.disk.now) takes;
+}
+
+pub write_at-requires-clause-within : goal.write_at-requires-clause-within
+write_at-requires-clause-within g c h =
+    let sofar = c.loop-patch.invariant in
+    let honest = sofar.accounts.was_honest h in
+    let patches = pairs_of c.args.entry.now.patches in
+    let is = pair_at c.as_slice-patch-items.result.now c.args.entry.now.patches c.loop-patch.patch-index c.patch-item.result c.as_slice.result.now
+    c.as_slice-patch-items.ensures c.loop-patch-test.true c.patch-item.is c.as_slice.ensures in
+    next_within patches c.args.entry.now.length c.loop-patch.patch-index c.patch-item.result.from c.as_slice.result.now (g.D.Disk.files c.args.disk.now c.args.entry.now.name).content
+    (g.D.Disk.files c.loop-patch.disk c.args.entry.now.name).content (c.requires.formed honest) (c.requires.fits honest) is (sofar.content h)
+
+pub write_at-requires-clause-fits : goal.write_at-requires-clause-fits
+write_at-requires-clause-fits g c h =
+    let sofar = c.loop-patch.invariant in
+    let honest = sofar.accounts.was_honest h in
+    let patches = pairs_of c.args.entry.now.patches in
+    let is = pair_at c.as_slice-patch-items.result.now c.args.entry.now.patches c.loop-patch.patch-index c.patch-item.result c.as_slice.result.now
+    c.as_slice-patch-items.ensures c.loop-patch-test.true c.patch-item.is c.as_slice.ensures in
+    let small : c.patch-item.result.from + length c.as_slice.result.now ≤ c.args.entry.now.length =
+    next_small patches c.args.entry.now.length c.loop-patch.patch-index c.patch-item.result.from c.as_slice.result.now (g.D.Disk.files c.args.disk.now c.args.entry.now.name).content
+    (c.requires.formed honest) (c.requires.fits honest) is in
+    omega (arith, small, c.requires.small honest)
+
+pub returns-in_err-write_at-clause-applies : goal.returns-in_err-write_at-clause-applies
+returns-in_err-write_at-clause-applies g c ended to takes =
+    let sofar = c.loop-patch.invariant in
+    let h = c.write_at.ensures.accounts.was_honest ended in
+    let honest = sofar.accounts.was_honest h in
+    let patches = pairs_of c.args.entry.now.patches in
+    let name = c.args.entry.now.name in
+    let mid = g.D.Disk.files c.loop-patch.disk in
+    let from = c.patch-item.result.from in
+    let bytes = c.as_slice.result.now in
+    let is = pair_at c.as_slice-patch-items.result.now c.args.entry.now.patches c.loop-patch.patch-index c.patch-item.result bytes
+    c.as_slice-patch-items.ensures c.loop-patch-test.true c.patch-item.is c.as_slice.ensures in
+    let le = next_within patches c.args.entry.now.length c.loop-patch.patch-index from bytes (g.D.Disk.files c.args.disk.now name).content
+    (mid name).content (c.requires.formed honest) (c.requires.fits honest) is (sofar.content h) in
+    let now = sofar.applies h to takes in
+    applies_call (write from bytes) c.write_at.result now
+    (takes_write (mid name) c.loop-patch.patch-index from bytes (c.requires.formed honest) is le (g.met.D.Disk.content_is_image c.loop-patch.disk name h) now.takes)
+    (c.write_at.ensures.effect ended) (c.write_at.ensures.time ended)
+
+pub loop-patch-preserved : goal.loop-patch-preserved
+loop-patch-preserved g c =
+    let sofar = c.loop-patch.invariant in
+    let patches = pairs_of c.args.entry.now.patches in
+    let name = c.args.entry.now.name in
+    let mid = g.D.Disk.files c.loop-patch.disk in
+    let from = c.patch-item.result.from in
+    let bytes = c.as_slice.result.now in
+    let is = pair_at c.as_slice-patch-items.result.now c.args.entry.now.patches c.loop-patch.patch-index c.patch-item.result bytes
+    c.as_slice-patch-items.ensures c.loop-patch-test.true c.patch-item.is c.as_slice.ensures in
+    let back = c.write_at.ensures.accounts.was_honest in
+    record {
+      accounts = accounts_then sofar.accounts (accounts_call_ok c.in_ok-write_at.ensures.accounts);
+      content = λ ended.
+          let done = (c.in_ok-write_at.ensures.effect ended).ok in
+          ap (λ (f : FileState). f.content) done
+          ∙ ap (λ (t : List ℕ). (write from bytes (record (mid name) { content = t })).content) (sofar.content (back ended))
+          ∙ sym (patched_each-more patches c.loop-patch.patch-index from bytes (g.D.Disk.files c.args.disk.now name).content is);
+      others = λ ended other apart. (c.write_at.ensures.effect ended).others other apart ∙ sofar.others (back ended) other apart;
+      applies = λ ended to takes.
+          let le = next_within patches c.args.entry.now.length c.loop-patch.patch-index from bytes (g.D.Disk.files c.args.disk.now name).content
+          (mid name).content (c.requires.formed (sofar.accounts.was_honest (back ended))) (c.requires.fits (sofar.accounts.was_honest (back ended))) is (sofar.content (back ended)) in
+          let now = sofar.applies (back ended) to takes in
+          applies_call (write from bytes) c.write_at.result now
+          (takes_write (mid name) c.loop-patch.patch-index from bytes (c.requires.formed (sofar.accounts.was_honest (back ended))) is le (g.met.D.Disk.content_is_image c.loop-patch.disk name (back ended)) now.takes)
+          (c.write_at.ensures.effect ended) (c.write_at.ensures.time ended);
+    }
+
+pub returns-in_err-length-clause-applies : goal.returns-in_err-length-clause-applies
+returns-in_err-length-clause-applies g c ended to takes =
+    let sofar = c.loop-patch.invariant in
+    let h = c.length.ensures.accounts.was_honest ended in
+    applies_read (sofar.applies h to takes) (c.length.ensures.looks ended).same (c.length.ensures.looks ended).time
+
+pub returns-in_err-cut-clause-applies : goal.returns-in_err-cut-clause-applies
+returns-in_err-cut-clause-applies g c ended to takes =
+    let sofar = c.loop-patch.invariant in
+    let h1 = c.cut.ensures.accounts.was_honest ended in
+    let h = c.length.ensures.accounts.was_honest h1 in
+    let honest = sofar.accounts.was_honest h in
+    let name = c.args.entry.now.name in
+    let final = c.args.entry.now.length in
+    let read = applies_read (sofar.applies h to takes) (c.length.ensures.looks h1).same (c.length.ensures.looks h1).time in
+    let mid = g.D.Disk.files c.length.new.self in
+    let enough : final ≤ length (mid name).content =
+    let long : final ≤ length (g.D.Disk.files c.loop-patch.disk name).content =
+    long_enough c.as_slice-patch-items.result.now c.args.entry.now.patches c.loop-patch.patch-index final (g.D.Disk.files c.args.disk.now name).content
+    (g.D.Disk.files c.loop-patch.disk name).content (c.requires.formed honest) (c.requires.fits honest) c.as_slice-patch-items.ensures c.loop-patch-test.false (sofar.content h) in
+    subst (λ (f : List ℕ → FileState). final ≤ length (f name).content) (sym (c.length.ensures.looks h1).same) long in
+    applies_call (cut final) c.cut.result read
+    (takes_cut (mid name) (c.requires.formed honest) enough (g.met.D.Disk.content_is_image c.length.new.self name h1) read.takes)
+    (c.cut.ensures.effect ended) (c.cut.ensures.time ended)
+
+pub returns-in_ok-cut-clause-applies : goal.returns-in_ok-cut-clause-applies
+returns-in_ok-cut-clause-applies g c ended to takes =
+    let sofar = c.loop-patch.invariant in
+    let h1 = c.cut.ensures.accounts.was_honest ended in
+    let h = c.length.ensures.accounts.was_honest h1 in
+    let honest = sofar.accounts.was_honest h in
+    let name = c.args.entry.now.name in
+    let final = c.args.entry.now.length in
+    let read = applies_read (sofar.applies h to takes) (c.length.ensures.looks h1).same (c.length.ensures.looks h1).time in
+    let mid = g.D.Disk.files c.length.new.self in
+    let enough : final ≤ length (mid name).content =
+    let long : final ≤ length (g.D.Disk.files c.loop-patch.disk name).content =
+    long_enough c.as_slice-patch-items.result.now c.args.entry.now.patches c.loop-patch.patch-index final (g.D.Disk.files c.args.disk.now name).content
+    (g.D.Disk.files c.loop-patch.disk name).content (c.requires.formed honest) (c.requires.fits honest) c.as_slice-patch-items.ensures c.loop-patch-test.false (sofar.content h) in
+    subst (λ (f : List ℕ → FileState). final ≤ length (f name).content) (sym (c.length.ensures.looks h1).same) long in
+    applies_call (cut final) c.cut.result read
+    (takes_cut (mid name) (c.requires.formed honest) enough (g.met.D.Disk.content_is_image c.length.new.self name h1) read.takes)
+    (c.cut.ensures.effect ended) (c.cut.ensures.time ended)
+
+pub returns-else-length-entry-clause-applies : goal.returns-else-length-entry-clause-applies
+returns-else-length-entry-clause-applies g c ended to takes =
+    let sofar = c.loop-patch.invariant in
+    let h = c.length.ensures.accounts.was_honest ended in
+    applies_read (sofar.applies h to takes) (c.length.ensures.looks ended).same (c.length.ensures.looks ended).time
+
+pub returns-in_err-write_at-clause-others : goal.returns-in_err-write_at-clause-others
+returns-in_err-write_at-clause-others g c ended other apart =
+    let sofar = c.loop-patch.invariant in
+    let h = c.write_at.ensures.accounts.was_honest ended in
+    (c.write_at.ensures.effect ended).others other apart ∙ sofar.others h other apart
+
+pub returns-in_err-length-clause-others : goal.returns-in_err-length-clause-others
+returns-in_err-length-clause-others g c ended other apart =
+    let sofar = c.loop-patch.invariant in
+    let h = c.length.ensures.accounts.was_honest ended in
+    let same = ap (λ (f : List ℕ → FileState). f other) (c.length.ensures.looks ended).same ∙ sofar.others h other apart in
+    same
+
+pub returns-in_err-cut-clause-others : goal.returns-in_err-cut-clause-others
+returns-in_err-cut-clause-others g c ended other apart =
+    let sofar = c.loop-patch.invariant in
+    let h1 = c.cut.ensures.accounts.was_honest ended in
+    let h = c.length.ensures.accounts.was_honest h1 in
+    let same = ap (λ (f : List ℕ → FileState). f other) (c.length.ensures.looks h1).same ∙ sofar.others h other apart in
+    (c.cut.ensures.effect ended).others other apart ∙ same
+
+pub returns-in_ok-cut-clause-others : goal.returns-in_ok-cut-clause-others
+returns-in_ok-cut-clause-others g c ended other apart =
+    let sofar = c.loop-patch.invariant in
+    let h1 = c.cut.ensures.accounts.was_honest ended in
+    let h = c.length.ensures.accounts.was_honest h1 in
+    let same = ap (λ (f : List ℕ → FileState). f other) (c.length.ensures.looks h1).same ∙ sofar.others h other apart in
+    (c.cut.ensures.effect ended).others other apart ∙ same
+
+pub returns-else-length-entry-clause-others : goal.returns-else-length-entry-clause-others
+returns-else-length-entry-clause-others g c ended other apart =
+    let sofar = c.loop-patch.invariant in
+    let h = c.length.ensures.accounts.was_honest ended in
+    let same = ap (λ (f : List ℕ → FileState). f other) (c.length.ensures.looks ended).same ∙ sofar.others h other apart in
+    same

@@ -1,0 +1,86 @@
+//! The files of a record, written one after the other.
+ghost use Rattle.std.specs.Prelude.{◌≡◌, ◌≢◌, ◌<◌, ◌^◌, List, ℕ, length, IsTrue, IsFalse, OnOk, IsErr};
+ghost use Rattle.org_disk.specs.Disk.{IsStable};
+ghost use Rattle.org_disk.specs.Accounts.{Accounts};
+ghost use Rattle.org_disk.specs.Names.{journal_name};
+ghost use Rattle.org_splice.specs.Patches.{AreWellFormed, Fit, patched};
+ghost use Rattle.org_splice.specs.Texts.{pairs_of};
+ghost use Rattle.org_journal.specs.Record.{is_named};
+ghost use Rattle.org_journal.specs.Recovered.{Image, contents, all_fit, replayed};
+ghost use Rattle.org_fileset.specs.Replay.{AreApplicable, EachPatchedTo, EachTakes, AppliesPatchesOver, TakesOver};
+
+use org_disk::{Disk, DiskFault};
+use org_journal::Entry;
+
+/// Applies an entry's patches to its file, and cuts it to the entry's length. Before, within and after it, also where
+/// it fails, the entry makes the same text of whatever a crash leaves of the file.
+pub fn apply_entry<D: Disk>(disk: &mut D, entry: &Entry) -> Result<(), DiskFault>
+    requires formed { D.honest disk.old →
+        AreWellFormed (pairs_of entry.now.patches) entry.now.length }
+    requires small { D.honest disk.old → entry.now.length < 2 ^ 63 }
+    requires fits { D.honest disk.old → Fit (pairs_of entry.now.patches) entry.now.length
+        (length (D.files disk.old entry.now.name).content) }
+    ensures applies { D.honest disk.new → (to : List ℕ)
+        → EachPatchedTo (pairs_of entry.now.patches) entry.now.length to
+        (D.files disk.old entry.now.name)
+        → AppliesPatchesOver D.files D.moment D.left_since
+        (pairs_of entry.now.patches) entry.now.length entry.now.name to disk.old disk.new }
+    ensures content { OnOk result (D.honest disk.new → (D.files disk.new entry.now.name).content
+        ≡ patched (pairs_of entry.now.patches) entry.now.length
+        (D.files disk.old entry.now.name).content) }
+    ensures others { D.honest disk.new → (other : List ℕ) → other ≢ entry.now.name
+        → D.files disk.new other ≡ D.files disk.old other }
+    ensures accounts { Accounts D.steady D.honest D.failures disk.old disk.new (IsErr result) }
+{
+    for patch in entry.patches.as_slice() {
+        disk.write_at(&entry.name, patch.from, patch.bytes.as_slice())?;
+    }
+    let length = disk.length(&entry.name)?;
+    if length > entry.length {
+        disk.cut(&entry.name, entry.length)?;
+    }
+    Ok(())
+}
+
+/// Applies the entries of a record to their files, one after the other. Before, within and after it, also where it
+/// fails, the record makes the same texts of whatever a crash leaves of the files, if it did so at the start.
+pub fn apply_all<D: Disk>(disk: &mut D, entries: &[Entry]) -> Result<(), DiskFault>
+    requires applicable { D.honest disk.old → AreApplicable entries.now }
+    requires fits { D.honest disk.old → IsTrue (all_fit entries.now (contents (D.files disk.old))) }
+    ensures replays { D.honest disk.new → IsStable (D.files disk.old journal_name)
+        → (texts : Image) → EachTakes entries.now texts (D.files disk.old)
+        → TakesOver D.files D.moment D.left_since entries.now texts disk.old disk.new }
+    ensures contents { OnOk result (D.honest disk.new → (name : List ℕ)
+        → contents (D.files disk.new) name ≡ replayed entries.now (contents (D.files disk.old))
+        name) }
+    ensures others { D.honest disk.new → (name : List ℕ) → IsFalse (is_named name entries.now)
+        → D.files disk.new name ≡ D.files disk.old name }
+    ensures accounts { Accounts D.steady D.honest D.failures disk.old disk.new (IsErr result) }
+{
+    for entry in entries {
+        apply_entry(disk, entry)?;
+    }
+    Ok(())
+}
+
+/// Syncs the files of a record. Before, within and after it, also where it fails, the record makes the same texts of
+/// whatever a crash leaves of the files, if it did so at the start.
+pub fn sync_all<D: Disk>(disk: &mut D, entries: &[Entry]) -> Result<(), DiskFault>
+    requires { D.honest disk.old → AreApplicable entries.now }
+    ensures replays { D.honest disk.new → IsStable (D.files disk.old journal_name)
+        → (texts : Image) → EachTakes entries.now texts (D.files disk.old)
+        → TakesOver D.files D.moment D.left_since entries.now texts disk.old disk.new }
+    ensures contents { OnOk result (D.honest disk.new → (name : List ℕ)
+        → contents (D.files disk.new) name ≡ contents (D.files disk.old) name) }
+    ensures stable { OnOk result (D.honest disk.new → (name : List ℕ)
+        → (IsFalse (is_named name entries.now) → IsStable (D.files disk.old name))
+        → IsStable (D.files disk.new name)) }
+    ensures others { D.honest disk.new → (name : List ℕ) → IsFalse (is_named name entries.now)
+        → D.files disk.new name ≡ D.files disk.old name }
+    ensures accounts { Accounts D.steady D.honest D.failures disk.old disk.new (IsErr result) }
+{
+    for entry in entries {
+        disk.sync(&entry.name)?;
+    }
+    Ok(())
+}
