@@ -16,7 +16,7 @@ use Rattle.org_store.specs.declared.command.RunFault.{RunFault}
 use Rattle.org_store.specs.declared.command.RunFault.TheVariants.{Refused, OutOfMemory, Device, Broken}
 use Rattle.org_store.specs.declared.tally.Tally.{Tally}
 use Rattle.org_store.specs.Counts.{Counts, SameCounts}
-use Rattle.org_store.specs.Files.{OpenFiles, PutsPlan, new_texts}
+use Rattle.org_store.specs.Files.{OpenFiles, PutsPlan, StaysInMemory, new_texts}
 use Rattle.org_store.specs.InOrder.{texts_of}
 use Rattle.org_store.specs.Keeping.{Acts, Keeps, KeepsCounts, Reads}
 use Rattle.org_store.specs.Left.{IsLeft, MayHaveWritten}
@@ -37,9 +37,9 @@ IsQuiet (Ok (Time minutes)) = Unit {0}
 IsQuiet (Err fault) = Unit {0}
 
 -- files that stay as they are, but for what is edited
-pub kept_same : {D : Type 0} (files : D → List ℕ → FileState) (states : Keywords) (old new : OpenFiles D) (tally : Tally) → new.disk ≡ old.disk → new.names ≡ old.names → new.broken ≡ old.broken
-    → new.held.before ≡ old.held.before → kept_over files states new tally ≡ kept_over files states old tally
-kept_same files states old new tally disk names broken before = rw (disk, names, broken, before) refl
+pub kept_same : {D : Type 0} (files : D → List ℕ → FileState) (states : Keywords) (old new : OpenFiles D) (tally : Tally) → StaysInMemory old new → new.held.before ≡ old.held.before
+    → kept_over files states new tally ≡ kept_over files states old tally
+kept_same files states old new tally memory before = rw (memory.disk, memory.names, memory.broken, before) refl
 
 -- counts that stay
 quiet_counts : (old new : Session) → SameCounts old new → (answer : Result Reply RunFault) → IsQuiet answer → Counts old answer new

@@ -5,6 +5,7 @@ pub mod Held
 pub mod Quiet
 pub mod Commits
 pub mod Keeping
+pub mod Reading
 pub mod Leaving
 pub mod Acting
 pub mod Planned

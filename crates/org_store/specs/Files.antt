@@ -28,6 +28,17 @@ pub record OpenFiles (D : Type 0) : Type 0 where
   pub broken : Bool
   pub held : Holding
 
+-- Files that work, between commands: no call of the disk failed, and the texts are as the last command left them.
+pub record AreBetweenCommands {D : Type 0} (files : OpenFiles D) : Type 0 where
+  pub unbroken : files.broken ≡ false
+  pub begun : files.held.now ≡ files.held.before
+
+-- A call in memory alone, at the texts that are held.
+pub record StaysInMemory {D : Type 0} (old new : OpenFiles D) : Type 0 where
+  pub disk : new.disk ≡ old.disk
+  pub names : new.names ≡ old.names
+  pub broken : new.broken ≡ old.broken
+
 -- Held texts of files of these names, which are the disk's while `live` (it is honest, and no call of it failed).
 pub record AreTextsOf (names : List (List ℕ)) (live : Type 0) (files : Image) (set : TextSet) : Type 0 where
   pub named : (name : List ℕ) → IsSome (text_of set name) → is_name names name ≡ true

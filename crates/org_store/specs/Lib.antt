@@ -16,6 +16,7 @@ pub mod Counts
 pub mod Runs
 pub mod Calls
 pub mod Keeping
+pub mod Reading
 pub mod Opening
 pub mod Reopening
 pub mod OnePlace

@@ -1,18 +1,19 @@
 //! How a change is made: planned on held texts, and accepted.
-ghost use Rattle.std.specs.Prelude.{◌≡◌, ◌≤◌, ◌<◌, ◌+◌, ◌^◌, ◌↔◌, [], IfOk, IsErrOf, IsOk, IsTrue, OnErr, OnOk, false};
+ghost use Rattle.std.specs.Prelude.{◌≡◌, ◌≤◌, ◌<◌, ◌+◌, ◌^◌, ◌↔◌, [], IfOk, IsErrOf, IsTrue, false};
 ghost use Rattle.std.specs.Option.{ForSome};
-ghost use Rattle.org_disk.specs.Accounts.{Accounts, Looks};
+ghost use Rattle.org_disk.specs.Accounts.{Accounts};
 ghost use Rattle.org_journal.specs.Recovered.{contents};
 ghost use Rattle.org_outline.specs.States.{Keywords};
 ghost use Rattle.org_texts.specs.Texts.{held_over};
 ghost use Rattle.org_store.specs.declared.tally.Tally.{Tally as Counted};
-ghost use Rattle.org_store.specs.Files.{AreSmallToWrite, IsPlanFor, new_texts};
+ghost use Rattle.org_store.specs.Files.{AreBetweenCommands, AreSmallToWrite, IsPlanFor, new_texts};
 ghost use Rattle.org_store.specs.InOrder.{texts_of};
 ghost use Rattle.org_store.specs.Keeping.{Acts, Keeps, KeepsCounts, PlansOrStays};
 ghost use Rattle.org_store.specs.Left.{IsLeft};
 ghost use Rattle.org_store.specs.Outcome.{Accepts, IsChange, changed, counted, outcome};
+ghost use Rattle.org_store.specs.Reading.{OnlyReads};
 ghost use Rattle.org_store.specs.Runs.{LeavesDisk};
-ghost use Rattle.org_store.specs.Session.{kept_over, session_over};
+ghost use Rattle.org_store.specs.Session.{kept_over};
 
 use crate::command::{Command, Refusal, Reply, RunFault};
 use crate::commands::archive::plan_archive;
@@ -147,20 +148,15 @@ fn plan<D: Disk>(
     command: &Command,
 ) -> Result<Option<Plan>, RunFault>
     requires change { IsChange command.now }
-    requires unbroken { files.old.broken ≡ false }
-    requires begun { files.old.held.now ≡ files.old.held.before }
+    requires between { AreBetweenCommands files.old }
     ensures plan { IfOk result (λ plan. ForSome plan
         (λ plan. IsPlanFor files.new.names files.new.held plan)) }
     ensures plans { (tally : Counted) → D.honest files.new.disk
         → PlansOrStays (kept_over D.files states.now files.old tally).session
         (outcome (kept_over D.files states.now files.old tally).session command.now) result
         files.new.held (kept_over D.files states.now files.new tally).session }
-    ensures looks { D.honest files.new.disk
-        → Looks D.files D.moment D.left_since files.old.disk files.new.disk }
-    ensures works { IsErrOf result RunFault.Broken → ⊥ }
-    ensures breaks { IsErrOf result RunFault.Device ↔ IsTrue files.new.broken }
-    ensures accounts { Accounts D.steady D.honest D.failures files.old.disk files.new.disk
-        (IsErrOf result RunFault.Device) }
+    ensures disk { OnlyReads D.steady D.honest D.failures D.files D.moment D.left_since
+        files.old files.new result }
 {
     match command {
         Command::Capture {
@@ -212,8 +208,7 @@ pub(crate) fn change<D: Disk>(
     command: &Command,
 ) -> Result<Reply, RunFault>
     requires change { IsChange command.now }
-    requires unbroken { files.old.broken ≡ false }
-    requires begun { files.old.held.now ≡ files.old.held.before }
+    requires between { AreBetweenCommands files.old }
     requires counted { tally.old.acknowledged ≤ tally.old.accepted }
     ensures acts { Acts D.files D.moment D.left_since D.honest
         (kept_over D.files states.now files.old tally.old)

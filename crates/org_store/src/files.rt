@@ -4,7 +4,7 @@ ghost use Rattle.std.specs.List.{All};
 ghost use Rattle.std.specs.Map.{lookup};
 ghost use Rattle.std.specs.Option.{ForSome, option_map};
 ghost use Rattle.std.specs.Str.{bytes_eq};
-ghost use Rattle.org_disk.specs.Accounts.{Accounts, Looks};
+ghost use Rattle.org_disk.specs.Accounts.{Accounts};
 ghost use Rattle.org_disk.specs.Names.{IsOrgFile};
 ghost use Rattle.org_journal.specs.Recovered.{contents};
 ghost use Rattle.org_fileset.specs.Names.{with_archives, AreSorted, AreFew, first_large};
@@ -16,10 +16,11 @@ ghost use Rattle.org_outline.specs.States.{Keywords};
 ghost use Rattle.org_texts.specs.Texts.{bytes_or, held_over, nothing_held, text_of};
 ghost use Rattle.org_store.specs.declared.tally.Tally.{Tally};
 ghost use Rattle.org_store.specs.Clocks.{RunsIn};
-ghost use Rattle.org_store.specs.Files.{AreReady, AreSmallToWrite, CommitsTexts, IsPlanFor, KeepsHeld, PutsPlan, files_of, has_large, texts_in};
+ghost use Rattle.org_store.specs.Files.{AreReady, AreSmallToWrite, CommitsTexts, IsPlanFor, KeepsHeld, PutsPlan, StaysInMemory, files_of, has_large, texts_in};
 ghost use Rattle.org_store.specs.InOrder.{is_name, texts_of};
 ghost use Rattle.org_store.specs.Keeping.{Reads};
 ghost use Rattle.org_store.specs.Quiet.{Forgets};
+ghost use Rattle.org_store.specs.Reading.{OnlyReads};
 ghost use Rattle.org_store.specs.Session.{kept_over};
 
 use crate::command::{Refusal, RunFault};
@@ -167,13 +168,8 @@ impl<D: Disk> Files<D> {
         ensures ready { (names : List (List ℕ)) → AreReady names self.old.held
             → AreReady names self.new.held }
         ensures keeps { KeepsHeld self.old.held self.new.held }
-        ensures looks { D.honest self.new.disk → Looks D.files D.moment D.left_since
-            self.old.disk self.new.disk }
-        ensures names { self.new.names ≡ self.old.names }
-        ensures works { IsErrOf result RunFault.Broken → ⊥ }
-        ensures breaks { IsErrOf result RunFault.Device ↔ IsTrue self.new.broken }
-        ensures accounts { Accounts D.steady D.honest D.failures self.old.disk self.new.disk
-            (IsErrOf result RunFault.Device) }
+        ensures disk { OnlyReads D.steady D.honest D.failures D.files D.moment D.left_since
+            self.old self.new result }
     {
         if self.texts.get(name).is_some() {
             return Ok(());
@@ -187,9 +183,7 @@ impl<D: Disk> Files<D> {
     // command are taken back.
     fn make_ready(&mut self, name: &FileName) -> Result<(), AllocError>
         requires { IsSome (text_of self.old.held.now name.now) }
-        ensures disk { self.new.disk ≡ self.old.disk }
-        ensures names { self.new.names ≡ self.old.names }
-        ensures broken { self.new.broken ≡ self.old.broken }
+        ensures memory { StaysInMemory self.old self.new }
         ensures ready { OnOk result ((names : List (List ℕ)) → AreReady names self.old.held
             → AreReady (name.now ∷ names) self.new.held) }
         ensures before { self.new.held.before ≡ self.old.held.before }
@@ -209,13 +203,8 @@ impl<D: Disk> Files<D> {
         ensures reads { (states : Keywords) (tally : Tally) → D.honest self.new.disk
             → Reads (kept_over D.files states self.old tally).session result
             (kept_over D.files states self.new tally).session }
-        ensures looks { D.honest self.new.disk → Looks D.files D.moment D.left_since
-            self.old.disk self.new.disk }
-        ensures names { self.new.names ≡ self.old.names }
-        ensures works { IsErrOf result RunFault.Broken → ⊥ }
-        ensures breaks { IsErrOf result RunFault.Device ↔ IsTrue self.new.broken }
-        ensures accounts { Accounts D.steady D.honest D.failures self.old.disk self.new.disk
-            (IsErrOf result RunFault.Device) }
+        ensures disk { OnlyReads D.steady D.honest D.failures D.files D.moment D.left_since
+            self.old self.new result }
     {
         self.load(name)?;
         self.make_ready(name)?;
@@ -244,9 +233,7 @@ impl<D: Disk> Files<D> {
     /// there is no memory, all edits of the command are taken back.
     pub(crate) fn put(&mut self, plan: &Plan) -> Result<(), RunFault>
         requires { IsPlanFor self.old.names self.old.held plan.now }
-        ensures disk { self.new.disk ≡ self.old.disk }
-        ensures names { self.new.names ≡ self.old.names }
-        ensures broken { self.new.broken ≡ self.old.broken }
+        ensures memory { StaysInMemory self.old self.new }
         ensures before { self.new.held.before ≡ self.old.held.before }
         ensures puts { PutsPlan plan.now self.old.held result self.new.held }
     {
@@ -261,9 +248,7 @@ impl<D: Disk> Files<D> {
 
     /// Takes all edits of the command back. Takes no memory, and can't fail.
     pub(crate) fn undo(&mut self)
-        ensures disk { self.new.disk ≡ self.old.disk }
-        ensures names { self.new.names ≡ self.old.names }
-        ensures broken { self.new.broken ≡ self.old.broken }
+        ensures memory { StaysInMemory self.old self.new }
         ensures now { self.new.held.now ≡ self.old.held.before }
         ensures before { self.new.held.before ≡ self.old.held.before }
         ensures small { AreSmallToWrite self.new.held.now }
@@ -274,9 +259,7 @@ impl<D: Disk> Files<D> {
     /// Keeps all edits of the command, in memory. Takes none, and can't fail.
     pub(crate) fn keep(&mut self)
         requires { AreSmallToWrite self.old.held.now }
-        ensures disk { self.new.disk ≡ self.old.disk }
-        ensures names { self.new.names ≡ self.old.names }
-        ensures broken { self.new.broken ≡ self.old.broken }
+        ensures memory { StaysInMemory self.old self.new }
         ensures now { self.new.held.now ≡ self.old.held.now }
         ensures before { self.new.held.before ≡ self.old.held.now }
     {

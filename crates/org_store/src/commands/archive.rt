@@ -1,16 +1,16 @@
 //! Subtrees moved to their archives.
-ghost use Rattle.std.specs.Prelude.{◌≡◌, ◌↔◌, [], IfOk, IsErrOf, IsTrue, false};
-ghost use Rattle.org_disk.specs.Accounts.{Accounts, Looks};
+ghost use Rattle.std.specs.Prelude.{◌≡◌, [], IfOk};
 ghost use Rattle.org_outline.specs.Tree.{tree};
 ghost use Rattle.org_texts.specs.Texts.{bytes_or, text_of};
 ghost use Rattle.org_move.specs.Answers.{Gives, GivesPlace};
 ghost use Rattle.org_move.specs.Archive.{archive_across, archive_within};
 ghost use Rattle.org_move.specs.Location.{location};
 ghost use Rattle.org_store.specs.declared.tally.Tally.{Tally};
-ghost use Rattle.org_store.specs.Files.{IsPlanFor, IsReady};
+ghost use Rattle.org_store.specs.Files.{AreBetweenCommands, IsPlanFor, IsReady};
 ghost use Rattle.org_store.specs.InOrder.{text_at};
 ghost use Rattle.org_store.specs.Keeping.{Plans};
 ghost use Rattle.org_store.specs.Outcome.{archive as outcome};
+ghost use Rattle.org_store.specs.Reading.{OnlyReads};
 ghost use Rattle.org_store.specs.Refile.{MakesDocument, MakesDocuments};
 ghost use Rattle.org_store.specs.Session.{kept_over};
 
@@ -101,20 +101,15 @@ pub(crate) fn plan_archive<D: Disk>(
     path: &Titles,
     moment: Moment,
 ) -> Result<Plan, RunFault>
-    requires unbroken { files.old.broken ≡ false }
-    requires begun { files.old.held.now ≡ files.old.held.before }
+    requires between { AreBetweenCommands files.old }
     ensures plan { IfOk result (λ plan. IsPlanFor files.new.names files.new.held plan) }
     ensures plans { (tally : Tally) → D.honest files.new.disk
         → let session = (kept_over D.files states.now files.old tally).session in
         Plans session (outcome session file.now path.now moment
         (text_at session.names session.files file.now)) result
         files.new.held (kept_over D.files states.now files.new tally).session }
-    ensures looks { D.honest files.new.disk
-        → Looks D.files D.moment D.left_since files.old.disk files.new.disk }
-    ensures works { IsErrOf result RunFault.Broken → ⊥ }
-    ensures breaks { IsErrOf result RunFault.Device ↔ IsTrue files.new.broken }
-    ensures accounts { Accounts D.steady D.honest D.failures files.old.disk files.new.disk
-        (IsErrOf result RunFault.Device) }
+    ensures disk { OnlyReads D.steady D.honest D.failures D.files D.moment D.left_since
+        files.old files.new result }
 {
     if !files.has(file) {
         return Err(RunFault::Refused(Refusal::NoSuchFile));

@@ -1,15 +1,15 @@
 //! New entries.
-ghost use Rattle.std.specs.Prelude.{◌≡◌, ◌↔◌, ◌∷◌, [], None, IfOk, IsErrOf, IsTrue, false, true};
-ghost use Rattle.org_disk.specs.Accounts.{Accounts, Looks};
+ghost use Rattle.std.specs.Prelude.{◌≡◌, ◌∷◌, [], None, IfOk, true};
 ghost use Rattle.org_outline.specs.Tree.{Node, tree};
 ghost use Rattle.org_capture.specs.Capture.{captured};
 ghost use Rattle.org_capture.specs.Entry.{IsEntry};
 ghost use Rattle.org_store.specs.declared.tally.Tally.{Tally};
 ghost use Rattle.org_store.specs.Capture.{MakesEntry, PlansDocument, new_entry};
-ghost use Rattle.org_store.specs.Files.{IsPlanFor};
+ghost use Rattle.org_store.specs.Files.{AreBetweenCommands, IsPlanFor};
 ghost use Rattle.org_store.specs.InOrder.{text_at};
 ghost use Rattle.org_store.specs.Keeping.{Plans};
 ghost use Rattle.org_store.specs.Outcome.{capture as outcome};
+ghost use Rattle.org_store.specs.Reading.{OnlyReads};
 ghost use Rattle.org_store.specs.Session.{kept_over};
 
 use crate::command::{Refusal, RunFault};
@@ -87,8 +87,7 @@ pub(crate) fn plan_capture<D: Disk>(
     template: &Bytes,
     initial: &Bytes,
 ) -> Result<Plan, RunFault>
-    requires unbroken { files.old.broken ≡ false }
-    requires begun { files.old.held.now ≡ files.old.held.before }
+    requires between { AreBetweenCommands files.old }
     ensures plan { IfOk result (λ plan. IsPlanFor files.new.names files.new.held plan) }
     ensures plans { (tally : Tally) → D.honest files.new.disk
         → Plans (kept_over D.files states.now files.old tally).session
@@ -97,12 +96,8 @@ pub(crate) fn plan_capture<D: Disk>(
         (text_at (kept_over D.files states.now files.old tally).session.names
         (kept_over D.files states.now files.old tally).session.files file.now)) result
         files.new.held (kept_over D.files states.now files.new tally).session }
-    ensures looks { D.honest files.new.disk
-        → Looks D.files D.moment D.left_since files.old.disk files.new.disk }
-    ensures works { IsErrOf result RunFault.Broken → ⊥ }
-    ensures breaks { IsErrOf result RunFault.Device ↔ IsTrue files.new.broken }
-    ensures accounts { Accounts D.steady D.honest D.failures files.old.disk files.new.disk
-        (IsErrOf result RunFault.Device) }
+    ensures disk { OnlyReads D.steady D.honest D.failures D.files D.moment D.left_since
+        files.old files.new result }
 {
     if !files.has(file) {
         return Err(RunFault::Refused(Refusal::NoSuchFile));

@@ -1,8 +1,7 @@
 //! Clocks, started and stopped.
-ghost use Rattle.std.specs.Prelude.{◌≡◌, ◌≢◌, ◌↔◌, [], None, Some, IfOk, OnOk, IsErrOf, IsTrue, false, true};
+ghost use Rattle.std.specs.Prelude.{◌≡◌, ◌≢◌, [], None, Some, IfOk, OnOk, true};
 ghost use Rattle.std.specs.Option.{ForSome, unwrap_or};
 ghost use Rattle.std.specs.Result.{result_map_both};
-ghost use Rattle.org_disk.specs.Accounts.{Accounts, Looks};
 ghost use Rattle.org_outline.specs.Paths.{find_path};
 ghost use Rattle.org_outline.specs.Tree.{tree};
 ghost use Rattle.org_state.specs.Clock.{running_in};
@@ -10,10 +9,11 @@ ghost use Rattle.org_state.specs.Todo.{fault_of_path};
 ghost use Rattle.org_store.specs.declared.tally.Tally.{Tally};
 ghost use Rattle.org_store.specs.Clocking.{PlansClocks, clock_moved, clocked_in, clocked_out};
 ghost use Rattle.org_store.specs.Clocks.{RunsHeld, running_over};
-ghost use Rattle.org_store.specs.Files.{IsPlanFor};
+ghost use Rattle.org_store.specs.Files.{AreBetweenCommands, IsPlanFor};
 ghost use Rattle.org_store.specs.InOrder.{is_name, text_at};
 ghost use Rattle.org_store.specs.Keeping.{LooksUp, Plans, PlansOrStays};
 ghost use Rattle.org_store.specs.Outcome.{clock_in as outcome_in, clock_out as outcome_out, with_clock_moved, with_state};
+ghost use Rattle.org_store.specs.Reading.{OnlyReads};
 ghost use Rattle.org_store.specs.Session.{kept_over};
 ghost use Rattle.org_store.specs.Todo.{PlansState};
 
@@ -170,21 +170,15 @@ fn look_up_in<D: Disk>(
     path: &Titles,
 ) -> Result<(), RunFault>
     requires file { is_name files.old.names file.now ≡ true }
-    requires unbroken { files.old.broken ≡ false }
-    requires begun { files.old.held.now ≡ files.old.held.before }
+    requires between { AreBetweenCommands files.old }
     ensures finds { (tally : Tally) → D.honest files.new.disk
         → let session = (kept_over D.files states.now files.old tally).session in
         let d = tree (unwrap_or (text_at session.names session.files file.now) []) in
         LooksUp session (find_path states.now d path.now) result
         (kept_over D.files states.now files.new tally).session }
     ensures begun { OnOk result (files.new.held.now ≡ files.new.held.before) }
-    ensures looks { D.honest files.new.disk
-        → Looks D.files D.moment D.left_since files.old.disk files.new.disk }
-    ensures names { files.new.names ≡ files.old.names }
-    ensures works { IsErrOf result RunFault.Broken → ⊥ }
-    ensures breaks { IsErrOf result RunFault.Device ↔ IsTrue files.new.broken }
-    ensures accounts { Accounts D.steady D.honest D.failures files.old.disk files.new.disk
-        (IsErrOf result RunFault.Device) }
+    ensures disk { OnlyReads D.steady D.honest D.failures D.files D.moment D.left_since
+        files.old files.new result }
 {
     files.ready(file)?;
     let Some(held) = files.get(file) else {
@@ -206,8 +200,7 @@ fn start_in_one<D: Disk>(
     moment: Moment,
 ) -> Result<Option<Plan>, RunFault>
     requires file { is_name files.old.names file.now ≡ true }
-    requires unbroken { files.old.broken ≡ false }
-    requires begun { files.old.held.now ≡ files.old.held.before }
+    requires between { AreBetweenCommands files.old }
     requires runs { ForSome running (λ running. RunsHeld files.old.held file.now running) }
     ensures plan { IfOk result (λ plan. ForSome plan
         (λ plan. IsPlanFor files.new.names files.new.held plan)) }
@@ -217,12 +210,8 @@ fn start_in_one<D: Disk>(
         PlansOrStays session (with_state session file.now
         (clocked_in moment running d (find_path states.now d path.now))) result
         files.new.held (kept_over D.files states.now files.new tally).session }
-    ensures looks { D.honest files.new.disk
-        → Looks D.files D.moment D.left_since files.old.disk files.new.disk }
-    ensures works { IsErrOf result RunFault.Broken → ⊥ }
-    ensures breaks { IsErrOf result RunFault.Device ↔ IsTrue files.new.broken }
-    ensures accounts { Accounts D.steady D.honest D.failures files.old.disk files.new.disk
-        (IsErrOf result RunFault.Device) }
+    ensures disk { OnlyReads D.steady D.honest D.failures D.files D.moment D.left_since
+        files.old files.new result }
 {
     files.ready(file)?;
     let Some(held) = files.get(file) else {
@@ -243,8 +232,7 @@ fn start_beside<D: Disk>(
     requires other { is_name files.old.names clock.now.file ≡ true }
     requires file { is_name files.old.names file.now ≡ true }
     requires apart { clock.now.file ≢ file.now }
-    requires unbroken { files.old.broken ≡ false }
-    requires begun { files.old.held.now ≡ files.old.held.before }
+    requires between { AreBetweenCommands files.old }
     requires runs { RunsHeld files.old.held clock.now.file clock.now.running }
     ensures plan { IfOk result (λ plan. IsPlanFor files.new.names files.new.held plan) }
     ensures plans { (tally : Tally) → D.honest files.new.disk
@@ -254,12 +242,8 @@ fn start_beside<D: Disk>(
         Plans session (with_clock_moved session clock.now.file file.now
         (clock_moved moment clock.now.running other d (find_path states.now d path.now))) result
         files.new.held (kept_over D.files states.now files.new tally).session }
-    ensures looks { D.honest files.new.disk
-        → Looks D.files D.moment D.left_since files.old.disk files.new.disk }
-    ensures works { IsErrOf result RunFault.Broken → ⊥ }
-    ensures breaks { IsErrOf result RunFault.Device ↔ IsTrue files.new.broken }
-    ensures accounts { Accounts D.steady D.honest D.failures files.old.disk files.new.disk
-        (IsErrOf result RunFault.Device) }
+    ensures disk { OnlyReads D.steady D.honest D.failures D.files D.moment D.left_since
+        files.old files.new result }
 {
     both_ready(files, &clock.file, file)?;
     let Some(other) = files.get(&clock.file) else {
@@ -290,8 +274,7 @@ pub(crate) fn plan_clock_in<D: Disk>(
     path: &Titles,
     moment: Moment,
 ) -> Result<Option<Plan>, RunFault>
-    requires unbroken { files.old.broken ≡ false }
-    requires begun { files.old.held.now ≡ files.old.held.before }
+    requires between { AreBetweenCommands files.old }
     ensures plan { IfOk result (λ plan. ForSome plan
         (λ plan. IsPlanFor files.new.names files.new.held plan)) }
     ensures plans { (tally : Tally) → D.honest files.new.disk
@@ -299,12 +282,8 @@ pub(crate) fn plan_clock_in<D: Disk>(
         PlansOrStays session (outcome_in session file.now path.now moment
         (text_at session.names session.files file.now)) result
         files.new.held (kept_over D.files states.now files.new tally).session }
-    ensures looks { D.honest files.new.disk
-        → Looks D.files D.moment D.left_since files.old.disk files.new.disk }
-    ensures works { IsErrOf result RunFault.Broken → ⊥ }
-    ensures breaks { IsErrOf result RunFault.Device ↔ IsTrue files.new.broken }
-    ensures accounts { Accounts D.steady D.honest D.failures files.old.disk files.new.disk
-        (IsErrOf result RunFault.Device) }
+    ensures disk { OnlyReads D.steady D.honest D.failures D.files D.moment D.left_since
+        files.old files.new result }
 {
     if !files.has(file) {
         return Err(RunFault::Refused(Refusal::NoSuchFile));
@@ -327,8 +306,7 @@ pub(crate) fn plan_clock_out<D: Disk>(
     states: &States,
     moment: Moment,
 ) -> Result<Option<Plan>, RunFault>
-    requires unbroken { files.old.broken ≡ false }
-    requires begun { files.old.held.now ≡ files.old.held.before }
+    requires between { AreBetweenCommands files.old }
     ensures plan { IfOk result (λ plan. ForSome plan
         (λ plan. IsPlanFor files.new.names files.new.held plan)) }
     ensures plans { (tally : Tally) → D.honest files.new.disk
@@ -336,12 +314,8 @@ pub(crate) fn plan_clock_out<D: Disk>(
         PlansOrStays session (outcome_out session moment
         (running_over session.names session.files)) result
         files.new.held (kept_over D.files states.now files.new tally).session }
-    ensures looks { D.honest files.new.disk
-        → Looks D.files D.moment D.left_since files.old.disk files.new.disk }
-    ensures works { IsErrOf result RunFault.Broken → ⊥ }
-    ensures breaks { IsErrOf result RunFault.Device ↔ IsTrue files.new.broken }
-    ensures accounts { Accounts D.steady D.honest D.failures files.old.disk files.new.disk
-        (IsErrOf result RunFault.Device) }
+    ensures disk { OnlyReads D.steady D.honest D.failures D.files D.moment D.left_since
+        files.old files.new result }
 {
     let Some(clock) = running_clock(files, states)? else {
         return Err(RunFault::Refused(Refusal::NoClock));

@@ -1,15 +1,15 @@
 //! Subtrees moved to other headings.
-ghost use Rattle.std.specs.Prelude.{◌≡◌, ◌≢◌, ◌↔◌, ◌∷◌, [], ℕ, List, IfOk, OnOk, IsErrOf, IsTrue, false, true};
-ghost use Rattle.org_disk.specs.Accounts.{Accounts, Looks};
+ghost use Rattle.std.specs.Prelude.{◌≡◌, ◌≢◌, ◌∷◌, ℕ, List, IfOk, OnOk, false, true};
 ghost use Rattle.org_outline.specs.States.{Keywords};
 ghost use Rattle.org_outline.specs.Tree.{tree};
 ghost use Rattle.org_move.specs.Answers.{Gives};
 ghost use Rattle.org_move.specs.Refile.{refile_across, refile_within};
 ghost use Rattle.org_store.specs.declared.tally.Tally.{Tally};
-ghost use Rattle.org_store.specs.Files.{AreReady, IsPlanFor, KeepsHeld};
+ghost use Rattle.org_store.specs.Files.{AreBetweenCommands, AreReady, IsPlanFor, KeepsHeld};
 ghost use Rattle.org_store.specs.InOrder.{is_name, text_at};
 ghost use Rattle.org_store.specs.Keeping.{Plans, Reads};
 ghost use Rattle.org_store.specs.Outcome.{refile as outcome};
+ghost use Rattle.org_store.specs.Reading.{OnlyReads};
 ghost use Rattle.org_store.specs.Refile.{MakesDocument, MakesDocuments};
 ghost use Rattle.org_store.specs.Session.{kept_over};
 
@@ -108,13 +108,8 @@ pub(crate) fn both_ready<D: Disk>(
     ensures reads { (states : Keywords) (tally : Tally) → D.honest files.new.disk
         → Reads (kept_over D.files states files.old tally).session result
         (kept_over D.files states files.new tally).session }
-    ensures looks { D.honest files.new.disk
-        → Looks D.files D.moment D.left_since files.old.disk files.new.disk }
-    ensures names { files.new.names ≡ files.old.names }
-    ensures works { IsErrOf result RunFault.Broken → ⊥ }
-    ensures breaks { IsErrOf result RunFault.Device ↔ IsTrue files.new.broken }
-    ensures accounts { Accounts D.steady D.honest D.failures files.old.disk files.new.disk
-        (IsErrOf result RunFault.Device) }
+    ensures disk { OnlyReads D.steady D.honest D.failures D.files D.moment D.left_since
+        files.old files.new result }
 {
     files.ready(file)?;
     files.ready(to_file)
@@ -130,20 +125,15 @@ fn refile_in_one<D: Disk>(
     place: Place,
 ) -> Result<Plan, RunFault>
     requires file { is_name files.old.names file.now ≡ true }
-    requires unbroken { files.old.broken ≡ false }
-    requires begun { files.old.held.now ≡ files.old.held.before }
+    requires between { AreBetweenCommands files.old }
     ensures plan { IfOk result (λ plan. IsPlanFor files.new.names files.new.held plan) }
     ensures plans { (tally : Tally) → D.honest files.new.disk
         → let session = (kept_over D.files states.now files.old tally).session in
         let text = text_at session.names session.files file.now in
         Plans session (outcome session file.now path.now file.now to.now place text text) result
         files.new.held (kept_over D.files states.now files.new tally).session }
-    ensures looks { D.honest files.new.disk
-        → Looks D.files D.moment D.left_since files.old.disk files.new.disk }
-    ensures works { IsErrOf result RunFault.Broken → ⊥ }
-    ensures breaks { IsErrOf result RunFault.Device ↔ IsTrue files.new.broken }
-    ensures accounts { Accounts D.steady D.honest D.failures files.old.disk files.new.disk
-        (IsErrOf result RunFault.Device) }
+    ensures disk { OnlyReads D.steady D.honest D.failures D.files D.moment D.left_since
+        files.old files.new result }
 {
     files.ready(file)?;
     let Some(held) = files.get(file) else {
@@ -165,8 +155,7 @@ fn refile_in_two<D: Disk>(
     requires file { is_name files.old.names file.now ≡ true }
     requires to_file { is_name files.old.names to_file.now ≡ true }
     requires apart { file.now ≢ to_file.now }
-    requires unbroken { files.old.broken ≡ false }
-    requires begun { files.old.held.now ≡ files.old.held.before }
+    requires between { AreBetweenCommands files.old }
     ensures plan { IfOk result (λ plan. IsPlanFor files.new.names files.new.held plan) }
     ensures plans { (tally : Tally) → D.honest files.new.disk
         → let session = (kept_over D.files states.now files.old tally).session in
@@ -174,12 +163,8 @@ fn refile_in_two<D: Disk>(
         (text_at session.names session.files file.now)
         (text_at session.names session.files to_file.now)) result
         files.new.held (kept_over D.files states.now files.new tally).session }
-    ensures looks { D.honest files.new.disk
-        → Looks D.files D.moment D.left_since files.old.disk files.new.disk }
-    ensures works { IsErrOf result RunFault.Broken → ⊥ }
-    ensures breaks { IsErrOf result RunFault.Device ↔ IsTrue files.new.broken }
-    ensures accounts { Accounts D.steady D.honest D.failures files.old.disk files.new.disk
-        (IsErrOf result RunFault.Device) }
+    ensures disk { OnlyReads D.steady D.honest D.failures D.files D.moment D.left_since
+        files.old files.new result }
 {
     both_ready(files, file, to_file)?;
     let Some(source) = files.get(file) else {
@@ -212,8 +197,7 @@ pub(crate) fn plan_refile<D: Disk>(
     to: &Titles,
     place: Place,
 ) -> Result<Plan, RunFault>
-    requires unbroken { files.old.broken ≡ false }
-    requires begun { files.old.held.now ≡ files.old.held.before }
+    requires between { AreBetweenCommands files.old }
     ensures plan { IfOk result (λ plan. IsPlanFor files.new.names files.new.held plan) }
     ensures plans { (tally : Tally) → D.honest files.new.disk
         → let session = (kept_over D.files states.now files.old tally).session in
@@ -221,12 +205,8 @@ pub(crate) fn plan_refile<D: Disk>(
         (text_at session.names session.files file.now)
         (text_at session.names session.files to_file.now)) result
         files.new.held (kept_over D.files states.now files.new tally).session }
-    ensures looks { D.honest files.new.disk
-        → Looks D.files D.moment D.left_since files.old.disk files.new.disk }
-    ensures works { IsErrOf result RunFault.Broken → ⊥ }
-    ensures breaks { IsErrOf result RunFault.Device ↔ IsTrue files.new.broken }
-    ensures accounts { Accounts D.steady D.honest D.failures files.old.disk files.new.disk
-        (IsErrOf result RunFault.Device) }
+    ensures disk { OnlyReads D.steady D.honest D.failures D.files D.moment D.left_since
+        files.old files.new result }
 {
     if !files.has(file) || !files.has(to_file) {
         return Err(RunFault::Refused(Refusal::NoSuchFile));

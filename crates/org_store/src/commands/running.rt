@@ -1,12 +1,12 @@
 //! The clock that runs over all files.
-ghost use Rattle.std.specs.Prelude.{◌≡◌, ◌↔◌, IfOk, IsErrOf, IsTrue, OnOk, false, true};
+ghost use Rattle.std.specs.Prelude.{◌≡◌, IfOk, OnOk, true};
 ghost use Rattle.std.specs.Option.{ForSome, option_map};
-ghost use Rattle.org_disk.specs.Accounts.{Accounts, Looks};
 ghost use Rattle.org_store.specs.declared.tally.Tally.{Tally};
 ghost use Rattle.org_store.specs.Clocks.{RunsHeld, RunsIn, running_over};
-ghost use Rattle.org_store.specs.Files.{KeepsHeld};
+ghost use Rattle.org_store.specs.Files.{AreBetweenCommands, KeepsHeld};
 ghost use Rattle.org_store.specs.InOrder.{is_name};
 ghost use Rattle.org_store.specs.Keeping.{Reads};
+ghost use Rattle.org_store.specs.Reading.{OnlyReads};
 ghost use Rattle.org_store.specs.Session.{kept_over};
 
 use crate::command::RunFault;
@@ -30,21 +30,15 @@ fn running_in_file<D: Disk>(
     file: &FileName,
 ) -> Result<Option<Running>, RunFault>
     requires name { is_name files.old.names file.now ≡ true }
-    requires unbroken { files.old.broken ≡ false }
-    requires begun { files.old.held.now ≡ files.old.held.before }
+    requires between { AreBetweenCommands files.old }
     ensures runs { IfOk result (λ found. RunsIn files.new.held.before file.now found) }
     ensures reads { (tally : Tally) → D.honest files.new.disk
         → Reads (kept_over D.files states.now files.old tally).session result
         (kept_over D.files states.now files.new tally).session }
     ensures begun { OnOk result (files.new.held.now ≡ files.new.held.before) }
     ensures keeps { KeepsHeld files.old.held files.new.held }
-    ensures looks { D.honest files.new.disk
-        → Looks D.files D.moment D.left_since files.old.disk files.new.disk }
-    ensures names { files.new.names ≡ files.old.names }
-    ensures works { IsErrOf result RunFault.Broken → ⊥ }
-    ensures breaks { IsErrOf result RunFault.Device ↔ IsTrue files.new.broken }
-    ensures accounts { Accounts D.steady D.honest D.failures files.old.disk files.new.disk
-        (IsErrOf result RunFault.Device) }
+    ensures disk { OnlyReads D.steady D.honest D.failures D.files D.moment D.left_since
+        files.old files.new result }
 {
     files.ready(file)?;
     let Some(held) = files.get(file) else {
@@ -61,8 +55,7 @@ pub(crate) fn running_clock<D: Disk>(
     files: &mut Files<D>,
     states: &States,
 ) -> Result<Option<Clock>, RunFault>
-    requires unbroken { files.old.broken ≡ false }
-    requires begun { files.old.held.now ≡ files.old.held.before }
+    requires between { AreBetweenCommands files.old }
     ensures clock { (tally : Tally) → D.honest files.new.disk
         → let session = (kept_over D.files states.now files.old tally).session in
         IfOk result (λ found. option_map (λ clock. (clock.file, clock.running)) found
@@ -76,13 +69,8 @@ pub(crate) fn running_clock<D: Disk>(
         (λ clock. is_name files.new.names clock.file ≡ true)) }
     ensures begun { OnOk result (files.new.held.now ≡ files.new.held.before) }
     ensures keeps { KeepsHeld files.old.held files.new.held }
-    ensures looks { D.honest files.new.disk
-        → Looks D.files D.moment D.left_since files.old.disk files.new.disk }
-    ensures names { files.new.names ≡ files.old.names }
-    ensures works { IsErrOf result RunFault.Broken → ⊥ }
-    ensures breaks { IsErrOf result RunFault.Device ↔ IsTrue files.new.broken }
-    ensures accounts { Accounts D.steady D.honest D.failures files.old.disk files.new.disk
-        (IsErrOf result RunFault.Device) }
+    ensures disk { OnlyReads D.steady D.honest D.failures D.files D.moment D.left_since
+        files.old files.new result }
 {
     for index in 0..files.count() {
         if files.is_quiet(index) {

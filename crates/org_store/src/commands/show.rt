@@ -1,8 +1,9 @@
 //! The text of a file.
-ghost use Rattle.std.specs.Prelude.{◌≡◌, IsErrOf, false};
+ghost use Rattle.std.specs.Prelude.{◌≡◌, IsErrOf};
 ghost use Rattle.org_disk.specs.Accounts.{Accounts};
 ghost use Rattle.org_outline.specs.States.{Keywords};
 ghost use Rattle.org_store.specs.declared.tally.Tally.{Tally};
+ghost use Rattle.org_store.specs.Files.{AreBetweenCommands};
 ghost use Rattle.org_store.specs.InOrder.{text_at};
 ghost use Rattle.org_store.specs.Keeping.{Acts};
 ghost use Rattle.org_store.specs.Outcome.{show};
@@ -15,8 +16,7 @@ use org_splice::Bytes;
 
 /// Answers the text of a file, as it is. `NoSuchFile` where it is none of the store's.
 pub(crate) fn show<D: Disk>(files: &mut Files<D>, file: &FileName) -> Result<Reply, RunFault>
-    requires unbroken { files.old.broken ≡ false }
-    requires begun { files.old.held.now ≡ files.old.held.before }
+    requires between { AreBetweenCommands files.old }
     ensures acts { (states : Keywords) → (tally : Tally)
         → Acts D.files D.moment D.left_since D.honest (kept_over D.files states files.old tally)
         (show (text_at files.old.names (kept_over D.files states files.old tally).session.files

@@ -1,11 +1,13 @@
 //! The time clocked at a heading.
-ghost use Rattle.std.specs.Prelude.{◌≡◌, ◌↔◌, IsErrOf, IsTrue, OnOk, false, true};
+ghost use Rattle.std.specs.Prelude.{◌≡◌, IsErrOf, true};
 ghost use Rattle.std.specs.Result.{result_map_both};
-ghost use Rattle.org_disk.specs.Accounts.{Accounts, Looks};
+ghost use Rattle.org_disk.specs.Accounts.{Accounts};
 ghost use Rattle.org_store.specs.declared.tally.Tally.{Tally};
+ghost use Rattle.org_store.specs.Files.{AreBetweenCommands};
 ghost use Rattle.org_store.specs.InOrder.{is_name, text_at};
 ghost use Rattle.org_store.specs.Keeping.{Acts};
 ghost use Rattle.org_store.specs.Outcome.{time};
+ghost use Rattle.org_store.specs.Reading.{OnlyReads};
 ghost use Rattle.org_store.specs.Session.{kept_over};
 ghost use Rattle.org_store.specs.Step.{Does};
 
@@ -24,20 +26,14 @@ fn clocked_in_file<D: Disk>(
     path: &Titles,
 ) -> Result<u64, RunFault>
     requires name { is_name files.old.names file.now ≡ true }
-    requires unbroken { files.old.broken ≡ false }
-    requires begun { files.old.held.now ≡ files.old.held.before }
+    requires between { AreBetweenCommands files.old }
     ensures does { (tally : Tally) → D.honest files.new.disk
         → let session = (kept_over D.files states.now files.old tally).session in
         Does session (time session path.now (text_at session.names session.files file.now))
         (result_map_both Reply.Time (λ fault. fault) result)
         (kept_over D.files states.now files.new tally).session }
-    ensures looks { D.honest files.new.disk
-        → Looks D.files D.moment D.left_since files.old.disk files.new.disk }
-    ensures names { files.new.names ≡ files.old.names }
-    ensures works { IsErrOf result RunFault.Broken → ⊥ }
-    ensures breaks { IsErrOf result RunFault.Device ↔ IsTrue files.new.broken }
-    ensures accounts { Accounts D.steady D.honest D.failures files.old.disk files.new.disk
-        (IsErrOf result RunFault.Device) }
+    ensures disk { OnlyReads D.steady D.honest D.failures D.files D.moment D.left_since
+        files.old files.new result }
 {
     files.ready(file)?;
     let Some(held) = files.get(file) else {
@@ -54,8 +50,7 @@ pub(crate) fn time<D: Disk>(
     file: &FileName,
     path: &Titles,
 ) -> Result<Reply, RunFault>
-    requires unbroken { files.old.broken ≡ false }
-    requires begun { files.old.held.now ≡ files.old.held.before }
+    requires between { AreBetweenCommands files.old }
     ensures acts { (tally : Tally)
         → let old = kept_over D.files states.now files.old tally in
         Acts D.files D.moment D.left_since D.honest old

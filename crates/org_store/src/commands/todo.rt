@@ -1,14 +1,14 @@
 //! Headings put into other TODO states.
-ghost use Rattle.std.specs.Prelude.{◌≡◌, ◌↔◌, IfOk, IsErrOf, IsTrue, false, true};
+ghost use Rattle.std.specs.Prelude.{◌≡◌, IfOk, true};
 ghost use Rattle.std.specs.Option.{ForSome};
-ghost use Rattle.org_disk.specs.Accounts.{Accounts, Looks};
 ghost use Rattle.org_outline.specs.Tree.{tree};
 ghost use Rattle.org_state.specs.Todo.{todo};
 ghost use Rattle.org_store.specs.declared.tally.Tally.{Tally};
-ghost use Rattle.org_store.specs.Files.{IsPlanFor};
+ghost use Rattle.org_store.specs.Files.{AreBetweenCommands, IsPlanFor};
 ghost use Rattle.org_store.specs.InOrder.{text_at};
 ghost use Rattle.org_store.specs.Keeping.{PlansOrStays};
 ghost use Rattle.org_store.specs.Outcome.{todo as outcome};
+ghost use Rattle.org_store.specs.Reading.{OnlyReads};
 ghost use Rattle.org_store.specs.Session.{kept_over};
 ghost use Rattle.org_store.specs.Todo.{PlansState};
 
@@ -59,8 +59,7 @@ pub(crate) fn plan_todo<D: Disk>(
     state: &Bytes,
     moment: Moment,
 ) -> Result<Option<Plan>, RunFault>
-    requires unbroken { files.old.broken ≡ false }
-    requires begun { files.old.held.now ≡ files.old.held.before }
+    requires between { AreBetweenCommands files.old }
     ensures plan { IfOk result (λ plan. ForSome plan
         (λ plan. IsPlanFor files.new.names files.new.held plan)) }
     ensures plans { (tally : Tally) → D.honest files.new.disk
@@ -68,12 +67,8 @@ pub(crate) fn plan_todo<D: Disk>(
         PlansOrStays session (outcome session file.now path.now state.now moment
         (text_at session.names session.files file.now)) result
         files.new.held (kept_over D.files states.now files.new tally).session }
-    ensures looks { D.honest files.new.disk
-        → Looks D.files D.moment D.left_since files.old.disk files.new.disk }
-    ensures works { IsErrOf result RunFault.Broken → ⊥ }
-    ensures breaks { IsErrOf result RunFault.Device ↔ IsTrue files.new.broken }
-    ensures accounts { Accounts D.steady D.honest D.failures files.old.disk files.new.disk
-        (IsErrOf result RunFault.Device) }
+    ensures disk { OnlyReads D.steady D.honest D.failures D.files D.moment D.left_since
+        files.old files.new result }
 {
     if !files.has(file) {
         return Err(RunFault::Refused(Refusal::NoSuchFile));

@@ -1,10 +1,9 @@
 use Rattle.std.proofs.Common.{◌≡◌, Err, refl, sym, subst, rules}
 use Rattle.org_journal.specs.Recovered.{contents}
 use Rattle.org_texts.specs.Texts.{held_over}
-use Rattle.org_store.specs.Files.{new_texts}
 use Rattle.org_store.specs.InOrder.{texts_of}
 use Rattle.org_store.specs.Keeping.{Acts}
-use Rattle.org_store.specs.Outcome.{Outcome, changed, counted}
+use Rattle.org_store.specs.Outcome.{Outcome, counted}
 use Rattle.org_store.specs.Session.{Kept, kept_over}
 use Rattle.org_store.proofs.Acting.{acts_put, kept_same}
 use Rattle.org_store.proofs.Planned.{counted_texts}
@@ -18,7 +17,7 @@ returns-in_err-put-clause-acts g c states =
     let new = kept_over d.files states c.put.new.self c.args.tally.now in
     let given : c.from_residual.result ≡ Err c.in_err-put.field-0.0 = search rules in
     acts_put d.files d.moment d.left_since d.honest old (λ honest image left. g.met.D.Disk.only_now old.disk image honest left) refl new
-    (kept_same d.files states c.args.files.now c.put.new.self c.args.tally.now put.disk put.names put.broken put.before)
+    (kept_same d.files states c.args.files.now c.put.new.self c.args.tally.now put.memory put.before)
     c.args.plan.now c.args.files.now.held c.put.new.self.held c.requires.unbroken c.put.result c.in_err-put.field-0.0 c.from_residual.result c.in_err-put.was given put.puts
 
 pub returns-clause-acts : goal.returns-clause-acts
@@ -33,7 +32,7 @@ returns-clause-acts g c states =
     let new = kept_over d.files states c.count.new.files c.count.new.tally in
     let texts = texts_of (held_over edited.held.now (contents (d.files edited.disk))) edited.names in
     let puts = c.in_ok-put.ensures.puts in
-    let told = counted_texts (λ disk. contents (d.files disk)) states files edited tally c.args.plan.now put.disk put.names puts.1 c.requires.plan puts.0 in
-    let same : mid ≡ old = kept_same d.files states files edited tally put.disk put.names put.broken put.before in
+    let told = counted_texts (λ disk. contents (d.files disk)) states files edited tally c.args.plan.now put.memory.disk put.memory.names puts.1 c.requires.plan puts.0 in
+    let same : mid ≡ old = kept_same d.files states files edited tally put.memory put.before in
     subst (λ (o : Outcome). Acts d.files d.moment d.left_since d.honest old o c.count.result new) (sym told)
     (subst (λ (k : Kept g.row.D.Denot). Acts d.files d.moment d.left_since d.honest k (counted k.session texts) c.count.result new) same (c.count.ensures.acts states))

@@ -19,10 +19,10 @@ returns-clause-acts g c states =
     let mid = kept_over d.files states after tally in
     let new = kept_over d.files states c.count.new.files c.count.new.tally in
     let texts = texts_of (held_over after.held.now (contents (d.files after.disk))) after.names in
-    let same : mid ≡ old = kept_same d.files states files after tally undone.disk undone.names undone.broken undone.before in
+    let same : mid ≡ old = kept_same d.files states files after tally undone.memory undone.before in
     let back : texts ≡ old.session.files =
     ap (λ (t : TextSet). texts_of (held_over t (contents (d.files after.disk))) after.names) undone.now
-    ∙ ap (λ disk. texts_of (held_over files.held.before (contents (d.files disk))) after.names) undone.disk
-    ∙ ap (λ (ns : List (List ℕ)). texts_of (held_over files.held.before (contents (d.files files.disk))) ns) undone.names in
+    ∙ ap (λ disk. texts_of (held_over files.held.before (contents (d.files disk))) after.names) undone.memory.disk
+    ∙ ap (λ (ns : List (List ℕ)). texts_of (held_over files.held.before (contents (d.files files.disk))) ns) undone.memory.names in
     subst (λ (t : List (List ℕ)). Acts d.files d.moment d.left_since d.honest old (counted old.session t) c.count.result new) back
     (subst (λ (k : Kept g.row.D.Denot). Acts d.files d.moment d.left_since d.honest k (counted k.session texts) c.count.result new) same (c.count.ensures.acts states))

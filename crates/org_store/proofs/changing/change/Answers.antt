@@ -21,9 +21,9 @@ returns-in-Ok-Some-clause-acts g c =
     let new = kept_over d.files c.args.states.now c.accept.new.files c.accept.new.tally in
     acts_after d.files d.moment d.left_since d.honest old (λ honest image left. g.met.D.Disk.only_now old.disk image honest left) refl mid new
     (outcome old.session c.args.command.now) (changed mid.session (new_texts c.in-Ok-Some.plan c.plan.new.files.held.now)) c.accept.result
-    c.accept.ensures.accounts.was_honest c.plan.ensures.accounts.was_honest
+    c.accept.ensures.accounts.was_honest c.plan.ensures.disk.accounts.was_honest
     (λ honest. let plans = subst (λ (r : Result (Option Plan) RunFault). PlansOrStays old.session (outcome old.session c.args.command.now) r c.plan.new.files.held mid.session) (c.in-Ok-Some.is ∙ ap (λ (o : Option Plan). Ok o) c.in-Ok-Some.field-0-is) (c.plan.ensures.plans c.args.tally.now honest) in (plans.0 ∙ ap (λ s. changed s (new_texts c.in-Ok-Some.plan c.plan.new.files.held.now)) (sym plans.1), plans.1))
-    c.plan.ensures.looks (record { accepted = refl; acknowledged = refl; group = refl }) (c.accept.ensures.acts c.args.states.now)
+    c.plan.ensures.disk.looks (record { accepted = refl; acknowledged = refl; group = refl }) (c.accept.ensures.acts c.args.states.now)
 
 pub returns-in-Ok-None-clause-acts : goal.returns-in-Ok-None-clause-acts
 returns-in-Ok-None-clause-acts g c =
@@ -33,9 +33,9 @@ returns-in-Ok-None-clause-acts g c =
     let new = kept_over d.files c.args.states.now c.accept_unchanged.new.files c.accept_unchanged.new.tally in
     acts_after d.files d.moment d.left_since d.honest old (λ honest image left. g.met.D.Disk.only_now old.disk image honest left) refl mid new
     (outcome old.session c.args.command.now) (changed mid.session []) c.accept_unchanged.result
-    c.accept_unchanged.ensures.accounts.was_honest c.plan.ensures.accounts.was_honest
+    c.accept_unchanged.ensures.accounts.was_honest c.plan.ensures.disk.accounts.was_honest
     (λ honest. let plans = subst (λ (r : Result (Option Plan) RunFault). PlansOrStays old.session (outcome old.session c.args.command.now) r c.plan.new.files.held mid.session) (c.in-Ok-None.is ∙ ap (λ (o : Option Plan). Ok o) c.in-Ok-None.field-0-is) (c.plan.ensures.plans c.args.tally.now honest) in (plans.0 ∙ ap (λ s. changed s []) (sym plans.1), plans.1))
-    c.plan.ensures.looks (record { accepted = refl; acknowledged = refl; group = refl }) (c.accept_unchanged.ensures.acts c.args.states.now)
+    c.plan.ensures.disk.looks (record { accepted = refl; acknowledged = refl; group = refl }) (c.accept_unchanged.ensures.acts c.args.states.now)
 
 pub returns-in-Err-clause-acts : goal.returns-in-Err-clause-acts
 returns-in-Err-clause-acts g c =
@@ -44,12 +44,12 @@ returns-in-Err-clause-acts g c =
     let old = kept_over d.files c.args.states.now c.args.files.now c.args.tally.now in
     let mid = kept_over d.files c.args.states.now c.plan.new.files c.args.tally.now in
     let new = kept_over d.files c.args.states.now c.undo.new.self c.args.tally.now in
-    let same : new ≡ mid = kept_same d.files c.args.states.now c.plan.new.files c.undo.new.self c.args.tally.now undone.disk undone.names undone.broken undone.before in
+    let same : new ≡ mid = kept_same d.files c.args.states.now c.plan.new.files c.undo.new.self c.args.tally.now undone.memory undone.before in
     let told = outcome old.session c.args.command.now in
     let is : c.plan.result ≡ Err c.in-Err.fault = c.in-Err.is in
     acts_quiet d.files d.moment d.left_since d.honest old (λ honest image left. g.met.D.Disk.only_now old.disk image honest left) refl new told (Err c.in-Err.fault) tt
-    (λ honest. c.plan.ensures.accounts.was_honest (subst d.honest undone.disk honest))
-    (λ honest. subst (λ (k : Kept g.row.D.Denot). Does old.session told (Err c.in-Err.fault) k.session) (sym same) (c.in-Err.ensures.plans c.args.tally.now (subst d.honest undone.disk honest)))
-    (λ honest. subst (λ disk. Looks d.files d.moment d.left_since old.disk disk) (sym undone.disk) (c.plan.ensures.looks (subst d.honest undone.disk honest)))
+    (λ honest. c.plan.ensures.disk.accounts.was_honest (subst d.honest undone.memory.disk honest))
+    (λ honest. subst (λ (k : Kept g.row.D.Denot). Does old.session told (Err c.in-Err.fault) k.session) (sym same) (c.in-Err.ensures.plans c.args.tally.now (subst d.honest undone.memory.disk honest)))
+    (λ honest. subst (λ disk. Looks d.files d.moment d.left_since old.disk disk) (sym undone.memory.disk) (c.plan.ensures.disk.looks (subst d.honest undone.memory.disk honest)))
     refl (record { accepted = refl; acknowledged = refl; group = refl })
-    (λ broken. c.plan.ensures.works (search rules)) (search rules)
+    (λ broken. c.plan.ensures.disk.works (search rules)) (search rules)

@@ -1,4 +1,4 @@
-use Rattle.std.proofs.Common.{◌≡◌, ◌==◌, ◌-◌, ◌^◌, true, false, Result, Ok, Err, List, ℕ, refl, ap, sym, subst, if◌then◌else◌, rules}
+use Rattle.std.proofs.Common.{◌≡◌, ◌==◌, ◌-◌, ◌^◌, true, false, Result, Err, refl, ap, sym, subst, if◌then◌else◌, rules}
 use Rattle.org_journal.specs.Recovered.{contents}
 use Rattle.org_texts.specs.Texts.{held_over}
 use Rattle.org_store.specs.declared.command.Refusal.TheVariants.{TooLarge}
@@ -6,7 +6,7 @@ use Rattle.org_store.specs.declared.command.Reply.{Reply}
 use Rattle.org_store.specs.declared.command.RunFault.{RunFault}
 use Rattle.org_store.specs.InOrder.{texts_of}
 use Rattle.org_store.specs.Keeping.{Acts}
-use Rattle.org_store.specs.Outcome.{Accepts, Outcome, Refuses, counted}
+use Rattle.org_store.specs.Outcome.{Accepts, Refuses, counted}
 use Rattle.org_store.specs.Session.{kept_over}
 use Rattle.org_store.proofs.Acting.{acts_done, acts_fault, acts_refused, kept_same}
 use Rattle.org_store.proofs.changing.count.Goals as goal
@@ -21,7 +21,7 @@ returns-then-tally-clause-acts g c states =
     let texts = texts_of (held_over files.held.now (contents (d.files files.disk))) files.names in
     let full : (c.args.tally.now.accepted == 2 ^ 64 - 1) ≡ true = search rules in
     acts_refused d.files d.moment d.left_since d.honest old (λ honest image left. g.met.D.Disk.only_now old.disk image honest left) refl new
-    (kept_same d.files states files c.undo.new.self c.args.tally.now undone.disk undone.names undone.broken undone.before)
+    (kept_same d.files states files c.undo.new.self c.args.tally.now undone.memory undone.before)
     c.requires.unbroken (counted old.session texts) TooLarge (ap (λ t. if t then Refuses TooLarge else Accepts texts) full)
 
 pub returns-in_err-keep_or_settle-clause-acts : goal.returns-in_err-keep_or_settle-clause-acts

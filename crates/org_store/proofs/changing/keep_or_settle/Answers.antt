@@ -16,9 +16,9 @@ returns-then-not-fills-clause-disk g c states honest =
     let old = kept_over d.files states c.args.files.now c.args.tally.now in
     let files = contents (d.files c.args.files.now.disk) in
     let texts = texts_of (held_over c.args.files.now.held.now files) c.args.files.now.names in
-    let was = subst d.honest c.keep.ensures.disk honest in
+    let was = subst d.honest c.keep.ensures.memory.disk honest in
     leaves_unwritten d.files d.moment d.left_since old (IsLeft old.session files (Accepts texts) (Ok (tt {0})) (c.args.tally.now.accepted + 1)) _
-    (λ image left. g.met.D.Disk.only_now c.args.files.now.disk image was left) refl (λ image holds. inl holds) _ c.keep.ensures.disk refl
+    (λ image left. g.met.D.Disk.only_now c.args.files.now.disk image was left) refl (λ image holds. inl holds) _ c.keep.ensures.memory.disk refl
 
 pub returns-in-Err-OutOfMemory-clause-disk : goal.returns-in-Err-OutOfMemory-clause-disk
 returns-in-Err-OutOfMemory-clause-disk g c states honest =
@@ -27,7 +27,7 @@ returns-in-Err-OutOfMemory-clause-disk g c states honest =
     let files = contents (d.files c.args.files.now.disk) in
     let texts = texts_of (held_over c.args.files.now.held.now files) c.args.files.now.names in
     let unwritten : c.commit.new.self ≡ c.args.files.now = search rules in
-    let same = c.undo-in-Err-OutOfMemory.ensures.disk ∙ ap (λ (f : OpenFiles g.row.D.Denot). f.disk) unwritten in
+    let same = c.undo-in-Err-OutOfMemory.ensures.memory.disk ∙ ap (λ (f : OpenFiles g.row.D.Denot). f.disk) unwritten in
     let was = subst d.honest same honest in
     leaves_unwritten d.files d.moment d.left_since old (IsLeft {A = Unit {0}} old.session files (Accepts texts) (Err OutOfMemory) c.args.tally.now.accepted) _
     (λ image left. g.met.D.Disk.only_now c.args.files.now.disk image was left) refl (λ image holds. inl holds) _ same refl

@@ -1,5 +1,4 @@
 use Rattle.std.proofs.Common.{◌≡◌, ◌≢◌, ◌∙◌, ◌∷◌, [], false, true, Result, Ok, Err, List, ℕ, refl, sym, ap, subst, rules}
-use Rattle.org_disk.proofs.Accounting.{looks_then}
 use Rattle.org_journal.specs.Recovered.{Image, contents}
 use Rattle.org_outline.specs.Tree.{tree}
 use Rattle.org_texts.specs.declared.plan.Plan.{Plan}
@@ -17,6 +16,7 @@ use Rattle.org_store.proofs.Archives.{across_fits, across_is, across_texts, acro
 use Rattle.org_store.proofs.Held.{none_ready}
 use Rattle.org_store.proofs.InOrder.{none_at}
 use Rattle.org_store.proofs.Plans.{first_name, one_name, second_name}
+use Rattle.org_store.proofs.Reading.{only_reads_fault, only_reads_fine, only_reads_then}
 use Rattle.org_store.proofs.Refiles.{move_planned, move_refused}
 use Rattle.org_store.proofs.Sessions.{does_read}
 use Rattle.org_store.proofs.commands.archive.plan_archive.Goals as goal
@@ -28,7 +28,7 @@ returns-then-not-has-clause-plans g c tally honest =
     let s = session_over (λ disk. contents (g.D.Disk.files disk)) a.states.now files tally in
     let missing : is_name files.names a.file.now ≡ false = search rules in
     let none = none_at (held_over files.held.before (contents (g.D.Disk.files files.disk))) files.names a.file.now missing in
-    (c.requires.unbroken, ap (archive s a.file.now a.path.now a.moment) none, refl)
+    (c.requires.between.unbroken, ap (archive s a.file.now a.path.now a.moment) none, refl)
 
 pub returns-in_err-ready-clause-plans : goal.returns-in_err-ready-clause-plans
 returns-in_err-ready-clause-plans g c tally honest =
@@ -40,13 +40,13 @@ returns-in_err-ready-clause-plans g c tally honest =
     let told = archive s a.file.now a.path.now a.moment (text_at s.names s.files a.file.now) in
     let given : c.from_residual.result ≡ Err fault = search rules in
     let reads = subst (λ (r : Result (Unit {0}) RunFault). Reads s r new) c.in_err-ready.was (c.ready.ensures.reads a.states.now tally honest) in
-    subst (λ (r : Result Plan RunFault). Plans s told r c.ready.new.self.held new) (sym given) (does_read (Unit {0}) s new told fault c.requires.unbroken reads)
+    subst (λ (r : Result Plan RunFault). Plans s told r c.ready.new.self.held new) (sym given) (does_read (Unit {0}) s new told fault c.requires.between.unbroken reads)
 
 pub outline_in-requires : goal.outline_in-requires
 outline_in-requires g c =
     let held = c.ready.new.self.held in
     let file = c.args.file.now in
-    let ready : AreReady (file ∷ []) held = c.in_ok-ready.ensures.ready [] (none_ready c.args.files.now.held c.requires.begun) in
+    let ready : AreReady (file ∷ []) held = c.in_ok-ready.ensures.ready [] (none_ready c.args.files.now.held c.requires.between.begun) in
     is_ready (file ∷ []) held file ready (one_name file)
 
 pub returns-in_err-to-clause-plans : goal.returns-in_err-to-clause-plans
@@ -61,13 +61,13 @@ returns-in_err-to-clause-plans g c tally honest =
     let why = c.in_err-to.field-0.0 in
     let given : c.from_residual-in_err-to.result ≡ Err (fault_of_move why) = search rules in
     let read : new ≡ s = c.in_ok-ready.ensures.reads a.states.now tally honest in
-    let ready : AreReady (file ∷ []) files.held = c.in_ok-ready.ensures.ready [] (none_ready a.files.now.held c.requires.begun) in
+    let ready : AreReady (file ∷ []) files.held = c.in_ok-ready.ensures.ready [] (none_ready a.files.now.held c.requires.between.begun) in
     let there : is_name a.files.now.names file ≡ true = search rules in
-    let named : is_name files.names file ≡ true = ap (λ (ns : List (List ℕ)). is_name ns file) c.ready.ensures.names ∙ there in
+    let named : is_name files.names file ≡ true = ap (λ (ns : List (List ℕ)). is_name ns file) c.ready.ensures.disk.names ∙ there in
     let own = store_text texts a.states.now files tally s (file ∷ []) file read ready (one_name file) named in
     let seen = held_bytes files.held file in
     let gives = place_told a.states.now c.outline_in.result.states file a.path.now seen c.outline_in.result.text c.outline_in.ensures.1 c.outline_in.ensures.0 c.find_location-2.result c.find_location-2.ensures in
-    let refused = place_refused s file a.path.now a.moment own.0 seen c.find_location-2.result why c.requires.unbroken own.1 own.2 c.in_err-to.was gives in
+    let refused = place_refused s file a.path.now a.moment own.0 seen c.find_location-2.result why c.requires.between.unbroken own.1 own.2 c.in_err-to.was gives in
     subst (λ (r : Result Plan RunFault). Plans s told r files.held new) (sym given)
     (subst (λ (t : Session). Does s told (Err (fault_of_move why)) t) (sym read) refused)
 
@@ -75,7 +75,7 @@ pub outline_in-outline-requires : goal.outline_in-outline-requires
 outline_in-outline-requires g c =
     let held = c.ready.new.self.held in
     let file = c.args.file.now in
-    let ready : AreReady (file ∷ []) held = c.in_ok-ready.ensures.ready [] (none_ready c.args.files.now.held c.requires.begun) in
+    let ready : AreReady (file ∷ []) held = c.in_ok-ready.ensures.ready [] (none_ready c.args.files.now.held c.requires.between.begun) in
     is_ready (file ∷ []) held file ready (one_name file)
 
 pub returns-in_err-plan_within-clause-plans : goal.returns-in_err-plan_within-clause-plans
@@ -91,9 +91,9 @@ returns-in_err-plan_within-clause-plans g c tally honest =
     let why = c.in_err-plan_within.field-0.0 in
     let given : c.from_residual-in_err-plan_within.result ≡ Err (fault_of_move why) = search rules in
     let read : new ≡ s = c.in_ok-ready.ensures.reads a.states.now tally honest in
-    let ready : AreReady (file ∷ []) files.held = c.in_ok-ready.ensures.ready [] (none_ready a.files.now.held c.requires.begun) in
+    let ready : AreReady (file ∷ []) files.held = c.in_ok-ready.ensures.ready [] (none_ready a.files.now.held c.requires.between.begun) in
     let there : is_name a.files.now.names file ≡ true = search rules in
-    let named : is_name files.names file ≡ true = ap (λ (ns : List (List ℕ)). is_name ns file) c.ready.ensures.names ∙ there in
+    let named : is_name files.names file ≡ true = ap (λ (ns : List (List ℕ)). is_name ns file) c.ready.ensures.disk.names ∙ there in
     let same : file ≡ to.file = search rules in
     let own = store_text texts a.states.now files tally s (file ∷ []) file read ready (one_name file) named in
     let seen = held_bytes files.held file in
@@ -101,7 +101,7 @@ returns-in_err-plan_within-clause-plans g c tally honest =
     let found = place_found s file a.path.now a.moment own.0 seen to own.1 own.2 place in
     let is = within_is s file a.path.now a.moment own.0 seen to found own.1 own.2 same in
     let gives = within_told a.states.now c.outline_in-outline.result.states file a.path.now seen c.outline_in-outline.result.text c.outline_in-outline.ensures.1 c.outline_in-outline.ensures.0 a.moment to c.plan_within.result c.plan_within.ensures in
-    let refused = move_refused s (text_within file) told (archive_within a.states.now file a.path.now a.moment to (tree seen)) (MakesDocument file seen) c.plan_within.result why c.requires.unbroken is c.in_err-plan_within.was gives in
+    let refused = move_refused s (text_within file) told (archive_within a.states.now file a.path.now a.moment to (tree seen)) (MakesDocument file seen) c.plan_within.result why c.requires.between.unbroken is c.in_err-plan_within.was gives in
     subst (λ (r : Result Plan RunFault). Plans s told r files.held new) (sym given)
     (subst (λ (t : Session). Does s told (Err (fault_of_move why)) t) (sym read) refused)
 
@@ -112,9 +112,9 @@ returns-then-eq-clause-plan g c =
     let file = a.file.now in
     let to = c.in_ok-to.to in
     let plan = c.in_ok-plan_within.field-0 in
-    let ready : AreReady (file ∷ []) files.held = c.in_ok-ready.ensures.ready [] (none_ready a.files.now.held c.requires.begun) in
+    let ready : AreReady (file ∷ []) files.held = c.in_ok-ready.ensures.ready [] (none_ready a.files.now.held c.requires.between.begun) in
     let there : is_name a.files.now.names file ≡ true = search rules in
-    let named : is_name files.names file ≡ true = ap (λ (ns : List (List ℕ)). is_name ns file) c.ready.ensures.names ∙ there in
+    let named : is_name files.names file ≡ true = ap (λ (ns : List (List ℕ)). is_name ns file) c.ready.ensures.disk.names ∙ there in
     let seen = held_bytes files.held file in
     let made = within_told a.states.now c.outline_in-outline.result.states file a.path.now seen c.outline_in-outline.result.text c.outline_in-outline.ensures.1 c.outline_in-outline.ensures.0 a.moment to (Ok plan) c.in_ok-plan_within.ensures in
     within_fits plan files.held file made.0 made.2 ready files.names named
@@ -131,9 +131,9 @@ returns-then-eq-clause-plans g c tally honest =
     let told = archive s file a.path.now a.moment (text_at s.names s.files file) in
     let plan = c.in_ok-plan_within.field-0 in
     let read : new ≡ s = c.in_ok-ready.ensures.reads a.states.now tally honest in
-    let ready : AreReady (file ∷ []) files.held = c.in_ok-ready.ensures.ready [] (none_ready a.files.now.held c.requires.begun) in
+    let ready : AreReady (file ∷ []) files.held = c.in_ok-ready.ensures.ready [] (none_ready a.files.now.held c.requires.between.begun) in
     let there : is_name a.files.now.names file ≡ true = search rules in
-    let named : is_name files.names file ≡ true = ap (λ (ns : List (List ℕ)). is_name ns file) c.ready.ensures.names ∙ there in
+    let named : is_name files.names file ≡ true = ap (λ (ns : List (List ℕ)). is_name ns file) c.ready.ensures.disk.names ∙ there in
     let same : file ≡ to.file = search rules in
     let own = store_text texts a.states.now files tally s (file ∷ []) file read ready (one_name file) named in
     let seen = held_bytes files.held file in
@@ -155,15 +155,15 @@ returns-then-not-has-2-clause-plans g c tally honest =
     let file = a.file.now in
     let to = c.in_ok-to.to in
     let read : new ≡ s = c.in_ok-ready.ensures.reads a.states.now tally honest in
-    let ready : AreReady (file ∷ []) files.held = c.in_ok-ready.ensures.ready [] (none_ready a.files.now.held c.requires.begun) in
+    let ready : AreReady (file ∷ []) files.held = c.in_ok-ready.ensures.ready [] (none_ready a.files.now.held c.requires.between.begun) in
     let there : is_name a.files.now.names file ≡ true = search rules in
-    let named : is_name files.names file ≡ true = ap (λ (ns : List (List ℕ)). is_name ns file) c.ready.ensures.names ∙ there in
+    let named : is_name files.names file ≡ true = ap (λ (ns : List (List ℕ)). is_name ns file) c.ready.ensures.disk.names ∙ there in
     let missing : is_name files.names to.file ≡ false = search rules in
     let own = store_text texts a.states.now files tally s (file ∷ []) file read ready (one_name file) named in
     let seen = held_bytes files.held file in
     let place = place_told a.states.now c.outline_in.result.states file a.path.now seen c.outline_in.result.text c.outline_in.ensures.1 c.outline_in.ensures.0 (Ok to) c.in_ok-to.ensures in
     let found = place_found s file a.path.now a.moment own.0 seen to own.1 own.2 place in
-    (c.requires.unbroken, no_place s file a.path.now a.moment own.0 to found (no_text texts a.states.now files tally s to.file read missing), read)
+    (c.requires.between.unbroken, no_place s file a.path.now a.moment own.0 to found (no_text texts a.states.now files tally s to.file read missing), read)
 
 pub returns-in_err-ready-2-clause-plans : goal.returns-in_err-ready-2-clause-plans
 returns-in_err-ready-2-clause-plans g c tally honest =
@@ -175,20 +175,22 @@ returns-in_err-ready-2-clause-plans g c tally honest =
     let fault = c.in_err-ready-2.field-0.0 in
     let told = archive s a.file.now a.path.now a.moment (text_at s.names s.files a.file.now) in
     let given : c.from_residual-in_err-ready-2.result ≡ Err fault = search rules in
-    let first : one ≡ s = c.in_ok-ready.ensures.reads a.states.now tally (c.ready-2.ensures.accounts.was_honest honest) in
+    let first : one ≡ s = c.in_ok-ready.ensures.reads a.states.now tally (c.ready-2.ensures.disk.accounts.was_honest honest) in
     let reads = subst (λ (t : Session). Reads t c.ready-2.result new) first (c.ready-2.ensures.reads a.states.now tally honest) in
     let failed = subst (λ (r : Result (Unit {0}) RunFault). Reads s r new) c.in_err-ready-2.was reads in
-    subst (λ (r : Result Plan RunFault). Plans s told r c.ready-2.new.self.held new) (sym given) (does_read (Unit {0}) s new told fault c.requires.unbroken failed)
+    subst (λ (r : Result Plan RunFault). Plans s told r c.ready-2.new.self.held new) (sym given) (does_read (Unit {0}) s new told fault c.requires.between.unbroken failed)
 
-pub returns-in_err-ready-2-clause-looks : goal.returns-in_err-ready-2-clause-looks
-returns-in_err-ready-2-clause-looks g c honest = looks_then (c.ready.ensures.looks (c.ready-2.ensures.accounts.was_honest honest)) (c.ready-2.ensures.looks honest)
+pub returns-in_err-ready-2-clause-disk : goal.returns-in_err-ready-2-clause-disk
+returns-in_err-ready-2-clause-disk g c =
+    let given : c.from_residual-in_err-ready-2.result ≡ Err c.in_err-ready-2.field-0.0 = search rules in
+    only_reads_then c.in_ok-ready.ensures.disk (only_reads_fault given c.in_err-ready-2.ensures.disk)
 
 pub outline_in-source-requires : goal.outline_in-source-requires
 outline_in-source-requires g c =
     let held = c.ready-2.new.self.held in
     let file = c.args.file.now in
     let to_file = c.file-to_file.result.now in
-    let ready : AreReady (to_file ∷ file ∷ []) held = c.in_ok-ready-2.ensures.ready (file ∷ []) (c.in_ok-ready.ensures.ready [] (none_ready c.args.files.now.held c.requires.begun)) in
+    let ready : AreReady (to_file ∷ file ∷ []) held = c.in_ok-ready-2.ensures.ready (file ∷ []) (c.in_ok-ready.ensures.ready [] (none_ready c.args.files.now.held c.requires.between.begun)) in
     is_ready (to_file ∷ file ∷ []) held file ready (second_name to_file file)
 
 pub outline_in-target-requires : goal.outline_in-target-requires
@@ -196,7 +198,7 @@ outline_in-target-requires g c =
     let held = c.ready-2.new.self.held in
     let file = c.args.file.now in
     let to_file = c.file-to_file.result.now in
-    let ready : AreReady (to_file ∷ file ∷ []) held = c.in_ok-ready-2.ensures.ready (file ∷ []) (c.in_ok-ready.ensures.ready [] (none_ready c.args.files.now.held c.requires.begun)) in
+    let ready : AreReady (to_file ∷ file ∷ []) held = c.in_ok-ready-2.ensures.ready (file ∷ []) (c.in_ok-ready.ensures.ready [] (none_ready c.args.files.now.held c.requires.between.begun)) in
     is_ready (to_file ∷ file ∷ []) held to_file ready (first_name to_file (file ∷ []))
 
 pub returns-in_err-plan_across-clause-plans : goal.returns-in_err-plan_across-clause-plans
@@ -213,17 +215,17 @@ returns-in_err-plan_across-clause-plans g c tally honest =
     let told = archive s file a.path.now a.moment (text_at s.names s.files file) in
     let why = c.in_err-plan_across.field-0.0 in
     let given : c.from_residual-in_err-plan_across.result ≡ Err (fault_of_move why) = search rules in
-    let first : one ≡ s = c.in_ok-ready.ensures.reads a.states.now tally (c.ready-2.ensures.accounts.was_honest honest) in
+    let first : one ≡ s = c.in_ok-ready.ensures.reads a.states.now tally (c.ready-2.ensures.disk.accounts.was_honest honest) in
     let second : new ≡ one = c.in_ok-ready-2.ensures.reads a.states.now tally honest in
     let read : new ≡ s = second ∙ first in
-    let ready : AreReady (file ∷ []) files.held = c.in_ok-ready.ensures.ready [] (none_ready a.files.now.held c.requires.begun) in
+    let ready : AreReady (file ∷ []) files.held = c.in_ok-ready.ensures.ready [] (none_ready a.files.now.held c.requires.between.begun) in
     let both : AreReady (to.file ∷ file ∷ []) later.held = subst (λ (n : List ℕ). AreReady (n ∷ file ∷ []) later.held) c.file-to_file.ensures (c.in_ok-ready-2.ensures.ready (file ∷ []) ready) in
     let there : is_name a.files.now.names file ≡ true = search rules in
-    let named : is_name files.names file ≡ true = ap (λ (ns : List (List ℕ)). is_name ns file) c.ready.ensures.names ∙ there in
-    let still : is_name later.names file ≡ true = ap (λ (ns : List (List ℕ)). is_name ns file) c.ready-2.ensures.names ∙ named in
+    let named : is_name files.names file ≡ true = ap (λ (ns : List (List ℕ)). is_name ns file) c.ready.ensures.disk.names ∙ there in
+    let still : is_name later.names file ≡ true = ap (λ (ns : List (List ℕ)). is_name ns file) c.ready-2.ensures.disk.names ∙ named in
     let held : is_name files.names c.file-to_file.result.now ≡ true = search rules in
     let into : is_name files.names to.file ≡ true = ap (λ (n : List ℕ). is_name files.names n) (sym c.file-to_file.ensures) ∙ held in
-    let also : is_name later.names to.file ≡ true = ap (λ (ns : List (List ℕ)). is_name ns to.file) c.ready-2.ensures.names ∙ into in
+    let also : is_name later.names to.file ≡ true = ap (λ (ns : List (List ℕ)). is_name ns to.file) c.ready-2.ensures.disk.names ∙ into in
     let differ : file ≢ c.file-to_file.result.now = search rules in
     let apart : file ≢ to.file = λ same. differ (same ∙ sym c.file-to_file.ensures) in
     let own = store_text texts a.states.now files tally s (file ∷ []) file first ready (one_name file) named in
@@ -237,12 +239,12 @@ returns-in_err-plan_across-clause-plans g c tally honest =
     let gives = across_told a.states.now c.outline_in-source.result.states file a.path.now seen c.outline_in-source.result.text c.outline_in-source.ensures.1 c.outline_in-source.ensures.0 a.moment to c.outline_in-target.result.states target c.outline_in-target.result.text
     c.plan_across.result c.outline_in-target.ensures.1 (c.outline_in-target.ensures.0 ∙ ap (held_bytes later.held) c.file-to_file.ensures) c.plan_across.ensures in
     let refused = move_refused s (texts_across file to.file) told (archive_across a.states.now file a.path.now a.moment (tree seen) a.states.now to (tree target)) (MakesDocuments file to.file seen target) c.plan_across.result why
-    c.requires.unbroken is c.in_err-plan_across.was gives in
+    c.requires.between.unbroken is c.in_err-plan_across.was gives in
     subst (λ (r : Result Plan RunFault). Plans s told r later.held new) (sym given)
     (subst (λ (t : Session). Does s told (Err (fault_of_move why)) t) (sym read) refused)
 
-pub returns-in_err-plan_across-clause-looks : goal.returns-in_err-plan_across-clause-looks
-returns-in_err-plan_across-clause-looks g c honest = looks_then (c.ready.ensures.looks (c.ready-2.ensures.accounts.was_honest honest)) (c.ready-2.ensures.looks honest)
+pub returns-in_err-plan_across-clause-disk : goal.returns-in_err-plan_across-clause-disk
+returns-in_err-plan_across-clause-disk g c = only_reads_then c.in_ok-ready.ensures.disk (only_reads_fine (search rules) (search rules) c.in_ok-ready-2.ensures.disk)
 
 pub returns-clause-plan : goal.returns-clause-plan
 returns-clause-plan g c =
@@ -252,14 +254,14 @@ returns-clause-plan g c =
     let file = a.file.now in
     let to = c.in_ok-to.to in
     let plan = c.in_ok-plan_across.field-0 in
-    let ready : AreReady (file ∷ []) files.held = c.in_ok-ready.ensures.ready [] (none_ready a.files.now.held c.requires.begun) in
+    let ready : AreReady (file ∷ []) files.held = c.in_ok-ready.ensures.ready [] (none_ready a.files.now.held c.requires.between.begun) in
     let both : AreReady (to.file ∷ file ∷ []) later.held = subst (λ (n : List ℕ). AreReady (n ∷ file ∷ []) later.held) c.file-to_file.ensures (c.in_ok-ready-2.ensures.ready (file ∷ []) ready) in
     let there : is_name a.files.now.names file ≡ true = search rules in
-    let named : is_name files.names file ≡ true = ap (λ (ns : List (List ℕ)). is_name ns file) c.ready.ensures.names ∙ there in
-    let still : is_name later.names file ≡ true = ap (λ (ns : List (List ℕ)). is_name ns file) c.ready-2.ensures.names ∙ named in
+    let named : is_name files.names file ≡ true = ap (λ (ns : List (List ℕ)). is_name ns file) c.ready.ensures.disk.names ∙ there in
+    let still : is_name later.names file ≡ true = ap (λ (ns : List (List ℕ)). is_name ns file) c.ready-2.ensures.disk.names ∙ named in
     let held : is_name files.names c.file-to_file.result.now ≡ true = search rules in
     let into : is_name files.names to.file ≡ true = ap (λ (n : List ℕ). is_name files.names n) (sym c.file-to_file.ensures) ∙ held in
-    let also : is_name later.names to.file ≡ true = ap (λ (ns : List (List ℕ)). is_name ns to.file) c.ready-2.ensures.names ∙ into in
+    let also : is_name later.names to.file ≡ true = ap (λ (ns : List (List ℕ)). is_name ns to.file) c.ready-2.ensures.disk.names ∙ into in
     let differ : file ≢ c.file-to_file.result.now = search rules in
     let apart : file ≢ to.file = λ same. differ (same ∙ sym c.file-to_file.ensures) in
     let seen = held_bytes later.held file in
@@ -281,17 +283,17 @@ returns-clause-plans g c tally honest =
     let to = c.in_ok-to.to in
     let told = archive s file a.path.now a.moment (text_at s.names s.files file) in
     let plan = c.in_ok-plan_across.field-0 in
-    let first : one ≡ s = c.in_ok-ready.ensures.reads a.states.now tally (c.ready-2.ensures.accounts.was_honest honest) in
+    let first : one ≡ s = c.in_ok-ready.ensures.reads a.states.now tally (c.ready-2.ensures.disk.accounts.was_honest honest) in
     let second : new ≡ one = c.in_ok-ready-2.ensures.reads a.states.now tally honest in
     let read : new ≡ s = second ∙ first in
-    let ready : AreReady (file ∷ []) files.held = c.in_ok-ready.ensures.ready [] (none_ready a.files.now.held c.requires.begun) in
+    let ready : AreReady (file ∷ []) files.held = c.in_ok-ready.ensures.ready [] (none_ready a.files.now.held c.requires.between.begun) in
     let both : AreReady (to.file ∷ file ∷ []) later.held = subst (λ (n : List ℕ). AreReady (n ∷ file ∷ []) later.held) c.file-to_file.ensures (c.in_ok-ready-2.ensures.ready (file ∷ []) ready) in
     let there : is_name a.files.now.names file ≡ true = search rules in
-    let named : is_name files.names file ≡ true = ap (λ (ns : List (List ℕ)). is_name ns file) c.ready.ensures.names ∙ there in
-    let still : is_name later.names file ≡ true = ap (λ (ns : List (List ℕ)). is_name ns file) c.ready-2.ensures.names ∙ named in
+    let named : is_name files.names file ≡ true = ap (λ (ns : List (List ℕ)). is_name ns file) c.ready.ensures.disk.names ∙ there in
+    let still : is_name later.names file ≡ true = ap (λ (ns : List (List ℕ)). is_name ns file) c.ready-2.ensures.disk.names ∙ named in
     let held : is_name files.names c.file-to_file.result.now ≡ true = search rules in
     let into : is_name files.names to.file ≡ true = ap (λ (n : List ℕ). is_name files.names n) (sym c.file-to_file.ensures) ∙ held in
-    let also : is_name later.names to.file ≡ true = ap (λ (ns : List (List ℕ)). is_name ns to.file) c.ready-2.ensures.names ∙ into in
+    let also : is_name later.names to.file ≡ true = ap (λ (ns : List (List ℕ)). is_name ns to.file) c.ready-2.ensures.disk.names ∙ into in
     let differ : file ≢ c.file-to_file.result.now = search rules in
     let apart : file ≢ to.file = λ same. differ (same ∙ sym c.file-to_file.ensures) in
     let own = store_text texts a.states.now files tally s (file ∷ []) file first ready (one_name file) named in
@@ -309,5 +311,5 @@ returns-clause-plans g c tally honest =
       read,
     )
 
-pub returns-clause-looks : goal.returns-clause-looks
-returns-clause-looks g c honest = looks_then (c.ready.ensures.looks (c.ready-2.ensures.accounts.was_honest honest)) (c.ready-2.ensures.looks honest)
+pub returns-clause-disk : goal.returns-clause-disk
+returns-clause-disk g c = only_reads_then c.in_ok-ready.ensures.disk (only_reads_fine (λ no. cc) (λ no. cc) c.in_ok-ready-2.ensures.disk)

@@ -27,7 +27,7 @@ returns-then-not-has-clause-plans g c tally honest =
     let s = session_over (λ disk. contents (g.D.Disk.files disk)) a.states.now files tally in
     let missing : is_name files.names a.file.now ≡ false = search rules in
     let none = none_at (held_over files.held.before (contents (g.D.Disk.files files.disk))) files.names a.file.now missing in
-    (c.requires.unbroken, ap (capture s a.file.now a.target.now a.place a.moment a.template.now a.initial.now) none, refl)
+    (c.requires.between.unbroken, ap (capture s a.file.now a.target.now a.place a.moment a.template.now a.initial.now) none, refl)
 
 pub returns-in_err-entry-clause-plans : goal.returns-in_err-entry-clause-plans
 returns-in_err-entry-clause-plans g c tally honest =
@@ -42,7 +42,7 @@ returns-in_err-entry-clause-plans g c tally honest =
     let some : IsSome (text_at s.names s.files file) = sym (text_there (held_over files.held.before (contents (g.D.Disk.files files.disk))) files.names file) ∙ there in
     let makes : MakesEntry (new_entry a.moment a.template.now a.initial.now) c.new_entry.result = rw (c.as_slice.ensures, c.as_slice-2.ensures) at c.new_entry.ensures in
     subst (λ (r : Result Plan RunFault). Plans s told r files.held s) (sym given)
-    (entry_refused s file a.target.now a.place a.moment a.template.now a.initial.now (text_at s.names s.files file) c.new_entry.result why some c.requires.unbroken c.in_err-entry.was makes)
+    (entry_refused s file a.target.now a.place a.moment a.template.now a.initial.now (text_at s.names s.files file) c.new_entry.result why some c.requires.between.unbroken c.in_err-entry.was makes)
 
 pub returns-in_err-ready-clause-plans : goal.returns-in_err-ready-clause-plans
 returns-in_err-ready-clause-plans g c tally honest =
@@ -54,20 +54,20 @@ returns-in_err-ready-clause-plans g c tally honest =
     let told = capture s a.file.now a.target.now a.place a.moment a.template.now a.initial.now (text_at s.names s.files a.file.now) in
     let given : c.from_residual-in_err-ready.result ≡ Err fault = search rules in
     let reads = subst (λ (r : Result (Unit {0}) RunFault). Reads s r new) c.in_err-ready.was (c.ready.ensures.reads a.states.now tally honest) in
-    subst (λ (r : Result Plan RunFault). Plans s told r c.ready.new.self.held new) (sym given) (does_read (Unit {0}) s new told fault c.requires.unbroken reads)
+    subst (λ (r : Result Plan RunFault). Plans s told r c.ready.new.self.held new) (sym given) (does_read (Unit {0}) s new told fault c.requires.between.unbroken reads)
 
 pub unreachable-requires : goal.unreachable-requires
 unreachable-requires g c =
     let held = c.ready.new.self.held in
     let file = c.args.file.now in
-    let ready : AreReady (file ∷ []) held = c.in_ok-ready.ensures.ready [] (none_ready c.args.files.now.held c.requires.begun) in
+    let ready : AreReady (file ∷ []) held = c.in_ok-ready.ensures.ready [] (none_ready c.args.files.now.held c.requires.between.begun) in
     not_missing (λ h. h.now.text) c.get.result (text_of held.now file) c.get.ensures.text (now_held (file ∷ []) held file ready (one_name file)) c.in_default.not-Some
 
 pub plan_insertion-requires-clause-ready : goal.plan_insertion-requires-clause-ready
 plan_insertion-requires-clause-ready g c =
     let held = c.ready.new.self.held in
     let file = c.args.file.now in
-    let ready : AreReady (file ∷ []) held = c.in_ok-ready.ensures.ready [] (none_ready c.args.files.now.held c.requires.begun) in
+    let ready : AreReady (file ∷ []) held = c.in_ok-ready.ensures.ready [] (none_ready c.args.files.now.held c.requires.between.begun) in
     ready_heads (file ∷ []) held file (λ h. h.now.ready) c.get.result c.in-Some.held ready (one_name file) c.get.ensures.ready c.in-Some.is
 
 pub returns-in_err-plan_insertion-clause-plans : goal.returns-in_err-plan_insertion-clause-plans
@@ -82,9 +82,9 @@ returns-in_err-plan_insertion-clause-plans g c tally honest =
     let why = c.in_err-plan_insertion.field-0.0 in
     let given : c.from_residual-in_err-plan_insertion.result ≡ Err (fault_of_capture why) = search rules in
     let read : new ≡ s = c.in_ok-ready.ensures.reads a.states.now tally honest in
-    let ready : AreReady (file ∷ []) held = c.in_ok-ready.ensures.ready [] (none_ready a.files.now.held c.requires.begun) in
+    let ready : AreReady (file ∷ []) held = c.in_ok-ready.ensures.ready [] (none_ready a.files.now.held c.requires.between.begun) in
     let there : is_name a.files.now.names file ≡ true = search rules in
-    let named : is_name c.ready.new.self.names file ≡ true = ap (λ (ns : List (List ℕ)). is_name ns file) c.ready.ensures.names ∙ there in
+    let named : is_name c.ready.new.self.names file ≡ true = ap (λ (ns : List (List ℕ)). is_name ns file) c.ready.ensures.disk.names ∙ there in
     let at : text_of held.now file ≡ Some c.in-Some.held.now.text = search rules in
     let old = ready_text (file ∷ []) held file c.in-Some.held.now.text ready (one_name file) at in
     let seen : text_at new.names new.files file ≡ Some old.0.bytes = text_held c.ready.new.self.names held (texts c.ready.new.self.disk) file old.0 named old.1 in
@@ -94,7 +94,7 @@ returns-in_err-plan_insertion-clause-plans g c tally honest =
     subst (λ (r : Result Plan RunFault). Plans s told r held new) (sym given)
     (subst (λ o. Does s (capture s file a.target.now a.place a.moment a.template.now a.initial.now o) (Err (fault_of_capture why)) new) (sym found)
     (subst (λ (t : Session). Does s (capture s file a.target.now a.place a.moment a.template.now a.initial.now (Some old.0.bytes)) (Err (fault_of_capture why)) t) (sym read)
-    (target_refused s file a.target.now a.place a.moment a.template.now a.initial.now old.0.bytes c.in-Some.held.now.text.bytes made.0 c.plan_insertion.result why c.requires.unbroken made.1 old.2 c.in_err-plan_insertion.was
+    (target_refused s file a.target.now a.place a.moment a.template.now a.initial.now old.0.bytes c.in-Some.held.now.text.bytes made.0 c.plan_insertion.result why c.requires.between.unbroken made.1 old.2 c.in_err-plan_insertion.was
     (c.plan_insertion.ensures made.0 entry))))
 
 pub returns-clause-plan : goal.returns-clause-plan
@@ -103,9 +103,9 @@ returns-clause-plan g c =
     let held = c.ready.new.self.held in
     let file = a.file.now in
     let plan = c.in_ok-plan_insertion.field-0 in
-    let ready : AreReady (file ∷ []) held = c.in_ok-ready.ensures.ready [] (none_ready a.files.now.held c.requires.begun) in
+    let ready : AreReady (file ∷ []) held = c.in_ok-ready.ensures.ready [] (none_ready a.files.now.held c.requires.between.begun) in
     let there : is_name a.files.now.names file ≡ true = search rules in
-    let named : is_name c.ready.new.self.names file ≡ true = ap (λ (ns : List (List ℕ)). is_name ns file) c.ready.ensures.names ∙ there in
+    let named : is_name c.ready.new.self.names file ≡ true = ap (λ (ns : List (List ℕ)). is_name ns file) c.ready.ensures.disk.names ∙ there in
     let at : text_of held.now file ≡ Some c.in-Some.held.now.text = search rules in
     let made : MakesEntry (new_entry a.moment a.template.now a.initial.now) (Ok c.in_ok-entry.entry) = rw (c.as_slice.ensures, c.as_slice-2.ensures) at c.in_ok-entry.ensures in
     let entry : IsEntry c.deref.result.now made.0 = subst (λ (t : List ℕ). IsEntry t made.0) (sym c.deref.ensures.value) made.2 in
@@ -122,9 +122,9 @@ returns-clause-plans g c tally honest =
     let file = a.file.now in
     let plan = c.in_ok-plan_insertion.field-0 in
     let read : new ≡ s = c.in_ok-ready.ensures.reads a.states.now tally honest in
-    let ready : AreReady (file ∷ []) held = c.in_ok-ready.ensures.ready [] (none_ready a.files.now.held c.requires.begun) in
+    let ready : AreReady (file ∷ []) held = c.in_ok-ready.ensures.ready [] (none_ready a.files.now.held c.requires.between.begun) in
     let there : is_name a.files.now.names file ≡ true = search rules in
-    let named : is_name c.ready.new.self.names file ≡ true = ap (λ (ns : List (List ℕ)). is_name ns file) c.ready.ensures.names ∙ there in
+    let named : is_name c.ready.new.self.names file ≡ true = ap (λ (ns : List (List ℕ)). is_name ns file) c.ready.ensures.disk.names ∙ there in
     let at : text_of held.now file ≡ Some c.in-Some.held.now.text = search rules in
     let old = ready_text (file ∷ []) held file c.in-Some.held.now.text ready (one_name file) at in
     let seen : text_at new.names new.files file ≡ Some old.0.bytes = text_held c.ready.new.self.names held (texts c.ready.new.self.disk) file old.0 named old.1 in

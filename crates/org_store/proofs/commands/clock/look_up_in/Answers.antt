@@ -33,14 +33,14 @@ pub unreachable-requires : goal.unreachable-requires
 unreachable-requires g c =
     let held = c.ready.new.self.held in
     let file = c.args.file.now in
-    let ready : AreReady (file ∷ []) held = c.in_ok-ready.ensures.ready [] (none_ready c.args.files.now.held c.requires.begun) in
+    let ready : AreReady (file ∷ []) held = c.in_ok-ready.ensures.ready [] (none_ready c.args.files.now.held c.requires.between.begun) in
     not_missing (λ h. h.now.text) c.get.result (text_of held.now file) c.get.ensures.text (now_held (file ∷ []) held file ready (one_name file)) c.in_default.not-Some
 
 pub look_up-requires : goal.look_up-requires
 look_up-requires g c =
     let held = c.ready.new.self.held in
     let file = c.args.file.now in
-    let ready : AreReady (file ∷ []) held = c.in_ok-ready.ensures.ready [] (none_ready c.args.files.now.held c.requires.begun) in
+    let ready : AreReady (file ∷ []) held = c.in_ok-ready.ensures.ready [] (none_ready c.args.files.now.held c.requires.between.begun) in
     record { ready = ready_heads (file ∷ []) held file (λ h. h.now.ready) c.get.result c.in-Some.held ready (one_name file) c.get.ensures.ready c.in-Some.is }
 
 pub returns-in_err-look_up-clause-finds : goal.returns-in_err-look_up-clause-finds
@@ -55,8 +55,8 @@ returns-in_err-look_up-clause-finds g c tally honest =
     let why = c.in_err-look_up.field-0.0 in
     let given : c.from_residual-in_err-look_up.result ≡ Err (fault_of_state why) = search rules in
     let read : new ≡ s = c.in_ok-ready.ensures.reads a.states.now tally honest in
-    let ready : AreReady (file ∷ []) held = c.in_ok-ready.ensures.ready [] (none_ready a.files.now.held c.requires.begun) in
-    let named : is_name c.ready.new.self.names file ≡ true = ap (λ (ns : List (List ℕ)). is_name ns file) c.ready.ensures.names ∙ c.requires.file in
+    let ready : AreReady (file ∷ []) held = c.in_ok-ready.ensures.ready [] (none_ready a.files.now.held c.requires.between.begun) in
+    let named : is_name c.ready.new.self.names file ≡ true = ap (λ (ns : List (List ℕ)). is_name ns file) c.ready.ensures.disk.names ∙ c.requires.file in
     let at : text_of held.now file ≡ Some seen = search rules in
     let document = ready_document texts a.states.now c.ready.new.self tally s (file ∷ []) file seen read ready (one_name file) named at in
     let none : result_map_both {U = Unit {0}} (λ _. tt) fault_of_path (find_path a.states.now (tree seen.bytes) a.path.now) ≡ Err why = sym c.look_up.ensures ∙ c.in_err-look_up.was in
@@ -74,10 +74,10 @@ returns-clause-finds g c tally honest =
     let held = c.ready.new.self.held in
     let file = a.file.now in
     let seen = c.in-Some.held.now.text in
-    let read : session_over texts a.states.now c.ready.new.self tally ≡ s = c.in_ok-ready.ensures.reads a.states.now tally (subst d.honest undone.disk honest) in
-    let same = kept_same d.files a.states.now c.ready.new.self c.undo.new.self tally undone.disk undone.names undone.broken undone.before in
-    let ready : AreReady (file ∷ []) held = c.in_ok-ready.ensures.ready [] (none_ready a.files.now.held c.requires.begun) in
-    let named : is_name c.ready.new.self.names file ≡ true = ap (λ (ns : List (List ℕ)). is_name ns file) c.ready.ensures.names ∙ c.requires.file in
+    let read : session_over texts a.states.now c.ready.new.self tally ≡ s = c.in_ok-ready.ensures.reads a.states.now tally (subst d.honest undone.memory.disk honest) in
+    let same = kept_same d.files a.states.now c.ready.new.self c.undo.new.self tally undone.memory undone.before in
+    let ready : AreReady (file ∷ []) held = c.in_ok-ready.ensures.ready [] (none_ready a.files.now.held c.requires.between.begun) in
+    let named : is_name c.ready.new.self.names file ≡ true = ap (λ (ns : List (List ℕ)). is_name ns file) c.ready.ensures.disk.names ∙ c.requires.file in
     let at : text_of held.now file ≡ Some seen = search rules in
     let document = ready_document texts a.states.now c.ready.new.self tally s (file ∷ []) file seen read ready (one_name file) named at in
     let found : result_map_both {U = Unit {0}} (λ _. tt) fault_of_path (find_path a.states.now (tree seen.bytes) a.path.now) ≡ Ok tt = sym c.look_up.ensures ∙ c.in_ok-look_up.was in

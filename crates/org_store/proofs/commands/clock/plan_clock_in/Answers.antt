@@ -1,6 +1,5 @@
 use Rattle.std.proofs.Common.{◌≡◌, ◌≢◌, ◌∙◌, [], true, false, Option, None, Some, Result, Ok, Err, refl, sym, ap, subst, rules}
 use Rattle.std.specs.Option.{is_some, option_map, unwrap_or}
-use Rattle.org_disk.proofs.Accounting.{looks_then}
 use Rattle.org_journal.specs.Recovered.{Image, contents}
 use Rattle.org_outline.specs.Paths.{find_path}
 use Rattle.org_outline.specs.Tree.{tree}
@@ -16,6 +15,7 @@ use Rattle.org_store.specs.Outcome.{Outcome, clock_in, with_clock_moved, with_st
 use Rattle.org_store.specs.Session.{Session, session_over}
 use Rattle.org_store.proofs.Clocks.{beside_other, beside_same, clock_in_is, look_up_fails, none_left, path_fails}
 use Rattle.org_store.proofs.InOrder.{none_at, text_there}
+use Rattle.org_store.proofs.Reading.{only_reads_fault, only_reads_fine, only_reads_then}
 use Rattle.org_store.proofs.Sessions.{does_read}
 use Rattle.org_store.proofs.commands.clock.plan_clock_in.Goals as goal
 
@@ -26,7 +26,7 @@ returns-then-not-has-clause-plans g c tally honest =
     let s = session_over (λ disk. contents (g.D.Disk.files disk)) a.states.now files tally in
     let missing : is_name files.names a.file.now ≡ false = search rules in
     let none = none_at (held_over files.held.before (contents (g.D.Disk.files files.disk))) files.names a.file.now missing in
-    (c.requires.unbroken, ap (clock_in s a.file.now a.path.now a.moment) none, refl)
+    (c.requires.between.unbroken, ap (clock_in s a.file.now a.path.now a.moment) none, refl)
 
 pub returns-in_err-look_up_in-clause-plans : goal.returns-in_err-look_up_in-clause-plans
 returns-in_err-look_up_in-clause-plans g c tally honest =
@@ -44,7 +44,7 @@ returns-in_err-look_up_in-clause-plans g c tally honest =
     let there : is_name files.names a.file.now ≡ true = search rules in
     let some : is_some text ≡ true = sym (text_there (held_over files.held.before (texts files.disk)) files.names a.file.now) ∙ there in
     let looks = subst (λ (r : Result (Unit {0}) RunFault). LooksUp s found r new) c.in_err-look_up_in.was (c.look_up_in.ensures.finds tally honest) in
-    let does = look_up_fails s new found told fault c.requires.unbroken
+    let does = look_up_fails s new found told fault c.requires.between.unbroken
     (λ none failed. clock_in_is s a.file.now a.path.now a.moment text (running_over s.names s.files) some refl ∙ path_fails s a.file.now a.moment d found (running_over s.names s.files) none failed) looks in
     subst (λ (r : Result (Option Plan) RunFault). PlansOrStays s told r c.look_up_in.new.files.held new) (sym given) does
 
@@ -58,10 +58,10 @@ returns-in_err-clock-clause-plans g c tally honest =
     let fault = c.in_err-clock.field-0.0 in
     let told = clock_in s a.file.now a.path.now a.moment (text_at s.names s.files a.file.now) in
     let given : c.from_residual-in_err-clock.result ≡ Err fault = search rules in
-    let same : mid ≡ s = (c.in_ok-look_up_in.ensures.finds tally (c.running_clock.ensures.accounts.was_honest honest)).1 in
+    let same : mid ≡ s = (c.in_ok-look_up_in.ensures.finds tally (c.running_clock.ensures.disk.accounts.was_honest honest)).1 in
     let reads = subst (λ (r : Result (Option Clock) RunFault). Reads mid r new) c.in_err-clock.was (c.running_clock.ensures.reads tally honest) in
     subst (λ (r : Result (Option Plan) RunFault). PlansOrStays s told r c.running_clock.new.files.held new) (sym given)
-    (does_read (Option Clock) s new told fault c.requires.unbroken (subst (λ (t : Session). Reads {A = Option Clock} t (Err fault) new) same reads))
+    (does_read (Option Clock) s new told fault c.requires.between.unbroken (subst (λ (t : Session). Reads {A = Option Clock} t (Err fault) new) same reads))
 
 pub returns-in_default-clause-plans : goal.returns-in_default-clause-plans
 returns-in_default-clause-plans g c tally honest =
@@ -75,8 +75,8 @@ returns-in_default-clause-plans g c tally honest =
     let new = session_over texts a.states.now c.start_in_one.new.files tally in
     let held = c.start_in_one.new.files.held in
     let text = text_at s.names s.files file in
-    let ran = c.start_in_one.ensures.accounts.was_honest honest in
-    let same : mid ≡ s = (c.in_ok-look_up_in.ensures.finds tally (c.running_clock.ensures.accounts.was_honest ran)).1 in
+    let ran = c.start_in_one.ensures.disk.accounts.was_honest honest in
+    let same : mid ≡ s = (c.in_ok-look_up_in.ensures.finds tally (c.running_clock.ensures.disk.accounts.was_honest ran)).1 in
     let read : after ≡ s = c.in_ok-clock.ensures.reads tally ran ∙ same in
     let there : is_name files.names file ≡ true = search rules in
     let some : is_some text ≡ true = sym (text_there (held_over files.held.before (texts files.disk)) files.names file) ∙ there in
@@ -103,8 +103,8 @@ returns-then-eq-clause-plans g c tally honest =
     let held = c.start_in_one-then-eq.new.files.held in
     let text = text_at s.names s.files file in
     let d = tree (unwrap_or text []) in
-    let ran = c.start_in_one-then-eq.ensures.accounts.was_honest honest in
-    let same : mid ≡ s = (c.in_ok-look_up_in.ensures.finds tally (c.running_clock.ensures.accounts.was_honest ran)).1 in
+    let ran = c.start_in_one-then-eq.ensures.disk.accounts.was_honest honest in
+    let same : mid ≡ s = (c.in_ok-look_up_in.ensures.finds tally (c.running_clock.ensures.disk.accounts.was_honest ran)).1 in
     let read : after ≡ s = c.in_ok-clock.ensures.reads tally ran ∙ same in
     let there : is_name files.names file ≡ true = search rules in
     let some : is_some text ≡ true = sym (text_there (held_over files.held.before (texts files.disk)) files.names file) ∙ there in
@@ -118,10 +118,8 @@ returns-then-eq-clause-plans g c tally honest =
     subst (λ (o : Outcome). PlansOrStays s o c.start_in_one-then-eq.result held new) (sym is)
     (subst (λ (t : Session). PlansOrStays t (said t) c.start_in_one-then-eq.result held new) read (c.start_in_one-then-eq.ensures.plans tally honest))
 
-pub returns-then-eq-clause-looks : goal.returns-then-eq-clause-looks
-returns-then-eq-clause-looks g c honest =
-    let ran = c.start_in_one-then-eq.ensures.accounts.was_honest honest in
-    looks_then (c.look_up_in.ensures.looks (c.running_clock.ensures.accounts.was_honest ran)) (looks_then (c.running_clock.ensures.looks ran) (c.start_in_one-then-eq.ensures.looks honest))
+pub returns-then-eq-clause-disk : goal.returns-then-eq-clause-disk
+returns-then-eq-clause-disk g c = only_reads_then c.in_ok-look_up_in.ensures.disk (only_reads_then c.in_ok-clock.ensures.disk c.start_in_one-then-eq.ensures.disk)
 
 pub returns-in_err-plan-clause-plans : goal.returns-in_err-plan-clause-plans
 returns-in_err-plan-clause-plans g c tally honest =
@@ -138,8 +136,8 @@ returns-in_err-plan-clause-plans g c tally honest =
     let fault = c.in_err-plan.field-0.0 in
     let text = text_at s.names s.files file in
     let d = tree (unwrap_or text []) in
-    let ran = c.start_beside.ensures.accounts.was_honest honest in
-    let same : mid ≡ s = (c.in_ok-look_up_in.ensures.finds tally (c.running_clock.ensures.accounts.was_honest ran)).1 in
+    let ran = c.start_beside.ensures.disk.accounts.was_honest honest in
+    let same : mid ≡ s = (c.in_ok-look_up_in.ensures.finds tally (c.running_clock.ensures.disk.accounts.was_honest ran)).1 in
     let read : after ≡ s = c.in_ok-clock.ensures.reads tally ran ∙ same in
     let there : is_name files.names file ≡ true = search rules in
     let some : is_some text ≡ true = sym (text_there (held_over files.held.before (texts files.disk)) files.names file) ∙ there in
@@ -156,10 +154,10 @@ returns-in_err-plan-clause-plans g c tally honest =
     (subst (λ (o : Outcome). Plans s o (Err fault) held new) (sym is)
     (subst (λ (t : Session). Plans t (said t) (Err fault) held new) read plans))
 
-pub returns-in_err-plan-clause-looks : goal.returns-in_err-plan-clause-looks
-returns-in_err-plan-clause-looks g c honest =
-    let ran = c.start_beside.ensures.accounts.was_honest honest in
-    looks_then (c.look_up_in.ensures.looks (c.running_clock.ensures.accounts.was_honest ran)) (looks_then (c.running_clock.ensures.looks ran) (c.start_beside.ensures.looks honest))
+pub returns-in_err-plan-clause-disk : goal.returns-in_err-plan-clause-disk
+returns-in_err-plan-clause-disk g c =
+    let given : c.from_residual-in_err-plan.result ≡ Err c.in_err-plan.field-0.0 = search rules in
+    only_reads_then c.in_ok-look_up_in.ensures.disk (only_reads_then c.in_ok-clock.ensures.disk (only_reads_fault given c.in_err-plan.ensures.disk))
 
 pub returns-clause-plans : goal.returns-clause-plans
 returns-clause-plans g c tally honest =
@@ -176,8 +174,8 @@ returns-clause-plans g c tally honest =
     let held = c.start_beside.new.files.held in
     let text = text_at s.names s.files file in
     let d = tree (unwrap_or text []) in
-    let ran = c.start_beside.ensures.accounts.was_honest honest in
-    let same : mid ≡ s = (c.in_ok-look_up_in.ensures.finds tally (c.running_clock.ensures.accounts.was_honest ran)).1 in
+    let ran = c.start_beside.ensures.disk.accounts.was_honest honest in
+    let same : mid ≡ s = (c.in_ok-look_up_in.ensures.finds tally (c.running_clock.ensures.disk.accounts.was_honest ran)).1 in
     let read : after ≡ s = c.in_ok-clock.ensures.reads tally ran ∙ same in
     let there : is_name files.names file ≡ true = search rules in
     let some : is_some text ≡ true = sym (text_there (held_over files.held.before (texts files.disk)) files.names file) ∙ there in
@@ -191,7 +189,5 @@ returns-clause-plans g c tally honest =
     subst (λ (o : Outcome). Plans s o (Ok plan) held new) (sym is)
     (subst (λ (t : Session). Plans t (said t) (Ok plan) held new) read (c.in_ok-plan.ensures.plans tally honest))
 
-pub returns-clause-looks : goal.returns-clause-looks
-returns-clause-looks g c honest =
-    let ran = c.start_beside.ensures.accounts.was_honest honest in
-    looks_then (c.look_up_in.ensures.looks (c.running_clock.ensures.accounts.was_honest ran)) (looks_then (c.running_clock.ensures.looks ran) (c.start_beside.ensures.looks honest))
+pub returns-clause-disk : goal.returns-clause-disk
+returns-clause-disk g c = only_reads_then c.in_ok-look_up_in.ensures.disk (only_reads_then c.in_ok-clock.ensures.disk (only_reads_fine (λ no. cc) (λ no. cc) c.in_ok-plan.ensures.disk))

@@ -14,10 +14,10 @@ use Rattle.org_store.specs.Keeping.{PlansOrStays, Reads, fault_of_state}
 use Rattle.org_store.specs.Outcome.{clock_out, with_state}
 use Rattle.org_store.specs.Session.{Session, session_over}
 use Rattle.org_store.specs.Step.{Does}
-use Rattle.org_disk.proofs.Accounting.{looks_then}
 use Rattle.org_store.proofs.Clocks.{none_left, ready_document, still_runs}
 use Rattle.org_store.proofs.Held.{none_ready}
 use Rattle.org_store.proofs.Plans.{one_name, ready_heads}
+use Rattle.org_store.proofs.Reading.{only_reads_fault, only_reads_fine, only_reads_then}
 use Rattle.org_store.proofs.Sessions.{does_read}
 use Rattle.org_store.proofs.Todos.{state_fits, state_not_made, state_planned}
 use Rattle.org_store.proofs.commands.clock.plan_clock_out.Goals as goal
@@ -32,7 +32,7 @@ returns-in_err-clock-clause-plans g c tally honest =
     let told = clock_out s a.moment (running_over s.names s.files) in
     let given : c.from_residual.result ≡ Err fault = search rules in
     let reads = subst (λ (r : Result (Option Clock) RunFault). Reads s r new) c.in_err-clock.was (c.running_clock.ensures.reads tally honest) in
-    subst (λ (r : Result (Option Plan) RunFault). PlansOrStays s told r c.running_clock.new.files.held new) (sym given) (does_read (Option Clock) s new told fault c.requires.unbroken reads)
+    subst (λ (r : Result (Option Plan) RunFault). PlansOrStays s told r c.running_clock.new.files.held new) (sym given) (does_read (Option Clock) s new told fault c.requires.between.unbroken reads)
 
 pub returns-in_default-clause-plans : goal.returns-in_default-clause-plans
 returns-in_default-clause-plans g c tally honest =
@@ -41,7 +41,7 @@ returns-in_default-clause-plans g c tally honest =
     let s = session_over texts a.states.now a.files.now tally in
     let none : c.in_ok-clock.field-0 ≡ None = none_left c.in_ok-clock.field-0 c.in_default.not-Some in
     let runs : running_over s.names s.files ≡ None = sym (c.in_ok-clock.ensures.clock tally honest) ∙ ap (option_map (λ (k : Clock). (k.file, k.running))) none in
-    (c.requires.unbroken, ap (clock_out s a.moment) runs, c.in_ok-clock.ensures.reads tally honest)
+    (c.requires.between.unbroken, ap (clock_out s a.moment) runs, c.in_ok-clock.ensures.reads tally honest)
 
 pub returns-in_err-ready-clause-plans : goal.returns-in_err-ready-clause-plans
 returns-in_err-ready-clause-plans g c tally honest =
@@ -53,14 +53,16 @@ returns-in_err-ready-clause-plans g c tally honest =
     let fault = c.in_err-ready.field-0.0 in
     let told = clock_out s a.moment (running_over s.names s.files) in
     let given : c.from_residual-in_err-ready.result ≡ Err fault = search rules in
-    let was = c.ready.ensures.accounts.was_honest honest in
+    let was = c.ready.ensures.disk.accounts.was_honest honest in
     let same : mid ≡ s = c.in_ok-clock.ensures.reads tally was in
     let reads = subst (λ (r : Result (Unit {0}) RunFault). Reads mid r new) c.in_err-ready.was (c.ready.ensures.reads a.states.now tally honest) in
     subst (λ (r : Result (Option Plan) RunFault). PlansOrStays s told r c.ready.new.self.held new) (sym given)
-    (does_read (Unit {0}) s new told fault c.requires.unbroken (subst (λ (t : Session). Reads {A = Unit {0}} t (Err fault) new) same reads))
+    (does_read (Unit {0}) s new told fault c.requires.between.unbroken (subst (λ (t : Session). Reads {A = Unit {0}} t (Err fault) new) same reads))
 
-pub returns-in_err-ready-clause-looks : goal.returns-in_err-ready-clause-looks
-returns-in_err-ready-clause-looks g c honest = looks_then (c.running_clock.ensures.looks (c.ready.ensures.accounts.was_honest honest)) (c.ready.ensures.looks honest)
+pub returns-in_err-ready-clause-disk : goal.returns-in_err-ready-clause-disk
+returns-in_err-ready-clause-disk g c =
+    let given : c.from_residual-in_err-ready.result ≡ Err c.in_err-ready.field-0.0 = search rules in
+    only_reads_then c.in_ok-clock.ensures.disk (only_reads_fault given c.in_err-ready.ensures.disk)
 
 pub plan_stop-requires-clause-ready : goal.plan_stop-requires-clause-ready
 plan_stop-requires-clause-ready g c =
@@ -92,19 +94,19 @@ returns-in_err-plan_stop-clause-plans g c tally honest =
     let told = clock_out s a.moment (running_over s.names s.files) in
     let why = c.in_err-plan_stop.field-0.0 in
     let given : c.from_residual-in_err-plan_stop.result ≡ Err (fault_of_state why) = search rules in
-    let was = c.ready.ensures.accounts.was_honest honest in
+    let was = c.ready.ensures.disk.accounts.was_honest honest in
     let read : new ≡ s = c.in_ok-ready.ensures.reads a.states.now tally honest ∙ c.in_ok-clock.ensures.reads tally was in
     let runs : running_over s.names s.files ≡ Some (file, clock.running) = sym (c.in_ok-clock.ensures.clock tally was) ∙ ap (option_map (λ (k : Clock). (k.file, k.running))) c.in-Some.is in
     let ready : AreReady (file ∷ []) held = c.in_ok-ready.ensures.ready [] (none_ready c.running_clock.new.files.held c.in_ok-clock.ensures.begun) in
-    let named : is_name c.ready.new.self.names file ≡ true = ap (λ (ns : List (List ℕ)). is_name ns file) c.ready.ensures.names ∙ c.in_ok-clock.ensures.named clock c.in-Some.is in
+    let named : is_name c.ready.new.self.names file ≡ true = ap (λ (ns : List (List ℕ)). is_name ns file) c.ready.ensures.disk.names ∙ c.in_ok-clock.ensures.named clock c.in-Some.is in
     let at : text_of held.now file ≡ Some seen = search rules in
     let is = ap (clock_out s a.moment) runs ∙ ap (λ (d : Document). with_state s file (said d)) (ready_document texts a.states.now c.ready.new.self tally s (file ∷ []) file seen read ready (one_name file) named at) in
-    let refused = state_not_made s file seen.bytes told (said (tree seen.bytes)) c.plan_stop.result why c.requires.unbroken is c.in_err-plan_stop.was c.plan_stop.ensures in
+    let refused = state_not_made s file seen.bytes told (said (tree seen.bytes)) c.plan_stop.result why c.requires.between.unbroken is c.in_err-plan_stop.was c.plan_stop.ensures in
     subst (λ (r : Result (Option Plan) RunFault). PlansOrStays s told r held new) (sym given)
     (subst (λ (t : Session). Does s told (Err (fault_of_state why)) t) (sym read) refused)
 
-pub returns-in_err-plan_stop-clause-looks : goal.returns-in_err-plan_stop-clause-looks
-returns-in_err-plan_stop-clause-looks g c honest = looks_then (c.running_clock.ensures.looks (c.ready.ensures.accounts.was_honest honest)) (c.ready.ensures.looks honest)
+pub returns-in_err-plan_stop-clause-disk : goal.returns-in_err-plan_stop-clause-disk
+returns-in_err-plan_stop-clause-disk g c = only_reads_then c.in_ok-clock.ensures.disk (only_reads_fine (search rules) (search rules) c.in_ok-ready.ensures.disk)
 
 pub returns-clause-plan : goal.returns-clause-plan
 returns-clause-plan g c =
@@ -114,7 +116,7 @@ returns-clause-plan g c =
     let file = clock.file in
     let seen = c.in-Some-get.held.now.text in
     let ready : AreReady (file ∷ []) held = c.in_ok-ready.ensures.ready [] (none_ready c.running_clock.new.files.held c.in_ok-clock.ensures.begun) in
-    let named : is_name c.ready.new.self.names file ≡ true = ap (λ (ns : List (List ℕ)). is_name ns file) c.ready.ensures.names ∙ c.in_ok-clock.ensures.named clock c.in-Some.is in
+    let named : is_name c.ready.new.self.names file ≡ true = ap (λ (ns : List (List ℕ)). is_name ns file) c.ready.ensures.disk.names ∙ c.in_ok-clock.ensures.named clock c.in-Some.is in
     let at : text_of held.now file ≡ Some seen = search rules in
     state_fits c.ready.new.self.names held file seen (clocked_out a.moment clock.running (tree seen.bytes)) c.in_ok-plan_stop.field-0 c.in_ok-plan_stop.ensures at named ready
 
@@ -130,14 +132,14 @@ returns-clause-plans g c tally honest =
     let seen = c.in-Some-get.held.now.text in
     let said = λ (d : Document). clocked_out a.moment clock.running d in
     let told = clock_out s a.moment (running_over s.names s.files) in
-    let was = c.ready.ensures.accounts.was_honest honest in
+    let was = c.ready.ensures.disk.accounts.was_honest honest in
     let read : new ≡ s = c.in_ok-ready.ensures.reads a.states.now tally honest ∙ c.in_ok-clock.ensures.reads tally was in
     let runs : running_over s.names s.files ≡ Some (file, clock.running) = sym (c.in_ok-clock.ensures.clock tally was) ∙ ap (option_map (λ (k : Clock). (k.file, k.running))) c.in-Some.is in
     let ready : AreReady (file ∷ []) held = c.in_ok-ready.ensures.ready [] (none_ready c.running_clock.new.files.held c.in_ok-clock.ensures.begun) in
-    let named : is_name c.ready.new.self.names file ≡ true = ap (λ (ns : List (List ℕ)). is_name ns file) c.ready.ensures.names ∙ c.in_ok-clock.ensures.named clock c.in-Some.is in
+    let named : is_name c.ready.new.self.names file ≡ true = ap (λ (ns : List (List ℕ)). is_name ns file) c.ready.ensures.disk.names ∙ c.in_ok-clock.ensures.named clock c.in-Some.is in
     let at : text_of held.now file ≡ Some seen = search rules in
     let is = ap (clock_out s a.moment) runs ∙ ap (λ (d : Document). with_state s file (said d)) (ready_document texts a.states.now c.ready.new.self tally s (file ∷ []) file seen read ready (one_name file) named at) in
     state_planned s new held file seen (said (tree seen.bytes)) told c.in_ok-plan_stop.field-0 is c.in_ok-plan_stop.ensures at read
 
-pub returns-clause-looks : goal.returns-clause-looks
-returns-clause-looks g c honest = looks_then (c.running_clock.ensures.looks (c.ready.ensures.accounts.was_honest honest)) (c.ready.ensures.looks honest)
+pub returns-clause-disk : goal.returns-clause-disk
+returns-clause-disk g c = only_reads_then c.in_ok-clock.ensures.disk (only_reads_fine (λ no. cc) (λ no. cc) c.in_ok-ready.ensures.disk)

@@ -35,14 +35,14 @@ returns-in_err-both_ready-clause-plans g c tally honest =
     let told = with_clock_moved s clock.file a.file.now (clock_moved a.moment clock.running other d (find_path a.states.now d a.path.now)) in
     let given : c.from_residual.result ≡ Err fault = search rules in
     let reads = subst (λ (r : Result (Unit {0}) RunFault). Reads s r new) c.in_err-both_ready.was (c.both_ready.ensures.reads a.states.now tally honest) in
-    subst (λ (r : Result Plan RunFault). Plans s told r c.both_ready.new.files.held new) (sym given) (does_read (Unit {0}) s new told fault c.requires.unbroken reads)
+    subst (λ (r : Result Plan RunFault). Plans s told r c.both_ready.new.files.held new) (sym given) (does_read (Unit {0}) s new told fault c.requires.between.unbroken reads)
 
 pub unreachable-requires : goal.unreachable-requires
 unreachable-requires g c =
     let held = c.both_ready.new.files.held in
     let file = c.args.clock.now.file in
     let two = c.args.file.now ∷ file ∷ [] in
-    let ready : AreReady two held = c.in_ok-both_ready.ensures.ready [] (none_ready c.args.files.now.held c.requires.begun) in
+    let ready : AreReady two held = c.in_ok-both_ready.ensures.ready [] (none_ready c.args.files.now.held c.requires.between.begun) in
     not_missing (λ h. h.now.text) c.get.result (text_of held.now file) c.get.ensures.text (now_held two held file ready (second_name c.args.file.now file)) c.in_default.not-Some
 
 pub unreachable-requires-in_default-get : goal.unreachable-requires-in_default-get
@@ -50,7 +50,7 @@ unreachable-requires-in_default-get g c =
     let held = c.both_ready.new.files.held in
     let to_file = c.args.file.now in
     let two = to_file ∷ c.args.clock.now.file ∷ [] in
-    let ready : AreReady two held = c.in_ok-both_ready.ensures.ready [] (none_ready c.args.files.now.held c.requires.begun) in
+    let ready : AreReady two held = c.in_ok-both_ready.ensures.ready [] (none_ready c.args.files.now.held c.requires.between.begun) in
     not_missing (λ h. h.now.text) c.get-2.result (text_of held.now to_file) c.get-2.ensures.text (now_held two held to_file ready (first_name to_file (c.args.clock.now.file ∷ []))) c.in_default-get.not-Some
 
 pub plan_move-requires-clause-other : goal.plan_move-requires-clause-other
@@ -58,7 +58,7 @@ plan_move-requires-clause-other g c =
     let held = c.both_ready.new.files.held in
     let file = c.args.clock.now.file in
     let two = c.args.file.now ∷ file ∷ [] in
-    let ready : AreReady two held = c.in_ok-both_ready.ensures.ready [] (none_ready c.args.files.now.held c.requires.begun) in
+    let ready : AreReady two held = c.in_ok-both_ready.ensures.ready [] (none_ready c.args.files.now.held c.requires.between.begun) in
     ready_heads two held file (λ h. h.now.ready) c.get.result c.in-Some.other ready (second_name c.args.file.now file) c.get.ensures.ready c.in-Some.is
 
 pub plan_move-requires-clause-ready : goal.plan_move-requires-clause-ready
@@ -66,7 +66,7 @@ plan_move-requires-clause-ready g c =
     let held = c.both_ready.new.files.held in
     let to_file = c.args.file.now in
     let two = to_file ∷ c.args.clock.now.file ∷ [] in
-    let ready : AreReady two held = c.in_ok-both_ready.ensures.ready [] (none_ready c.args.files.now.held c.requires.begun) in
+    let ready : AreReady two held = c.in_ok-both_ready.ensures.ready [] (none_ready c.args.files.now.held c.requires.between.begun) in
     ready_heads two held to_file (λ h. h.now.ready) c.get-2.result c.in-Some-get.held ready (first_name to_file (c.args.clock.now.file ∷ [])) c.get-2.ensures.ready c.in-Some-get.is
 
 pub plan_move-requires-clause-runs : goal.plan_move-requires-clause-runs
@@ -75,7 +75,7 @@ plan_move-requires-clause-runs g c =
     let clock = c.args.clock.now in
     let two = c.args.file.now ∷ clock.file ∷ [] in
     let seen = c.in-Some.other.now.text in
-    let ready : AreReady two held = c.in_ok-both_ready.ensures.ready [] (none_ready c.args.files.now.held c.requires.begun) in
+    let ready : AreReady two held = c.in_ok-both_ready.ensures.ready [] (none_ready c.args.files.now.held c.requires.between.begun) in
     let at : text_of held.now clock.file ≡ Some seen = search rules in
     still_runs c.args.files.now.held held two clock.file clock.running seen c.requires.runs c.both_ready.ensures.keeps ready (second_name c.args.file.now clock.file) at
 
@@ -99,15 +99,15 @@ returns-in_err-plan_move-clause-plans g c tally honest =
     let why = c.in_err-plan_move.field-0.0 in
     let given : c.from_residual-in_err-plan_move.result ≡ Err (fault_of_state why) = search rules in
     let read : new ≡ s = c.in_ok-both_ready.ensures.reads a.states.now tally honest in
-    let ready : AreReady two held = c.in_ok-both_ready.ensures.ready [] (none_ready a.files.now.held c.requires.begun) in
+    let ready : AreReady two held = c.in_ok-both_ready.ensures.ready [] (none_ready a.files.now.held c.requires.between.begun) in
     let names = c.both_ready.new.files.names in
-    let named : is_name names file ≡ true = ap (λ (ns : List (List ℕ)). is_name ns file) c.both_ready.ensures.names ∙ c.requires.other in
-    let also : is_name names to_file ≡ true = ap (λ (ns : List (List ℕ)). is_name ns to_file) c.both_ready.ensures.names ∙ c.requires.file in
+    let named : is_name names file ≡ true = ap (λ (ns : List (List ℕ)). is_name ns file) c.both_ready.ensures.disk.names ∙ c.requires.other in
+    let also : is_name names to_file ≡ true = ap (λ (ns : List (List ℕ)). is_name ns to_file) c.both_ready.ensures.disk.names ∙ c.requires.file in
     let at : text_of held.now file ≡ Some seen = search rules in
     let there : text_of held.now to_file ≡ Some found = search rules in
     let is = ap (λ (d : Document). with_clock_moved s file to_file (said d second)) (ready_document texts a.states.now c.both_ready.new.files tally s two file seen read ready (second_name to_file file) named at)
     ∙ ap (λ (d : Document). with_clock_moved s file to_file (said (tree seen.bytes) d)) (ready_document texts a.states.now c.both_ready.new.files tally s two to_file found read ready (first_name to_file (file ∷ [])) also there) in
-    let refused = move_not_made s file to_file seen.bytes found.bytes told (said (tree seen.bytes) (tree found.bytes)) c.plan_move.result why c.requires.unbroken is c.in_err-plan_move.was c.plan_move.ensures in
+    let refused = move_not_made s file to_file seen.bytes found.bytes told (said (tree seen.bytes) (tree found.bytes)) c.plan_move.result why c.requires.between.unbroken is c.in_err-plan_move.was c.plan_move.ensures in
     subst (λ (r : Result Plan RunFault). Plans s told r held new) (sym given)
     (subst (λ (t : Session). Does s told (Err (fault_of_state why)) t) (sym read) refused)
 
@@ -121,10 +121,10 @@ returns-clause-plan g c =
     let seen = c.in-Some.other.now.text in
     let found = c.in-Some-get.held.now.text in
     let plan = c.in_ok-plan_move.field-0 in
-    let ready : AreReady two held = c.in_ok-both_ready.ensures.ready [] (none_ready a.files.now.held c.requires.begun) in
+    let ready : AreReady two held = c.in_ok-both_ready.ensures.ready [] (none_ready a.files.now.held c.requires.between.begun) in
     let names = c.both_ready.new.files.names in
-    let named : is_name names file ≡ true = ap (λ (ns : List (List ℕ)). is_name ns file) c.both_ready.ensures.names ∙ c.requires.other in
-    let also : is_name names to_file ≡ true = ap (λ (ns : List (List ℕ)). is_name ns to_file) c.both_ready.ensures.names ∙ c.requires.file in
+    let named : is_name names file ≡ true = ap (λ (ns : List (List ℕ)). is_name ns file) c.both_ready.ensures.disk.names ∙ c.requires.other in
+    let also : is_name names to_file ≡ true = ap (λ (ns : List (List ℕ)). is_name ns to_file) c.both_ready.ensures.disk.names ∙ c.requires.file in
     let at : text_of held.now file ≡ Some seen = search rules in
     let there : text_of held.now to_file ≡ Some found = search rules in
     let made = c.in_ok-plan_move.ensures in
@@ -149,10 +149,10 @@ returns-clause-plans g c tally honest =
     let second = tree (unwrap_or (text_at s.names s.files to_file) []) in
     let plan = c.in_ok-plan_move.field-0 in
     let read : new ≡ s = c.in_ok-both_ready.ensures.reads a.states.now tally honest in
-    let ready : AreReady two held = c.in_ok-both_ready.ensures.ready [] (none_ready a.files.now.held c.requires.begun) in
+    let ready : AreReady two held = c.in_ok-both_ready.ensures.ready [] (none_ready a.files.now.held c.requires.between.begun) in
     let names = c.both_ready.new.files.names in
-    let named : is_name names file ≡ true = ap (λ (ns : List (List ℕ)). is_name ns file) c.both_ready.ensures.names ∙ c.requires.other in
-    let also : is_name names to_file ≡ true = ap (λ (ns : List (List ℕ)). is_name ns to_file) c.both_ready.ensures.names ∙ c.requires.file in
+    let named : is_name names file ≡ true = ap (λ (ns : List (List ℕ)). is_name ns file) c.both_ready.ensures.disk.names ∙ c.requires.other in
+    let also : is_name names to_file ≡ true = ap (λ (ns : List (List ℕ)). is_name ns to_file) c.both_ready.ensures.disk.names ∙ c.requires.file in
     let at : text_of held.now file ≡ Some seen = search rules in
     let there : text_of held.now to_file ≡ Some found = search rules in
     let is = ap (λ (d : Document). with_clock_moved s file to_file (said d second)) (ready_document texts a.states.now c.both_ready.new.files tally s two file seen read ready (second_name to_file file) named at)

@@ -31,20 +31,20 @@ returns-in_err-ready-clause-plans g c tally honest =
     let told = with_state s a.file.now (clocked_in a.moment a.running d (find_path a.states.now d a.path.now)) in
     let given : c.from_residual.result ≡ Err fault = search rules in
     let reads = subst (λ (r : Result (Unit {0}) RunFault). Reads s r new) c.in_err-ready.was (c.ready.ensures.reads a.states.now tally honest) in
-    subst (λ (r : Result (Option Plan) RunFault). PlansOrStays s told r c.ready.new.self.held new) (sym given) (does_read (Unit {0}) s new told fault c.requires.unbroken reads)
+    subst (λ (r : Result (Option Plan) RunFault). PlansOrStays s told r c.ready.new.self.held new) (sym given) (does_read (Unit {0}) s new told fault c.requires.between.unbroken reads)
 
 pub unreachable-requires : goal.unreachable-requires
 unreachable-requires g c =
     let held = c.ready.new.self.held in
     let file = c.args.file.now in
-    let ready : AreReady (file ∷ []) held = c.in_ok-ready.ensures.ready [] (none_ready c.args.files.now.held c.requires.begun) in
+    let ready : AreReady (file ∷ []) held = c.in_ok-ready.ensures.ready [] (none_ready c.args.files.now.held c.requires.between.begun) in
     not_missing (λ h. h.now.text) c.get.result (text_of held.now file) c.get.ensures.text (now_held (file ∷ []) held file ready (one_name file)) c.in_default.not-Some
 
 pub plan_in_text-requires-clause-ready : goal.plan_in_text-requires-clause-ready
 plan_in_text-requires-clause-ready g c =
     let held = c.ready.new.self.held in
     let file = c.args.file.now in
-    let ready : AreReady (file ∷ []) held = c.in_ok-ready.ensures.ready [] (none_ready c.args.files.now.held c.requires.begun) in
+    let ready : AreReady (file ∷ []) held = c.in_ok-ready.ensures.ready [] (none_ready c.args.files.now.held c.requires.between.begun) in
     ready_heads (file ∷ []) held file (λ h. h.now.ready) c.get.result c.in-Some.held ready (one_name file) c.get.ensures.ready c.in-Some.is
 
 pub plan_in_text-requires-clause-runs : goal.plan_in_text-requires-clause-runs
@@ -52,7 +52,7 @@ plan_in_text-requires-clause-runs g c running is =
     let held = c.ready.new.self.held in
     let file = c.args.file.now in
     let seen = c.in-Some.held.now.text in
-    let ready : AreReady (file ∷ []) held = c.in_ok-ready.ensures.ready [] (none_ready c.args.files.now.held c.requires.begun) in
+    let ready : AreReady (file ∷ []) held = c.in_ok-ready.ensures.ready [] (none_ready c.args.files.now.held c.requires.between.begun) in
     let at : text_of held.now file ≡ Some seen = search rules in
     still_runs c.args.files.now.held held (file ∷ []) file running seen (c.requires.runs running is) c.ready.ensures.keeps ready (one_name file) at
 
@@ -70,11 +70,11 @@ returns-in_err-plan_in_text-clause-plans g c tally honest =
     let why = c.in_err-plan_in_text.field-0.0 in
     let given : c.from_residual-in_err-plan_in_text.result ≡ Err (fault_of_state why) = search rules in
     let read : new ≡ s = c.in_ok-ready.ensures.reads a.states.now tally honest in
-    let ready : AreReady (file ∷ []) held = c.in_ok-ready.ensures.ready [] (none_ready a.files.now.held c.requires.begun) in
-    let named : is_name c.ready.new.self.names file ≡ true = ap (λ (ns : List (List ℕ)). is_name ns file) c.ready.ensures.names ∙ c.requires.file in
+    let ready : AreReady (file ∷ []) held = c.in_ok-ready.ensures.ready [] (none_ready a.files.now.held c.requires.between.begun) in
+    let named : is_name c.ready.new.self.names file ≡ true = ap (λ (ns : List (List ℕ)). is_name ns file) c.ready.ensures.disk.names ∙ c.requires.file in
     let at : text_of held.now file ≡ Some seen = search rules in
     let is = ap (λ (d : Document). with_state s file (said d)) (ready_document texts a.states.now c.ready.new.self tally s (file ∷ []) file seen read ready (one_name file) named at) in
-    let refused = state_not_made s file seen.bytes told (said (tree seen.bytes)) c.plan_in_text.result why c.requires.unbroken is c.in_err-plan_in_text.was c.plan_in_text.ensures in
+    let refused = state_not_made s file seen.bytes told (said (tree seen.bytes)) c.plan_in_text.result why c.requires.between.unbroken is c.in_err-plan_in_text.was c.plan_in_text.ensures in
     subst (λ (r : Result (Option Plan) RunFault). PlansOrStays s told r held new) (sym given)
     (subst (λ (t : Session). Does s told (Err (fault_of_state why)) t) (sym read) refused)
 
@@ -84,8 +84,8 @@ returns-clause-plan g c =
     let held = c.ready.new.self.held in
     let file = a.file.now in
     let seen = c.in-Some.held.now.text in
-    let ready : AreReady (file ∷ []) held = c.in_ok-ready.ensures.ready [] (none_ready a.files.now.held c.requires.begun) in
-    let named : is_name c.ready.new.self.names file ≡ true = ap (λ (ns : List (List ℕ)). is_name ns file) c.ready.ensures.names ∙ c.requires.file in
+    let ready : AreReady (file ∷ []) held = c.in_ok-ready.ensures.ready [] (none_ready a.files.now.held c.requires.between.begun) in
+    let named : is_name c.ready.new.self.names file ≡ true = ap (λ (ns : List (List ℕ)). is_name ns file) c.ready.ensures.disk.names ∙ c.requires.file in
     let at : text_of held.now file ≡ Some seen = search rules in
     state_fits c.ready.new.self.names held file seen (clocked_in a.moment a.running (tree seen.bytes) (find_path a.states.now (tree seen.bytes) a.path.now)) c.in_ok-plan_in_text.field-0 c.in_ok-plan_in_text.ensures at named ready
 
@@ -101,8 +101,8 @@ returns-clause-plans g c tally honest =
     let said = λ (d : Document). clocked_in a.moment a.running d (find_path a.states.now d a.path.now) in
     let told = with_state s file (said (tree (unwrap_or (text_at s.names s.files file) []))) in
     let read : new ≡ s = c.in_ok-ready.ensures.reads a.states.now tally honest in
-    let ready : AreReady (file ∷ []) held = c.in_ok-ready.ensures.ready [] (none_ready a.files.now.held c.requires.begun) in
-    let named : is_name c.ready.new.self.names file ≡ true = ap (λ (ns : List (List ℕ)). is_name ns file) c.ready.ensures.names ∙ c.requires.file in
+    let ready : AreReady (file ∷ []) held = c.in_ok-ready.ensures.ready [] (none_ready a.files.now.held c.requires.between.begun) in
+    let named : is_name c.ready.new.self.names file ≡ true = ap (λ (ns : List (List ℕ)). is_name ns file) c.ready.ensures.disk.names ∙ c.requires.file in
     let at : text_of held.now file ≡ Some seen = search rules in
     let is = ap (λ (d : Document). with_state s file (said d)) (ready_document texts a.states.now c.ready.new.self tally s (file ∷ []) file seen read ready (one_name file) named at) in
     state_planned s new held file seen (said (tree seen.bytes)) told c.in_ok-plan_in_text.field-0 is c.in_ok-plan_in_text.ensures at read

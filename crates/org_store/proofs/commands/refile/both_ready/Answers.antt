@@ -17,7 +17,7 @@ pub returns-clause-reads : goal.returns-clause-reads
 returns-clause-reads g c states tally honest =
     let texts : g.row.D.Denot → Image = λ disk. contents (g.D.Disk.files disk) in
     let new = session_over texts states c.ready-2.new.self tally in
-    let read : session_over texts states c.ready.new.self tally ≡ session_over texts states c.args.files.now tally = c.in_ok-ready.ensures.reads states tally (c.ready-2.ensures.accounts.was_honest honest) in
+    let read : session_over texts states c.ready.new.self tally ≡ session_over texts states c.args.files.now tally = c.in_ok-ready.ensures.reads states tally (c.ready-2.ensures.disk.accounts.was_honest honest) in
     subst (λ (s : Session). Reads s c.ready-2.result new) read (c.ready-2.ensures.reads states tally honest)
 
 pub returns-clause-keeps : goal.returns-clause-keeps

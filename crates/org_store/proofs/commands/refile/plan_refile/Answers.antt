@@ -21,10 +21,10 @@ returns-then-not-has-clause-plans g c tally honest =
     elim c.then-not-has.branch [
       | then-not-has-via-then-not-has w ↦
           let missing : is_name files.names a.file.now ≡ false = search rules in
-          (c.requires.unbroken, ap (λ o. refile s a.file.now a.path.now a.to_file.now a.to.now a.place o target) (none_at image files.names a.file.now missing), refl)
+          (c.requires.between.unbroken, ap (λ o. refile s a.file.now a.path.now a.to_file.now a.to.now a.place o target) (none_at image files.names a.file.now missing), refl)
       | then-not-has-via-else-not-has+then-not-has-2 w ↦
           let missing : is_name files.names a.to_file.now ≡ false = search rules in (
-            c.requires.unbroken,
+            c.requires.between.unbroken,
             ap (λ o. refile s a.file.now a.path.now a.to_file.now a.to.now a.place source o) (none_at image files.names a.to_file.now missing)
                 ∙ no_target s a.file.now a.path.now a.to_file.now a.to.now a.place source,
             refl,

@@ -29,20 +29,20 @@ returns-in_err-ready-clause-plans g c tally honest =
     let told = refile s a.file.now a.path.now a.file.now a.to.now a.place text text in
     let given : c.from_residual.result ≡ Err fault = search rules in
     let reads = subst (λ (r : Result (Unit {0}) RunFault). Reads s r new) c.in_err-ready.was (c.ready.ensures.reads a.states.now tally honest) in
-    subst (λ (r : Result Plan RunFault). Plans s told r c.ready.new.self.held new) (sym given) (does_read (Unit {0}) s new told fault c.requires.unbroken reads)
+    subst (λ (r : Result Plan RunFault). Plans s told r c.ready.new.self.held new) (sym given) (does_read (Unit {0}) s new told fault c.requires.between.unbroken reads)
 
 pub unreachable-requires : goal.unreachable-requires
 unreachable-requires g c =
     let held = c.ready.new.self.held in
     let file = c.args.file.now in
-    let ready : AreReady (file ∷ []) held = c.in_ok-ready.ensures.ready [] (none_ready c.args.files.now.held c.requires.begun) in
+    let ready : AreReady (file ∷ []) held = c.in_ok-ready.ensures.ready [] (none_ready c.args.files.now.held c.requires.between.begun) in
     not_missing (λ h. h.now.text) c.get.result (text_of held.now file) c.get.ensures.text (now_held (file ∷ []) held file ready (one_name file)) c.in_default.not-Some
 
 pub plan_within-requires : goal.plan_within-requires
 plan_within-requires g c =
     let held = c.ready.new.self.held in
     let file = c.args.file.now in
-    let ready : AreReady (file ∷ []) held = c.in_ok-ready.ensures.ready [] (none_ready c.args.files.now.held c.requires.begun) in
+    let ready : AreReady (file ∷ []) held = c.in_ok-ready.ensures.ready [] (none_ready c.args.files.now.held c.requires.between.begun) in
     record { ready = ready_heads (file ∷ []) held file (λ h. h.now.ready) c.get.result c.in-Some.held ready (one_name file) c.get.ensures.ready c.in-Some.is }
 
 pub returns-in_err-plan_within-clause-plans : goal.returns-in_err-plan_within-clause-plans
@@ -59,14 +59,14 @@ returns-in_err-plan_within-clause-plans g c tally honest =
     let why = c.in_err-plan_within.field-0.0 in
     let given : c.from_residual-in_err-plan_within.result ≡ Err (fault_of_move why) = search rules in
     let read : new ≡ s = c.in_ok-ready.ensures.reads a.states.now tally honest in
-    let ready : AreReady (file ∷ []) held = c.in_ok-ready.ensures.ready [] (none_ready a.files.now.held c.requires.begun) in
-    let named : is_name c.ready.new.self.names file ≡ true = ap (λ (ns : List (List ℕ)). is_name ns file) c.ready.ensures.names ∙ c.requires.file in
+    let ready : AreReady (file ∷ []) held = c.in_ok-ready.ensures.ready [] (none_ready a.files.now.held c.requires.between.begun) in
+    let named : is_name c.ready.new.self.names file ≡ true = ap (λ (ns : List (List ℕ)). is_name ns file) c.ready.ensures.disk.names ∙ c.requires.file in
     let at : text_of held.now file ≡ Some seen = search rules in
     let old = ready_text (file ∷ []) held file seen ready (one_name file) at in
     let there : text_at new.names new.files file ≡ Some old.0.bytes = text_held c.ready.new.self.names held (texts c.ready.new.self.disk) file old.0 named old.1 in
     let found : text ≡ Some old.0.bytes = subst (λ (t : Session). text_at t.names t.files file ≡ Some old.0.bytes) read there in
     let is = ap (λ o. refile s file a.path.now file a.to.now a.place o o) found ∙ within_is s file a.path.now a.to.now a.place old.0.bytes seen.bytes old.2 in
-    let refused = move_refused s (text_within file) told (refile_within a.states.now a.path.now a.to.now a.place (tree seen.bytes)) (MakesDocument file seen.bytes) c.plan_within.result why c.requires.unbroken is c.in_err-plan_within.was c.plan_within.ensures in
+    let refused = move_refused s (text_within file) told (refile_within a.states.now a.path.now a.to.now a.place (tree seen.bytes)) (MakesDocument file seen.bytes) c.plan_within.result why c.requires.between.unbroken is c.in_err-plan_within.was c.plan_within.ensures in
     subst (λ (r : Result Plan RunFault). Plans s told r held new) (sym given)
     (subst (λ (t : Session). Does s told (Err (fault_of_move why)) t) (sym read) refused)
 
@@ -77,8 +77,8 @@ returns-clause-plan g c =
     let file = a.file.now in
     let seen = c.in-Some.held.now.text in
     let plan = c.in_ok-plan_within.field-0 in
-    let ready : AreReady (file ∷ []) held = c.in_ok-ready.ensures.ready [] (none_ready a.files.now.held c.requires.begun) in
-    let named : is_name c.ready.new.self.names file ≡ true = ap (λ (ns : List (List ℕ)). is_name ns file) c.ready.ensures.names ∙ c.requires.file in
+    let ready : AreReady (file ∷ []) held = c.in_ok-ready.ensures.ready [] (none_ready a.files.now.held c.requires.between.begun) in
+    let named : is_name c.ready.new.self.names file ≡ true = ap (λ (ns : List (List ℕ)). is_name ns file) c.ready.ensures.disk.names ∙ c.requires.file in
     let at : text_of held.now file ≡ Some seen = search rules in
     let made = c.in_ok-plan_within.ensures in
     plan_of_one plan c.ready.new.self.names held file seen (print made.0) made.2.0 made.2.1 at made.2.2 named ready
@@ -96,8 +96,8 @@ returns-clause-plans g c tally honest =
     let told = refile s file a.path.now file a.to.now a.place text text in
     let plan = c.in_ok-plan_within.field-0 in
     let read : new ≡ s = c.in_ok-ready.ensures.reads a.states.now tally honest in
-    let ready : AreReady (file ∷ []) held = c.in_ok-ready.ensures.ready [] (none_ready a.files.now.held c.requires.begun) in
-    let named : is_name c.ready.new.self.names file ≡ true = ap (λ (ns : List (List ℕ)). is_name ns file) c.ready.ensures.names ∙ c.requires.file in
+    let ready : AreReady (file ∷ []) held = c.in_ok-ready.ensures.ready [] (none_ready a.files.now.held c.requires.between.begun) in
+    let named : is_name c.ready.new.self.names file ≡ true = ap (λ (ns : List (List ℕ)). is_name ns file) c.ready.ensures.disk.names ∙ c.requires.file in
     let at : text_of held.now file ≡ Some seen = search rules in
     let old = ready_text (file ∷ []) held file seen ready (one_name file) at in
     let there : text_at new.names new.files file ≡ Some old.0.bytes = text_held c.ready.new.self.names held (texts c.ready.new.self.disk) file old.0 named old.1 in

@@ -31,14 +31,14 @@ returns-in_err-both_ready-clause-plans g c tally honest =
     let told = refile s a.file.now a.path.now a.to_file.now a.to.now a.place (text_at s.names s.files a.file.now) (text_at s.names s.files a.to_file.now) in
     let given : c.from_residual.result ≡ Err fault = search rules in
     let reads = subst (λ (r : Result (Unit {0}) RunFault). Reads s r new) c.in_err-both_ready.was (c.both_ready.ensures.reads a.states.now tally honest) in
-    subst (λ (r : Result Plan RunFault). Plans s told r c.both_ready.new.files.held new) (sym given) (does_read (Unit {0}) s new told fault c.requires.unbroken reads)
+    subst (λ (r : Result Plan RunFault). Plans s told r c.both_ready.new.files.held new) (sym given) (does_read (Unit {0}) s new told fault c.requires.between.unbroken reads)
 
 pub unreachable-requires : goal.unreachable-requires
 unreachable-requires g c =
     let held = c.both_ready.new.files.held in
     let file = c.args.file.now in
     let two = c.args.to_file.now ∷ file ∷ [] in
-    let ready : AreReady two held = c.in_ok-both_ready.ensures.ready [] (none_ready c.args.files.now.held c.requires.begun) in
+    let ready : AreReady two held = c.in_ok-both_ready.ensures.ready [] (none_ready c.args.files.now.held c.requires.between.begun) in
     not_missing (λ h. h.now.text) c.get.result (text_of held.now file) c.get.ensures.text (now_held two held file ready (second_name c.args.to_file.now file)) c.in_default.not-Some
 
 pub unreachable-requires-in_default-get : goal.unreachable-requires-in_default-get
@@ -46,7 +46,7 @@ unreachable-requires-in_default-get g c =
     let held = c.both_ready.new.files.held in
     let to_file = c.args.to_file.now in
     let two = to_file ∷ c.args.file.now ∷ [] in
-    let ready : AreReady two held = c.in_ok-both_ready.ensures.ready [] (none_ready c.args.files.now.held c.requires.begun) in
+    let ready : AreReady two held = c.in_ok-both_ready.ensures.ready [] (none_ready c.args.files.now.held c.requires.between.begun) in
     not_missing (λ h. h.now.text) c.get-2.result (text_of held.now to_file) c.get-2.ensures.text (now_held two held to_file ready (first_name to_file (c.args.file.now ∷ []))) c.in_default-get.not-Some
 
 pub plan_across-requires-clause-source : goal.plan_across-requires-clause-source
@@ -54,7 +54,7 @@ plan_across-requires-clause-source g c =
     let held = c.both_ready.new.files.held in
     let file = c.args.file.now in
     let two = c.args.to_file.now ∷ file ∷ [] in
-    let ready : AreReady two held = c.in_ok-both_ready.ensures.ready [] (none_ready c.args.files.now.held c.requires.begun) in
+    let ready : AreReady two held = c.in_ok-both_ready.ensures.ready [] (none_ready c.args.files.now.held c.requires.between.begun) in
     ready_heads two held file (λ h. h.now.ready) c.get.result c.in-Some.source ready (second_name c.args.to_file.now file) c.get.ensures.ready c.in-Some.is
 
 pub plan_across-requires-clause-target : goal.plan_across-requires-clause-target
@@ -62,7 +62,7 @@ plan_across-requires-clause-target g c =
     let held = c.both_ready.new.files.held in
     let to_file = c.args.to_file.now in
     let two = to_file ∷ c.args.file.now ∷ [] in
-    let ready : AreReady two held = c.in_ok-both_ready.ensures.ready [] (none_ready c.args.files.now.held c.requires.begun) in
+    let ready : AreReady two held = c.in_ok-both_ready.ensures.ready [] (none_ready c.args.files.now.held c.requires.between.begun) in
     ready_heads two held to_file (λ h. h.now.ready) c.get-2.result c.in-Some-get.target ready (first_name to_file (c.args.file.now ∷ [])) c.get-2.ensures.ready c.in-Some-get.is
 
 pub returns-in_err-plan_across-clause-plans : goal.returns-in_err-plan_across-clause-plans
@@ -83,10 +83,10 @@ returns-in_err-plan_across-clause-plans g c tally honest =
     let why = c.in_err-plan_across.field-0.0 in
     let given : c.from_residual-in_err-plan_across.result ≡ Err (fault_of_move why) = search rules in
     let read : new ≡ s = c.in_ok-both_ready.ensures.reads a.states.now tally honest in
-    let ready : AreReady two held = c.in_ok-both_ready.ensures.ready [] (none_ready a.files.now.held c.requires.begun) in
+    let ready : AreReady two held = c.in_ok-both_ready.ensures.ready [] (none_ready a.files.now.held c.requires.between.begun) in
     let names = c.both_ready.new.files.names in
-    let named : is_name names file ≡ true = ap (λ (ns : List (List ℕ)). is_name ns file) c.both_ready.ensures.names ∙ c.requires.file in
-    let also : is_name names to_file ≡ true = ap (λ (ns : List (List ℕ)). is_name ns to_file) c.both_ready.ensures.names ∙ c.requires.to_file in
+    let named : is_name names file ≡ true = ap (λ (ns : List (List ℕ)). is_name ns file) c.both_ready.ensures.disk.names ∙ c.requires.file in
+    let also : is_name names to_file ≡ true = ap (λ (ns : List (List ℕ)). is_name ns to_file) c.both_ready.ensures.disk.names ∙ c.requires.to_file in
     let at : text_of held.now file ≡ Some seen = search rules in
     let there : text_of held.now to_file ≡ Some found = search rules in
     let old = ready_text two held file seen ready (second_name to_file file) at in
@@ -97,7 +97,7 @@ returns-in_err-plan_across-clause-plans g c tally honest =
     ∙ ap (λ o. refile s file a.path.now to_file a.to.now a.place (Some old.0.bytes) o) second
     ∙ across_is s file a.path.now to_file a.to.now a.place old.0.bytes seen.bytes other.0.bytes found.bytes c.requires.apart old.2 other.2 in
     let refused = move_refused s (texts_across file to_file) told (refile_across a.states.now a.path.now (tree seen.bytes) a.states.now a.to.now (tree found.bytes) a.place)
-    (MakesDocuments file to_file seen.bytes found.bytes) c.plan_across.result why c.requires.unbroken is c.in_err-plan_across.was c.plan_across.ensures in
+    (MakesDocuments file to_file seen.bytes found.bytes) c.plan_across.result why c.requires.between.unbroken is c.in_err-plan_across.was c.plan_across.ensures in
     subst (λ (r : Result Plan RunFault). Plans s told r held new) (sym given)
     (subst (λ (t : Session). Does s told (Err (fault_of_move why)) t) (sym read) refused)
 
@@ -110,10 +110,10 @@ returns-clause-plan g c =
     let seen = c.in-Some.source.now.text in
     let found = c.in-Some-get.target.now.text in
     let plan = c.in_ok-plan_across.field-0 in
-    let ready : AreReady (to_file ∷ file ∷ []) held = c.in_ok-both_ready.ensures.ready [] (none_ready a.files.now.held c.requires.begun) in
+    let ready : AreReady (to_file ∷ file ∷ []) held = c.in_ok-both_ready.ensures.ready [] (none_ready a.files.now.held c.requires.between.begun) in
     let names = c.both_ready.new.files.names in
-    let named : is_name names file ≡ true = ap (λ (ns : List (List ℕ)). is_name ns file) c.both_ready.ensures.names ∙ c.requires.file in
-    let also : is_name names to_file ≡ true = ap (λ (ns : List (List ℕ)). is_name ns to_file) c.both_ready.ensures.names ∙ c.requires.to_file in
+    let named : is_name names file ≡ true = ap (λ (ns : List (List ℕ)). is_name ns file) c.both_ready.ensures.disk.names ∙ c.requires.file in
+    let also : is_name names to_file ≡ true = ap (λ (ns : List (List ℕ)). is_name ns to_file) c.both_ready.ensures.disk.names ∙ c.requires.to_file in
     let at : text_of held.now file ≡ Some seen = search rules in
     let there : text_of held.now to_file ≡ Some found = search rules in
     let made = c.in_ok-plan_across.ensures in
@@ -137,10 +137,10 @@ returns-clause-plans g c tally honest =
     let told = refile s file a.path.now to_file a.to.now a.place text target in
     let plan = c.in_ok-plan_across.field-0 in
     let read : new ≡ s = c.in_ok-both_ready.ensures.reads a.states.now tally honest in
-    let ready : AreReady two held = c.in_ok-both_ready.ensures.ready [] (none_ready a.files.now.held c.requires.begun) in
+    let ready : AreReady two held = c.in_ok-both_ready.ensures.ready [] (none_ready a.files.now.held c.requires.between.begun) in
     let names = c.both_ready.new.files.names in
-    let named : is_name names file ≡ true = ap (λ (ns : List (List ℕ)). is_name ns file) c.both_ready.ensures.names ∙ c.requires.file in
-    let also : is_name names to_file ≡ true = ap (λ (ns : List (List ℕ)). is_name ns to_file) c.both_ready.ensures.names ∙ c.requires.to_file in
+    let named : is_name names file ≡ true = ap (λ (ns : List (List ℕ)). is_name ns file) c.both_ready.ensures.disk.names ∙ c.requires.file in
+    let also : is_name names to_file ≡ true = ap (λ (ns : List (List ℕ)). is_name ns to_file) c.both_ready.ensures.disk.names ∙ c.requires.to_file in
     let at : text_of held.now file ≡ Some seen = search rules in
     let there : text_of held.now to_file ≡ Some found = search rules in
     let old = ready_text two held file seen ready (second_name to_file file) at in

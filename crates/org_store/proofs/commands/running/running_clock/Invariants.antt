@@ -1,9 +1,9 @@
-use Rattle.std.proofs.Common.{◌≡◌, false}
-use Rattle.org_disk.specs.Accounts.{Accounts, Looks}
+use Rattle.std.proofs.Common.{◌≡◌, false, Ok}
 use Rattle.org_journal.specs.Recovered.{contents}
 use Rattle.org_texts.specs.Texts.{held_over}
 use Rattle.org_store.specs.declared.tally.Tally.{Tally}
 use Rattle.org_store.specs.Files.{KeepsHeld}
+use Rattle.org_store.specs.Reading.{OnlyReads}
 use Rattle.org_store.specs.Session.{session_over}
 use Rattle.org_store.proofs.Running.{first_from}
 use Rattle.org_store.proofs.commands.running.running_clock.Given as goal
@@ -13,12 +13,10 @@ abbrev pub invariant-loop-index : goal.invariant-loop-index
 invariant-loop-index g l =
     let disk = g.D.Disk in
     record {
-      names : l.files.names ≡ l.fn.files.names;
       unbroken : l.files.broken ≡ false;
       begun : l.files.held.now ≡ l.files.held.before;
       keeps : KeepsHeld l.fn.files.held l.files.held;
-      accounts : Accounts disk.steady disk.honest disk.failures l.fn.files.disk l.files.disk ⊥;
-      looks : disk.honest l.files.disk → Looks disk.files disk.moment disk.left_since l.fn.files.disk l.files.disk;
+      reads : OnlyReads {A = Unit {0}} disk.steady disk.honest disk.failures disk.files disk.moment disk.left_since l.fn.files l.files (Ok tt);
       same : (tally : Tally) → disk.honest l.files.disk → session_over (λ d. contents (disk.files d)) l.fn.states l.files tally ≡ session_over (λ d. contents (disk.files d)) l.fn.states l.fn.files tally;
       passed : disk.honest l.files.disk → let files = held_over l.fn.files.held.before (contents (disk.files l.fn.files.disk)) in first_from files l.fn.files.names l.index ≡ first_from files l.fn.files.names 0;
     }

@@ -25,14 +25,14 @@ pub unreachable-requires : goal.unreachable-requires
 unreachable-requires g c =
     let held = c.ready.new.self.held in
     let file = c.args.file.now in
-    let ready : AreReady (file ∷ []) held = c.in_ok-ready.ensures.ready [] (none_ready c.args.files.now.held c.requires.begun) in
+    let ready : AreReady (file ∷ []) held = c.in_ok-ready.ensures.ready [] (none_ready c.args.files.now.held c.requires.between.begun) in
     not_missing (λ h. h.now.text) c.get.result (text_of held.now file) c.get.ensures.text (now_held (file ∷ []) held file ready (one_name file)) c.in_default.not-Some
 
 pub outline_of-requires : goal.outline_of-requires
 outline_of-requires g c =
     let held = c.ready.new.self.held in
     let file = c.args.file.now in
-    let ready : AreReady (file ∷ []) held = c.in_ok-ready.ensures.ready [] (none_ready c.args.files.now.held c.requires.begun) in
+    let ready : AreReady (file ∷ []) held = c.in_ok-ready.ensures.ready [] (none_ready c.args.files.now.held c.requires.between.begun) in
     ready_heads (file ∷ []) held file (λ h. h.now.ready) c.get.result c.in-Some.held ready (one_name file) c.get.ensures.ready c.in-Some.is
 
 pub returns-clause-runs : goal.returns-clause-runs
@@ -40,7 +40,7 @@ returns-clause-runs g c =
     let held = c.ready.new.self.held in
     let file = c.args.file.now in
     let seen = c.in-Some.held.now.text in
-    let ready : AreReady (file ∷ []) held = c.in_ok-ready.ensures.ready [] (none_ready c.args.files.now.held c.requires.begun) in
+    let ready : AreReady (file ∷ []) held = c.in_ok-ready.ensures.ready [] (none_ready c.args.files.now.held c.requires.between.begun) in
     let at : text_of held.now file ≡ Some seen = search rules in
     let found : running_in (tree seen.bytes) ≡ c.running-found.result = search rules in
     subst (RunsIn c.undo.new.self.held.before file) found (runs_ready held c.undo.new.self.held.before file seen ready at c.undo.ensures.before)
@@ -50,8 +50,8 @@ returns-clause-reads g c tally honest =
     let d = g.D.Disk in
     let undone = c.undo.ensures in
     let states = c.args.states.now in
-    ap (λ (k : Kept g.row.D.Denot). k.session) (kept_same d.files states c.ready.new.self c.undo.new.self tally undone.disk undone.names undone.broken undone.before)
-    ∙ c.in_ok-ready.ensures.reads states tally (subst d.honest undone.disk honest)
+    ap (λ (k : Kept g.row.D.Denot). k.session) (kept_same d.files states c.ready.new.self c.undo.new.self tally undone.memory undone.before)
+    ∙ c.in_ok-ready.ensures.reads states tally (subst d.honest undone.memory.disk honest)
 
 pub returns-clause-keeps : goal.returns-clause-keeps
 returns-clause-keeps g c = keeps_same c.args.files.now.held c.ready.new.self.held c.undo.new.self.held c.ready.ensures.keeps c.undo.ensures.before

@@ -29,20 +29,20 @@ returns-in_err-ready-clause-does g c tally honest =
     let told = time s a.path.now (text_at s.names s.files a.file.now) in
     let given : c.from_residual.result ≡ Err fault = search rules in
     let reads = subst (λ (r : Result (Unit {0}) RunFault). Reads s r new) c.in_err-ready.was (c.ready.ensures.reads a.states.now tally honest) in
-    subst (λ (r : Result ℕ RunFault). Does s told (result_map_both Time (λ f. f) r) new) (sym given) (does_read (Unit {0}) s new told fault c.requires.unbroken reads)
+    subst (λ (r : Result ℕ RunFault). Does s told (result_map_both Time (λ f. f) r) new) (sym given) (does_read (Unit {0}) s new told fault c.requires.between.unbroken reads)
 
 pub unreachable-requires : goal.unreachable-requires
 unreachable-requires g c =
     let held = c.ready.new.self.held in
     let file = c.args.file.now in
-    let ready : AreReady (file ∷ []) held = c.in_ok-ready.ensures.ready [] (none_ready c.args.files.now.held c.requires.begun) in
+    let ready : AreReady (file ∷ []) held = c.in_ok-ready.ensures.ready [] (none_ready c.args.files.now.held c.requires.between.begun) in
     not_missing (λ h. h.now.text) c.get.result (text_of held.now file) c.get.ensures.text (now_held (file ∷ []) held file ready (one_name file)) c.in_default.not-Some
 
 pub outline_of-requires : goal.outline_of-requires
 outline_of-requires g c =
     let held = c.ready.new.self.held in
     let file = c.args.file.now in
-    let ready : AreReady (file ∷ []) held = c.in_ok-ready.ensures.ready [] (none_ready c.args.files.now.held c.requires.begun) in
+    let ready : AreReady (file ∷ []) held = c.in_ok-ready.ensures.ready [] (none_ready c.args.files.now.held c.requires.between.begun) in
     ready_heads (file ∷ []) held file (λ h. h.now.ready) c.get.result c.in-Some.held ready (one_name file) c.get.ensures.ready c.in-Some.is
 
 pub returns-in_err-clocked-clause-does : goal.returns-in_err-clocked-clause-does
@@ -59,15 +59,15 @@ returns-in_err-clocked-clause-does g c tally honest =
     let why = c.in_err-clocked.field-0.0 in
     let given : c.from_residual-in_err-clocked.result ≡ Err (fault_of_path why) = search rules in
     let read : new ≡ s = c.in_ok-ready.ensures.reads a.states.now tally honest in
-    let ready : AreReady (file ∷ []) held = c.in_ok-ready.ensures.ready [] (none_ready a.files.now.held c.requires.begun) in
-    let named : is_name c.ready.new.self.names file ≡ true = ap (λ (ns : List (List ℕ)). is_name ns file) c.ready.ensures.names ∙ c.requires.name in
+    let ready : AreReady (file ∷ []) held = c.in_ok-ready.ensures.ready [] (none_ready a.files.now.held c.requires.between.begun) in
+    let named : is_name c.ready.new.self.names file ≡ true = ap (λ (ns : List (List ℕ)). is_name ns file) c.ready.ensures.disk.names ∙ c.requires.name in
     let at : text_of held.now file ≡ Some seen = search rules in
     let old = ready_text (file ∷ []) held file seen ready (one_name file) at in
     let before : text_at new.names new.files file ≡ Some old.0.bytes = text_held c.ready.new.self.names held (texts c.ready.new.self.disk) file old.0 named old.1 in
     let found : text ≡ Some old.0.bytes = subst (λ (t : Session). text_at t.names t.files file ≡ Some old.0.bytes) read before in
     let said : ◌≡◌ {A = Result ℕ PathFault} (Err why) (clocked_at s.states a.path.now (tree seen.bytes)) = search rules in
     subst (λ (r : Result ℕ RunFault). Does s told (result_map_both Time (λ f. f) r) new) (sym given)
-    (does_refuse s new told why c.requires.unbroken (ap (time s a.path.now) found ∙ time_is s a.path.now old.0.bytes seen.bytes (Err why) old.2 said) read)
+    (does_refuse s new told why c.requires.between.unbroken (ap (time s a.path.now) found ∙ time_is s a.path.now old.0.bytes seen.bytes (Err why) old.2 said) read)
 
 pub returns-clause-does : goal.returns-clause-does
 returns-clause-does g c tally honest =
@@ -81,12 +81,12 @@ returns-clause-does g c tally honest =
     let text = text_at s.names s.files file in
     let told = time s a.path.now text in
     let read : new ≡ s = c.in_ok-ready.ensures.reads a.states.now tally honest in
-    let ready : AreReady (file ∷ []) held = c.in_ok-ready.ensures.ready [] (none_ready a.files.now.held c.requires.begun) in
-    let named : is_name c.ready.new.self.names file ≡ true = ap (λ (ns : List (List ℕ)). is_name ns file) c.ready.ensures.names ∙ c.requires.name in
+    let ready : AreReady (file ∷ []) held = c.in_ok-ready.ensures.ready [] (none_ready a.files.now.held c.requires.between.begun) in
+    let named : is_name c.ready.new.self.names file ≡ true = ap (λ (ns : List (List ℕ)). is_name ns file) c.ready.ensures.disk.names ∙ c.requires.name in
     let at : text_of held.now file ≡ Some seen = search rules in
     let old = ready_text (file ∷ []) held file seen ready (one_name file) at in
     let before : text_at new.names new.files file ≡ Some old.0.bytes = text_held c.ready.new.self.names held (texts c.ready.new.self.disk) file old.0 named old.1 in
     let found : text ≡ Some old.0.bytes = subst (λ (t : Session). text_at t.names t.files file ≡ Some old.0.bytes) read before in
     let minutes = c.in_ok-clocked.field-0 in
     let said : ◌≡◌ {A = Result ℕ PathFault} (Ok minutes) (clocked_at s.states a.path.now (tree seen.bytes)) = search rules in
-    does_tell s new told minutes c.requires.unbroken (ap (time s a.path.now) found ∙ time_is s a.path.now old.0.bytes seen.bytes (Ok minutes) old.2 said) read
+    does_tell s new told minutes c.requires.between.unbroken (ap (time s a.path.now) found ∙ time_is s a.path.now old.0.bytes seen.bytes (Ok minutes) old.2 said) read

@@ -1,4 +1,4 @@
-use Rattle.std.proofs.Common.{◌≡◌, ◌≢◌, ◌==◌, Ok, Err, List, ℕ, [], length, true, false, Result, Vec, refl, sym, ap, ◌∙◌, subst, rules}
+use Rattle.std.proofs.Common.{◌≡◌, ◌≢◌, ◌==◌, Ok, Err, List, ℕ, [], true, Result, Vec, refl, sym, ap, ◌∙◌, subst, rules}
 use Rattle.std.specs.Global.{Global}
 use Rattle.std.proofs.lemmas.Bool.{false≢true}
 use Rattle.org_splice.specs.declared.edit.Edit.{Edit}
@@ -7,7 +7,7 @@ use Rattle.org_outline.specs.Paths.{titles_of}
 use Rattle.org_stamp.specs.Calendar.{CivilMinute}
 use Rattle.org_state.specs.declared.fault.StateFault.{StateFault}
 use Rattle.org_state.specs.Answers.{AnswersTodo}
-use Rattle.org_store.proofs.Todos.{state_made, state_refused, state_stays}
+use Rattle.org_store.proofs.Todos.{state_made, state_refused}
 use Rattle.org_store.proofs.commands.todo.plan_state.Goals as goal
 
 -- an answer, told of what the outline and the slices are

@@ -25,7 +25,7 @@ returns-then-not-has-clause-plans g c tally honest =
     let s = session_over (λ disk. contents (g.D.Disk.files disk)) a.states.now files tally in
     let missing : is_name files.names a.file.now ≡ false = search rules in
     let none = none_at (held_over files.held.before (contents (g.D.Disk.files files.disk))) files.names a.file.now missing in
-    (c.requires.unbroken, ap (todo s a.file.now a.path.now a.state.now a.moment) none, refl)
+    (c.requires.between.unbroken, ap (todo s a.file.now a.path.now a.state.now a.moment) none, refl)
 
 pub returns-in_err-ready-clause-plans : goal.returns-in_err-ready-clause-plans
 returns-in_err-ready-clause-plans g c tally honest =
@@ -37,20 +37,20 @@ returns-in_err-ready-clause-plans g c tally honest =
     let told = todo s a.file.now a.path.now a.state.now a.moment (text_at s.names s.files a.file.now) in
     let given : c.from_residual.result ≡ Err fault = search rules in
     let reads = subst (λ (r : Result (Unit {0}) RunFault). Reads s r new) c.in_err-ready.was (c.ready.ensures.reads a.states.now tally honest) in
-    subst (λ (r : Result (Option Plan) RunFault). PlansOrStays s told r c.ready.new.self.held new) (sym given) (does_read (Unit {0}) s new told fault c.requires.unbroken reads)
+    subst (λ (r : Result (Option Plan) RunFault). PlansOrStays s told r c.ready.new.self.held new) (sym given) (does_read (Unit {0}) s new told fault c.requires.between.unbroken reads)
 
 pub unreachable-requires : goal.unreachable-requires
 unreachable-requires g c =
     let held = c.ready.new.self.held in
     let file = c.args.file.now in
-    let ready : AreReady (file ∷ []) held = c.in_ok-ready.ensures.ready [] (none_ready c.args.files.now.held c.requires.begun) in
+    let ready : AreReady (file ∷ []) held = c.in_ok-ready.ensures.ready [] (none_ready c.args.files.now.held c.requires.between.begun) in
     not_missing (λ h. h.now.text) c.get.result (text_of held.now file) c.get.ensures.text (now_held (file ∷ []) held file ready (one_name file)) c.in_default.not-Some
 
 pub plan_state-requires : goal.plan_state-requires
 plan_state-requires g c =
     let held = c.ready.new.self.held in
     let file = c.args.file.now in
-    let ready : AreReady (file ∷ []) held = c.in_ok-ready.ensures.ready [] (none_ready c.args.files.now.held c.requires.begun) in
+    let ready : AreReady (file ∷ []) held = c.in_ok-ready.ensures.ready [] (none_ready c.args.files.now.held c.requires.between.begun) in
     record { ready = ready_heads (file ∷ []) held file (λ h. h.now.ready) c.get.result c.in-Some.held ready (one_name file) c.get.ensures.ready c.in-Some.is }
 
 pub returns-in_err-plan_state-clause-plans : goal.returns-in_err-plan_state-clause-plans
@@ -67,14 +67,14 @@ returns-in_err-plan_state-clause-plans g c tally honest =
     let why = c.in_err-plan_state.field-0.0 in
     let given : c.from_residual-in_err-plan_state.result ≡ Err (fault_of_state why) = search rules in
     let read : new ≡ s = c.in_ok-ready.ensures.reads a.states.now tally honest in
-    let ready : AreReady (file ∷ []) held = c.in_ok-ready.ensures.ready [] (none_ready a.files.now.held c.requires.begun) in
+    let ready : AreReady (file ∷ []) held = c.in_ok-ready.ensures.ready [] (none_ready a.files.now.held c.requires.between.begun) in
     let there : is_name a.files.now.names file ≡ true = search rules in
-    let named : is_name c.ready.new.self.names file ≡ true = ap (λ (ns : List (List ℕ)). is_name ns file) c.ready.ensures.names ∙ there in
+    let named : is_name c.ready.new.self.names file ≡ true = ap (λ (ns : List (List ℕ)). is_name ns file) c.ready.ensures.disk.names ∙ there in
     let at : text_of held.now file ≡ Some seen = search rules in
     let old = ready_text (file ∷ []) held file seen ready (one_name file) at in
     let before : text_at new.names new.files file ≡ Some old.0.bytes = text_held c.ready.new.self.names held (texts c.ready.new.self.disk) file old.0 named old.1 in
     let found : text ≡ Some old.0.bytes = subst (λ (t : Session). text_at t.names t.files file ≡ Some old.0.bytes) read before in
-    let refused = todo_refused s file a.path.now a.state.now a.moment old.0.bytes seen.bytes c.plan_state.result why c.requires.unbroken old.2 c.in_err-plan_state.was c.plan_state.ensures in
+    let refused = todo_refused s file a.path.now a.state.now a.moment old.0.bytes seen.bytes c.plan_state.result why c.requires.between.unbroken old.2 c.in_err-plan_state.was c.plan_state.ensures in
     subst (λ (r : Result (Option Plan) RunFault). PlansOrStays s told r held new) (sym given)
     (subst (λ o. Does s (todo s file a.path.now a.state.now a.moment o) (Err (fault_of_state why)) new) (sym found)
     (subst (λ (t : Session). Does s (todo s file a.path.now a.state.now a.moment (Some old.0.bytes)) (Err (fault_of_state why)) t) (sym read) refused))
@@ -85,9 +85,9 @@ returns-clause-plan g c =
     let held = c.ready.new.self.held in
     let file = a.file.now in
     let seen = c.in-Some.held.now.text in
-    let ready : AreReady (file ∷ []) held = c.in_ok-ready.ensures.ready [] (none_ready a.files.now.held c.requires.begun) in
+    let ready : AreReady (file ∷ []) held = c.in_ok-ready.ensures.ready [] (none_ready a.files.now.held c.requires.between.begun) in
     let there : is_name a.files.now.names file ≡ true = search rules in
-    let named : is_name c.ready.new.self.names file ≡ true = ap (λ (ns : List (List ℕ)). is_name ns file) c.ready.ensures.names ∙ there in
+    let named : is_name c.ready.new.self.names file ≡ true = ap (λ (ns : List (List ℕ)). is_name ns file) c.ready.ensures.disk.names ∙ there in
     let at : text_of held.now file ≡ Some seen = search rules in
     state_fits c.ready.new.self.names held file seen (in_state a.states.now a.path.now a.state.now a.moment (tree seen.bytes)) c.in_ok-plan_state.field-0 c.in_ok-plan_state.ensures at named ready
 
@@ -103,9 +103,9 @@ returns-clause-plans g c tally honest =
     let text = text_at s.names s.files file in
     let told = todo s file a.path.now a.state.now a.moment text in
     let read : new ≡ s = c.in_ok-ready.ensures.reads a.states.now tally honest in
-    let ready : AreReady (file ∷ []) held = c.in_ok-ready.ensures.ready [] (none_ready a.files.now.held c.requires.begun) in
+    let ready : AreReady (file ∷ []) held = c.in_ok-ready.ensures.ready [] (none_ready a.files.now.held c.requires.between.begun) in
     let there : is_name a.files.now.names file ≡ true = search rules in
-    let named : is_name c.ready.new.self.names file ≡ true = ap (λ (ns : List (List ℕ)). is_name ns file) c.ready.ensures.names ∙ there in
+    let named : is_name c.ready.new.self.names file ≡ true = ap (λ (ns : List (List ℕ)). is_name ns file) c.ready.ensures.disk.names ∙ there in
     let at : text_of held.now file ≡ Some seen = search rules in
     let old = ready_text (file ∷ []) held file seen ready (one_name file) at in
     let before : text_at new.names new.files file ≡ Some old.0.bytes = text_held c.ready.new.self.names held (texts c.ready.new.self.disk) file old.0 named old.1 in

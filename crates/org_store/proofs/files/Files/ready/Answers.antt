@@ -20,9 +20,9 @@ returns-in_err-make_ready-clause-reads g c states tally honest =
     let given : c.from_residual-in_err-make_ready.result ≡ Err OutOfMemory = search rules in
     let texts : g.row.D.Denot → Image = λ disk. contents (g.D.Disk.files disk) in
     let made = c.make_ready.ensures in
-    let was = subst g.D.Disk.honest made.disk honest in
-    let same = session_still texts states c.load.new.self c.make_ready.new.self tally made.names (ap texts made.disk)
-    (λ name. ap (λ (s : TextSet). held_over s (texts c.make_ready.new.self.disk) name) made.before ∙ ap (λ (f : Image). held_over c.load.new.self.held.before f name) (ap texts made.disk)) made.broken in
+    let was = subst g.D.Disk.honest made.memory.disk honest in
+    let same = session_still texts states c.load.new.self c.make_ready.new.self tally made.memory.names (ap texts made.memory.disk)
+    (λ name. ap (λ (s : TextSet). held_over s (texts c.make_ready.new.self.disk) name) made.before ∙ ap (λ (f : Image). held_over c.load.new.self.held.before f name) (ap texts made.memory.disk)) made.memory.broken in
     let read : session_over texts states c.load.new.self tally ≡ session_over texts states c.args.self.now tally = c.in_ok-load.ensures.reads states tally was in
     subst (λ r. Reads (session_over texts states c.args.self.now tally) r (session_over texts states c.make_ready.new.self tally)) (sym given) (same ∙ read)
 
@@ -30,9 +30,9 @@ pub returns-clause-reads : goal.returns-clause-reads
 returns-clause-reads g c states tally honest =
     let texts : g.row.D.Denot → Image = λ disk. contents (g.D.Disk.files disk) in
     let made = c.make_ready.ensures in
-    let was = subst g.D.Disk.honest made.disk honest in
-    let same = session_still texts states c.load.new.self c.make_ready.new.self tally made.names (ap texts made.disk)
-    (λ name. ap (λ (s : TextSet). held_over s (texts c.make_ready.new.self.disk) name) made.before ∙ ap (λ (f : Image). held_over c.load.new.self.held.before f name) (ap texts made.disk)) made.broken in
+    let was = subst g.D.Disk.honest made.memory.disk honest in
+    let same = session_still texts states c.load.new.self c.make_ready.new.self tally made.memory.names (ap texts made.memory.disk)
+    (λ name. ap (λ (s : TextSet). held_over s (texts c.make_ready.new.self.disk) name) made.before ∙ ap (λ (f : Image). held_over c.load.new.self.held.before f name) (ap texts made.memory.disk)) made.memory.broken in
     same ∙ c.in_ok-load.ensures.reads states tally was
 
 pub returns-in_err-make_ready-clause-keeps : goal.returns-in_err-make_ready-clause-keeps

@@ -1,0 +1,60 @@
+-- Calls that only read: handed on, and one after another.
+use Rattle.std.proofs.Common.{◌≡◌, ◌∙◌, ℕ, List, Result, Ok, Err, sym}
+use Rattle.std.specs.Prelude.{IsErrOf}
+use Rattle.org_disk.specs.Accounts.{Accounts}
+use Rattle.org_disk.specs.Disk.{FileState}
+use Rattle.org_disk.proofs.Accounting.{accounts_fine, accounts_then, looks_then}
+use Rattle.org_journal.specs.Recovered.{Image}
+use Rattle.org_store.specs.declared.command.RunFault.{RunFault}
+use Rattle.org_store.specs.declared.command.RunFault.TheVariants.{Device, Broken}
+use Rattle.org_store.specs.Files.{OpenFiles}
+use Rattle.org_store.specs.Reading.{OnlyReads}
+
+-- the accounts of a call, where another answer fails just where its own does
+accounts_as : {D : Type 0} {steady : Type 0} {honest : D → Type 0} {failures : D → ℕ} {old new : D} {Failed Fails : Type 0} → (Fails → Failed) → (Failed → Fails)
+    → Accounts steady honest failures old new Failed → Accounts steady honest failures old new Fails
+accounts_as back on call = record {
+  was_honest = call.was_honest;
+  stays_honest = call.stays_honest;
+  no_less = call.no_less;
+  risen = λ fails. call.risen (back fails);
+  equal = λ fine. call.equal (λ failed. fine (on failed));
+}
+
+-- one fault, in answers of two types
+same_fault : {A B : Type 0} (fault other : RunFault) → ◌≡◌ {A = Result A RunFault} (Err fault) (Err other) → ◌≡◌ {A = Result B RunFault} (Err fault) (Err other)
+same_fault fault other is = let one : fault ≡ other = cc in cc
+
+module _ {D : Type 0} {steady : Type 0} {honest : D → Type 0} {failures : D → ℕ} {files : D → List ℕ → FileState} {moment : D → ℕ} {left_since : D → ℕ → Image → Type 0} {A B : Type 0} where
+  -- a call, and another answer that has these faults just where its own has
+  only_reads_as : {old new : OpenFiles D} {first : Result A RunFault} {second : Result B RunFault} → (IsErrOf second Broken → IsErrOf first Broken) → (IsErrOf second Device → IsErrOf first Device)
+      → (IsErrOf first Device → IsErrOf second Device) → OnlyReads steady honest failures files moment left_since old new first → OnlyReads steady honest failures files moment left_since old new second
+  only_reads_as broken back on call = record {
+    looks = call.looks;
+    names = call.names;
+    works = λ was. call.works (broken was);
+    breaks = (λ fell. call.breaks.0 (back fell), λ fell. on (call.breaks.1 fell));
+    accounts = accounts_as back on call.accounts;
+  }
+
+  -- its fault, handed on
+  pub only_reads_fault : {old new : OpenFiles D} {fault : RunFault} {answer : Result B RunFault} → answer ≡ Err fault
+      → OnlyReads {A = A} steady honest failures files moment left_since old new (Err fault) → OnlyReads steady honest failures files moment left_since old new answer
+  only_reads_fault {fault = fault} is call =
+      only_reads_as (λ broken. same_fault fault Broken (sym is ∙ broken)) (λ fell. same_fault fault Device (sym is ∙ fell)) (λ fell. is ∙ same_fault fault Device fell) call
+
+  -- an answer of its own, behind a call that didn't fail
+  pub only_reads_fine : {old new : OpenFiles D} {x : A} {answer : Result B RunFault} → (IsErrOf answer Broken → ⊥) → (IsErrOf answer Device → ⊥)
+      → OnlyReads steady honest failures files moment left_since old new (Ok x) → OnlyReads steady honest failures files moment left_since old new answer
+  only_reads_fine works stays call = only_reads_as (λ broken. absurd (works broken)) (λ fell. absurd (stays fell)) (λ fell. absurd (cc)) call
+
+  -- a call that didn't fail, and one after it
+  pub only_reads_then : {old mid new : OpenFiles D} {x : A} {answer : Result B RunFault} → OnlyReads steady honest failures files moment left_since old mid (Ok x)
+      → OnlyReads steady honest failures files moment left_since mid new answer → OnlyReads steady honest failures files moment left_since old new answer
+  only_reads_then first second = record {
+    looks = λ h. looks_then (first.looks (second.accounts.was_honest h)) (second.looks h);
+    names = second.names ∙ first.names;
+    works = second.works;
+    breaks = second.breaks;
+    accounts = accounts_then (accounts_fine (λ fell. absurd (cc)) first.accounts) second.accounts;
+  }
