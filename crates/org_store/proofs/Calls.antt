@@ -19,6 +19,7 @@ use Rattle.org_store.specs.Outcome.{Accepts, AsksToSettle, outcome}
 use Rattle.org_store.specs.Runs.{RunsOver, SettlesOver, IsOnDisk}
 use Rattle.org_store.specs.Session.{Session, Kept, Holds}
 use Rattle.org_store.specs.Step.{Step, Settles}
+use Rattle.org_store.specs.Waiting.{Waits, WaitsSettled}
 use Rattle.org_store.proofs.History.{Begin, Counts, adds, begin_adds, further, lists_settling, lists_step, none_added, same_or_sound, texts_after, torn}
 use Rattle.org_store.proofs.Keeping.{left_as}
 use Rattle.org_store.proofs.Runs.{Course, answers_broken, course_none, course_run, course_leaves, falls, leaves_as, settling_ends}
@@ -54,6 +55,10 @@ module _ {D : Type 0} (files : D → List ℕ → FileState) (moment : D → ℕ
   abbrev AllMade : Past D → List Call → Past D → Type 0
   AllMade old calls new = CallsPast files moment left_since old calls new
 
+  waits_settled : (old new : Kept D) (n : ℕ) (answer : Result (Unit {0}) RunFault) → WaitsSettled old.waiting answer new.waiting → Waits old AsksToSettle (reply_of n answer) new
+  waits_settled old new n (Ok done) waits = waits
+  waits_settled old new n (Err fault) waits = waits
+
   settling_runs : (old new : Kept D) (answer : Result (Unit {0}) RunFault) → SettlesOver files moment left_since old answer new
       → RunsOver files moment left_since old Settle (reply_of old.session.accepted answer) new
   settling_runs old new answer ran =
@@ -69,6 +74,8 @@ module _ {D : Type 0} (files : D → List ℕ → FileState) (moment : D → ℕ
         };
         untouched = λ broken. ran.untouched (fault_of_reply n answer Broken broken);
         nothing = λ is. ran.nothing;
+        waits = waits_settled old new n answer ran.waits;
+        unneeded = λ is. ran.unneeded;
       }
 
   -- The list goes on with each call.

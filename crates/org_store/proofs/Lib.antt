@@ -2,6 +2,7 @@ mod Rows
 pub mod InOrder
 pub mod Committing
 pub mod Held
+pub mod Waiting
 pub mod Quiet
 pub mod Commits
 pub mod Keeping

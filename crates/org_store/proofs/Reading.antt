@@ -32,6 +32,7 @@ module _ {D : Type 0} {steady : Type 0} {honest : D → Type 0} {failures : D �
   only_reads_as broken back on call = record {
     looks = call.looks;
     names = call.names;
+    waits = call.waits;
     works = λ was. call.works (broken was);
     breaks = (λ fell. call.breaks.0 (back fell), λ fell. on (call.breaks.1 fell));
     accounts = accounts_as back on call.accounts;
@@ -54,6 +55,7 @@ module _ {D : Type 0} {steady : Type 0} {honest : D → Type 0} {failures : D �
   only_reads_then first second = record {
     looks = λ h. looks_then (first.looks (second.accounts.was_honest h)) (second.looks h);
     names = second.names ∙ first.names;
+    waits = second.waits ∙ first.waits;
     works = second.works;
     breaks = second.breaks;
     accounts = accounts_then (accounts_fine (λ fell. absurd (cc)) first.accounts) second.accounts;

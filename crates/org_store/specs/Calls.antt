@@ -22,7 +22,7 @@ pub data Call : Type 0 where
 
 -- The store in groups of this size.
 abbrev pub grouped : {D : Type 0} → ℕ → Kept D → Kept D
-grouped group old = record { disk = old.disk; session = record old.session { group = group } }
+grouped group old = record old { session = record old.session { group = group } }
 
 -- A call was made over a disk of the type D that is honest after it: the clauses of the function that was called.
 abbrev pub CallOver : {D : Type 0} → (D → List ℕ → FileState) → (D → ℕ) → (D → ℕ → Image → Type 0) → Kept D → Call → Kept D → Type 0

@@ -10,6 +10,7 @@ pub mod Quiet
 pub mod Clocking
 pub mod Outcome
 pub mod Step
+pub mod Waiting
 pub mod Left
 pub mod History
 pub mod Counts

@@ -15,6 +15,8 @@ pub record OnlyReads {D A : Type 0} (steady : Type 0) (honest : D → Type 0) (f
   -- the disk is only looked at
   pub looks : honest new.disk → Looks files moment left_since old.disk new.disk
   pub names : new.names ≡ old.names
+  -- of the texts as they were before the command, the same wait for a commit
+  pub waits : new.held.before.waiting ≡ old.held.before.waiting
   -- the answer isn't that the files were broken before ..
   pub works : IsErrOf answer Broken → ⊥
   -- .. and it is the device's fault exactly where they are broken afterwards

@@ -1,6 +1,6 @@
 -- Calls of a store over a disk: what each of them promises of it, and what a crash leaves
 -- meanwhile.
-use Rattle.std.specs.Prelude.{◌≡◌, ℕ, List, Result, IsErrOf}
+use Rattle.std.specs.Prelude.{◌≡◌, ℕ, List, [], Result, IsErrOf}
 use Rattle.org_disk.specs.Disk.{FileState, LeavesOnly}
 use Rattle.org_journal.specs.Recovered.{Image, SameFiles, IsRecoverable, contents}
 use Rattle.org_fileset.specs.Replay.{IsAtRest}
@@ -14,6 +14,7 @@ use Rattle.org_store.specs.Session.{Session, Kept}
 use Rattle.org_store.specs.Outcome.{AsksToSettle, outcome}
 use Rattle.org_store.specs.Step.{Step, Settles}
 use Rattle.org_store.specs.Left.{IsLeft}
+use Rattle.org_store.specs.Waiting.{Waits, WaitsSettled}
 
 -- What a call of a store leaves of its disk, where the disk is honest after it. `files`, `moment` and `left_since` are
 -- what is seen of a disk of the type D; `Left` is what a crash may leave while the call runs, and `Failed` says that
@@ -35,6 +36,8 @@ pub record RunsOver {D : Type 0} (files : D → List ℕ → FileState) (moment 
   pub disk : LeavesDisk files moment left_since old new (IsLeft old.session (contents (files old.disk)) (outcome old.session command) answer new.session.accepted) (IsErrOf answer Device)
   pub untouched : IsErrOf answer Broken → new ≡ old
   pub nothing : command ≡ Settle → old.session.acknowledged ≡ old.session.accepted → new ≡ old
+  pub waits : Waits old (outcome old.session command) answer new
+  pub unneeded : command ≡ Settle → old.waiting ≡ [] → new.disk ≡ old.disk
 
 -- The same of settling: the clauses of `Store::settle`.
 pub record SettlesOver {D : Type 0} (files : D → List ℕ → FileState) (moment : D → ℕ) (left_since : D → ℕ → Image → Type 0) (old : Kept D) (answer : Result (Unit {0}) RunFault) (new : Kept D) : Type 0 where
@@ -42,6 +45,8 @@ pub record SettlesOver {D : Type 0} (files : D → List ℕ → FileState) (mome
   pub disk : LeavesDisk files moment left_since old new (IsLeft old.session (contents (files old.disk)) AsksToSettle answer new.session.accepted) (IsErrOf answer Device)
   pub untouched : IsErrOf answer Broken → new ≡ old
   pub nothing : old.session.acknowledged ≡ old.session.accepted → new ≡ old
+  pub waits : WaitsSettled old.waiting answer new.waiting
+  pub unneeded : old.waiting ≡ [] → new.disk ≡ old.disk
 
 -- The texts that are settled are those of the disk's files.
 abbrev pub IsOnDisk : Session → Image → Type 0

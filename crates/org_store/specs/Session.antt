@@ -26,10 +26,12 @@ pub record Session : Type 0 where
   -- a call of the disk failed: the store does nothing any more
   pub broken : Bool
 
--- a store over a disk of the type D
+-- A store over a disk of the type D: with the names of the files that wait for a commit, in the order in which commands
+-- touched them.
 pub record Kept (D : Type 0) : Type 0 where
   pub disk : D
   pub session : Session
+  pub waiting : List (List ℕ)
 
 -- the image recovers to these texts of the store's files, and for these other files
 abbrev pub Holds : Session → Image → List (List ℕ) → Image → Type 0
@@ -50,5 +52,8 @@ session_over texts states files tally = record {
 
 -- .. and the store
 abbrev pub kept_over : {D : Type 0} → (D → List ℕ → FileState) → Keywords → OpenFiles D → Tally → Kept D
-kept_over files states opened tally =
-    record { disk = opened.disk; session = session_over (λ disk. contents (files disk)) states opened tally }
+kept_over files states opened tally = record {
+  disk = opened.disk;
+  session = session_over (λ disk. contents (files disk)) states opened tally;
+  waiting = opened.held.before.waiting;
+}

@@ -14,6 +14,8 @@ ghost use Rattle.org_store.specs.Outcome.{Accepts, IsChange, changed, counted, o
 ghost use Rattle.org_store.specs.Reading.{OnlyReads};
 ghost use Rattle.org_store.specs.Runs.{LeavesDisk};
 ghost use Rattle.org_store.specs.Session.{kept_over};
+ghost use Rattle.org_store.specs.Step.{fills};
+ghost use Rattle.org_store.specs.Waiting.{Waits, WaitsAccepted, WaitsCounted};
 
 use crate::command::{Command, Refusal, Reply, RunFault};
 use crate::commands::archive::plan_archive;
@@ -49,6 +51,9 @@ fn keep_or_settle<D: Disk>(files: &mut Files<D>, tally: &mut Tally) -> Result<()
     ensures counts { (states : Keywords)
         → KeepsCounts (kept_over D.files states files.old tally.old).session result
         (kept_over D.files states files.new tally.new).session }
+    ensures waits { (states : Keywords)
+        → WaitsCounted (fills (kept_over D.files states files.old tally.old).session) files.old.held
+        result files.new.held }
     ensures begun { files.new.held.now ≡ files.new.held.before }
     ensures counted { tally.new.acknowledged ≤ tally.new.accepted }
     ensures breaks { IsErrOf result RunFault.Device ↔ IsTrue files.new.broken }
@@ -90,6 +95,9 @@ fn count<D: Disk>(files: &mut Files<D>, tally: &mut Tally) -> Result<Reply, RunF
         (counted (kept_over D.files states files.old tally.old).session
         (texts_of (held_over files.old.held.now (contents (D.files files.old.disk)))
         files.old.names)) result (kept_over D.files states files.new tally.new) }
+    ensures waits { (states : Keywords)
+        → WaitsCounted (fills (kept_over D.files states files.old tally.old).session) files.old.held
+        result files.new.held }
     ensures begun { files.new.held.now ≡ files.new.held.before }
     ensures counted { tally.new.acknowledged ≤ tally.new.accepted }
     ensures accounts { Accounts D.steady D.honest D.failures files.old.disk files.new.disk
@@ -114,6 +122,9 @@ fn accept<D: Disk>(files: &mut Files<D>, tally: &mut Tally, plan: &Plan) -> Resu
         (changed (kept_over D.files states files.old tally.old).session
         (new_texts plan.now files.old.held.now)) result
         (kept_over D.files states files.new tally.new) }
+    ensures waits { (states : Keywords)
+        → WaitsAccepted (fills (kept_over D.files states files.old tally.old).session)
+        (new_texts plan.now files.old.held.now) files.old.held result files.new.held }
     ensures begun { files.new.held.now ≡ files.new.held.before }
     ensures counted { tally.new.acknowledged ≤ tally.new.accepted }
     ensures accounts { Accounts D.steady D.honest D.failures files.old.disk files.new.disk
@@ -131,6 +142,9 @@ fn accept_unchanged<D: Disk>(files: &mut Files<D>, tally: &mut Tally) -> Result<
         → Acts D.files D.moment D.left_since D.honest (kept_over D.files states files.old tally.old)
         (changed (kept_over D.files states files.old tally.old).session []) result
         (kept_over D.files states files.new tally.new) }
+    ensures waits { (states : Keywords)
+        → WaitsAccepted (fills (kept_over D.files states files.old tally.old).session) []
+        files.old.held result files.new.held }
     ensures begun { files.new.held.now ≡ files.new.held.before }
     ensures counted { tally.new.acknowledged ≤ tally.new.accepted }
     ensures accounts { Accounts D.steady D.honest D.failures files.old.disk files.new.disk
@@ -212,6 +226,10 @@ pub(crate) fn change<D: Disk>(
     requires counted { tally.old.acknowledged ≤ tally.old.accepted }
     ensures acts { Acts D.files D.moment D.left_since D.honest
         (kept_over D.files states.now files.old tally.old)
+        (outcome (kept_over D.files states.now files.old tally.old).session command.now) result
+        (kept_over D.files states.now files.new tally.new) }
+    ensures waits { D.honest files.new.disk
+        → Waits (kept_over D.files states.now files.old tally.old)
         (outcome (kept_over D.files states.now files.old tally.old).session command.now) result
         (kept_over D.files states.now files.new tally.new) }
     ensures begun { files.new.held.now ≡ files.new.held.before }

@@ -280,6 +280,7 @@ impl<D: Disk> Files<D> {
             self.old.names ≡ texts_of (held_over self.old.held.now
             (contents (D.files self.old.disk))) self.old.names) }
         ensures begun { OnOk result (self.new.held.now ≡ self.new.held.before) }
+        ensures settled { OnOk result (self.new.held.now.waiting ≡ []) }
         ensures held { OnErr result (self.new.held ≡ self.old.held) }
         ensures memory { IsErrOf result SetFault.OutOfMemory → self.new ≡ self.old }
         ensures nothing { self.old.held.now.waiting ≡ [] → self.new.disk ≡ self.old.disk }

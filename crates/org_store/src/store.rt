@@ -1,5 +1,5 @@
 //! A store over a disk.
-ghost use Rattle.std.specs.Prelude.{◌≡◌, ◌⊎◌, ◌↔◌, IfOk, IfErr, IsErrOf, IsTrue, None};
+ghost use Rattle.std.specs.Prelude.{◌≡◌, ◌⊎◌, ◌↔◌, [], IfOk, IfErr, IsErrOf, IsTrue, None};
 ghost use Rattle.std.specs.List.{All};
 ghost use Rattle.org_disk.specs.Accounts.{Accounts};
 ghost use Rattle.org_disk.specs.Names.{IsOrgFile};
@@ -17,6 +17,7 @@ ghost use Rattle.org_store.specs.Step.{Step, Settles};
 ghost use Rattle.org_store.specs.Left.{IsLeft};
 ghost use Rattle.org_store.specs.Outcome.{AsksToSettle, outcome};
 ghost use Rattle.org_store.specs.Counts.{Counts, SettledCounts};
+ghost use Rattle.org_store.specs.Waiting.{Waits, WaitsSettled};
 
 use crate::changing::change;
 use crate::command::{Command, Reply, RunFault};
@@ -32,7 +33,7 @@ use std::marker::Model;
 
 /// Org files on a disk, and what was done to them since the store was opened.
 ///
-/// A clause sees its disk and its session (specs/Session.antt). What is said of files and of crashes is said where the
+/// A clause sees its disk, its session (specs/Session.antt) and which of its files wait for a commit. What is said of files and of crashes is said where the
 /// disk is honest after the call; of crashes in `run` and `settle` also only where it was at rest, as an opening of a
 /// recoverable disk and each call without a failure leave it (`LeavesDisk`, specs/Runs.antt). A store that is broken
 /// does nothing any more: open its files anew.
@@ -47,17 +48,19 @@ impl<D: Disk> Model for Store<D> {
     ghost use Rattle.std.specs.Prelude.{◌≡◌, ◌≤◌};
     ghost use Rattle.org_store.specs.Session.{Kept, kept_over};
     ghost use Rattle.org_store.specs.Step.{IsSettled};
+    ghost use Rattle.org_store.specs.Waiting.{NoneWaits};
 
     ghost Value = { Kept D };
 
     ghost view = { λ s. kept_over D.files s.states s.files s.tally };
 
-    // Between commands nothing is edited that isn't kept, and where all commands are acknowledged, their texts are on the
-    // disk.
+    // Between commands nothing is edited that isn't kept, and where all commands are acknowledged, none of their texts
+    // waits, and they are on the disk.
     ghost invariant = { λ s. (s.tally.acknowledged ≤ s.tally.accepted)
         × (s.files.held.now ≡ s.files.held.before)
         × (D.honest s.files.disk
-        → IsSettled (kept_over D.files s.states s.files s.tally).session) };
+        → IsSettled (kept_over D.files s.states s.files s.tally).session
+        × NoneWaits (kept_over D.files s.states s.files s.tally)) };
 }
 
 impl<D: Disk> Store<D> {
@@ -84,6 +87,7 @@ impl<D: Disk> Store<D> {
             (texts_of (contents (D.files store.disk)) store.session.names)) }
         ensures names { IfOk result (λ store. AreFew names.items
             × AreSorted (with_archives names.items) store.session.names) }
+        ensures waits { IfOk result (λ store. store.waiting ≡ []) }
         ensures reopens { let now = disk_in result (λ store. store.disk) in D.honest now
             → Reopens D.files D.moment D.left_since disk now result }
         ensures sizes { IfOk result (λ store. D.honest store.disk
@@ -157,7 +161,8 @@ impl<D: Disk> Store<D> {
     /// At every moment since the call began, what a crash leaves recovers to the files after the commands that were
     /// acknowledged then, or for those after all that are accepted. `OutOfMemory` leaves files and counts as they were.
     /// `Device` comes only where the disk counted a failure in this call, and breaks the store; `Broken` comes exactly
-    /// where it was broken before. Where no accepted command waits to be acknowledged, it does nothing.
+    /// where it was broken before. Where no accepted command waits to be acknowledged, it does nothing; where no file
+    /// waits for a commit, it makes no call of the disk.
     pub fn settle(&mut self) -> Result<(), RunFault>
         ensures step { D.honest self.new.disk → Settles self.old.session result self.new.session }
         ensures disk { D.honest self.new.disk
@@ -169,6 +174,9 @@ impl<D: Disk> Store<D> {
         ensures untouched { IsErrOf result RunFault.Broken → self.new ≡ self.old }
         ensures nothing { self.old.session.acknowledged ≡ self.old.session.accepted
             → self.new ≡ self.old }
+        ensures waits { D.honest self.new.disk
+            → WaitsSettled self.old.waiting result self.new.waiting }
+        ensures unneeded { self.old.waiting ≡ [] → self.new.disk ≡ self.old.disk }
         ensures breaks { IsTrue self.new.session.broken
             ↔ (IsTrue self.old.session.broken ⊎ IsErrOf result RunFault.Device) }
         ensures accounts { Accounts D.steady D.honest D.failures self.old.disk self.new.disk
@@ -193,7 +201,7 @@ impl<D: Disk> Store<D> {
     /// `Refused` and `OutOfMemory` leave files and counts as they were; where a settling finds no memory, this command
     /// is undone, and those before it stay pending. `Device` comes only where the disk counted a failure in this call,
     /// and breaks the store; `Broken` comes exactly where it was broken before. `Settle` does nothing where no accepted
-    /// command waits to be acknowledged.
+    /// command waits to be acknowledged, and makes no call of the disk where no file waits for a commit.
     pub fn run(&mut self, command: &Command) -> Result<Reply, RunFault>
         ensures step { D.honest self.new.disk
             → Step self.old.session command.now result self.new.session }
@@ -207,6 +215,10 @@ impl<D: Disk> Store<D> {
         ensures untouched { IsErrOf result RunFault.Broken → self.new ≡ self.old }
         ensures nothing { command.now ≡ Command.Settle
             → self.old.session.acknowledged ≡ self.old.session.accepted → self.new ≡ self.old }
+        ensures waits { D.honest self.new.disk
+            → Waits self.old (outcome self.old.session command.now) result self.new }
+        ensures unneeded { command.now ≡ Command.Settle → self.old.waiting ≡ []
+            → self.new.disk ≡ self.old.disk }
         ensures breaks { IsTrue self.new.session.broken
             ↔ (IsTrue self.old.session.broken ⊎ IsErrOf result RunFault.Device) }
         ensures accounts { Accounts D.steady D.honest D.failures self.old.disk self.new.disk

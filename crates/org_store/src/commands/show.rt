@@ -8,6 +8,7 @@ ghost use Rattle.org_store.specs.InOrder.{text_at};
 ghost use Rattle.org_store.specs.Keeping.{Acts};
 ghost use Rattle.org_store.specs.Outcome.{show};
 ghost use Rattle.org_store.specs.Session.{kept_over};
+ghost use Rattle.org_store.specs.Waiting.{Waits};
 
 use crate::command::{Refusal, Reply, RunFault};
 use crate::files::Files;
@@ -19,6 +20,10 @@ pub(crate) fn show<D: Disk>(files: &mut Files<D>, file: &FileName) -> Result<Rep
     requires between { AreBetweenCommands files.old }
     ensures acts { (states : Keywords) → (tally : Tally)
         → Acts D.files D.moment D.left_since D.honest (kept_over D.files states files.old tally)
+        (show (text_at files.old.names (kept_over D.files states files.old tally).session.files
+        file.now)) result (kept_over D.files states files.new tally) }
+    ensures waits { (states : Keywords) → (tally : Tally)
+        → Waits (kept_over D.files states files.old tally)
         (show (text_at files.old.names (kept_over D.files states files.old tally).session.files
         file.now)) result (kept_over D.files states files.new tally) }
     ensures begun { files.new.held.now ≡ files.new.held.before }

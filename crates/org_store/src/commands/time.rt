@@ -10,6 +10,7 @@ ghost use Rattle.org_store.specs.Outcome.{time};
 ghost use Rattle.org_store.specs.Reading.{OnlyReads};
 ghost use Rattle.org_store.specs.Session.{kept_over};
 ghost use Rattle.org_store.specs.Step.{Does};
+ghost use Rattle.org_store.specs.Waiting.{Waits};
 
 use crate::command::{Refusal, Reply, RunFault};
 use crate::commands::outline::outline_of;
@@ -54,6 +55,11 @@ pub(crate) fn time<D: Disk>(
     ensures acts { (tally : Tally)
         → let old = kept_over D.files states.now files.old tally in
         Acts D.files D.moment D.left_since D.honest old
+        (time old.session path.now (text_at old.session.names old.session.files file.now)) result
+        (kept_over D.files states.now files.new tally) }
+    ensures waits { (tally : Tally)
+        → let old = kept_over D.files states.now files.old tally in
+        Waits old
         (time old.session path.now (text_at old.session.names old.session.files file.now)) result
         (kept_over D.files states.now files.new tally) }
     ensures begun { files.new.held.now ≡ files.new.held.before }

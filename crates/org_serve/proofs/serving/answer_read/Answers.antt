@@ -13,6 +13,8 @@ returns-in-Ok-clause-step g c =
       disk = e.disk honest;
       untouched = e.untouched;
       nothing = e.nothing;
+      waits = e.waits honest;
+      unneeded = e.unneeded;
     } in
     rw c.in-Ok.is (
       answer_text c.run-answer.result c.args.store.now.session.acknowledged new.session.acknowledged,

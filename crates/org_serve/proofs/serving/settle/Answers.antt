@@ -19,6 +19,8 @@ returns-in-Ok-clause-told g c = λ not.
       disk = e.disk honest;
       untouched = e.untouched;
       nothing = e.nothing;
+      waits = e.waits honest;
+      unneeded = e.unneeded;
     } in (
       settled_text c.settle-answer.result new.session.acknowledged,
       finishes_settling d.honest d.files d.moment d.left_since old c.settle-answer.result new c.end_of.result sound pending (record { before = e.accounts.was_honest; did = over }) c.end_of.ensures.value,

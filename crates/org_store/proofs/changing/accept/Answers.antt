@@ -1,12 +1,18 @@
-use Rattle.std.proofs.Common.{◌≡◌, Err, refl, sym, subst, rules}
+use Rattle.std.proofs.Common.{◌≡◌, Result, Err, refl, sym, ap, subst, rules}
 use Rattle.org_journal.specs.Recovered.{contents}
-use Rattle.org_texts.specs.Texts.{held_over}
+use Rattle.org_texts.specs.Texts.{TextSet, held_over}
+use Rattle.org_store.specs.declared.command.Reply.{Reply}
+use Rattle.org_store.specs.declared.command.RunFault.{RunFault}
+use Rattle.org_store.specs.Files.{new_texts}
 use Rattle.org_store.specs.InOrder.{texts_of}
 use Rattle.org_store.specs.Keeping.{Acts}
 use Rattle.org_store.specs.Outcome.{Outcome, counted}
 use Rattle.org_store.specs.Session.{Kept, kept_over}
 use Rattle.org_store.proofs.Acting.{acts_put, kept_same}
 use Rattle.org_store.proofs.Planned.{counted_texts}
+use Rattle.org_store.specs.Step.{fills}
+use Rattle.org_store.specs.Waiting.{WaitsAccepted}
+use Rattle.org_store.proofs.Waiting.{waits_put}
 use Rattle.org_store.proofs.changing.accept.Goals as goal
 
 pub returns-in_err-put-clause-acts : goal.returns-in_err-put-clause-acts
@@ -36,3 +42,16 @@ returns-clause-acts g c states =
     let same : mid ≡ old = kept_same d.files states files edited tally put.memory put.before in
     subst (λ (o : Outcome). Acts d.files d.moment d.left_since d.honest old o c.count.result new) (sym told)
     (subst (λ (k : Kept g.row.D.Denot). Acts d.files d.moment d.left_since d.honest k (counted k.session texts) c.count.result new) same (c.count.ensures.acts states))
+
+pub returns-in_err-put-clause-waits : goal.returns-in_err-put-clause-waits
+returns-in_err-put-clause-waits g c states =
+    let old = kept_over g.D.Disk.files states c.args.files.now c.args.tally.now in
+    let given : c.from_residual.result ≡ Err c.in_err-put.field-0.0 = search rules in
+    subst (λ (r : Result Reply RunFault). WaitsAccepted (fills old.session) (new_texts c.args.plan.now c.args.files.now.held.now) c.args.files.now.held r c.put.new.self.held) (sym given)
+    (ap (λ (s : TextSet). s.waiting) c.put.ensures.before)
+
+pub returns-clause-waits : goal.returns-clause-waits
+returns-clause-waits g c states =
+    let files = c.args.files.now in
+    let old = kept_over g.D.Disk.files states files c.args.tally.now in
+    waits_put (fills old.session) c.args.plan.now files.held c.put.new.self.held c.count.new.files.held c.count.result c.requires.plan.ready c.in_ok-put.ensures.puts.1 c.put.ensures.before (c.count.ensures.waits states)

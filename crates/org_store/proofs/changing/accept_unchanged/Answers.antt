@@ -6,6 +6,8 @@ use Rattle.org_store.specs.Keeping.{Acts}
 use Rattle.org_store.specs.Outcome.{counted}
 use Rattle.org_store.specs.Session.{Kept, kept_over}
 use Rattle.org_store.proofs.Acting.{kept_same}
+use Rattle.org_store.specs.Step.{fills}
+use Rattle.org_store.proofs.Waiting.{waits_unchanged}
 use Rattle.org_store.proofs.changing.accept_unchanged.Goals as goal
 
 pub returns-clause-acts : goal.returns-clause-acts
@@ -26,3 +28,9 @@ returns-clause-acts g c states =
     ∙ ap (λ (ns : List (List ℕ)). texts_of (held_over files.held.before (contents (d.files files.disk))) ns) undone.memory.names in
     subst (λ (t : List (List ℕ)). Acts d.files d.moment d.left_since d.honest old (counted old.session t) c.count.result new) back
     (subst (λ (k : Kept g.row.D.Denot). Acts d.files d.moment d.left_since d.honest k (counted k.session texts) c.count.result new) same (c.count.ensures.acts states))
+
+pub returns-clause-waits : goal.returns-clause-waits
+returns-clause-waits g c states =
+    let files = c.args.files.now in
+    let old = kept_over g.D.Disk.files states files c.args.tally.now in
+    waits_unchanged (fills old.session) files.held c.undo.new.self.held c.count.new.files.held c.count.result c.undo.ensures.now c.undo.ensures.before (c.count.ensures.waits states)

@@ -1,6 +1,7 @@
 use Rattle.std.proofs.Common.{◌≡◌, ◌∙◌, [], Option, Result, Ok, Err, refl, sym, ap, subst, rules}
 use Rattle.org_disk.specs.Accounts.{Looks}
 use Rattle.org_texts.specs.declared.plan.Plan.{Plan}
+use Rattle.org_texts.specs.Texts.{TextSet}
 use Rattle.org_store.specs.declared.command.RunFault.{RunFault}
 use Rattle.org_store.specs.Files.{new_texts}
 use Rattle.org_store.specs.Keeping.{PlansOrStays}
@@ -8,6 +9,7 @@ use Rattle.org_store.specs.Outcome.{changed, outcome}
 use Rattle.org_store.specs.Session.{Kept, kept_over}
 use Rattle.org_store.specs.Step.{Does}
 use Rattle.org_store.proofs.Acting.{acts_after, acts_quiet, kept_same}
+use Rattle.org_store.proofs.Waiting.{waits_changed}
 use Rattle.org_store.proofs.changing.change.Goals as goal
 
 pub accept-requires-clause-plan : goal.accept-requires-clause-plan
@@ -53,3 +55,28 @@ returns-in-Err-clause-acts g c =
     (λ honest. subst (λ disk. Looks d.files d.moment d.left_since old.disk disk) (sym undone.memory.disk) (c.plan.ensures.disk.looks (subst d.honest undone.memory.disk honest)))
     refl (record { accepted = refl; acknowledged = refl; group = refl })
     (λ broken. c.plan.ensures.disk.works (search rules)) (search rules)
+
+pub returns-in-Ok-Some-clause-waits : goal.returns-in-Ok-Some-clause-waits
+returns-in-Ok-Some-clause-waits g c honest =
+    let d = g.D.Disk in
+    let old = kept_over d.files c.args.states.now c.args.files.now c.args.tally.now in
+    let mid = kept_over d.files c.args.states.now c.plan.new.files c.args.tally.now in
+    let new = kept_over d.files c.args.states.now c.accept.new.files c.accept.new.tally in
+    let told = outcome old.session c.args.command.now in
+    let plans = subst (λ (r : Result (Option Plan) RunFault). PlansOrStays old.session told r c.plan.new.files.held mid.session) (c.in-Ok-Some.is ∙ ap (λ (o : Option Plan). Ok o) c.in-Ok-Some.field-0-is) (c.plan.ensures.plans c.args.tally.now (c.accept.ensures.accounts.was_honest honest)) in
+    waits_changed old new (new_texts c.in-Ok-Some.plan c.plan.new.files.held.now) told c.plan.new.files.held c.accept.new.files.held c.accept.result
+    plans.0 ((returns-in-Ok-Some-clause-acts g c).does honest) c.plan.ensures.disk.waits refl (c.accept.ensures.waits c.args.states.now)
+
+pub returns-in-Ok-None-clause-waits : goal.returns-in-Ok-None-clause-waits
+returns-in-Ok-None-clause-waits g c honest =
+    let d = g.D.Disk in
+    let old = kept_over d.files c.args.states.now c.args.files.now c.args.tally.now in
+    let mid = kept_over d.files c.args.states.now c.plan.new.files c.args.tally.now in
+    let new = kept_over d.files c.args.states.now c.accept_unchanged.new.files c.accept_unchanged.new.tally in
+    let told = outcome old.session c.args.command.now in
+    let plans = subst (λ (r : Result (Option Plan) RunFault). PlansOrStays old.session told r c.plan.new.files.held mid.session) (c.in-Ok-None.is ∙ ap (λ (o : Option Plan). Ok o) c.in-Ok-None.field-0-is) (c.plan.ensures.plans c.args.tally.now (c.accept_unchanged.ensures.accounts.was_honest honest)) in
+    waits_changed old new [] told c.plan.new.files.held c.accept_unchanged.new.files.held c.accept_unchanged.result
+    plans.0 ((returns-in-Ok-None-clause-acts g c).does honest) c.plan.ensures.disk.waits refl (c.accept_unchanged.ensures.waits c.args.states.now)
+
+pub returns-in-Err-clause-waits : goal.returns-in-Err-clause-waits
+returns-in-Err-clause-waits g c honest = ap (λ (s : TextSet). s.waiting) c.undo.ensures.before ∙ c.plan.ensures.disk.waits

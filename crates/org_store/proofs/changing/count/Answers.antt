@@ -8,6 +8,8 @@ use Rattle.org_store.specs.InOrder.{texts_of}
 use Rattle.org_store.specs.Keeping.{Acts}
 use Rattle.org_store.specs.Outcome.{Accepts, Refuses, counted}
 use Rattle.org_store.specs.Session.{kept_over}
+use Rattle.org_store.specs.Step.{fills}
+use Rattle.org_store.specs.Waiting.{WaitsCounted}
 use Rattle.org_store.proofs.Acting.{acts_done, acts_fault, acts_refused, kept_same}
 use Rattle.org_store.proofs.changing.count.Goals as goal
 
@@ -52,3 +54,12 @@ returns-clause-acts g c states =
     acts_done d.files d.moment d.left_since d.honest old (λ honest image left. g.met.D.Disk.only_now old.disk image honest left) refl new (counted old.session texts)
     texts c.keep_or_settle.result (ap (λ t. if t then Refuses TooLarge else Accepts texts) countable) c.requires.unbroken
     (kept.keeps states) (kept.disk states) (kept.counts states) kept.breaks c.keep_or_settle.new.tally.accepted c.in_ok-keep_or_settle.was refl
+
+pub returns-in_err-keep_or_settle-clause-waits : goal.returns-in_err-keep_or_settle-clause-waits
+returns-in_err-keep_or_settle-clause-waits g c states =
+    let held = c.args.files.now.held in
+    let next = c.keep_or_settle.new.files.held in
+    let full = fills (kept_over g.D.Disk.files states c.args.files.now c.args.tally.now).session in
+    let given : c.from_residual.result ≡ Err c.in_err-keep_or_settle.field-0.0 = search rules in
+    subst (λ (r : Result Reply RunFault). WaitsCounted full held r next) (sym given)
+    (subst (λ (r : Result (Unit {0}) RunFault). WaitsCounted full held r next) c.in_err-keep_or_settle.was (c.keep_or_settle.ensures.waits states))

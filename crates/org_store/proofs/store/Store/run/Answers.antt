@@ -10,8 +10,10 @@ use Rattle.org_store.specs.Keeping.{Acts}
 use Rattle.org_store.specs.Left.{IsLeft}
 use Rattle.org_store.specs.Outcome.{outcome}
 use Rattle.org_store.specs.Session.{kept_over}
+use Rattle.org_store.specs.Waiting.{Waits}
 use Rattle.org_store.proofs.Leaving.{leaves_unwritten}
 use Rattle.org_store.proofs.Settled.{settled_on}
+use Rattle.org_store.proofs.Waiting.{none_waits_on}
 use Rattle.org_store.proofs.store.Store.run.Goals as goal
 
 pub returns-then-is_broken-clause-disk : goal.returns-then-is_broken-clause-disk
@@ -90,7 +92,10 @@ invariant_of-self g c =
     let acts : Acts d.files d.moment d.left_since d.honest old (outcome old.session (Time c.in-Time.file c.in-Time.path)) c.time.result new = c.time.ensures.acts inside.tally in (
       c.self.invariant.0,
       search rules,
-      λ honest. settled_on old.session new.session (outcome old.session (Time c.in-Time.file c.in-Time.path)) c.time.result (acts.does honest) c.self.invariant.0 (c.self.invariant.2 (c.time.ensures.accounts.was_honest honest)),
+      λ honest. let was = c.self.invariant.2 (c.time.ensures.accounts.was_honest honest) in let told = outcome old.session (Time c.in-Time.file c.in-Time.path) in (
+        settled_on old.session new.session told c.time.result (acts.does honest) c.self.invariant.0 was.0,
+        none_waits_on old new told c.time.result (acts.does honest) (c.time.ensures.waits inside.tally) c.self.invariant.0 was.1,
+      ),
     )
 
 pub invariant_of-self-in-Show-1 : goal.invariant_of-self-in-Show-1
@@ -102,7 +107,10 @@ invariant_of-self-in-Show-1 g c =
     let acts : Acts d.files d.moment d.left_since d.honest old (outcome old.session (Show c.in-Show.file)) c.show.result new = c.show.ensures.acts inside.states inside.tally in (
       c.self.invariant.0,
       search rules,
-      λ honest. settled_on old.session new.session (outcome old.session (Show c.in-Show.file)) c.show.result (acts.does honest) c.self.invariant.0 (c.self.invariant.2 (c.show.ensures.accounts.was_honest honest)),
+      λ honest. let was = c.self.invariant.2 (c.show.ensures.accounts.was_honest honest) in let told = outcome old.session (Show c.in-Show.file) in (
+        settled_on old.session new.session told c.show.result (acts.does honest) c.self.invariant.0 was.0,
+        none_waits_on old new told c.show.result (acts.does honest) (c.show.ensures.waits inside.states inside.tally) c.self.invariant.0 was.1,
+      ),
     )
 
 pub returns-in-Show-clause-step : goal.returns-in-Show-clause-step
@@ -144,3 +152,23 @@ returns-in-Show-clause-breaks g c =
 
 pub returns-in-Capture-clause-disk : goal.returns-in-Capture-clause-disk
 returns-in-Capture-clause-disk g c = rw (← c.self.view_is) c.change.ensures.acts.disk
+
+pub returns-in-Time-clause-waits : goal.returns-in-Time-clause-waits
+returns-in-Time-clause-waits g c =
+    let d = g.D.Disk in
+    let inside = c.self.inside in
+    let old = kept_over d.files inside.states inside.files inside.tally in
+    let new = kept_over d.files inside.states c.time.new.files inside.tally in
+    let waits : Waits old (outcome old.session (Time c.in-Time.file c.in-Time.path)) c.time.result new = c.time.ensures.waits inside.tally in
+    let told = subst (λ (command : Command). Waits old (outcome old.session command) c.time.result new) (sym c.in-Time.is) waits in
+    rw (← c.self.view_is) (λ honest. told)
+
+pub returns-in-Show-clause-waits : goal.returns-in-Show-clause-waits
+returns-in-Show-clause-waits g c =
+    let d = g.D.Disk in
+    let inside = c.self.inside in
+    let old = kept_over d.files inside.states inside.files inside.tally in
+    let new = kept_over d.files inside.states c.show.new.files inside.tally in
+    let waits : Waits old (outcome old.session (Show c.in-Show.file)) c.show.result new = c.show.ensures.waits inside.states inside.tally in
+    let told = subst (λ (command : Command). Waits old (outcome old.session command) c.show.result new) (sym c.in-Show.is) waits in
+    rw (← c.self.view_is) (λ honest. told)
