@@ -1,12 +1,16 @@
 -- How the pieces of an input are served, one by one.
-use Rattle.std.proofs.Common.{ℕ, List, [], ◌++◌, Option, refl, sym, ap, ◌∙◌, subst, append_assoc, append-nil}
+use Rattle.std.proofs.Common.{◌≡◌, ◌≢◌, ◌⊎◌, inl, inr, ⊎_elim, ℕ, List, [], ◌++◌, Option, refl, sym, ap, ◌∙◌, subst, append_assoc, append-nil}
 use Rattle.std.specs.Io.KnownBytes.{Consumes, Appends, IsAtEnd}
+use Rattle.org_store.specs.Session.{Session}
 use Rattle.org_serve.specs.declared.pending.Pending.{Pending}
 use Rattle.org_serve.specs.declared.end.ServeEnd.{ServeEnd}
+use Rattle.org_serve.specs.declared.end.ServeEnd.TheVariants.{Read, Write}
 use Rattle.org_serve.specs.Lines.{Cut, cut}
 use Rattle.org_serve.specs.Pending.{Stands}
+use Rattle.org_serve.specs.Serving.{AnswersLine, Finishes, HasSettled, Serves}
 use Rattle.org_serve.specs.Transcript.{Answers, ServesAll, ServesLines, RunsSome, RunsAllAndSettles}
 use Rattle.org_serve.specs.Feeding.{FeedOk, FeedErr, EndsWith}
+use Rattle.org_serve.proofs.Counting.{read_apart}
 use Rattle.org_serve.proofs.Cuts.{cut-append}
 use Rattle.org_serve.proofs.Joins.{Answers-append, Appends-append, Consumes-append, Consumes-no_more}
 
@@ -84,3 +88,25 @@ Served-end Finishes {mid = mid} {written = written} {among = among} s end new wr
 pub Served-settled : {S : Type 0} (Settles : S → S → Type 0) {AnswersLine : S → List ℕ → List ℕ → S → Type 0} {old mid : S} {left left' written among : Option (List ℕ)} {pending : Pending}
     → Served AnswersLine old mid left left' written among pending → (new : S) → IsAtEnd left' → Settles mid new → RunsAllAndSettles AnswersLine Settles old new left left'
 Served-settled Settles {mid = mid} s new at_end settles = (s.input, mid, s.out, s.read, at_end, s.answered, settles)
+
+-- What is read and written, by the sessions.
+
+-- a read failed, or the turns are used up
+pub serves_read : {old new : Session} {left left' written written' : Option (List ℕ)} {pending : Pending}
+    → Served AnswersLine old new left left' written written' pending → Serves old Read new left left' written written'
+serves_read s = record { all = λ not other. absurd (not refl); read = λ is. Served-lines s; write = λ is. absurd (read_apart is) }
+
+-- a write fails among the lines
+pub serves_some : {old new : Session} {left left' : Option (List ℕ)} (written written' : Option (List ℕ)) → RunsSome AnswersLine old new left left' → Serves old Write new left left' written written'
+serves_some written written' some = record { all = λ other not. absurd (not refl); read = λ is. absurd (read_apart (sym is)); write = λ is. inl some }
+
+-- the input is read to its end
+pub serves_end : {old mid : Session} {left left' written among : Option (List ℕ)} {pending : Pending}
+    → (s : Served AnswersLine old mid left left' written among pending) (end : ServeEnd) (new : Session) (written' : Option (List ℕ)) → IsAtEnd left' → end ≢ Read
+    → (end ≢ Write → EndsWith Finishes (cut s.input).rest mid end new among written') → (end ≡ Write → (new ≡ mid) ⊎ HasSettled mid new)
+    → Serves old end new left left' written written'
+serves_end {old} {left = left} {left' = left'} s end new written' at_end none ends failed = record {
+  all = λ other not. Served-end Finishes s end new written' at_end (ends not);
+  read = λ is. absurd (none is);
+  write = λ is. ⊎_elim (λ same. inl (subst (λ last. RunsSome AnswersLine old last left left') (sym same) (Served-all_ran s))) (λ settled. inr (Served-settled HasSettled s new at_end settled)) (failed is);
+}

@@ -21,9 +21,9 @@ use Rattle.org_serve.specs.declared.end.ServeEnd.{ServeEnd}
 use Rattle.org_serve.specs.declared.end.ServeEnd.TheVariants.{End, Device, Read, Write}
 use Rattle.org_store.specs.History.{Past, Lists}
 use Rattle.org_serve.specs.History.{LeadsBy}
-use Rattle.org_serve.specs.Serving.{EndsBy, Finishes, end_of}
+use Rattle.org_serve.specs.Serving.{EndsBy, Finishes, Serves, end_of}
 use Rattle.org_serve.specs.Crashes.{RunsLine, HasSettledOver, Runs}
-use Rattle.org_serve.specs.Whole.{Begins, Serves, ServesOver, HoldsServed, IsOnTheWay, IsOnTheWayTo, Lasts}
+use Rattle.org_serve.specs.Whole.{Begins, ServesOver, HoldsServed, IsOnTheWay, IsOnTheWayTo, Lasts}
 use Rattle.org_serve.proofs.History.{at_first, lift_run, session_of_past, since, whole_prefix}
 use Rattle.org_serve.proofs.Honest.{HasSettledPast, PastLine, past_last, past_leads, past_lines, past_runs, up_to}
 

@@ -1,5 +1,5 @@
 -- A run over a disk whose files were synced first.
-use Rattle.std.proofs.Common.{◌≡◌, inl, inr, ⊎_elim, ℕ, List, Option, None, Result, Ok, Err, IfErr, ◌∙◌, ap, subst, arith}
+use Rattle.std.proofs.Common.{◌≡◌, ◌≤◌, inl, inr, ⊎_elim, ℕ, List, Option, None, Result, Ok, Err, IfErr, refl, ◌∙◌, ap, subst, arith}
 use Rattle.std.specs.Prelude.{IsSomeAnd, IsTrue, is_some}
 use Rattle.org_disk.specs.Accounts.{LeavesOver}
 use Rattle.org_disk.specs.Disk.{FileState, IsImage, AreImages, LeavesOnly}
@@ -15,9 +15,9 @@ use Rattle.org_fileset.proofs.Recovering.{as_before}
 use Rattle.org_serve.specs.declared.end.ServeEnd.{ServeEnd}
 use Rattle.org_store.specs.History.{Past}
 use Rattle.org_serve.specs.Syncing.{AreSynced, OutsideStable, IsAsFound, IsSyncFault, stored}
-use Rattle.org_serve.specs.Whole.{ServesOver, IsOnTheWay, IsOnTheWayTo, Lasts, LastsFrom}
+use Rattle.org_serve.specs.Whole.{ServesOver, IsOnTheWay, IsOnTheWayTo, Lasts, LastsFrom, GivesBack, GivesBackSynced}
 use Rattle.org_serve.proofs.Honest.{past_runs, up_to}
-use Rattle.org_serve.proofs.Syncs.{still_recoverable, still_recovers, as_at_first, as_read, now_recoverable, now_recovers, some_recovers}
+use Rattle.org_serve.proofs.Syncs.{all_images, each_image, some_or_none, still_recoverable, still_recovers, still_outside, as_at_first, as_read, now_recoverable, now_recovers, some_recovers}
 
 pub if_err : {A E : Type 0} {P Q : E → Type 0} (r : Result A E) → ((e : E) → P e → Q e) → IfErr r P → IfErr r Q
 if_err (Ok x) more held = tt
@@ -55,6 +55,20 @@ reason_before given Honest before mid now same (open_fault.TooLarge name) why =
     (why.0, λ h. let found = why.1 h in (found.0, found.1, found.2, subst (λ (f : Image). IsSomeAnd (recovered f) (SameFiles now)) (same h) found.3))
 reason_before given Honest before mid now same open_fault.Device why = why
 reason_before given Honest before mid now same open_fault.OutOfMemory why = tt
+
+-- a sync that failed
+pub unsynced_gives_back : {D : Type 0} (files : D → List ℕ → FileState) (moment : D → ℕ) (left_since : D → ℕ → Image → Type 0) (given : List (List ℕ)) (disk now : D) {fault : OpenFault}
+    → ((name : List ℕ) → IsImage (files now name) (files now name).content) → ((name bytes : List ℕ) → IsImage (files now name) bytes → IsImage (files disk name) bytes)
+    → LeavesOver moment left_since disk now (AreImages (files disk)) → GivesBackSynced files moment left_since given disk now (Err fault)
+unsynced_gives_back files moment left_since given disk now own images time = record {
+  gives_back = record {
+    unopened = λ fit each. leaves_as time (as_before (files disk) each);
+    unopened_bad = λ none. (refl, time);
+    recoverable = λ fit each. (still_recoverable (files disk) (files now) own images fit, still_recovers (files disk) (files now) own images each);
+  };
+  unopened_as_found = λ outside. leaves_as time (λ image left. inl left);
+  recoverable_once_synced = λ outside. inr (refl, still_outside (files disk) (files now) own images given outside);
+}
 
 module _ {D : Type 0} (honest : D → Type 0) (files : D → List ℕ → FileState) (moment : D → ℕ) (left_since : D → ℕ → Image → Type 0)
     (given : List (List ℕ)) (disk mid : D) (began : honest mid → honest disk)
@@ -137,3 +151,35 @@ module _ {D : Type 0} (honest : D → Type 0) (files : D → List ℕ → FileSt
         ))
         (λ image left. inl left)
         (λ h image before. let m = served.began h in inr (as_read (files disk) (files mid) (own m) (images m) given (synced m) outside image before))
+
+  -- what is given back of a run behind the syncs
+  module _ {now : D} {end : Result ServeEnd OpenFault} (h : honest mid) (later : GivesBack files moment left_since mid now end) where
+    still_gives_back : GivesBack files moment left_since disk now end
+    still_gives_back = record {
+      unopened = λ fit each. if_err end (λ fault left. leaves_behind (time h) left (as_before (files disk) each) (as_at_first (files disk) (files mid) (own h) (images h)))
+          (later.unopened (still_recoverable (files disk) (files mid) (own h) (images h) fit) (still_recovers (files disk) (files mid) (own h) (images h) each));
+      unopened_bad = λ none.
+          let bad = later.unopened_bad (ap recovered (synced h).same ∙ none) in
+          (bad.0, leaves_behind (time h) bad.1 (λ image left. left) (all_images (images h)));
+      recoverable = λ fit each. later.recoverable (still_recoverable (files disk) (files mid) (own h) (images h) fit) (still_recovers (files disk) (files mid) (own h) (images h) each);
+    }
+
+    pub synced_gives_back : ((name : List ℕ) → IsImage (files now name) (files now name).content)
+        → ((t : ℕ) (image : Image) → t ≤ moment now → AreImages (files now) image → left_since now t image) → GivesBackSynced files moment left_since given disk now end
+    synced_gives_back own_now counts_now = record {
+      gives_back = still_gives_back;
+      unopened_as_found = λ outside. elim (some_or_none (contents (files disk))) [
+        | inl good ↦ if_err end
+            (λ fault left. leaves_behind (time h) left (λ image found. inl found) (λ image before. inr (as_read (files disk) (files mid) (own h) (images h) given (synced h) outside image before)))
+            (later.unopened (now_recoverable (files disk) (files mid) (own h) (images h) given (synced h) outside) (now_recovers (files disk) (files mid) (own h) (images h) given (synced h) outside good))
+        | inr none ↦ if_err_always end (leaves_as (still_gives_back.unopened_bad none).1 (λ image left. inl left))
+      ];
+      recoverable_once_synced = λ outside. elim (some_or_none (contents (files disk))) [
+        | inl good ↦ inl (later.recoverable (now_recoverable (files disk) (files mid) (own h) (images h) given (synced h) outside)
+            (now_recovers (files disk) (files mid) (own h) (images h) given (synced h) outside good))
+        | inr none ↦
+            let bad = later.unopened_bad (ap recovered (synced h).same ∙ none) in
+            let kept = each_image own_now (λ image left. bad.1.each image (counts_now (moment mid) image bad.1.passes.later left)) in
+            inr (bad.0, still_outside (files mid) (files now) own_now kept given (still_outside (files disk) (files mid) (own h) (images h) given outside))
+      ];
+    }

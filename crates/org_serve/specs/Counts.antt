@@ -1,6 +1,23 @@
--- Counts of a u64, which stay at their greatest value.
-use Rattle.std.specs.Prelude.{◌≡◌, ℕ, ◌+◌, ◌^◌, ◌≤◌, ◌⊎◌}
+-- Counts of a u64, which stay at their greatest value, and those of a reader and a writer over a run.
+use Rattle.std.specs.Prelude.{◌≡◌, ◌≢◌, ℕ, ◌+◌, ◌^◌, ◌≤◌, ◌⊎◌, Result, Ok}
+use Rattle.org_disk.specs.Disk.{IsCounted}
+use Rattle.org_fileset.specs.declared.open.OpenFault.{OpenFault}
+use Rattle.org_serve.specs.declared.end.ServeEnd.{ServeEnd}
+use Rattle.org_serve.specs.declared.end.ServeEnd.TheVariants.{Read, Write}
 
 -- a count rose by n, or stands at its greatest value
 abbrev pub HasRisenBy : ℕ → ℕ → ℕ → Type 0
 HasRisenBy n before now = (before + n ≡ now) ⊎ (2 ^ 64 ≤ now + 1)
+
+-- A run ends with Read or Write for a cause alone, as the counts tell it, before the run and after it: how many reads were
+-- made, how many of them failed, and how many calls of the writer failed. One failure is counted then, and else none: so
+-- neither is called once it has failed, and no failure is kept quiet.
+pub record EndsForCause (turns : ℕ) (end : Result ServeEnd OpenFault) (reads reads' failed_reads failed_reads' failed_writes failed_writes' : ℕ) : Type 0 where
+  -- a read failed, or the turns are used up
+  pub read_cause : end ≡ Ok Read → IsCounted failed_reads failed_reads' ⊎ HasRisenBy turns reads reads'
+  -- a read that failed is told so
+  pub read_told : end ≢ Ok Read → failed_reads' ≡ failed_reads
+  -- a write or a flush failed
+  pub write_cause : end ≡ Ok Write → IsCounted failed_writes failed_writes'
+  -- one that failed is told so
+  pub write_told : end ≢ Ok Write → failed_writes' ≡ failed_writes

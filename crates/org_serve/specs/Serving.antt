@@ -1,5 +1,5 @@
 -- What serving does to a store. S is what runs the lines, as a session or a store over a disk; `session` is the session of it.
-use Rattle.std.specs.Prelude.{◌≡◌, ◌⊎◌, ℕ, ◌<◌, ◌≤◌, Bool, true, false, IsTrue, IsFalse, nat_lt, List, [], length, None, Some, Result, Ok, Err}
+use Rattle.std.specs.Prelude.{◌≡◌, ◌≢◌, ◌⊎◌, ℕ, ◌<◌, ◌≤◌, Bool, true, false, IsTrue, IsFalse, nat_lt, List, [], length, Option, None, Some, Result, Ok, Err}
 use Rattle.org_store.specs.declared.command.Command.{Command}
 use Rattle.org_store.specs.declared.command.Reply.{Reply}
 use Rattle.org_store.specs.declared.command.RunFault.{RunFault}
@@ -14,6 +14,7 @@ use Rattle.org_serve.specs.Faults.{fault_text}
 use Rattle.org_serve.specs.Grammar.{command_of}
 use Rattle.org_serve.specs.Pending.{limit}
 use Rattle.org_serve.specs.Replies.{answer_text, settled_text}
+use Rattle.org_serve.specs.Transcript.{ServesAll, ServesLines, RunsSome, RunsAllAndSettles}
 
 -- Why a line isn't run: it is too long or no command; or memory for it was refused, which may happen to any.
 abbrev pub IsNotRun : LineFault → List ℕ → Type 0
@@ -81,3 +82,12 @@ HasSettled = HasSettledBy Settles
 -- the store was broken meanwhile
 abbrev pub HasBroken : Session → Session → Type 0
 HasBroken old new = IsFalse old.broken × IsTrue new.broken
+
+-- What is read and written, by the sessions before it and after it.
+pub record Serves (old : Session) (end : ServeEnd) (new : Session) (left left' written written' : Option (List ℕ)) : Type 0 where
+  -- to the input's end
+  pub all : end ≢ Read → end ≢ Write → ServesAll AnswersLine Finishes old end new left left' written written'
+  -- up to a read that failed, or to the last of the turns
+  pub read : end ≡ Read → ServesLines AnswersLine old new left left' written written'
+  -- up to a write that failed
+  pub write : end ≡ Write → RunsSome AnswersLine old new left left' ⊎ RunsAllAndSettles AnswersLine HasSettled old new left left'

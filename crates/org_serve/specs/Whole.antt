@@ -1,14 +1,14 @@
 -- A whole run over a disk: a store is opened, serves the lines of an input, and is given up. `honest`, `files`, `moment`
 -- and `left_since` are what is seen of a disk of the type D.
-use Rattle.std.specs.Prelude.{◌≡◌, ◌≢◌, ◌⊎◌, ℕ, List, [], ◌∷◌, None, Option, IsFalse, Result, Ok, Err}
+use Rattle.std.specs.Prelude.{◌≡◌, ◌⊎◌, ℕ, List, [], ◌∷◌, None, Option, IsFalse, Result, Ok, Err, IfErr, IsErr}
 use Rattle.org_disk.specs.Disk.{FileState, AreImages, HasRisen}
 use Rattle.org_disk.specs.Accounts.{LeavesOver}
 use Rattle.org_outline.specs.States.{Keywords}
-use Rattle.org_journal.specs.Recovered.{Image, contents}
+use Rattle.org_journal.specs.Recovered.{Image, IsRecoverable, contents, recovered}
 use Rattle.org_fileset.specs.declared.open.OpenFault.{OpenFault}
 use Rattle.org_fileset.specs.declared.open.OpenFault.TheVariants as open_fault
 use Rattle.org_fileset.specs.Names.{with_archives, AreSorted, first_large}
-use Rattle.org_fileset.specs.Recovery.{IsReopened, RecoversAsBefore}
+use Rattle.org_fileset.specs.Recovery.{EachRecovers, IsReopened, RecoversAsBefore}
 use Rattle.org_store.specs.History.{Past, HoldsPrefix}
 use Rattle.org_store.specs.InOrder.{texts_of}
 use Rattle.org_store.specs.Opening.{opened}
@@ -16,22 +16,16 @@ use Rattle.org_store.specs.Session.{Session, Holds}
 use Rattle.org_serve.specs.declared.end.ServeEnd.{ServeEnd}
 use Rattle.org_serve.specs.declared.end.ServeEnd.TheVariants.{End, Unsettled, Device, Read, Write}
 use Rattle.org_serve.specs.History.{PastLine, HasSettledPast, LeadsBy}
-use Rattle.org_serve.specs.Serving.{AnswersLine, Finishes, HasSettled}
+use Rattle.org_serve.specs.Serving.{AnswersLine, Serves}
 use Rattle.org_serve.specs.Crashes.{Runs}
-use Rattle.org_serve.specs.Transcript.{Answers, ServesAll, ServesLines, RunsSome, RunsAllAndSettles}
+use Rattle.org_serve.specs.Syncing.{OutsideStable, IsAsFound}
+use Rattle.org_serve.specs.Transcript.{Answers}
 
 -- The session of a store that was just opened over these files, with these states, in groups of this size: it has the
 -- given names and those of their archive files.
 pub record Begins (states : Keywords) (group : ℕ) (given : List (List ℕ)) (files : Image) (begin : Session) : Type 0 where
   pub names : AreSorted (with_archives given) begin.names
   pub session : begin ≡ record (opened states begin.names (texts_of files begin.names)) { group = group }
-
--- What is read and written of a run, by the sessions before it and after it: to the input's end, up to a read that
--- failed, or up to a write that failed.
-pub record Serves (old : Session) (end : ServeEnd) (new : Session) (left left' written written' : Option (List ℕ)) : Type 0 where
-  pub all : end ≢ Read → end ≢ Write → ServesAll AnswersLine Finishes old end new left left' written written'
-  pub read : end ≡ Read → ServesLines AnswersLine old new left left' written written'
-  pub write : end ≡ Write → RunsSome AnswersLine old new left left' ⊎ RunsAllAndSettles AnswersLine HasSettled old new left left'
 
 -- A store was opened over the disk `disk`, served to this end, and gave up the disk `now`. Between the two stands each store
 -- on the way, and the list has the texts of all files as they were opened and after each accepted command. What is said of
@@ -98,6 +92,30 @@ abbrev pub Lasts : {D : Type 0} {honest : D → Type 0} {files : D → List ℕ 
     {states : Keywords} {group : ℕ} {given : List (List ℕ)} {disk now : D} {end : ServeEnd} {left left' written written' : Option (List ℕ)}
     → ServesOver honest files moment left_since states group given disk now end left left' written written' → Type 0
 Lasts {files = files} {disk = disk} served = LastsFrom (RecoversAsBefore (files disk)) served
+
+-- What a run makes of a disk that is honest at the end: `disk` is what it was given, and `now` what it gives back.
+pub record GivesBack {D : Type 0} (files : D → List ℕ → FileState) (moment : D → ℕ) (left_since : D → ℕ → Image → Type 0)
+    (disk now : D) (end : Result ServeEnd OpenFault) : Type 0 where
+  -- where the opening is refused, on a recoverable disk of which each image recovers to files, a crash leaves what recovers
+  -- to these
+  pub unopened : IsRecoverable (files disk) → EachRecovers (files disk)
+      → IfErr end (λ _. LeavesOver moment left_since disk now (RecoversAsBefore (files disk)))
+  -- a journal that is bad, as it reads, is refused, and a crash leaves what it might have left before
+  pub unopened_bad : recovered (contents (files disk)) ≡ None → IsErr end × LeavesOver moment left_since disk now (AreImages (files disk))
+  -- the disk is as recoverable at the end, so that all this may be done again
+  pub recoverable : IsRecoverable (files disk) → EachRecovers (files disk) → IsRecoverable (files now) × EachRecovers (files now)
+
+-- The same of a run that syncs the store's files before it opens the store; of the others it is asked that they are on the
+-- disk at first.
+pub record GivesBackSynced {D : Type 0} (files : D → List ℕ → FileState) (moment : D → ℕ) (left_since : D → ℕ → Image → Type 0)
+    (given : List (List ℕ)) (disk now : D) (end : Result ServeEnd OpenFault) : Type 0 where
+  -- whatever is on the disk at first
+  pub gives_back : GivesBack files moment left_since disk now end
+  -- where the opening is refused, a crash leaves the files as they were found, or what recovers to what they read as
+  pub unopened_as_found : OutsideStable given (files disk) → IfErr end (λ _. LeavesOver moment left_since disk now (IsAsFound (files disk)))
+  -- the disk is recoverable at the end; or the store wasn't opened, and the other files are on the disk as before
+  pub recoverable_once_synced : OutsideStable given (files disk)
+      → (IsRecoverable (files now) × EachRecovers (files now)) ⊎ (IsErr end × OutsideStable given (files now))
 
 -- The disk failed in a run that ended so: the fault of the opening tells it, or the end. An end with a failed read or
 -- write tells nothing of the disk.

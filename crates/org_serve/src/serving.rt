@@ -1,15 +1,15 @@
 //! Lines answered one by one, to the end of the input.
-ghost use Rattle.std.specs.Prelude.{◌≡◌, ◌≢◌, ◌⊎◌, ◌++◌, List, ℕ, [], OnOk, OnErr, MatchResult, IsTrue, IsFalse};
+ghost use Rattle.std.specs.Prelude.{◌≡◌, ◌≢◌, ◌⊎◌, ◌++◌, List, ℕ, [], OnOk, OnErr, MatchResult, IsTrue, Ok};
 ghost use Rattle.std.specs.Io.KnownBytes.{Appends};
 ghost use Rattle.org_disk.specs.Disk.{IsCounted};
 ghost use Rattle.org_disk.specs.Accounts.{Accounts};
-ghost use Rattle.org_serve.specs.Counts.{HasRisenBy};
+ghost use Rattle.org_serve.specs.Counts.{EndsForCause};
 ghost use Rattle.org_serve.specs.Feeding.{FeedOk, FeedErr, EndsWith};
 ghost use Rattle.org_serve.specs.Lines.{cut};
 ghost use Rattle.org_serve.specs.Pending.{Stands};
-ghost use Rattle.org_serve.specs.Serving.{IsReadAs, AnswersReadBy, AnswersLine, Finishes, HasSettled, HasBroken, EndsBroken, end_of};
+ghost use Rattle.org_serve.specs.Serving.{IsReadAs, AnswersReadBy, HasBroken, EndsBroken, end_of, Serves};
 ghost use Rattle.org_serve.specs.Crashes.{RunsHonest, RunsLine, HasSettledOver, FinishesOver, Runs, KeepsDisk};
-ghost use Rattle.org_serve.specs.Transcript.{AnswersRest, ServesAll, ServesLines, RunsSome, RunsAllAndSettles};
+ghost use Rattle.org_serve.specs.Transcript.{AnswersRest};
 
 use crate::end::ServeEnd;
 use crate::fault::LineFault;
@@ -46,32 +46,15 @@ pub fn serve<D: Disk, R: Source, W: Sink>(
     writer: &mut W,
     turns: u64,
 ) -> ServeEnd
-    ensures end { D.honest store.new.disk → result ≢ ServeEnd.Read → result ≢ ServeEnd.Write
-        → ServesAll AnswersLine Finishes store.old.session result store.new.session
+    ensures serves { D.honest store.new.disk → Serves store.old.session result store.new.session
         (R.left reader.old) (R.left reader.new) (W.written writer.old) (W.written writer.new) }
-
-    ensures read { D.honest store.new.disk → result ≡ ServeEnd.Read
-        → ServesLines AnswersLine store.old.session store.new.session
-        (R.left reader.old) (R.left reader.new) (W.written writer.old) (W.written writer.new) }
-    ensures read_cause { result ≡ ServeEnd.Read
-        → IsCounted (R.failures reader.old) (R.failures reader.new)
-        ⊎ HasRisenBy turns (R.reads reader.old) (R.reads reader.new) }
-    ensures read_told { result ≢ ServeEnd.Read → R.failures reader.new ≡ R.failures reader.old }
-
-    ensures write { D.honest store.new.disk → result ≡ ServeEnd.Write
-        → RunsSome AnswersLine store.old.session store.new.session (R.left reader.old)
-        (R.left reader.new)
-        ⊎ RunsAllAndSettles AnswersLine HasSettled store.old.session store.new.session
-        (R.left reader.old) (R.left reader.new) }
-    ensures write_cause { result ≡ ServeEnd.Write
-        → IsCounted (W.failures writer.old) (W.failures writer.new) }
-    ensures write_told { result ≢ ServeEnd.Write → W.failures writer.new ≡ W.failures writer.old }
-
+    ensures causes { EndsForCause turns (Ok result) (R.reads reader.old) (R.reads reader.new)
+        (R.failures reader.old) (R.failures reader.new) (W.failures writer.old)
+        (W.failures writer.new) }
     ensures calls { Runs (RunsLine D.honest D.files D.moment D.left_since)
         (HasSettledOver D.honest D.files D.moment D.left_since) store.old store.new result
         (R.left reader.old) (R.left reader.new) (W.written writer.old) (W.written writer.new) }
     ensures disk { D.honest store.new.disk → KeepsDisk D.files store.old store.new }
-
     ensures broken { EndsBroken result store.new.session }
     ensures untouched { IsTrue store.old.session.broken → store.new ≡ store.old }
     ensures accounts { Accounts D.steady D.honest D.failures store.old.disk store.new.disk

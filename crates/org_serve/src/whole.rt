@@ -1,15 +1,14 @@
 //! A whole run over a disk, from the opening to the end of the input.
-ghost use Rattle.std.specs.Prelude.{◌≡◌, ◌≢◌, ◌⊎◌, None, Ok, Err, All, IfOk, IfErr, IsErr};
-ghost use Rattle.org_disk.specs.Disk.{AreImages, IsCounted};
-ghost use Rattle.org_disk.specs.Accounts.{Accounts, LeavesOver};
-ghost use Rattle.org_journal.specs.Recovered.{IsRecoverable, contents, recovered};
+ghost use Rattle.std.specs.Prelude.{◌≡◌, Err, All, IfOk, IfErr};
+ghost use Rattle.org_disk.specs.Accounts.{Accounts};
+ghost use Rattle.org_journal.specs.Recovered.{IsRecoverable, contents};
 ghost use Rattle.org_disk.specs.Names.{IsOrgFile};
 ghost use Rattle.org_fileset.specs.Opening.{IsReason};
-ghost use Rattle.org_fileset.specs.Recovery.{EachRecovers, RecoversAsBefore};
-ghost use Rattle.org_serve.specs.Counts.{HasRisenBy};
+ghost use Rattle.org_fileset.specs.Recovery.{EachRecovers};
+ghost use Rattle.org_serve.specs.Counts.{EndsForCause};
 ghost use Rattle.org_store.specs.Group.{IsGroup};
 ghost use Rattle.org_serve.specs.Syncing.{OutsideStable, IsAsFound};
-ghost use Rattle.org_serve.specs.Whole.{ServesOver, Lasts, LastsFrom, HasFailed};
+ghost use Rattle.org_serve.specs.Whole.{ServesOver, Lasts, LastsFrom, HasFailed, GivesBack, GivesBackSynced};
 
 use crate::end::ServeEnd;
 use crate::pipes::{Sink, Source};
@@ -74,29 +73,16 @@ pub fn serve_disk<D: Disk, R: Source, W: Sink>(
         disk result.disk end (R.left reader.old) (R.left reader.new) (W.written writer.old)
         (W.written writer.new))
         × (IsRecoverable (D.files disk) → EachRecovers (D.files disk) → Lasts served)) }
-    ensures unopened { D.honest result.disk → IsRecoverable (D.files disk)
-        → EachRecovers (D.files disk) → IfErr result.end (λ _.
-        LeavesOver D.moment D.left_since disk result.disk (RecoversAsBefore (D.files disk))) }
-    ensures unopened_bad { D.honest result.disk → recovered (contents (D.files disk)) ≡ None
-        → IsErr result.end × LeavesOver D.moment D.left_since disk result.disk
-        (AreImages (D.files disk)) }
-    ensures unused { result.end ≡ Err OpenFault.TooManyFiles → result.disk ≡ disk }
-    ensures recoverable { D.honest result.disk → IsRecoverable (D.files disk)
-        → EachRecovers (D.files disk)
-        → IsRecoverable (D.files result.disk) × EachRecovers (D.files result.disk) }
-    ensures unserved { IfErr result.end (λ _. (reader.new ≡ reader.old)
-        × (writer.new ≡ writer.old)) }
-    ensures read_cause { result.end ≡ Ok ServeEnd.Read
-        → IsCounted (R.failures reader.old) (R.failures reader.new)
-        ⊎ HasRisenBy turns (R.reads reader.old) (R.reads reader.new) }
-    ensures read_told { result.end ≢ Ok ServeEnd.Read
-        → R.failures reader.new ≡ R.failures reader.old }
-    ensures write_cause { result.end ≡ Ok ServeEnd.Write
-        → IsCounted (W.failures writer.old) (W.failures writer.new) }
-    ensures write_told { result.end ≢ Ok ServeEnd.Write
-        → W.failures writer.new ≡ W.failures writer.old }
+    ensures disk { D.honest result.disk → GivesBack D.files D.moment D.left_since
+        disk result.disk result.end }
     ensures refused { IfErr result.end (IsReason setup.names.items (D.honest result.disk)
         (contents (D.files disk)) (contents (D.files result.disk))) }
+    ensures unused { result.end ≡ Err OpenFault.TooManyFiles → result.disk ≡ disk }
+    ensures unserved { IfErr result.end (λ _. (reader.new ≡ reader.old)
+        × (writer.new ≡ writer.old)) }
+    ensures causes { EndsForCause turns result.end (R.reads reader.old) (R.reads reader.new)
+        (R.failures reader.old) (R.failures reader.new) (W.failures writer.old)
+        (W.failures writer.new) }
     ensures accounts { Accounts D.steady D.honest D.failures disk result.disk
         (HasFailed result.end (D.failures disk) (D.failures result.disk)) }
 {
@@ -148,35 +134,15 @@ pub fn serve_synced<D: Disk, R: Source, W: Sink>(
         × (IsRecoverable (D.files disk) → EachRecovers (D.files disk) → Lasts served)
         × (OutsideStable setup.names.items (D.files disk)
         → LastsFrom (IsAsFound (D.files disk)) served)) }
-    ensures unopened { D.honest result.disk → IsRecoverable (D.files disk)
-        → EachRecovers (D.files disk) → IfErr result.end (λ _.
-        LeavesOver D.moment D.left_since disk result.disk (RecoversAsBefore (D.files disk))) }
-    ensures unopened_as_found { D.honest result.disk
-        → OutsideStable setup.names.items (D.files disk) → IfErr result.end (λ _.
-        LeavesOver D.moment D.left_since disk result.disk (IsAsFound (D.files disk))) }
-    ensures unopened_bad { D.honest result.disk → recovered (contents (D.files disk)) ≡ None
-        → IsErr result.end × LeavesOver D.moment D.left_since disk result.disk
-        (AreImages (D.files disk)) }
-    ensures recoverable { D.honest result.disk → IsRecoverable (D.files disk)
-        → EachRecovers (D.files disk)
-        → IsRecoverable (D.files result.disk) × EachRecovers (D.files result.disk) }
-    ensures recoverable_once_synced { D.honest result.disk
-        → OutsideStable setup.names.items (D.files disk)
-        → (IsRecoverable (D.files result.disk) × EachRecovers (D.files result.disk))
-        ⊎ (IsErr result.end × OutsideStable setup.names.items (D.files result.disk)) }
-    ensures unserved { IfErr result.end (λ _. (reader.new ≡ reader.old)
-        × (writer.new ≡ writer.old)) }
-    ensures read_cause { result.end ≡ Ok ServeEnd.Read
-        → IsCounted (R.failures reader.old) (R.failures reader.new)
-        ⊎ HasRisenBy turns (R.reads reader.old) (R.reads reader.new) }
-    ensures read_told { result.end ≢ Ok ServeEnd.Read
-        → R.failures reader.new ≡ R.failures reader.old }
-    ensures write_cause { result.end ≡ Ok ServeEnd.Write
-        → IsCounted (W.failures writer.old) (W.failures writer.new) }
-    ensures write_told { result.end ≢ Ok ServeEnd.Write
-        → W.failures writer.new ≡ W.failures writer.old }
+    ensures disk { D.honest result.disk → GivesBackSynced D.files D.moment D.left_since
+        setup.names.items disk result.disk result.end }
     ensures refused { IfErr result.end (IsReason setup.names.items (D.honest result.disk)
         (contents (D.files disk)) (contents (D.files result.disk))) }
+    ensures unserved { IfErr result.end (λ _. (reader.new ≡ reader.old)
+        × (writer.new ≡ writer.old)) }
+    ensures causes { EndsForCause turns result.end (R.reads reader.old) (R.reads reader.new)
+        (R.failures reader.old) (R.failures reader.new) (W.failures writer.old)
+        (W.failures writer.new) }
     ensures accounts { Accounts D.steady D.honest D.failures disk result.disk
         (HasFailed result.end (D.failures disk) (D.failures result.disk)) }
 {

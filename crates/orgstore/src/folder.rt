@@ -1,16 +1,15 @@
 //! Lines served over a folder.
-ghost use Rattle.std.specs.Prelude.{◌≡◌, ◌≢◌, ◌⊎◌, None, Ok, IfOk, IfErr, IsErr, All, []};
-ghost use Rattle.org_disk.specs.Disk.{AreImages, IsCounted};
-ghost use Rattle.org_disk.specs.Accounts.{Accounts, LeavesOver};
-ghost use Rattle.org_journal.specs.Recovered.{IsRecoverable, contents, recovered};
+ghost use Rattle.std.specs.Prelude.{◌≡◌, IfOk, IfErr, All, []};
+ghost use Rattle.org_disk.specs.Accounts.{Accounts};
+ghost use Rattle.org_journal.specs.Recovered.{IsRecoverable, contents};
 ghost use Rattle.org_disk.specs.Names.{IsOrgFile};
 ghost use Rattle.org_fileset.specs.Opening.{IsReason};
-ghost use Rattle.org_fileset.specs.Recovery.{EachRecovers, RecoversAsBefore};
+ghost use Rattle.org_fileset.specs.Recovery.{EachRecovers};
 ghost use Rattle.org_folder.specs.FolderDisk.{record_of};
-ghost use Rattle.org_serve.specs.Counts.{HasRisenBy};
+ghost use Rattle.org_serve.specs.Counts.{EndsForCause};
 ghost use Rattle.org_store.specs.Group.{IsGroup};
 ghost use Rattle.org_serve.specs.Syncing.{OutsideStable, IsAsFound};
-ghost use Rattle.org_serve.specs.Whole.{ServesOver, Lasts, LastsFrom, HasFailed};
+ghost use Rattle.org_serve.specs.Whole.{ServesOver, Lasts, LastsFrom, HasFailed, GivesBackSynced};
 ghost use Rattle.orgstore.specs.Folder.{is_right, files_of, moment_of, left_of, failures_of};
 
 use org_folder::{FolderDisk, Start};
@@ -67,39 +66,15 @@ where
         → Lasts served)
         × (OutsideStable setup.names.items (files_of S.world disk)
         → LastsFrom (IsAsFound (files_of S.world disk)) served)) }
-    ensures unopened { is_right S.world result.disk → IsRecoverable (files_of S.world disk)
-        → EachRecovers (files_of S.world disk) → IfErr result.end (λ _. LeavesOver moment_of
-        (left_of S.world) disk result.disk (RecoversAsBefore (files_of S.world disk))) }
-    ensures unopened_as_found { is_right S.world result.disk
-        → OutsideStable setup.names.items (files_of S.world disk) → IfErr result.end (λ _.
-        LeavesOver moment_of (left_of S.world) disk result.disk
-        (IsAsFound (files_of S.world disk))) }
-    ensures unopened_bad { is_right S.world result.disk
-        → recovered (contents (files_of S.world disk)) ≡ None
-        → IsErr result.end × LeavesOver moment_of (left_of S.world) disk result.disk
-        (AreImages (files_of S.world disk)) }
-    ensures recoverable { is_right S.world result.disk → IsRecoverable (files_of S.world disk)
-        → EachRecovers (files_of S.world disk)
-        → IsRecoverable (files_of S.world result.disk)
-        × EachRecovers (files_of S.world result.disk) }
-    ensures recoverable_once_synced { is_right S.world result.disk
-        → OutsideStable setup.names.items (files_of S.world disk)
-        → (IsRecoverable (files_of S.world result.disk)
-        × EachRecovers (files_of S.world result.disk))
-        ⊎ (IsErr result.end × OutsideStable setup.names.items (files_of S.world result.disk)) }
-    ensures unserved { IfErr result.end (λ _. (reader.new ≡ reader.old)
-        × (writer.new ≡ writer.old)) }
-    ensures read_cause { result.end ≡ Ok ServeEnd.Read
-        → IsCounted (R.failures reader.old) (R.failures reader.new)
-        ⊎ HasRisenBy 4294967295 (R.reads reader.old) (R.reads reader.new) }
-    ensures read_told { result.end ≢ Ok ServeEnd.Read
-        → R.failures reader.new ≡ R.failures reader.old }
-    ensures write_cause { result.end ≡ Ok ServeEnd.Write
-        → IsCounted (W.failures writer.old) (W.failures writer.new) }
-    ensures write_told { result.end ≢ Ok ServeEnd.Write
-        → W.failures writer.new ≡ W.failures writer.old }
+    ensures disk { is_right S.world result.disk → GivesBackSynced (files_of S.world) moment_of
+        (left_of S.world) setup.names.items disk result.disk result.end }
     ensures refused { IfErr result.end (IsReason setup.names.items (is_right S.world result.disk)
         (contents (files_of S.world disk)) (contents (files_of S.world result.disk))) }
+    ensures unserved { IfErr result.end (λ _. (reader.new ≡ reader.old)
+        × (writer.new ≡ writer.old)) }
+    ensures causes { EndsForCause 4294967295 result.end (R.reads reader.old)
+        (R.reads reader.new) (R.failures reader.old) (R.failures reader.new)
+        (W.failures writer.old) (W.failures writer.new) }
     ensures accounts { Accounts ⊥ (is_right S.world) failures_of disk result.disk
         (HasFailed result.end disk.failures result.disk.failures) }
 {
