@@ -9,9 +9,9 @@ use Rattle.org_serve.specs.declared.end.ServeEnd.TheVariants.{Read, Write}
 abbrev pub HasRisenBy : ℕ → ℕ → ℕ → Type 0
 HasRisenBy n before now = (before + n ≡ now) ⊎ (2 ^ 64 ≤ now + 1)
 
--- A run ends with Read or Write for a cause alone, as the counts tell it, before the run and after it: how many reads were
--- made, how many of them failed, and how many calls of the writer failed. One failure is counted then, and else none: so
--- neither is called once it has failed, and no failure is kept quiet.
+-- A run ends with Read or Write for a cause alone, and a call of the reader or the writer that failed is always told so. The
+-- counts tell it, before the run and after it: how many reads were made, how many of them failed, and how many calls of the
+-- writer failed. One failure is counted where one ends the run, so neither is called once it has failed.
 pub record EndsForCause (turns : ℕ) (end : Result ServeEnd OpenFault) (reads reads' failed_reads failed_reads' failed_writes failed_writes' : ℕ) : Type 0 where
   -- a read failed, or the turns are used up
   pub read_cause : end ≡ Ok Read → IsCounted failed_reads failed_reads' ⊎ HasRisenBy turns reads reads'

@@ -105,8 +105,8 @@ pub record GivesBack {D : Type 0} (files : D → List ℕ → FileState) (moment
   -- the disk is as recoverable at the end, so that all this may be done again
   pub recoverable : IsRecoverable (files disk) → EachRecovers (files disk) → IsRecoverable (files now) × EachRecovers (files now)
 
--- The same of a run that syncs the store's files before it opens the store; of the others it is asked that they are on the
--- disk at first.
+-- The same of a run that syncs the store's files before it opens the store, and more where all other files are on the disk
+-- at first.
 pub record GivesBackSynced {D : Type 0} (files : D → List ℕ → FileState) (moment : D → ℕ) (left_since : D → ℕ → Image → Type 0)
     (given : List (List ℕ)) (disk now : D) (end : Result ServeEnd OpenFault) : Type 0 where
   -- whatever is on the disk at first
