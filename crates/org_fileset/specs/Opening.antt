@@ -12,6 +12,7 @@ use Rattle.org_fileset.specs.declared.open.OpenFault.{OpenFault}
 use Rattle.org_fileset.specs.declared.open.OpenFault.TheVariants.{TooManyFiles, BadJournal, TooLarge, Device, OutOfMemory}
 use Rattle.org_fileset.specs.declared.open.OpenRefused.{OpenRefused}
 use Rattle.org_fileset.specs.Names.{with_archives, AreSorted, AreFew, AreTooMany, first_large}
+use Rattle.org_fileset.specs.Recovery.{closed_journal}
 
 -- the disk that is in what was opened, or handed back
 abbrev pub disk_in : {S D : Type 0} → Result S (OpenRefused D) → (S → D) → D
@@ -49,12 +50,17 @@ HaveSizes files names (Err Device) = Unit {0}
 HaveSizes files names (Err OutOfMemory) = Unit {0}
 HaveSizes files names (Err fault) = ⊥
 
+-- what a crash had cut short was brought to an end: the files are what the disk recovered to, and the gate is closed
+pub record IsBroughtToAnEnd (before now : Image) : Type 0 where
+  pub files : IsSomeAnd (recovered before) (SameFiles now)
+  pub journal : now journal_name ≡ closed_journal (before journal_name)
+
 -- No file of these names is past the limit after a record was brought to its end; or there is this fault. The sizes are
--- asked for once the files are what the disk recovered to.
+-- asked for once it was.
 abbrev pub IsAnswer : Image → Image → List (List ℕ) → Result (Unit {0}) OpenFault → Type 0
 IsAnswer before now names (Err BadJournal) = (recovered before ≡ None) × (now ≡ before)
 IsAnswer before now names (Ok done) = HaveSizes now names (Ok done)
-IsAnswer before now names (Err (TooLarge name)) = HaveSizes now names (Err (TooLarge name)) × IsSomeAnd (recovered before) (SameFiles now)
+IsAnswer before now names (Err (TooLarge name)) = HaveSizes now names (Err (TooLarge name)) × IsBroughtToAnEnd before now
 IsAnswer before now names (Err TooManyFiles) = ⊥
 IsAnswer before now names (Err Device) = Unit {0}
 IsAnswer before now names (Err OutOfMemory) = Unit {0}
@@ -65,6 +71,6 @@ abbrev pub IsReason : List (List ℕ) → Type 0 → Image → Image → OpenFau
 IsReason given honest before now TooManyFiles = AreTooMany given
 IsReason given honest before now BadJournal = AreFew given × (honest → (recovered before ≡ None) × (now ≡ before))
 IsReason given honest before now (TooLarge name) = AreFew given
-    × (honest → (names : List (List ℕ)) × AreSorted (with_archives given) names × (first_large now names ≡ Some name) × IsSomeAnd (recovered before) (SameFiles now))
+    × (honest → (names : List (List ℕ)) × AreSorted (with_archives given) names × (first_large now names ≡ Some name) × IsBroughtToAnEnd before now)
 IsReason given honest before now Device = AreFew given
 IsReason given honest before now OutOfMemory = Unit {0}

@@ -1,11 +1,11 @@
 -- What a call that the record tells of did to the files and to their past.
-use Rattle.std.proofs.Common.{◌≡◌, ◌≢◌, ℕ, ◌≤◌, List, [], ◌∷◌, length, take, drop, true, false, is_ok, IsErr, IfSome, MatchOption, Option, None, Some, ◌<◌, Result, Ok, Err, refl, sym, ◌∙◌, ap, subst, inl, inr, ⊎_elim, arith}
-use Rattle.org_disk.specs.Disk.{FileState, IsImage, AreImages, AreLeftBy, IsLeftBy, Passes, stable, write, cut, sync}
+use Rattle.std.proofs.Common.{◌≡◌, ◌≢◌, ℕ, ◌≤◌, List, [], ◌∷◌, length, true, false, is_ok, IsErr, IfSome, MatchOption, Option, None, Some, ◌<◌, Result, Ok, Err, refl, sym, ◌∙◌, ap, subst, inl, inr, ⊎_elim, arith}
+use Rattle.org_disk.specs.Disk.{FileState, IsImage, AreImages, AreLeftBy, IsLeftBy, Passes, write, cut, sync}
 use Rattle.org_disk.specs.declared.disk.DiskFault.{DiskFault}
 use Rattle.org_disk.proofs.Moments.{Image, passes_none, passes_as}
 use Rattle.org_disk.proofs.Ranges.{nothing_written}
 use Rattle.org_folder.specs.Calls.{Event, World, files, changed, reading, AreRight, LeftSince, Looks, Does}
-use Rattle.org_folder.specs.Calls.Event.{Absent, Length, Read, Write, Cut, Sync}
+use Rattle.org_folder.specs.Calls.Event.{Length, Write, Cut, Sync}
 use Rattle.std.specs.List.{AllWithin, HoldsAt}
 use Rattle.org_folder.specs.CallsLaws.{changed_here, changed_other, own_image}
 

@@ -2,7 +2,7 @@
 use Rattle.std.specs.Prelude.{List}
 use Rattle.org_folder.specs.Calls.{Event}
 use Rattle.org_folder.specs.declared.disk.CallsDisk.{CallsDisk}
-use Rattle.org_folder.specs.declared.system.SystemCalls.{SystemCalls}
+use Rattle.org_folder.specs.declared.calls.system.SystemCalls.{SystemCalls}
 
 -- The newest call is first. The disk is honest where the answers in this record were right.
 abbrev pub record_of : {R S A B F : Type 0} → CallsDisk (SystemCalls R S A B) F → List Event

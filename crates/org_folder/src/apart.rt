@@ -1,9 +1,12 @@
 //! That each two of a store's names lead to two files.
 ghost use Rattle.std.specs.Prelude.{◌≡◌, ◌<◌, ℕ, [], length, IfOk, IfErr, IfSome, IfNone, IsTrue, IsFalse};
 ghost use Rattle.std.specs.List.{list_any};
+ghost use Rattle.std.specs.IoError.{error_kind};
 ghost use Rattle.org_folder.specs.Apart.{is_again, is_same, MayTell};
-ghost use Rattle.org_folder.specs.declared.apart.ApartFault.TheVariants.{OutOfMemory};
+ghost use Rattle.org_folder.specs.Faults.{IsToldAs};
+ghost use Rattle.org_folder.specs.declared.apart.ApartFault.TheVariants.{Device, OutOfMemory};
 
+use crate::lock::LockedFolder;
 use org_disk::FileName;
 use std::alloc::{AllocError, AllocFailed};
 use std::fs::{self, Files};
@@ -27,7 +30,7 @@ pub enum ApartFault {
 }
 
 impl From<io::Error> for ApartFault {
-    ghost from_gives = { λ _ fault. MayTell [] fault };
+    ghost from_gives = { λ error fault. IsToldAs (error_kind error) OutOfMemory Device fault };
 
     fn from(error: io::Error) -> ApartFault {
         match error.kind() {
@@ -60,18 +63,18 @@ pub struct Node {
     number: u64,
 }
 
-/// Looks where names of a folder lead, and tells the first that leads to the file of one before it. Links are followed;
+/// Looks where names of a locked folder lead, and tells the first that leads to the file of one before it. Links are followed;
 /// a name without a file leads nowhere. It changes nothing.
 ///
 /// What the system answers of a name is no clause, so whether two names lead to one file isn't either.
 pub fn check_apart<R: Files + AllocGlobal>(
     rt: &R,
-    path: &str,
+    folder: &LockedFolder<'_>,
     names: &[FileName],
 ) -> Result<(), ApartFault>
     ensures { IfErr result (MayTell names.now) }
 {
-    let nodes = nodes_of(rt, path, names)?;
+    let nodes = nodes_of(rt, folder.path(), names)?;
     match first_again(nodes.as_slice()) {
         Some(at) => Err(ApartFault::SameFile(names[at].clone()?)),
         None => Ok(()),

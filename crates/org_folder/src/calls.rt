@@ -1,24 +1,30 @@
 //! The calls of a system on the files of a folder.
-ghost use Rattle.std.specs.Prelude.{◌≡◌, ◌≤◌, List, ◌∷◌, length, is_ok, IsTrue, IfOk, IfSome, IfNone, OnOk, OnErr};
+ghost use Rattle.std.specs.Prelude.{◌≡◌, ◌≤◌, List, ◌∷◌, length, is_ok, IsTrue, IsFalse, IfOk, IfSome, IfNone, OnOk, OnErr};
 ghost use Rattle.org_folder.specs.Calls.{files, AreRight, Event, World};
 ghost use Rattle.org_folder.specs.Calls.Event.{Absent, Cut, Length, Read, Sync, Write};
 
 use org_disk::{DiskFault, FileName};
 
-/// A file that was opened under a name.
+mod system;
+
+pub use system::SystemCalls;
+
+/// A file that was opened under a name. Its parts are seen by the calls of the system alone, so that no other code can
+/// take the file's entry in the folder for synced.
 #[derive(Drop)]
 pub struct Opened<F> {
-    pub(crate) name: FileName,
-    pub(crate) file: F,
+    name: FileName,
+    file: F,
     // it was found in the folder itself: no link led to it, and it wasn't made
-    pub(crate) is_own: bool,
+    is_own: bool,
     // its entry in the folder is known to be on the device
-    pub(crate) is_entered: bool,
+    is_entered: bool,
 }
 
 impl<F: Drop> Opened<F> {
-    pub(crate) fn new(name: &FileName, file: F, is_own: bool) -> Result<Opened<F>, DiskFault>
-        ensures { IfOk result (λ opened. opened.name ≡ name.now) }
+    fn new(name: &FileName, file: F, is_own: bool) -> Result<Opened<F>, DiskFault>
+        ensures name { IfOk result (λ opened. opened.name ≡ name.now) }
+        ensures entry { IfOk result (λ opened. IsFalse opened.is_entered) }
     {
         match name.clone() {
             Ok(name) => Ok(Opened {
@@ -29,6 +35,20 @@ impl<F: Drop> Opened<F> {
             }),
             Err(_) => Err(DiskFault),
         }
+    }
+
+    /// The name under which it was opened.
+    pub fn name(&self) -> &FileName
+        ensures { result.now ≡ self.now.name }
+    {
+        &self.name
+    }
+
+    /// Whether its entry in the folder is known to be on the device.
+    pub fn is_entered(&self) -> bool
+        ensures { result ≡ self.now.is_entered }
+    {
+        self.is_entered
     }
 }
 
@@ -53,6 +73,8 @@ pub trait Calls {
     /// Opens the file of a name, where there is one.
     fn open(&mut self, name: &FileName) -> Result<Option<Opened<Self::File>>, DiskFault>
         ensures name { IfOk result (λ found. IfSome found (λ opened. opened.name ≡ name.now)) }
+        ensures entry { IfOk result (λ found. IfSome found (λ opened.
+            IsFalse opened.is_entered)) }
         ensures found { IfOk result (λ found. IfSome found (λ _.
             history self.new ≡ history self.old)) }
         ensures absent { IfOk result (λ found. IfNone found
@@ -62,6 +84,7 @@ pub trait Calls {
     /// Opens the file of a name, which is made where there is none. Its content stays as it is.
     fn make(&mut self, name: &FileName) -> Result<Opened<Self::File>, DiskFault>
         ensures name { IfOk result (λ opened. opened.name ≡ name.now) }
+        ensures entry { IfOk result (λ opened. IsFalse opened.is_entered) }
         ensures same { history self.new ≡ history self.old };
 
     /// The length of a file in bytes.

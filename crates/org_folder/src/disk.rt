@@ -4,10 +4,9 @@ ghost use Rattle.org_disk.specs.Disk.{IsCounted};
 ghost use Rattle.org_folder.specs.Calls.{files, AreRight, LeftSince};
 ghost use Rattle.org_folder.specs.FolderDisk.{record_of};
 
-use crate::calls::Calls;
+use crate::calls::{Calls, SystemCalls};
 use crate::folder::Folder;
 use crate::start::Start;
-use crate::system::SystemCalls;
 use org_disk::{Disk, DiskFault, FileName};
 use std::alloc::{AllocError, Global};
 use std::fs::Files;

@@ -102,7 +102,7 @@ where
             return Ok(());
         };
         let opened = &mut self.files[at];
-        if !opened.is_entered {
+        if !opened.is_entered() {
             self.calls.sync_entry(opened)?;
         }
         self.calls.sync(opened)
@@ -155,7 +155,7 @@ where
     {
         self.files
             .iter()
-            .position(|opened| opened.name.as_str() == name.as_str())
+            .position(|opened| opened.name().as_str() == name.as_str())
     }
 
     fn keep(&mut self, opened: Opened<C::File>) -> Result<usize, DiskFault>

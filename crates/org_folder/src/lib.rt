@@ -17,12 +17,10 @@ mod list;
 mod lock;
 mod record;
 mod start;
-mod system;
 
 pub use apart::{ApartFault, Node, check_apart};
-pub use calls::{Calls, Opened};
+pub use calls::{Calls, Opened, SystemCalls};
 pub use disk::{CallsDisk, FolderDisk};
 pub use list::{ListFault, org_file, org_files};
-pub use lock::{LockFault, fill_streams, lock_folder};
+pub use lock::{LockFault, LockedFolder, fill_streams, lock_folder};
 pub use start::{Start, Unknown};
-pub use system::SystemCalls;

@@ -1,8 +1,12 @@
 //! The Org files of a folder.
 ghost use Rattle.std.specs.Prelude.{◌≡◌, ◌↔◌, IsTrue, IsFalse, IfOk, IsErrOf, All};
+ghost use Rattle.std.specs.IoError.{error_kind};
 ghost use Rattle.org_disk.specs.Names.{IsOrgFile};
+ghost use Rattle.org_folder.specs.Faults.{IsToldAs};
 ghost use Rattle.org_folder.specs.OrgFiles.{is_org_file};
+ghost use Rattle.org_folder.specs.declared.list.ListFault.TheVariants.{Device, OutOfMemory};
 
+use crate::lock::LockedFolder;
 use org_disk::{FileName, NameFault};
 use std::alloc::{AllocFailed, Global};
 use std::fs::{self, DirEntry, Files};
@@ -21,6 +25,8 @@ pub enum ListFault {
 }
 
 impl From<io::Error> for ListFault {
+    ghost from_gives = { λ error fault. IsToldAs (error_kind error) OutOfMemory Device fault };
+
     fn from(error: io::Error) -> ListFault {
         match error.kind() {
             ErrorKind::OutOfMemory => ListFault::OutOfMemory,
@@ -30,6 +36,8 @@ impl From<io::Error> for ListFault {
 }
 
 impl<T: Drop> From<AllocFailed<T>> for ListFault {
+    ghost from_gives = { λ _ fault. fault ≡ OutOfMemory };
+
     fn from(_: AllocFailed<T>) -> ListFault {
         ListFault::OutOfMemory
     }
@@ -54,17 +62,17 @@ fn is_org_file(text: &str) -> bool
     FileName::accepts(text) && !text.as_bytes().ends_with(b"_archive")
 }
 
-/// The names of the Org files of a folder, in the order in which the system tells them. Entries with other names are
+/// The names of the Org files of a locked folder, in the order in which the system tells them. Entries with other names are
 /// left out, and so is what is no plain file: folders, pipes, sockets and devices, those that a link leads to as well. A
 /// link that leads nowhere is a file that is absent.
 pub fn org_files<R: Files + AllocGlobal + Clone + Drop>(
     rt: &R,
-    path: &str,
+    folder: &LockedFolder<'_>,
 ) -> Result<Vec<FileName>, ListFault>
     ensures { IfOk result (λ names. All IsOrgFile names.items) }
 {
     let mut names = Vec::new(rt.alloc());
-    for entry in fs::read_dir(rt, path)? {
+    for entry in fs::read_dir(rt, folder.path())? {
         let entry = entry?;
         match org_file(rt.alloc(), entry.file_name()) {
             Ok(name) => {

@@ -1,6 +1,7 @@
 //! The lock by which one store at a time is open on a folder.
-ghost use Rattle.std.specs.Prelude.{◌≡◌};
+ghost use Rattle.std.specs.Prelude.{◌≡◌, IfOk};
 ghost use Rattle.org_folder.specs.Locks.{held};
+ghost use Rattle.org_folder.specs.declared.lock.LockFault.TheVariants.{OutOfMemory};
 
 use std::alloc::AllocError;
 use std::fs::{File, Files, TryLockError};
@@ -19,27 +20,51 @@ pub enum LockFault {
 }
 
 impl From<AllocError> for LockFault {
+    ghost from_gives = { λ _ fault. fault ≡ OutOfMemory };
+
     fn from(_: AllocError) -> LockFault {
         LockFault::OutOfMemory
     }
 }
 
+/// A folder that may be looked at: no other store is open on it, as far as the system locks it.
+#[derive(Drop)]
+pub struct LockedFolder<'a> {
+    path: &'a str,
+    // none where the folder can't be opened, or the system doesn't lock it
+    _lock: Option<File>,
+}
+
+impl<'a> LockedFolder<'a> {
+    /// The path by which it was locked.
+    pub fn path(&self) -> &'a str
+        ensures { result ≡ self.now.path }
+    {
+        self.path
+    }
+}
+
 /// Locks a folder against every other call of this, until the answer is dropped or its process ends, however it ends.
-/// `Locked` comes where another answer is still held. None is answered where the folder can't be opened, or the system
-/// doesn't lock it. Nothing is made in the folder, and nothing in it is looked at.
+/// `Locked` comes where another answer is still held. A folder that can't be opened, or that the system doesn't lock, is
+/// answered without a lock. Nothing is made in the folder, and nothing in it is looked at.
 ///
 /// That the system keeps the lock is no clause: no contract says what a lock does.
-pub fn lock_folder<R: Files<File = File> + AllocGlobal>(
+pub fn lock_folder<'a, R: Files<File = File> + AllocGlobal>(
     rt: &R,
-    path: &str,
-) -> Result<Option<File>, LockFault> {
+    path: &'a str,
+) -> Result<LockedFolder<'a>, LockFault>
+    ensures { IfOk result (λ folder. folder.path.now ≡ path.now) }
+{
     // A path that ends in a slash opens a folder or nothing: a pipe would wait for its writer.
-    let path = Path::new(path).join(rt.alloc(), "")?;
-    let Ok(folder) = File::open(rt, path.as_path()) else {
-        return Ok(None);
+    let inside = Path::new(path).join(rt.alloc(), "")?;
+    let lock = match File::open(rt, inside.as_path()) {
+        Ok(folder) => {
+            let tried = folder.try_lock();
+            held(folder, tried)?
+        }
+        Err(_) => None,
     };
-    let tried = folder.try_lock();
-    held(folder, tried)
+    Ok(LockedFolder { path, _lock: lock })
 }
 
 /// Opens a folder three times, so that where standard streams are closed their numbers are the folder's as long as the

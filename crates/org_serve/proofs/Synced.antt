@@ -9,7 +9,7 @@ use Rattle.org_outline.specs.States.{Keywords}
 use Rattle.org_journal.specs.Recovered.{SameFiles, IsRecoverable, recovered, contents}
 use Rattle.org_fileset.specs.declared.open.OpenFault.{OpenFault}
 use Rattle.org_fileset.specs.declared.open.OpenFault.TheVariants as open_fault
-use Rattle.org_fileset.specs.Opening.{IsReason}
+use Rattle.org_fileset.specs.Opening.{IsBroughtToAnEnd, IsReason}
 use Rattle.org_fileset.specs.Recovery.{EachRecovers, IsReopened, RecoversAsBefore, closed_journal}
 use Rattle.org_fileset.proofs.Recovering.{as_before}
 use Rattle.org_serve.specs.declared.end.ServeEnd.{ServeEnd}
@@ -52,7 +52,7 @@ reason_before given Honest before mid now same open_fault.TooManyFiles why = why
 reason_before given Honest before mid now same open_fault.BadJournal why =
     (why.0, λ h. (subst (λ (f : Image). recovered f ≡ None) (same h) (why.1 h).0, (why.1 h).1 ∙ same h))
 reason_before given Honest before mid now same (open_fault.TooLarge name) why =
-    (why.0, λ h. let found = why.1 h in (found.0, found.1, found.2, subst (λ (f : Image). IsSomeAnd (recovered f) (SameFiles now)) (same h) found.3))
+    (why.0, λ h. let found = why.1 h in (found.0, found.1, found.2, subst (λ (f : Image). IsBroughtToAnEnd f now) (same h) found.3))
 reason_before given Honest before mid now same open_fault.Device why = why
 reason_before given Honest before mid now same open_fault.OutOfMemory why = tt
 

@@ -1,8 +1,9 @@
 //! The files of a store, synced before it is opened over them.
-ghost use Rattle.std.specs.Prelude.{◌≡◌, ◌∷◌, Err, All, IfErr, IsErr, IsErrOf};
+ghost use Rattle.std.specs.Prelude.{◌≡◌, ◌∷◌, Err, All, IfErr, IsErr, IsErrOf, OnOk};
 ghost use Rattle.org_disk.specs.Accounts.{Accounts, LeavesOver};
 ghost use Rattle.org_disk.specs.Disk.{AreImages};
 ghost use Rattle.org_disk.specs.Names.{IsOrgFile};
+ghost use Rattle.org_fileset.specs.Names.{AreFew};
 ghost use Rattle.org_fileset.specs.declared.open.OpenFault.TheVariants.{Device, TooManyFiles};
 ghost use Rattle.org_serve.specs.Syncing.{Syncs, IsSyncFault, stored};
 
@@ -24,6 +25,7 @@ pub fn sync_files<D: Disk>(alloc: Global, disk: &mut D, given: &[FileName]) -> R
         Syncs (stored given.now) (D.files disk.old) (D.files disk.new) result }
     ensures any_moment { D.honest disk.new → LeavesOver D.moment D.left_since disk.old disk.new
         (AreImages (D.files disk.old)) }
+    ensures few { OnOk result (AreFew given.now) }
     ensures refused { IfErr result (IsSyncFault given.now) }
     ensures unused { result ≡ Err TooManyFiles → disk.new ≡ disk.old }
     ensures accounts { Accounts D.steady D.honest D.failures disk.old disk.new

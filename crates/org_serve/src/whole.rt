@@ -116,7 +116,7 @@ pub fn serve_disk<D: Disk, R: Source, W: Sink>(
 /// disk is then left recoverable, and each image of it recovers to files; or the store wasn't opened, and the other
 /// files are on the disk as before.
 ///
-/// A sync that fails is an opening that is refused with `Device`.
+/// A sync that fails is an opening that is refused with `Device`. Too many names leave the disk unused.
 pub fn serve_synced<D: Disk, R: Source, W: Sink>(
     alloc: Global,
     disk: D,
@@ -138,6 +138,7 @@ pub fn serve_synced<D: Disk, R: Source, W: Sink>(
         setup.names.items disk result.disk result.end }
     ensures refused { IfErr result.end (IsReason setup.names.items (D.honest result.disk)
         (contents (D.files disk)) (contents (D.files result.disk))) }
+    ensures unused { result.end ≡ Err OpenFault.TooManyFiles → result.disk ≡ disk }
     ensures unserved { IfErr result.end (λ _. (reader.new ≡ reader.old)
         × (writer.new ≡ writer.old)) }
     ensures causes { EndsForCause turns result.end (R.reads reader.old) (R.reads reader.new)

@@ -9,7 +9,7 @@ use Rattle.std.proofs.lemmas.List.Elements.{All-from_recursion, recursion_from_A
 use Rattle.org_disk.specs.Names.{journal_name, IsOrgFile}
 use Rattle.org_disk.proofs.Names.{name_cases}
 use Rattle.org_journal.specs.Recovered.{Image, SameFiles, recovered}
-use Rattle.org_fileset.specs.Names.{with_archives, AreSorted, AreFew, AreTooMany, first_large, limit}
+use Rattle.org_fileset.specs.Names.{with_archives, AreSorted, AreFew, first_large, limit}
 use Rattle.org_fileset.specs.Opening.{IsReason}
 use Rattle.org_fileset.specs.declared.open.OpenFault.{OpenFault}
 use Rattle.org_fileset.specs.declared.open.OpenFault.TheVariants.{TooManyFiles, BadJournal, TooLarge, Device, OutOfMemory}
@@ -28,10 +28,7 @@ use Rattle.org_store.specs.Left.{IsLeft, PutsOnDisk}
 use Rattle.org_store.specs.Reopening.{AreSameNames, IsOpenable, AreSmall}
 use Rattle.org_store.proofs.Accepted.{AreWithin, accepted_puts}
 use Rattle.org_store.proofs.Runs.{falls}
-use Rattle.org_store.proofs.Sortings.{one_sorting}
-
-never_both : (given : List (List ℕ)) → AreFew given → AreTooMany given → ⊥
-never_both given few many = let same : few.0 ≡ many.0 = one_sorting given few.0 many.0 few.1 many.1 in omega (arith, few.2, many.2, ap length same)
+use Rattle.org_store.proofs.Sortings.{few_or_many, one_sorting}
 
 -- the first file past the limit, where files agree
 same_large : (one other : Image) (names : List (List ℕ)) → AllByRecursion (λ name. name ≢ journal_name) names → SameFiles one other → first_large one names ≡ first_large other names
@@ -51,13 +48,13 @@ apart_names given names all sorted =
 
 pub only_faults : (given : List (List ℕ)) (honest : Type 0) (image now : Image) (fault : OpenFault) → All IsOrgFile given → honest → IsOpenable given image → IsReason given honest image now fault
     → (fault ≡ OutOfMemory) ⊎ (fault ≡ Device)
-only_faults given honest image now TooManyFiles all is can many = absurd (never_both given can.few many)
+only_faults given honest image now TooManyFiles all is can many = absurd (few_or_many given can.few many)
 only_faults given honest image now BadJournal all is can reason =
     absurd (subst (λ (o : Option Image). IsSomeAnd o (λ found. SameFiles found can.texts)) (reason.1 is).0 can.recovers_to)
 only_faults given honest image now (TooLarge name) all is can reason =
     let found = reason.1 is in
     let one_names : found.0 ≡ can.names = one_sorting (with_archives given) found.0 can.names found.1 can.sorted in
-    let same : SameFiles now can.texts = agreeing (recovered image) now can.texts found.3 can.recovers_to in
+    let same : SameFiles now can.texts = agreeing (recovered image) now can.texts found.3.files can.recovers_to in
     let large : first_large can.texts can.names ≡ Some name =
     sym (same_large now can.texts can.names (apart_names given can.names all can.sorted) same) ∙ ap (first_large now) (sym one_names) ∙ found.2 in
     let small = can.small in

@@ -1,5 +1,5 @@
 -- Names in byte order: there is one way to put them so.
-use Rattle.std.proofs.Common.{Ordering, Less, Greater, ◌≡◌, ⊎_elim, ℕ, List, [], ◌∷◌, refl, sym, ◌∙◌, ap, subst}
+use Rattle.std.proofs.Common.{Ordering, Less, Greater, ◌≡◌, ⊎_elim, ℕ, List, [], ◌∷◌, length, refl, sym, ◌∙◌, ap, subst, arith}
 use Rattle.std.specs.List.{Contains}
 use Rattle.std.specs.List.Sorted.{IsStrictlySortedBy}
 use Rattle.std.specs.Cmp.Lexicographic.{slice_cmp, nat_list_cmp_total}
@@ -7,7 +7,7 @@ use Rattle.std.specs.Ordering.{nat_cmp, ordering_reverse}
 use Rattle.std.proofs.lemmas.List.Elements.{All-contains}
 use Rattle.std.proofs.lemmas.Map.Keys.{sorted_tail}
 use Rattle.std.proofs.lemmas.Map.Views.{All-after_first}
-use Rattle.org_fileset.specs.Names.{AreSorted}
+use Rattle.org_fileset.specs.Names.{AreSorted, AreFew, AreTooMany}
 use Rattle.org_fileset.proofs.Elements.{no_member, cons_cases, cons_here, cons_later}
 
 abbrev order : List ℕ → List ℕ → Ordering
@@ -52,3 +52,7 @@ pub one_sorting : (given a b : List (List ℕ)) → AreSorted given a → AreSor
 one_sorting given a b first second = one_order a b first.ordered second.ordered
     (λ name there. (second.members name).1 ((first.members name).0 there))
     (λ name there. (first.members name).1 ((second.members name).0 there))
+
+-- names are few or too many, never both
+pub few_or_many : (given : List (List ℕ)) → AreFew given → AreTooMany given → ⊥
+few_or_many given few many = let same : few.0 ≡ many.0 = one_sorting given few.0 many.0 few.1 many.1 in omega (arith, few.2, many.2, ap length same)

@@ -1,10 +1,10 @@
 -- Where each fault of the program comes from.
-use Rattle.std.specs.Prelude.{◌≡◌, ℕ, List, ◌∷◌, ◌++◌, Option, Some, None, Result, Ok, Err, IsTrue, IsFalse, find, not, string_bytes}
-use Rattle.std.specs.List.{Contains}
-use Rattle.org_disk.specs.Names.{journal_name}
+use Rattle.std.specs.Prelude.{◌≡◌, ℕ, List, ◌∷◌, ◌++◌, drop, Option, Some, None, Result, Ok, Err, IsTrue, IsFalse, find, not, string_bytes}
+use Rattle.std.specs.List.{All, Contains}
+use Rattle.org_disk.specs.Names.{journal_name, IsOrgFile}
 use Rattle.org_fileset.specs.declared.open.OpenFault.{OpenFault}
 use Rattle.org_fileset.specs.declared.open.OpenFault.TheVariants as refused
-use Rattle.org_fileset.specs.Names.{with_archives}
+use Rattle.org_fileset.specs.Names.{with_archives, AreSorted, AreFew}
 use Rattle.org_folder.specs.OrgFiles.{is_org_file}
 use Rattle.org_folder.specs.declared.apart.ApartFault.{ApartFault}
 use Rattle.org_folder.specs.declared.apart.ApartFault.TheVariants as apart
@@ -68,10 +68,18 @@ IsCauseOfNames new Locked = ⊥
 IsCauseOfNames new (SameFile name) = ⊥
 IsCauseOfNames new (Ended end) = ⊥
 
--- which name of a store with these names may be told to share a file: one of theirs, an archive file's, or the journal's
+-- A name that may be told to share a file in a store with these names, which are few: behind the first one, in byte order,
+-- of theirs, their archive files' and the journal's.
+pub record MayBeShared (names : List (List ℕ)) (name : List ℕ) : Type 0 where
+  pub few : AreFew names
+  pub files : List (List ℕ)
+  pub sorted : AreSorted (journal_name ∷ with_archives names) files
+  pub behind : Contains (drop 1 files) name
+
+-- what may be told of where the names of a store lead; of too many names nothing is
 abbrev pub MayShare : List (List ℕ) → ApartFault → Type 0
-MayShare names (apart.SameFile name) = Contains (journal_name ∷ with_archives names) name
-MayShare names apart.Device = Unit {0}
+MayShare names (apart.SameFile name) = MayBeShared names name
+MayShare names apart.Device = AreFew names
 MayShare names apart.OutOfMemory = Unit {0}
 
 -- Why new names and states aren't a store's, or its folder can't be had beside them. What comes first in this order is told:
@@ -83,7 +91,7 @@ IsCause new states BadStates = (first_bad new ≡ None) × IsFalse (are_states s
 IsCause new states Locked = (first_bad new ≡ None) × IsTrue (are_states states)
 IsCause new states (Open refused.Device) = (first_bad new ≡ None) × IsTrue (are_states states)
 IsCause new states (SameFile name) = (first_bad new ≡ None) × IsTrue (are_states states)
-    × ((listed : List (List ℕ)) × Contains (journal_name ∷ with_archives (new ++ listed)) name)
+    × ((listed : List (List ℕ)) × All IsOrgFile listed × MayBeShared (new ++ listed) name)
 IsCause new states (Open refused.OutOfMemory) = Unit {0}
 IsCause new states (Open refused.TooManyFiles) = ⊥
 IsCause new states (Open refused.BadJournal) = ⊥

@@ -5,7 +5,7 @@ use Rattle.org_disk.specs.Disk.{FileState}
 use Rattle.org_folder.specs.Calls.{World, AreRight, LeftSince, files}
 use Rattle.org_folder.specs.FolderDisk.{record_of}
 use Rattle.org_folder.specs.declared.disk.CallsDisk.{CallsDisk}
-use Rattle.org_folder.specs.declared.system.SystemCalls.{SystemCalls}
+use Rattle.org_folder.specs.declared.calls.system.SystemCalls.{SystemCalls}
 
 -- each answer in the record was right
 abbrev pub is_right : {R S A B F : Type 0} → World → CallsDisk (SystemCalls R S A B) F → Type 0

@@ -1,10 +1,11 @@
 //! Lines served over a folder.
-ghost use Rattle.std.specs.Prelude.{◌≡◌, IfOk, IfErr, All, []};
+ghost use Rattle.std.specs.Prelude.{◌≡◌, Err, IfOk, IfErr, All, []};
 ghost use Rattle.org_disk.specs.Accounts.{Accounts};
 ghost use Rattle.org_journal.specs.Recovered.{IsRecoverable, contents};
 ghost use Rattle.org_disk.specs.Names.{IsOrgFile};
 ghost use Rattle.org_fileset.specs.Opening.{IsReason};
 ghost use Rattle.org_fileset.specs.Recovery.{EachRecovers};
+ghost use Rattle.org_fileset.specs.declared.open.OpenFault.TheVariants.{TooManyFiles};
 ghost use Rattle.org_folder.specs.FolderDisk.{record_of};
 ghost use Rattle.org_serve.specs.Counts.{EndsForCause};
 ghost use Rattle.org_store.specs.Group.{IsGroup};
@@ -43,9 +44,9 @@ const TURNS: u64 = 4_294_967_295;
 /// prefix of the commands, as above. Where the journal is bad, as it reads, a crash leaves one of the images of the
 /// folder as it was found, whatever fault is told.
 ///
-/// An opening is refused for its reason alone, and then nothing is read or written. It ends with Read or Write for a cause
-/// alone: one failed call of the reader or the writer, which is always told so, or 4,294,967,295 reads; with Device, or an
-/// opening that is refused so, only where a call failed.
+/// An opening is refused for its reason alone, and then nothing is read or written; too many names leave the disk unused.
+/// It ends with Read or Write for a cause alone: one failed call of the reader or the writer, which is always told so, or
+/// 4,294,967,295 reads; with Device, or an opening that is refused so, only where a call failed.
 pub fn serve_folder<F: Files + AllocGlobal + Drop, S: Start, R: Source, W: Sink>(
     alloc: Global,
     disk: FolderDisk<F, S>,
@@ -70,6 +71,7 @@ where
         (left_of S.world) setup.names.items disk result.disk result.end }
     ensures refused { IfErr result.end (IsReason setup.names.items (is_right S.world result.disk)
         (contents (files_of S.world disk)) (contents (files_of S.world result.disk))) }
+    ensures unused { result.end ≡ Err TooManyFiles → result.disk ≡ disk }
     ensures unserved { IfErr result.end (λ _. (reader.new ≡ reader.old)
         × (writer.new ≡ writer.old)) }
     ensures causes { EndsForCause 4294967295 result.end (R.reads reader.old)

@@ -24,12 +24,12 @@ use folder::serve_folder;
 use names::new_names;
 use org_disk::FileName;
 use org_folder::{
-    ApartFault, FolderDisk, Unknown, check_apart, fill_streams, lock_folder, org_files,
+    ApartFault, FolderDisk, LockedFolder, Unknown, check_apart, fill_streams, lock_folder,
+    org_files,
 };
 use org_serve::{Counted, ServeEnd, Served, Setup, file_names};
 use org_store::OpenFault;
 use states::states;
-use std::fs::File;
 use std::io::{BufWriter, Stdout};
 use std::process::ExitCode;
 
@@ -49,13 +49,13 @@ fn run(rt: &HostRuntime) -> Result<(), Fault> {
     // A standard stream that is closed is the folder then, and no file of the store.
     let _streams = fill_streams(rt, &arguments.folder)?;
     // The folder is locked until all is served.
-    let (setup, _lock) = setup(rt, &arguments)?;
+    let (setup, folder) = setup(rt, &arguments)?;
     let mut reader = Counted::new(rt.stdin());
     let mut writer = Counted::new(stdout(rt)?);
     let disk: FolderDisk<HostRuntime, Unknown> = FolderDisk::new(
         rt.clone()?,
         rt.alloc(),
-        &arguments.folder,
+        folder.path(),
     )?;
     let Served { disk: _, end } = serve_folder(rt.alloc(), disk, setup, &mut reader, &mut writer);
     told(end)
@@ -72,9 +72,10 @@ fn told(end: Result<ServeEnd, OpenFault>) -> Result<(), Fault>
     }
 }
 
-// What the store is opened with, and the lock on its folder, where it has one.
-fn setup(rt: &HostRuntime, arguments: &Arguments) -> Result<(Setup, Option<File>), Fault>
+// What the store is opened with, and its folder, locked.
+fn setup<'a>(rt: &HostRuntime, arguments: &'a Arguments) -> Result<(Setup, LockedFolder<'a>), Fault>
     requires { IsGroup arguments.now.group }
+    ensures folder { IfOk result (λ made. made.1.path.now ≡ string_bytes arguments.now.folder) }
     ensures names { IfOk result (λ made. All IsOrgFile made.0.names.items) }
     ensures new { IfOk result (λ made. (listed : List (List ℕ))
         × (made.0.names.items ≡ map string_bytes arguments.now.new.items ++ listed)) }
@@ -85,9 +86,9 @@ fn setup(rt: &HostRuntime, arguments: &Arguments) -> Result<(Setup, Option<File>
 {
     let mut names = new_names(rt.alloc(), &arguments.new)?;
     let states = states(rt.alloc(), &arguments.todo, &arguments.done)?;
-    let lock = lock_folder(rt, &arguments.folder)?;
-    names.append(&mut org_files(rt, &arguments.folder)?)?;
-    check_files(rt, &arguments.folder, &names)?;
+    let folder = lock_folder(rt, &arguments.folder)?;
+    names.append(&mut org_files(rt, &folder)?)?;
+    check_files(rt, &folder, &names)?;
     let group = arguments.group;
     Ok((
         Setup {
@@ -95,12 +96,16 @@ fn setup(rt: &HostRuntime, arguments: &Arguments) -> Result<(Setup, Option<File>
             states,
             group,
         },
-        lock,
+        folder,
     ))
 }
 
 // Whether the files of a store with these names are one each. Too many names are told by the opening.
-fn check_files(rt: &HostRuntime, folder: &str, names: &[FileName]) -> Result<(), ApartFault>
+fn check_files(
+    rt: &HostRuntime,
+    folder: &LockedFolder<'_>,
+    names: &[FileName],
+) -> Result<(), ApartFault>
     requires { All IsOrgFile names.now }
     ensures { IfErr result (MayShare names.now) }
 {

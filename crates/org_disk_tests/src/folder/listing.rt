@@ -1,7 +1,7 @@
 // The Org files of a folder.
 use super::{done, link, make, make_empty, put, remove};
 use org_disk::{FileName, NameFault};
-use org_folder::{org_file, org_files};
+use org_folder::{lock_folder, org_file, org_files};
 use std::io;
 use std::test::Fail;
 
@@ -36,9 +36,11 @@ fn are_listed(names: &[FileName]) -> bool {
 #[test]
 fn files_of_a_folder(rt: HostRuntime) -> Result<(), Fail> {
     done(make_listed(&rt))?;
-    let mut names = org_files(&rt, "listed")?;
+    let listed = lock_folder(&rt, "listed")?;
+    let mut names = org_files(&rt, &listed)?;
     names.sort()?;
     assert!(rt; are_listed(names.as_slice()));
-    assert!(rt; org_files(&rt, "listed/nowhere").is_err());
+    let nowhere = lock_folder(&rt, "listed/nowhere")?;
+    assert!(rt; org_files(&rt, &nowhere).is_err());
     remove(&rt, "listed")
 }

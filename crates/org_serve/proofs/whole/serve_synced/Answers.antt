@@ -1,6 +1,11 @@
-use Rattle.std.proofs.Common.{ℕ, List, subst}
+use Rattle.std.proofs.Common.{ℕ, List, Result, IfErr, subst}
 use Rattle.std.proofs.lemmas.Result.{IfOk-weaker}
 use Rattle.org_journal.specs.Recovered.{contents}
+use Rattle.org_fileset.specs.Names.{AreFew, AreTooMany}
+use Rattle.org_fileset.specs.Opening.{IsReason}
+use Rattle.org_fileset.specs.declared.open.OpenFault.{OpenFault}
+use Rattle.org_store.proofs.Sortings.{few_or_many}
+use Rattle.org_serve.specs.declared.end.ServeEnd.{ServeEnd}
 use Rattle.org_serve.specs.Syncing.{AreSynced, stored}
 use Rattle.org_serve.proofs.Counting.{ended_unserved}
 use Rattle.org_serve.proofs.Synced.{if_err, reason_before, served_from, lasts_recoverable, lasts_found, synced_gives_back, unsynced_gives_back}
@@ -46,6 +51,15 @@ returns-in-Ok-clause-refused g c =
     if_err c.serve_disk.result.end
     (reason_before c.args.setup.names.items (d.honest now) (contents (d.files c.args.disk)) (contents (d.files c.sync_files.new.disk)) (contents (d.files now)) same)
     c.serve_disk.ensures.refused
+
+pub returns-in-Ok-clause-unused : goal.returns-in-Ok-clause-unused
+returns-in-Ok-clause-unused g c refused =
+    let d = g.D.Disk in
+    let given = c.args.setup.names.items in
+    let now = c.serve_disk.result.disk in
+    let few : AreFew given = subst AreFew c.deref.ensures.value c.in-Ok.ensures.few in
+    let many : AreTooMany given = subst (λ (end : Result ServeEnd OpenFault). IfErr end (IsReason given (d.honest now) (contents (d.files c.sync_files.new.disk)) (contents (d.files now)))) refused c.serve_disk.ensures.refused in
+    absurd (few_or_many given few many)
 
 pub returns-in-Err-clause-disk : goal.returns-in-Err-clause-disk
 returns-in-Err-clause-disk g c honest =

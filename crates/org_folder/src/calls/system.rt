@@ -1,9 +1,10 @@
 //! The calls of the operating system. Each method makes the call that the trait names, again where a signal interrupts
 //! it, and what it takes to reach the file, and then notes what the trait's clauses say.
-ghost use Rattle.std.specs.Prelude.{◌≡◌, [], ◌∷◌, IfOk};
+ghost use Rattle.std.specs.Prelude.{◌≡◌, [], ◌∷◌, string_bytes, IfOk};
+ghost use Rattle.std.specs.Path.{path_buf_bytes, path_join};
 ghost use Rattle.org_folder.specs.Note.{event_of};
 
-use crate::calls::{Calls, Opened};
+use super::{Calls, Opened};
 use crate::record::{Call, Record};
 use crate::start::Start;
 use org_disk::{DiskFault, FileName};
@@ -95,7 +96,10 @@ where
         self.log.note(call, name.as_str().as_bytes(), bytes);
     }
 
-    fn path_of(&self, name: &FileName) -> Result<PathBuf, AllocError> {
+    fn path_of(&self, name: &FileName) -> Result<PathBuf, AllocError>
+        ensures { IfOk result (λ path. path_buf_bytes path
+            ≡ path_join (string_bytes self.now.path) name.now) }
+    {
         Path::new(self.path.as_str()).join(self.rt.alloc(), name.as_str())
     }
 }
