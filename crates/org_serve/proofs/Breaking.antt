@@ -1,6 +1,6 @@
 -- How calls of a store that may break it follow one another.
 use Rattle.std.proofs.Common.{◌≡◌, ℕ, true, false, true≢false, refl, sym, ap, ◌∙◌, arith, inl, inr, ◌⊎◌, Bool, subst}
-use Rattle.std.specs.Prelude.{IsTrue, IsErrOf, Result, Ok, Err}
+use Rattle.std.specs.Prelude.{IsTrue, IsFalse, IsErrOf, Result, Ok, Err}
 use Rattle.org_disk.specs.Accounts.{Accounts}
 use Rattle.org_disk.proofs.Accounting.{accounts_then}
 use Rattle.org_disk.specs.Disk.{HasRisen}
@@ -69,6 +69,17 @@ ends_broken (Err (run.Refused why)) old new sound only_so so was = elim (broken_
 ]
 ends_broken (Err run.Device) old new sound only_so so was = so (inr refl)
 ends_broken (Err run.Broken) old new sound only_so so was = absurd (both_ways (was refl) sound)
+
+-- a store that was opened and served is broken where its disk's count rose, and else not
+pub breaks_by_count : {D : Type 0} {steady : Type 0} {honest : D → Type 0} {failures : D → ℕ} {disk new : D} (store after : Kept D)
+    → Accounts steady honest failures disk store.disk ⊥ → Accounts steady honest failures store.disk after.disk (HasBroken store.session after.session)
+    → store.session.broken ≡ false → new ≡ after.disk
+    → (IsTrue after.session.broken → HasRisen (failures disk) (failures new)) × (IsFalse after.session.broken → failures new ≡ failures disk)
+breaks_by_count {D} {failures = failures} {disk = disk} store after opened served sound is =
+    let whole = accounts_then opened served in (
+      λ broke. subst (λ (d : D). HasRisen (failures disk) (failures d)) (sym is) (whole.risen (sound, broke)),
+      λ fine. ap failures is ∙ whole.equal (λ has. both_ways has.1 fine),
+    )
 
 -- a store that was opened and served, as its disk's count tells it
 pub served_accounts : {D : Type 0} {steady : Type 0} {honest : D → Type 0} {failures : D → ℕ} {disk new : D} (end : ServeEnd) (store after : Kept D)

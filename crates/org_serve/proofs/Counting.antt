@@ -1,10 +1,13 @@
 -- How counts rise.
-use Rattle.std.proofs.Common.{◌≡◌, ◌≢◌, ◌⊎◌, ℕ, ◌+◌, ◌≤◌, Result, Ok, Err, inl, inr, refl, ap, ◌∙◌, subst, arith}
+use Rattle.std.proofs.Common.{◌≡◌, ◌≢◌, ◌⊎◌, ℕ, ◌+◌, ◌≤◌, ◌<◌, List, [], ◌++◌, length, Option, Result, Ok, Err, inl, inr, refl, ap, ◌∙◌, subst, arith}
+use Rattle.std.proofs.lemmas.List.{length-append}
+use Rattle.std.specs.Io.KnownBytes.{Consumes}
 use Rattle.org_disk.specs.Disk.{IsCounted, HasRisen}
 use Rattle.org_fileset.specs.declared.open.OpenFault.{OpenFault}
 use Rattle.org_serve.specs.declared.end.ServeEnd.{ServeEnd}
 use Rattle.org_serve.specs.declared.end.ServeEnd.TheVariants.{Read, Write}
-use Rattle.org_serve.specs.Counts.{HasRisenBy, EndsForCause}
+use Rattle.org_serve.specs.Counts.{HasRisenBy, HasRead, EndsForCause}
+use Rattle.org_serve.proofs.Joins.{Consumes-append, Consumes-none, Consumes-no_more}
 
 pub HasRisenBy-counted : (n old mid new : ℕ) → HasRisenBy n old mid → IsCounted mid new → HasRisenBy (n + 1) old new
 HasRisenBy-counted n old mid new rose counted =
@@ -12,6 +15,23 @@ HasRisenBy-counted n old mid new rose counted =
       | inl one ↦ (elim rose [ inl r ↦ inl (omega arith) | inr r ↦ inr (omega arith) ])
       | inr full ↦ inr (omega (arith, full.0, full.1))
     ]
+
+-- one read more
+pub within_counted : (n old mid new : ℕ) → mid ≤ old + n → IsCounted mid new → new ≤ old + (n + 1)
+within_counted n old mid new le counted = elim counted [ inl one ↦ omega arith | inr full ↦ omega (arith, full.0, full.1) ]
+
+-- the first of the turns are no more than all
+pub within_all : (turns n old new : ℕ) → new ≤ old + (n + 1) → n < turns → new ≤ old + turns
+within_all turns n old new le less = omega arith
+
+pub read_none : (left : Option (List ℕ)) → HasRead 0 left left
+read_none left = ([], Consumes-none left, omega arith)
+
+-- one read more, which gave bytes
+pub read_more : (n : ℕ) (left between left' : Option (List ℕ)) (piece : List ℕ) → HasRead n left between → Consumes between left' piece → 0 < length piece → HasRead (n + 1) left left'
+read_more n left between left' piece had read some =
+    let size : length (had.0 ++ piece) ≡ length had.0 + length piece = length-append had.0 piece in
+    (had.0 ++ piece, Consumes-append left between left' had.0 piece had.1 read, omega (arith, had.2, size))
 
 -- what rose later has risen since earlier
 pub HasRisen-later : (old mid new : ℕ) → old ≤ mid → HasRisen mid new → HasRisen old new
@@ -33,25 +53,28 @@ pub read_apart : Read ≡ Write → ⊥
 read_apart same = cc
 
 -- a read failed, or the turns are used up
-pub ended_read : {turns reads reads' read mid read' written written' : ℕ} → mid ≡ read → IsCounted mid read' ⊎ HasRisenBy turns reads reads' → written' ≡ written
-    → EndsForCause turns (Ok Read) reads reads' read read' written written'
-ended_read {turns} {reads} {reads'} {read' = read'} before cause same = record {
-  read_cause = λ is. subst (λ n. IsCounted n read' ⊎ HasRisenBy turns reads reads') before cause;
+pub ended_read : {turns : ℕ} {left left' : Option (List ℕ)} {reads reads' read mid read' written written' : ℕ} → mid ≡ read
+    → IsCounted mid read' ⊎ (HasRisenBy turns reads reads' × HasRead turns left left') → reads' ≤ reads + turns → written' ≡ written
+    → EndsForCause turns (Ok Read) left left' reads reads' read read' written written'
+ended_read {turns} {left} {left'} {reads} {reads'} {read' = read'} before cause within same = record {
+  read_cause = λ is. subst (λ n. IsCounted n read' ⊎ (HasRisenBy turns reads reads' × HasRead turns left left')) before cause;
+  within_turns = within;
   read_told = λ not. absurd (not refl);
   write_cause = λ is. absurd (read_apart (served_so is));
   write_told = λ not. same;
 }
 
 -- no read failed
-pub ended_otherwise : {turns reads reads' read read' written mid written' : ℕ} (end : ServeEnd) → end ≢ Read → read' ≡ read → mid ≡ written
-    → (end ≡ Write → IsCounted mid written') → (end ≢ Write → written' ≡ mid) → EndsForCause turns (Ok end) reads reads' read read' written written'
-ended_otherwise {written' = written'} end none same before failed told = record {
+pub ended_otherwise : {turns : ℕ} {left left' : Option (List ℕ)} {reads reads' read read' written mid written' : ℕ} (end : ServeEnd) → end ≢ Read → reads' ≤ reads + turns → read' ≡ read → mid ≡ written
+    → (end ≡ Write → IsCounted mid written') → (end ≢ Write → written' ≡ mid) → EndsForCause turns (Ok end) left left' reads reads' read read' written written'
+ended_otherwise {written' = written'} end none within same before failed told = record {
   read_cause = λ is. absurd (none (served_so is));
+  within_turns = within;
   read_told = λ not. same;
   write_cause = λ is. subst (λ n. IsCounted n written') before (failed (served_so is));
   write_told = λ not. told (λ is. not (ap Ok is)) ∙ before;
 }
 
 -- nothing was served
-pub ended_unserved : {turns reads read written : ℕ} {fault : OpenFault} → EndsForCause turns (Err fault) reads reads read read written written
-ended_unserved = record { read_cause = λ is. absurd (wasnt_served is); read_told = λ not. refl; write_cause = λ is. absurd (wasnt_served is); write_told = λ not. refl }
+pub ended_unserved : {turns : ℕ} {left : Option (List ℕ)} {reads read written : ℕ} {fault : OpenFault} → EndsForCause turns (Err fault) left left reads reads read read written written
+ended_unserved = record { read_cause = λ is. absurd (wasnt_served is); within_turns = omega arith; read_told = λ not. refl; write_cause = λ is. absurd (wasnt_served is); write_told = λ not. refl }

@@ -1,7 +1,7 @@
 -- A whole run over a disk: an opening, and what is served then.
 use Rattle.std.proofs.Common.{◌≡◌, ◌⊎◌, inl, inr, ⊎_elim, ℕ, ◌≤◌, Bool, true, false, nat_lt, is_some, List, [], ◌∷◌, Option, Some, None, Result, Ok, Err, refl, sym, ap, ◌∙◌, subst, arith}
-use Rattle.std.specs.Prelude.{IsSomeAnd, slice_get}
-use Rattle.org_disk.specs.Disk.{FileState, AreImages, LeavesOnly}
+use Rattle.std.specs.Prelude.{IsSomeAnd, IsTrue, IsFalse, slice_get}
+use Rattle.org_disk.specs.Disk.{FileState, AreImages, HasRisen, LeavesOnly}
 use Rattle.org_disk.proofs.Moments.{Image, passes_as, passes_then, leaves_only}
 use Rattle.org_outline.specs.States.{Keywords}
 use Rattle.org_journal.specs.Recovered.{SameFiles, RecoversTo, IsRecoverable, recovered, contents}
@@ -23,7 +23,7 @@ use Rattle.org_store.specs.History.{Past, Lists}
 use Rattle.org_serve.specs.History.{LeadsBy}
 use Rattle.org_serve.specs.Serving.{EndsBy, Finishes, Serves, end_of}
 use Rattle.org_serve.specs.Crashes.{RunsLine, HasSettledOver, Runs}
-use Rattle.org_serve.specs.Whole.{Begins, ServesOver, HoldsServed, IsOnTheWay, IsOnTheWayTo, Lasts}
+use Rattle.org_serve.specs.Whole.{Begins, ServesOver, BreaksByCount, HoldsServed, IsOnTheWay, IsOnTheWayTo, Lasts}
 use Rattle.org_serve.proofs.History.{at_first, lift_run, session_of_past, since, whole_prefix}
 use Rattle.org_serve.proofs.Honest.{HasSettledPast, PastLine, past_last, past_leads, past_lines, past_runs, up_to}
 
@@ -265,11 +265,14 @@ module _ {D : Type 0} (honest : D → Type 0) (files : D → List ℕ → FileSt
       → Runs (RunsLine honest files moment left_since) (HasSettledOver honest files moment left_since) begun after end left left' written written'
       → (honest now → Serves begun.session end after.session left left' written written')
       → (IsRecoverable (files disk) → EachRecovers (files disk) → honest begun.disk → LeavesOnly (moment disk) (moment begun.disk) (left_since disk) (left_since begun.disk) (RecoversAsBefore (files disk)))
+      → (failures : D → ℕ) → (IsTrue after.session.broken → HasRisen (failures disk) (failures now)) × (IsFalse after.session.broken → failures now ≡ failures disk)
       → (served : ServesOver honest files moment left_since states group given disk now end left left' written written')
+      × BreaksByCount failures served
       × (IsRecoverable (files disk) → EachRecovers (files disk) → Lasts served)
   unfolding serves
-  serves_lasting sorted sized began reopened after now given_up run told opening =
+  serves_lasting sorted sized began reopened after now given_up run told opening failures counts =
       let served = serves files states group given disk store begun is opens honest moment left_since sorted sized began reopened after now given_up run told in (
         served,
+        record { broken = counts.0; sound = counts.1 },
         λ fit each. lasts only_now counts_now served (λ honestly. (reopened honestly).rest fit each) (λ honestly. opening fit each honestly),
       )

@@ -2,7 +2,7 @@
 use Rattle.std.proofs.Common.{◌≡◌, ◌≤◌, inl, inr, ⊎_elim, ℕ, List, Option, None, Result, Ok, Err, IfErr, refl, ◌∙◌, ap, subst, arith}
 use Rattle.std.specs.Prelude.{IsSomeAnd, IsTrue, is_some}
 use Rattle.org_disk.specs.Accounts.{LeavesOver}
-use Rattle.org_disk.specs.Disk.{FileState, IsImage, AreImages, LeavesOnly}
+use Rattle.org_disk.specs.Disk.{FileState, IsImage, AreImages, HasRisen, LeavesOnly}
 use Rattle.org_disk.specs.Names.{journal_name}
 use Rattle.org_disk.proofs.Moments.{Image, passes_as, passes_then, leaves_only}
 use Rattle.org_outline.specs.States.{Keywords}
@@ -15,7 +15,7 @@ use Rattle.org_fileset.proofs.Recovering.{as_before}
 use Rattle.org_serve.specs.declared.end.ServeEnd.{ServeEnd}
 use Rattle.org_store.specs.History.{Past}
 use Rattle.org_serve.specs.Syncing.{AreSynced, OutsideStable, IsAsFound, IsSyncFault, stored}
-use Rattle.org_serve.specs.Whole.{ServesOver, IsOnTheWay, IsOnTheWayTo, Lasts, LastsFrom, GivesBack, GivesBackSynced}
+use Rattle.org_serve.specs.Whole.{ServesOver, BreaksByCount, IsOnTheWay, IsOnTheWayTo, Lasts, LastsFrom, GivesBack, GivesBackSynced}
 use Rattle.org_serve.proofs.Honest.{past_runs, up_to}
 use Rattle.org_serve.proofs.Syncs.{all_images, each_image, some_or_none, still_recoverable, still_recovers, still_outside, as_at_first, as_read, now_recoverable, now_recovers, some_recovers}
 
@@ -99,6 +99,13 @@ module _ {D : Type 0} (honest : D → Type 0) (files : D → List ℕ → FileSt
       given_up = served.given_up;
       so_far = served.so_far;
       serves = served.serves;
+    }
+
+    pub breaks_from : (failures : D → ℕ) → failures mid ≡ failures disk → BreaksByCount failures served → BreaksByCount failures served_from
+    unfolding served_from
+    breaks_from failures same breaks = record {
+      broken = λ broke. subst (λ n. HasRisen n (failures now)) same (breaks.broken broke);
+      sound = λ sound. breaks.sound sound ∙ same;
     }
 
     first_honest : (later : Past D) → IsOnTheWay served later → honest later.store.disk → honest served.first.store.disk

@@ -1,6 +1,6 @@
 -- A whole run over a disk: a store is opened, serves the lines of an input, and is given up. `honest`, `files`, `moment`
 -- and `left_since` are what is seen of a disk of the type D.
-use Rattle.std.specs.Prelude.{◌≡◌, ◌⊎◌, ℕ, List, [], ◌∷◌, None, Option, IsFalse, Result, Ok, Err, IfErr, IsErr}
+use Rattle.std.specs.Prelude.{◌≡◌, ◌⊎◌, ℕ, List, [], ◌∷◌, None, Option, IsTrue, IsFalse, Result, Ok, Err, IfErr, IsErr}
 use Rattle.org_disk.specs.Disk.{FileState, AreImages, HasRisen}
 use Rattle.org_disk.specs.Accounts.{LeavesOver}
 use Rattle.org_outline.specs.States.{Keywords}
@@ -92,6 +92,14 @@ abbrev pub Lasts : {D : Type 0} {honest : D → Type 0} {files : D → List ℕ 
     {states : Keywords} {group : ℕ} {given : List (List ℕ)} {disk now : D} {end : ServeEnd} {left left' written written' : Option (List ℕ)}
     → ServesOver honest files moment left_since states group given disk now end left left' written written' → Type 0
 Lasts {files = files} {disk = disk} served = LastsFrom (RecoversAsBefore (files disk)) served
+
+-- The disk's count of failures tells whether the last store is broken: so the stores on the way tell no Device unless a
+-- call of the disk failed in the run, and a run in which one failed has a broken store at its end.
+pub record BreaksByCount {D : Type 0} {honest : D → Type 0} {files : D → List ℕ → FileState} {moment : D → ℕ} {left_since : D → ℕ → Image → Type 0}
+    {states : Keywords} {group : ℕ} {given : List (List ℕ)} {disk now : D} {end : ServeEnd} {left left' written written' : Option (List ℕ)}
+    (failures : D → ℕ) (served : ServesOver honest files moment left_since states group given disk now end left left' written written') : Type 0 where
+  pub broken : IsTrue served.last.store.session.broken → HasRisen (failures disk) (failures now)
+  pub sound : IsFalse served.last.store.session.broken → failures now ≡ failures disk
 
 -- What a run makes of a disk that is honest at the end: `disk` is what it was given, and `now` what it gives back.
 pub record GivesBack {D : Type 0} (files : D → List ℕ → FileState) (moment : D → ℕ) (left_since : D → ℕ → Image → Type 0)

@@ -48,9 +48,9 @@ pub fn serve<D: Disk, R: Source, W: Sink>(
 ) -> ServeEnd
     ensures serves { D.honest store.new.disk → Serves store.old.session result store.new.session
         (R.left reader.old) (R.left reader.new) (W.written writer.old) (W.written writer.new) }
-    ensures causes { EndsForCause turns (Ok result) (R.reads reader.old) (R.reads reader.new)
-        (R.failures reader.old) (R.failures reader.new) (W.failures writer.old)
-        (W.failures writer.new) }
+    ensures causes { EndsForCause turns (Ok result) (R.left reader.old) (R.left reader.new)
+        (R.reads reader.old) (R.reads reader.new) (R.failures reader.old)
+        (R.failures reader.new) (W.failures writer.old) (W.failures writer.new) }
     ensures calls { Runs (RunsLine D.honest D.files D.moment D.left_since)
         (HasSettledOver D.honest D.files D.moment D.left_since) store.old store.new result
         (R.left reader.old) (R.left reader.new) (W.written writer.old) (W.written writer.new) }

@@ -8,7 +8,7 @@ ghost use Rattle.org_fileset.specs.Recovery.{EachRecovers};
 ghost use Rattle.org_serve.specs.Counts.{EndsForCause};
 ghost use Rattle.org_store.specs.Group.{IsGroup};
 ghost use Rattle.org_serve.specs.Syncing.{OutsideStable, IsAsFound};
-ghost use Rattle.org_serve.specs.Whole.{ServesOver, Lasts, LastsFrom, HasFailed, GivesBack, GivesBackSynced};
+ghost use Rattle.org_serve.specs.Whole.{ServesOver, BreaksByCount, Lasts, LastsFrom, HasFailed, GivesBack, GivesBackSynced};
 
 use crate::end::ServeEnd;
 use crate::pipes::{Sink, Source};
@@ -72,6 +72,7 @@ pub fn serve_disk<D: Disk, R: Source, W: Sink>(
         D.honest D.files D.moment D.left_since setup.states setup.group setup.names.items
         disk result.disk end (R.left reader.old) (R.left reader.new) (W.written writer.old)
         (W.written writer.new))
+        × BreaksByCount D.failures served
         × (IsRecoverable (D.files disk) → EachRecovers (D.files disk) → Lasts served)) }
     ensures disk { D.honest result.disk → GivesBack D.files D.moment D.left_since
         disk result.disk result.end }
@@ -80,9 +81,9 @@ pub fn serve_disk<D: Disk, R: Source, W: Sink>(
     ensures unused { result.end ≡ Err OpenFault.TooManyFiles → result.disk ≡ disk }
     ensures unserved { IfErr result.end (λ _. (reader.new ≡ reader.old)
         × (writer.new ≡ writer.old)) }
-    ensures causes { EndsForCause turns result.end (R.reads reader.old) (R.reads reader.new)
-        (R.failures reader.old) (R.failures reader.new) (W.failures writer.old)
-        (W.failures writer.new) }
+    ensures causes { EndsForCause turns result.end (R.left reader.old) (R.left reader.new)
+        (R.reads reader.old) (R.reads reader.new) (R.failures reader.old)
+        (R.failures reader.new) (W.failures writer.old) (W.failures writer.new) }
     ensures accounts { Accounts D.steady D.honest D.failures disk result.disk
         (HasFailed result.end (D.failures disk) (D.failures result.disk)) }
 {
@@ -131,6 +132,7 @@ pub fn serve_synced<D: Disk, R: Source, W: Sink>(
         D.honest D.files D.moment D.left_since setup.states setup.group setup.names.items
         disk result.disk end (R.left reader.old) (R.left reader.new) (W.written writer.old)
         (W.written writer.new))
+        × BreaksByCount D.failures served
         × (IsRecoverable (D.files disk) → EachRecovers (D.files disk) → Lasts served)
         × (OutsideStable setup.names.items (D.files disk)
         → LastsFrom (IsAsFound (D.files disk)) served)) }
@@ -141,9 +143,9 @@ pub fn serve_synced<D: Disk, R: Source, W: Sink>(
     ensures unused { result.end ≡ Err OpenFault.TooManyFiles → result.disk ≡ disk }
     ensures unserved { IfErr result.end (λ _. (reader.new ≡ reader.old)
         × (writer.new ≡ writer.old)) }
-    ensures causes { EndsForCause turns result.end (R.reads reader.old) (R.reads reader.new)
-        (R.failures reader.old) (R.failures reader.new) (W.failures writer.old)
-        (W.failures writer.new) }
+    ensures causes { EndsForCause turns result.end (R.left reader.old) (R.left reader.new)
+        (R.reads reader.old) (R.reads reader.new) (R.failures reader.old)
+        (R.failures reader.new) (W.failures writer.old) (W.failures writer.new) }
     ensures accounts { Accounts D.steady D.honest D.failures disk result.disk
         (HasFailed result.end (D.failures disk) (D.failures result.disk)) }
 {

@@ -10,7 +10,7 @@ ghost use Rattle.org_folder.specs.FolderDisk.{record_of};
 ghost use Rattle.org_serve.specs.Counts.{EndsForCause};
 ghost use Rattle.org_store.specs.Group.{IsGroup};
 ghost use Rattle.org_serve.specs.Syncing.{OutsideStable, IsAsFound};
-ghost use Rattle.org_serve.specs.Whole.{ServesOver, Lasts, LastsFrom, HasFailed, GivesBackSynced};
+ghost use Rattle.org_serve.specs.Whole.{ServesOver, BreaksByCount, Lasts, LastsFrom, HasFailed, GivesBackSynced};
 ghost use Rattle.orgstore.specs.Folder.{is_right, files_of, moment_of, left_of, failures_of};
 
 use org_folder::{FolderDisk, Start};
@@ -63,6 +63,7 @@ where
         (is_right S.world) (files_of S.world) moment_of (left_of S.world) setup.states setup.group
         setup.names.items disk result.disk end (R.left reader.old) (R.left reader.new)
         (W.written writer.old) (W.written writer.new))
+        × BreaksByCount failures_of served
         × (IsRecoverable (files_of S.world disk) → EachRecovers (files_of S.world disk)
         → Lasts served)
         × (OutsideStable setup.names.items (files_of S.world disk)
@@ -74,9 +75,9 @@ where
     ensures unused { result.end ≡ Err TooManyFiles → result.disk ≡ disk }
     ensures unserved { IfErr result.end (λ _. (reader.new ≡ reader.old)
         × (writer.new ≡ writer.old)) }
-    ensures causes { EndsForCause 4294967295 result.end (R.reads reader.old)
-        (R.reads reader.new) (R.failures reader.old) (R.failures reader.new)
-        (W.failures writer.old) (W.failures writer.new) }
+    ensures causes { EndsForCause 4294967295 result.end (R.left reader.old) (R.left reader.new)
+        (R.reads reader.old) (R.reads reader.new) (R.failures reader.old)
+        (R.failures reader.new) (W.failures writer.old) (W.failures writer.new) }
     ensures accounts { Accounts ⊥ (is_right S.world) failures_of disk result.disk
         (HasFailed result.end disk.failures result.disk.failures) }
 {

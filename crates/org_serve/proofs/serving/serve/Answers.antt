@@ -1,12 +1,12 @@
 use Rattle.std.proofs.Common.{◌≡◌, ◌∙◌, arith, ◌<◌, length, take, inl, inr, refl, subst}
 use Rattle.org_serve.specs.declared.end.ServeEnd.TheVariants.{Write}
-use Rattle.org_serve.specs.Counts.{HasRisenBy}
+use Rattle.org_serve.specs.Counts.{HasRisenBy, HasRead}
 use Rattle.org_serve.specs.Lines.{cut}
 use Rattle.org_serve.specs.Crashes.{HasSettledOver}
 use Rattle.org_serve.proofs.Cuts.{rest-free}
 use Rattle.org_serve.proofs.Inputs.{Served-more, Served-some, Served-no_more, serves_read, serves_some, serves_end}
 use Rattle.org_serve.proofs.Joins.{Consumes-kept}
-use Rattle.org_serve.proofs.Counting.{HasRisenBy-counted, ended_read, ended_otherwise}
+use Rattle.org_serve.proofs.Counting.{HasRisenBy-counted, within_counted, within_all, read_more, ended_read, ended_otherwise}
 use Rattle.org_serve.proofs.Breaking.{untouched_then, breaks_then}
 use Rattle.org_serve.proofs.Honest.{kept_end, kept_runs, kept_served, kept_settled, kept_some}
 use Rattle.org_serve.proofs.Crashes.{session_of_served, session_of_ends, session_of_settled, session_of_some, runs_read, runs_finish, runs_some, runs_keep}
@@ -30,7 +30,9 @@ returns-in-Ok-eq0-clause-serves g c = λ honest.
 
 pub returns-in-Ok-eq0-clause-causes : goal.returns-in-Ok-eq0-clause-causes
 returns-in-Ok-eq0-clause-causes g c =
-    ended_otherwise c.finish.result c.finish.ensures.never (c.in-Ok-eq0.ensures.ok ∙ c.loop.invariant.4) c.loop.invariant.5 c.finish.ensures.write_cause c.finish.ensures.write_told
+    ended_otherwise c.finish.result c.finish.ensures.never
+    (within_all c.args.turns c.loop.counter (g.R.Source.reads c.args.reader.now) (g.R.Source.reads c.read.new.self) (within_counted c.loop.counter (g.R.Source.reads c.args.reader.now) (g.R.Source.reads c.loop.reader) (g.R.Source.reads c.read.new.self) c.loop.invariant.6 c.in-Ok-eq0.ensures.counted) (omega arith))
+    (c.in-Ok-eq0.ensures.ok ∙ c.loop.invariant.4) c.loop.invariant.5 c.finish.ensures.write_cause c.finish.ensures.write_told
 
 pub returns-in-Ok-eq0-clause-calls : goal.returns-in-Ok-eq0-clause-calls
 returns-in-Ok-eq0-clause-calls g c =
@@ -57,7 +59,9 @@ returns-in-Err-feed-clause-serves g c = λ honest.
 
 pub returns-in-Err-feed-clause-causes : goal.returns-in-Err-feed-clause-causes
 returns-in-Err-feed-clause-causes g c =
-    ended_otherwise Write (λ e. absurd (cc)) (c.in-Ok.ensures.ok ∙ c.loop.invariant.4) c.loop.invariant.5 (λ e. c.in-Err-feed.ensures.err) (λ not. absurd (not refl))
+    ended_otherwise Write (λ e. absurd (cc))
+    (within_all c.args.turns c.loop.counter (g.R.Source.reads c.args.reader.now) (g.R.Source.reads c.read.new.self) (within_counted c.loop.counter (g.R.Source.reads c.args.reader.now) (g.R.Source.reads c.loop.reader) (g.R.Source.reads c.read.new.self) c.loop.invariant.6 c.in-Ok.ensures.counted) (omega arith))
+    (c.in-Ok.ensures.ok ∙ c.loop.invariant.4) c.loop.invariant.5 (λ e. c.in-Err-feed.ensures.err) (λ not. absurd (not refl))
 
 pub returns-in-Err-feed-clause-calls : goal.returns-in-Err-feed-clause-calls
 returns-in-Err-feed-clause-calls g c =
@@ -79,7 +83,10 @@ returns-in-Err-clause-serves g c = λ honest.
     (kept_served d.honest d.files d.moment d.left_since (Served-no_more c.loop.invariant.0 (g.R.Source.left c.read.new.self) (Consumes-kept _ _ c.in-Err.ensures.bytes)) honest))
 
 pub returns-in-Err-clause-causes : goal.returns-in-Err-clause-causes
-returns-in-Err-clause-causes g c = ended_read c.loop.invariant.4 (inl c.in-Err.ensures.err) c.loop.invariant.5
+returns-in-Err-clause-causes g c =
+    ended_read c.loop.invariant.4 (inl c.in-Err.ensures.err)
+    (within_all c.args.turns c.loop.counter (g.R.Source.reads c.args.reader.now) (g.R.Source.reads c.read.new.self) (within_counted c.loop.counter (g.R.Source.reads c.args.reader.now) (g.R.Source.reads c.loop.reader) (g.R.Source.reads c.read.new.self) c.loop.invariant.6 c.in-Err.ensures.counted) (omega arith))
+    c.loop.invariant.5
 
 pub returns-in-Err-clause-calls : goal.returns-in-Err-clause-calls
 returns-in-Err-clause-calls g c =
@@ -101,7 +108,8 @@ pub returns-clause-causes : goal.returns-clause-causes
 returns-clause-causes g c =
     let all : c.loop.counter ≡ c.args.turns = omega arith in
     let risen = subst (λ n. HasRisenBy n (g.R.Source.reads c.args.reader.now) (g.R.Source.reads c.loop.reader)) all c.loop.invariant.3 in
-    ended_read c.loop.invariant.4 (inr risen) c.loop.invariant.5
+    let had = subst (λ n. HasRead n (g.R.Source.left c.args.reader.now) (g.R.Source.left c.loop.reader)) all c.loop.invariant.7 in
+    ended_read c.loop.invariant.4 (inr (risen, had)) (omega (arith, c.loop.invariant.6)) c.loop.invariant.5
 
 pub returns-clause-calls : goal.returns-clause-calls
 returns-clause-calls g c =
@@ -123,4 +131,7 @@ loop-preserved g c = (
   HasRisenBy-counted c.loop.counter _ _ _ c.loop.invariant.3 c.in-Ok.ensures.counted,
   c.in-Ok.ensures.ok ∙ c.loop.invariant.4,
   c.in-Ok-feed.ensures.same ∙ c.loop.invariant.5,
+  within_counted c.loop.counter (g.R.Source.reads c.args.reader.now) (g.R.Source.reads c.loop.reader) (g.R.Source.reads c.read.new.self) c.loop.invariant.6 c.in-Ok.ensures.counted,
+  read_more c.loop.counter (g.R.Source.left c.args.reader.now) (g.R.Source.left c.loop.reader) (g.R.Source.left c.read.new.self) (take c.in-Ok.n c.read.new.into) c.loop.invariant.7
+      c.in-Ok.ensures.bytes.0 (omega (arith, c.in-Ok.ensures.bound.1)),
 )

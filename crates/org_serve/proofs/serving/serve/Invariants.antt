@@ -1,13 +1,13 @@
-use Rattle.std.proofs.Common.{◌≡◌}
+use Rattle.std.proofs.Common.{◌≡◌, ◌≤◌, ◌+◌}
 use Rattle.std.specs.Prelude.{IsTrue}
 use Rattle.org_disk.specs.Accounts.{Accounts}
-use Rattle.org_serve.specs.Counts.{HasRisenBy}
+use Rattle.org_serve.specs.Counts.{HasRisenBy, HasRead}
 use Rattle.org_serve.specs.Serving.{HasBroken}
 use Rattle.org_serve.specs.Crashes.{RunsLine}
 use Rattle.org_serve.proofs.Inputs.{Served}
 use Rattle.org_serve.proofs.serving.serve.Given as goal
 
--- what was read so far is served, with so many reads, and no call of the reader or the writer has failed
+-- what was read so far is served, with so many reads, each of which gave bytes, and no call of the reader or the writer has failed
 abbrev pub invariant-loop : goal.invariant-loop
 invariant-loop g l =
     (Served (RunsLine g.D.Disk.honest g.D.Disk.files g.D.Disk.moment g.D.Disk.left_since) l.initial.store l.store
@@ -17,3 +17,5 @@ invariant-loop g l =
     × HasRisenBy l.counter (g.R.Source.reads l.initial.reader) (g.R.Source.reads l.reader)
     × (g.R.Source.failures l.reader ≡ g.R.Source.failures l.initial.reader)
     × (g.W.Sink.failures l.writer ≡ g.W.Sink.failures l.initial.writer)
+    × (g.R.Source.reads l.reader ≤ g.R.Source.reads l.initial.reader + l.counter)
+    × HasRead l.counter (g.R.Source.left l.initial.reader) (g.R.Source.left l.reader)

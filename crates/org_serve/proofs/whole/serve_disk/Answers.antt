@@ -4,7 +4,7 @@ use Rattle.org_journal.specs.Recovered.{Image, SameFiles, contents}
 use Rattle.org_disk.specs.Accounts.{Accounts, LeavesOver}
 use Rattle.org_fileset.specs.Replay.{IsAtRest}
 use Rattle.org_fileset.specs.Recovery.{IsReopened, RecoversAsBefore}
-use Rattle.org_serve.proofs.Breaking.{served_accounts}
+use Rattle.org_serve.proofs.Breaking.{breaks_by_count, served_accounts}
 use Rattle.org_serve.proofs.Counting.{ended_unserved}
 use Rattle.org_serve.proofs.Opened.{of_disk, is_sound, serves_lasting, left_recovers, each_recovers}
 use Rattle.org_serve.proofs.whole.serve_disk.Goals as goal
@@ -25,6 +25,9 @@ returns-in-Ok-clause-served g c =
     c.serve-end.new.store c.into_disk.result c.into_disk.ensures c.serve-end.ensures.calls
     (λ honest. c.serve-end.ensures.serves (rw (← c.into_disk.ensures) honest))
     (λ fit each. here (λ k. d.honest k → LeavesOver d.moment d.left_since c.args.disk k (RecoversAsBefore (d.files c.args.disk))) (λ honestly. (reopens honestly).any_moment fit each))
+    d.failures
+    (breaks_by_count begun c.serve-end.new.store (here (λ k. Accounts d.steady d.honest d.failures c.args.disk k ⊥) c.in-Ok.ensures.accounts) c.serve-end.ensures.accounts
+    (is_sound d.files setup.states setup.group setup.names.items c.args.disk store begun c.set_group.ensures opens) c.into_disk.ensures)
 
 pub returns-in-Ok-clause-disk : goal.returns-in-Ok-clause-disk
 returns-in-Ok-clause-disk g c honest =
@@ -44,7 +47,7 @@ returns-in-Ok-clause-disk g c honest =
       unopened_bad = λ none. absurd (subst (λ (o : Option Image). IsSomeAnd o (SameFiles (contents (d.files store.disk)))) none reopened.recovered_then);
       recoverable = λ fit each.
           let rest = here (λ k. IsAtRest (d.files k)) (reopened.rest fit each) in
-          (rw c.into_disk.ensures ((c.serve-end.ensures.disk now).recoverable rest), left_recovers laws.only_now laws.counts_now served.0 honest (served.1 fit each));
+          (rw c.into_disk.ensures ((c.serve-end.ensures.disk now).recoverable rest), left_recovers laws.only_now laws.counts_now served.0 honest (served.2 fit each));
     }
 
 pub returns-in-Ok-clause-accounts : goal.returns-in-Ok-clause-accounts

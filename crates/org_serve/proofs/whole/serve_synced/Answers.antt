@@ -8,7 +8,7 @@ use Rattle.org_store.proofs.Sortings.{few_or_many}
 use Rattle.org_serve.specs.declared.end.ServeEnd.{ServeEnd}
 use Rattle.org_serve.specs.Syncing.{AreSynced, stored}
 use Rattle.org_serve.proofs.Counting.{ended_unserved}
-use Rattle.org_serve.proofs.Synced.{if_err, reason_before, served_from, lasts_recoverable, lasts_found, synced_gives_back, unsynced_gives_back}
+use Rattle.org_serve.proofs.Synced.{if_err, reason_before, served_from, breaks_from, lasts_recoverable, lasts_found, synced_gives_back, unsynced_gives_back}
 use Rattle.org_serve.proofs.whole.serve_synced.Goals as goal
 
 pub returns-in-Ok-clause-served : goal.returns-in-Ok-clause-served
@@ -24,8 +24,9 @@ returns-in-Ok-clause-served g c =
     let time = c.sync_files.ensures.any_moment in
     IfOk-weaker c.serve_disk.result.end _ _ (λ end had. (
       served_from d.honest d.files d.moment d.left_since given disk mid began own synced images time had.0,
-      lasts_recoverable d.honest d.files d.moment d.left_since given disk mid began own synced images time had.0 had.1,
-      lasts_found d.honest d.files d.moment d.left_since given disk mid began own synced images time had.0 had.1,
+      breaks_from d.honest d.files d.moment d.left_since given disk mid began own synced images time had.0 d.failures (c.in-Ok.ensures.accounts.equal (λ failed. absurd (cc))) had.1,
+      lasts_recoverable d.honest d.files d.moment d.left_since given disk mid began own synced images time had.0 had.2,
+      lasts_found d.honest d.files d.moment d.left_since given disk mid began own synced images time had.0 had.2,
     )) c.serve_disk.ensures.served
 
 pub returns-in-Ok-clause-disk : goal.returns-in-Ok-clause-disk
