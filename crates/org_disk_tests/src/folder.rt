@@ -5,7 +5,7 @@ mod listing;
 mod refusals;
 
 use org_disk::{Disk, DiskFault, FileName};
-use org_folder::{FolderDisk, Unknown};
+use org_folder::{FolderDisk, Unknown, lock_folder};
 use std::os::unix::fs::symlink;
 use std::test::Fail;
 use std::{fs, io};
@@ -64,7 +64,8 @@ fn holds(rt: &HostRuntime, path: &str, bytes: &[u8]) -> Result<bool, Fail> {
 }
 
 fn disk(rt: &HostRuntime, folder: &str) -> Result<Folder, Fail> {
-    Ok(FolderDisk::new(rt.clone()?, rt.alloc(), folder)?)
+    let folder = lock_folder(rt, folder)?;
+    Ok(FolderDisk::new(rt.clone()?, rt.alloc(), &folder)?)
 }
 
 fn name(rt: &impl AllocGlobal, text: &str) -> Result<FileName, Fail> {

@@ -127,9 +127,10 @@ pub trait Calls {
         requires { IsTrue opened.now.is_entered }
         ensures { history self.new ≡ Sync opened.now.name (is_ok result) ∷ history self.old };
 
-    /// Puts the entry of a file in its folder on the device.
+    /// Puts the entry of a file in its folder on the device. A call that fails leaves it as little known as before.
     fn sync_entry(&mut self, opened: &mut Opened<Self::File>) -> Result<(), DiskFault>
         ensures name { opened.new.name ≡ opened.old.name }
         ensures ok { OnOk result (IsTrue opened.new.is_entered) }
+        ensures err { OnErr result (opened.new ≡ opened.old) }
         ensures same { history self.new ≡ history self.old };
 }

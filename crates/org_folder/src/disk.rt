@@ -6,6 +6,7 @@ ghost use Rattle.org_folder.specs.FolderDisk.{record_of};
 
 use crate::calls::{Calls, SystemCalls};
 use crate::folder::Folder;
+use crate::lock::LockedFolder;
 use crate::start::Start;
 use org_disk::{Disk, DiskFault, FileName};
 use std::alloc::{AllocError, Global};
@@ -60,12 +61,17 @@ impl<R: Files + AllocGlobal + Drop, S: Start> CallsDisk<SystemCalls<R, S>>
 where
     R::File: FileExt,
 {
-    /// The disk of the folder at this path. It makes no call of the system, and its record is empty.
-    pub fn new(rt: R, alloc: Global, path: &str) -> Result<FolderDisk<R, S>, AllocError>
+    /// The disk of a folder. It makes no call of the system, and its record is empty. No disk is made of a folder that
+    /// `lock_folder` wasn't asked for; the folder is to be kept as long as the disk.
+    pub fn new(
+        rt: R,
+        alloc: Global,
+        folder: &LockedFolder<'_>,
+    ) -> Result<FolderDisk<R, S>, AllocError>
         ensures failures { IfOk result (λ disk. disk.failures ≡ 0) }
         ensures empty { IfOk result (λ disk. record_of disk ≡ []) }
     {
-        Ok(CallsDisk::over(alloc, SystemCalls::new(rt, alloc, path)?))
+        Ok(CallsDisk::over(alloc, SystemCalls::new(rt, alloc, folder.path())?))
     }
 }
 

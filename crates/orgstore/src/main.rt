@@ -52,11 +52,7 @@ fn run(rt: &HostRuntime) -> Result<(), Fault> {
     let (setup, folder) = setup(rt, &arguments)?;
     let mut reader = Counted::new(rt.stdin());
     let mut writer = Counted::new(stdout(rt)?);
-    let disk: FolderDisk<HostRuntime, Unknown> = FolderDisk::new(
-        rt.clone()?,
-        rt.alloc(),
-        folder.path(),
-    )?;
+    let disk: FolderDisk<HostRuntime, Unknown> = FolderDisk::new(rt.clone()?, rt.alloc(), &folder)?;
     let Served { disk: _, end } = serve_folder(rt.alloc(), disk, setup, &mut reader, &mut writer);
     told(end)
 }

@@ -1,7 +1,7 @@
 // Calls of the system of which one fails.
 use super::{empty, holds, name, remove};
 use org_disk::{Disk, DiskFault, FileName};
-use org_folder::{FolderDisk, Unknown};
+use org_folder::{FolderDisk, Unknown, lock_folder};
 use std::alloc::{Alloc, Allocator, Global};
 use std::cell::Cell;
 use std::fs::{File, FileTimes, Files, Metadata, OpenFile, OpenOptions, Permissions};
@@ -178,7 +178,8 @@ fn failed_work(rt: &HostRuntime, a: &FileName, fails_in: u64) -> Result<[u64; 2]
         rt: rt.clone()?,
         fails_in: Rc::new(rt.alloc(), Cell::new(fails_in))?,
     };
-    let mut disk: FolderDisk<Failing, Unknown> = FolderDisk::new(failing, rt.alloc(), "one_fails")?;
+    let folder = lock_folder(rt, "one_fails")?;
+    let mut disk: FolderDisk<Failing, Unknown> = FolderDisk::new(failing, rt.alloc(), &folder)?;
     if work(&mut disk, a).is_ok() {
         return Err("no call fails")?;
     }

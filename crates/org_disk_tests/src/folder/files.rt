@@ -4,8 +4,7 @@ use super::{
     remove, sync, take, write,
 };
 use org_disk::{Disk, DiskFault, FileName};
-use org_folder::{FolderDisk, Start};
-use std::alloc::AllocError;
+use org_folder::{FolderDisk, Start, lock_folder};
 use std::io;
 use std::process::Abort;
 use std::test::Fail;
@@ -41,22 +40,17 @@ impl Start for OneByte {
     ghost world = { record { start = λ _. stable (42 ∷ []); left = λ _. [] } };
 }
 
-fn cut_fails(rt: &HostRuntime, name: &FileName) -> Result<bool, AllocError> {
-    let mut disk: FolderDisk<HostRuntime, OneByte> = FolderDisk::new(
-        rt.clone()?,
-        rt.alloc(),
-        "supposed",
-    )?;
-    Ok(disk.cut(name, 1).is_err())
+fn supposed(rt: &HostRuntime) -> Result<FolderDisk<HostRuntime, OneByte>, Fail> {
+    let folder = lock_folder(rt, "supposed")?;
+    Ok(FolderDisk::new(rt.clone()?, rt.alloc(), &folder)?)
 }
 
-fn read_fails(rt: &HostRuntime, name: &FileName) -> Result<bool, AllocError> {
-    let mut disk: FolderDisk<HostRuntime, OneByte> = FolderDisk::new(
-        rt.clone()?,
-        rt.alloc(),
-        "supposed",
-    )?;
-    Ok(disk.read_at(name, 0, &mut [0]).is_err())
+fn cut_fails(rt: &HostRuntime, name: &FileName) -> Result<bool, Fail> {
+    Ok(supposed(rt)?.cut(name, 1).is_err())
+}
+
+fn read_fails(rt: &HostRuntime, name: &FileName) -> Result<bool, Fail> {
+    Ok(supposed(rt)?.read_at(name, 0, &mut [0]).is_err())
 }
 
 // A call that goes past the end of a file fails: the file isn't what it was supposed to be.

@@ -1,6 +1,6 @@
 // A store over the files of a real folder, made for its test where the test runs.
 use org_disk::{FileName, Fuse};
-use org_folder::{FolderDisk, Unknown};
+use org_folder::{FolderDisk, Unknown, lock_folder};
 use org_outline::States;
 use org_serve::{Counted, ServeEnd, serve};
 use org_store::{OpenFault, Store};
@@ -25,7 +25,8 @@ fn make_folder(rt: &HostRuntime) -> io::Result<()> {
 // A store over the two files, or why it wasn't opened. The calls of its disk fail after so many.
 fn opened(rt: &HostRuntime, passes: u64) -> Result<Result<Store<Folder>, OpenFault>, Fail> {
     let alloc = rt.alloc();
-    let disk = Fuse::new(FolderDisk::new(rt.clone()?, alloc, "fused")?, passes);
+    let folder = lock_folder(rt, "fused")?;
+    let disk = Fuse::new(FolderDisk::new(rt.clone()?, alloc, &folder)?, passes);
     let a = FileName::new(alloc, "a.org")?;
     let b = FileName::new(alloc, "b.org")?;
     let names = vec![in alloc; a, b]?;
