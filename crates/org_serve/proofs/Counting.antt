@@ -7,7 +7,7 @@ use Rattle.org_fileset.specs.declared.open.OpenFault.{OpenFault}
 use Rattle.org_serve.specs.declared.end.ServeEnd.{ServeEnd}
 use Rattle.org_serve.specs.declared.end.ServeEnd.TheVariants.{Read, Write}
 use Rattle.org_serve.specs.Counts.{HasRisenBy, HasRead, EndsForCause}
-use Rattle.org_serve.proofs.Joins.{Consumes-append, Consumes-none, Consumes-no_more}
+use Rattle.org_serve.proofs.Joins.{Consumes-append, Consumes-none}
 
 pub HasRisenBy-counted : (n old mid new : ℕ) → HasRisenBy n old mid → IsCounted mid new → HasRisenBy (n + 1) old new
 HasRisenBy-counted n old mid new rose counted =

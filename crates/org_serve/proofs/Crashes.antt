@@ -14,13 +14,15 @@ use Rattle.org_serve.specs.declared.fault.LineFault.{LineFault}
 use Rattle.org_serve.specs.declared.pending.Pending.{Pending}
 use Rattle.org_serve.specs.Feeding.{EndsWith}
 use Rattle.org_serve.specs.Lines.{cut}
+use Rattle.org_serve.specs.Parts.{AppendsSome, EndsText, WritesSome}
 use Rattle.org_serve.specs.Replies.{settled_text}
 use Rattle.org_serve.specs.Serving.{AnswersReadBy, AnswersLine, EndsBy, Finishes, HasSettled, end_of}
 use Rattle.org_serve.specs.Crashes.{Runs, KeepsDisk, RunsLine as ToldLine, HasSettledOver as ToldSettled, FinishesOver as ToldFinishes, SettlesHonest as SettlesTold}
 use Rattle.org_serve.specs.Transcript.{Answers, RunsSome}
 use Rattle.org_serve.proofs.Honest.{RunsHonest, SettlesHonest, RunsLine, HasSettledOver, FinishesOver}
 use Rattle.org_serve.proofs.Inputs.{Served}
-use Rattle.org_serve.proofs.Joins.{Appends-append, Appends-none}
+use Rattle.org_serve.proofs.Counting.{read_apart}
+use Rattle.org_serve.proofs.Joins.{Appends-append, Appends-none, some_then}
 
 -- What was run, as serving ends.
 
@@ -50,24 +52,29 @@ runs_whole Settles {mid = mid} {written = written} {among = among} s new end wri
 
 -- no more is read
 pub runs_read : {S : Type 0} {AnswersLine : S → List ℕ → List ℕ → S → Type 0} (Settles : S → S → Type 0) {old new : S} {left left' written written' : Option (List ℕ)} {pending : Pending}
-    → Served AnswersLine old new left left' written written' pending → Runs AnswersLine Settles old new Read left left' written written'
-runs_read Settles {new = new} {written' = written'} s = runs_whole Settles s new Read written' (inl refl) (λ not. ([], Appends-none written'))
+    → (acknowledged : ℕ) → Served AnswersLine old new left left' written written' pending
+    → (run : Runs AnswersLine Settles old new Read left left' written written') × (Read ≡ Write → WritesSome run.input run.others run.out acknowledged written written')
+runs_read Settles {new = new} {written' = written'} acknowledged s = (runs_whole Settles s new Read written' (inl refl) (λ not. ([], Appends-none written')), λ is. absurd (read_apart is))
 
 -- a write fails among the lines
 pub runs_some : {S : Type 0} {AnswersLine : S → List ℕ → List ℕ → S → Type 0} (Settles : S → S → Type 0) {old new : S} {left left' : Option (List ℕ)} (written written' : Option (List ℕ))
-    → RunsSome AnswersLine old new left left' → Runs AnswersLine Settles old new Write left left' written written'
-runs_some Settles {new = new} written written' some = record {
-  input = some.0;
-  ran = some.1;
-  others = some.2;
-  out = some.3;
-  mid = new;
-  read = some.4;
-  lines = some.5;
-  answered = some.6;
-  ends = inl refl;
-  wrote = λ not. absurd (not refl);
-}
+    → (acknowledged : ℕ) (some : RunsSome AnswersLine old new left left') → AppendsSome written written' some.3
+    → (run : Runs AnswersLine Settles old new Write left left' written written') × (Write ≡ Write → WritesSome run.input run.others run.out acknowledged written written')
+runs_some Settles {new = new} written written' acknowledged some begun = (
+  record {
+    input = some.0;
+    ran = some.1;
+    others = some.2;
+    out = some.3;
+    mid = new;
+    read = some.4;
+    lines = some.5;
+    answered = some.6;
+    ends = inl refl;
+    wrote = λ not. absurd (not refl);
+  },
+  λ is. inl begun,
+)
 
 -- One state for another.
 
@@ -150,9 +157,13 @@ module _ {D : Type 0} (honest : D → Type 0) (files : D → List ℕ → FileSt
   -- the input was read to its end
   pub runs_finish : {old mid : Kept D} {left left' written among : Option (List ℕ)} {pending : Pending} → (s : Served LineTold old mid left left' written among pending) (new : Kept D) (end : ServeEnd) (written' : Option (List ℕ))
       → (end ≢ Write → EndsWith (ToldFinishes honest files moment left_since) (cut s.input).rest mid end new among written') → (end ≡ Write → (new ≡ mid) ⊎ SettledTold mid new)
-      → Runs LineTold SettledTold old new end left left' written written'
-  runs_finish s new end written' told failed =
-      runs_whole SettledTold s new end written' (⊎_elim failed (λ not. settled_at_end _ _ _ _ _ _ (told not)) (write_or_not end)) (λ not. let e = told not in (e.0 ++ e.1, e.4))
+      → (end ≡ Write → (text : List ℕ) × EndsText (cut s.input).rest new.session.acknowledged text × AppendsSome among written' text)
+      → (run : Runs LineTold SettledTold old new end left left' written written') × (end ≡ Write → WritesSome run.input run.others run.out new.session.acknowledged written written')
+  unfolding runs_whole
+  runs_finish {written = written} {among = among} s new end written' told failed begun = (
+    runs_whole SettledTold s new end written' (⊎_elim failed (λ not. settled_at_end _ _ _ _ _ _ (told not)) (write_or_not end)) (λ not. let e = told not in (e.0 ++ e.1, e.4)),
+    λ is. let text = begun is in inr (refl, text.0, text.1, some_then written among written' s.out text.0 s.wrote text.2),
+  )
 
   -- a settling at the end
   pub finishes_settling : (old : Kept D) (answer : Result (Unit {0}) RunFault) (new : Kept D) (end : ServeEnd) → old.session.broken ≡ false → old.session.acknowledged < old.session.accepted

@@ -7,7 +7,8 @@ use Rattle.org_serve.specs.Pending.{Stands}
 use Rattle.org_serve.specs.Transcript.{Answers}
 use Rattle.org_serve.specs.Feeding.{FeedOk, FeedErr}
 use Rattle.org_serve.proofs.Cuts.{cut-both, cut-line}
-use Rattle.org_serve.proofs.Joins.{Answers-append, Appends-append}
+use Rattle.org_serve.specs.Parts.{AppendsSome}
+use Rattle.org_serve.proofs.Joins.{Answers-append, Appends-append, some_then}
 
 -- Some lines of the bytes were run, and rest is left behind a part of a line.
 pub record Fed {S : Type 0} (AnswersLine : S → List ℕ → List ℕ → S → Type 0) (old : S) (bytes rest : List ℕ) (new : S) (written written' : Option (List ℕ)) (pending : Pending) : Type 0 where
@@ -54,13 +55,14 @@ Fed-step {AnswersLine = AnswersLine} {old = old} {mid = mid} {written = written}
 
 pub Fed-err : {S : Type 0} {AnswersLine : S → List ℕ → List ℕ → S → Type 0} {old : S} {bytes rest : List ℕ} {mid : S} {written between : Option (List ℕ)} {pending : Pending}
     → (f : Fed AnswersLine old bytes rest mid written between pending) (line more : List ℕ) → rest ≡ line ++ 10 ∷ more → (cut line).lines ≡ []
-    → (new : S) (o : List ℕ) → AnswersLine mid (f.part ++ line) o new → FeedErr AnswersLine old bytes new
-Fed-err {AnswersLine = AnswersLine} {old = old} {mid = mid} f line more whole free new o step = (
+    → (new : S) (written' : Option (List ℕ)) (o : List ℕ) → AnswersLine mid (f.part ++ line) o new → AppendsSome between written' o → FeedErr AnswersLine old bytes new written written'
+Fed-err {AnswersLine = AnswersLine} {old = old} {mid = mid} {written = written} {between = between} f line more whole free new written' o step some = (
   f.ran ++ (f.part ++ line) ∷ [],
   (cut more).lines,
   f.out ++ o,
   ap (λ (c : Cut). c.lines) (cuts-line f line more whole free) ∙ sym (append_assoc f.ran ((f.part ++ line) ∷ []) (cut more).lines),
   one-more AnswersLine old mid new f.ran (f.part ++ line) f.out o f.answered step,
+  some_then written between written' f.out o f.wrote some,
 )
 
 pub Fed-end : {S : Type 0} {AnswersLine : S → List ℕ → List ℕ → S → Type 0} {old : S} {bytes rest : List ℕ} {new : S} {written written' : Option (List ℕ)} {pending : Pending}

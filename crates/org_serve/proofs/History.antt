@@ -17,6 +17,7 @@ use Rattle.org_store.specs.History.{Past, Lists, HoldsPrefix}
 use Rattle.org_store.specs.Runs.{IsOnDisk}
 use Rattle.org_store.proofs.History.{Begin, Counts, Stands, Texts, adds, begin_adds, further, lists_settling, lists_step, same_or_sound, texts_after, torn}
 use Rattle.org_store.proofs.Runs.{Course, HaveTexts, IsBetween, course_none, course_run, course_settle, falls, holds_back, on_disk_after}
+use Rattle.org_serve.specs.Parts.{WritesSome}
 use Rattle.org_serve.specs.declared.fault.LineFault.{LineFault}
 use Rattle.org_serve.specs.Serving.{AnswersReadBy, AnswersLine}
 use Rattle.org_serve.specs.Crashes.{Runs, RunsHonest, RunsLine, HasSettledOver}
@@ -88,6 +89,14 @@ module _ {D : Type 0} (honest : D → Type 0) (files : D → List ℕ → FileSt
           wrote = run.wrote;
         },
       )
+
+  -- .. in which what was written is the same
+  pub lift_wrote : (first : Past D) {after : Kept D} {end : ServeEnd} {left left' written written' : Option (List ℕ)}
+      → (run : Runs (RunsLine honest files moment left_since) (HasSettledOver honest files moment left_since) first.store after end left left' written written')
+      → (acknowledged : ℕ) → WritesSome run.input run.others run.out acknowledged written written'
+      → WritesSome (lift_run first run).1.input (lift_run first run).1.others (lift_run first run).1.out acknowledged written written'
+  unfolding lift_run
+  lift_wrote first run acknowledged some = some
 
 -- A run over a disk that is honest after each step.
 module _ {D : Type 0} (honest : D → Type 0) (files : D → List ℕ → FileState) (moment : D → ℕ) (left_since : D → ℕ → Image → Type 0) where

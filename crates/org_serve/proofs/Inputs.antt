@@ -5,6 +5,7 @@ use Rattle.org_store.specs.Session.{Session}
 use Rattle.org_serve.specs.declared.pending.Pending.{Pending}
 use Rattle.org_serve.specs.declared.end.ServeEnd.{ServeEnd}
 use Rattle.org_serve.specs.declared.end.ServeEnd.TheVariants.{Read, Write}
+use Rattle.org_serve.specs.Parts.{AppendsSome}
 use Rattle.org_serve.specs.Lines.{Cut, cut}
 use Rattle.org_serve.specs.Pending.{Stands}
 use Rattle.org_serve.specs.Serving.{AnswersLine, Finishes, HasSettled, Serves}
@@ -12,7 +13,7 @@ use Rattle.org_serve.specs.Transcript.{Answers, ServesAll, ServesLines, RunsSome
 use Rattle.org_serve.specs.Feeding.{FeedOk, FeedErr, EndsWith}
 use Rattle.org_serve.proofs.Counting.{read_apart}
 use Rattle.org_serve.proofs.Cuts.{cut-append}
-use Rattle.org_serve.proofs.Joins.{Answers-append, Appends-append, Consumes-append, Consumes-no_more}
+use Rattle.org_serve.proofs.Joins.{Answers-append, Appends-append, Consumes-append, Consumes-no_more, some_then}
 
 -- The input so far was read, its lines are answered, and what stands behind its last newline is kept.
 pub record Served {S : Type 0} (AnswersLine : S → List ℕ → List ℕ → S → Type 0) (old new : S) (left left' written written' : Option (List ℕ)) (pending : Pending) : Type 0 where
@@ -43,9 +44,9 @@ Served-more {AnswersLine = AnswersLine} {old = old} {mid = mid} {left = left} {b
 
 -- a write fails within a piece
 pub Served-some : {S : Type 0} {AnswersLine : S → List ℕ → List ℕ → S → Type 0} {old mid : S} {left between written among : Option (List ℕ)} {pending : Pending}
-    → (s : Served AnswersLine old mid left between written among pending) (piece : List ℕ) (new : S) (left' : Option (List ℕ))
-    → Consumes between left' piece → FeedErr AnswersLine mid ((cut s.input).rest ++ piece) new → RunsSome AnswersLine old new left left'
-Served-some {AnswersLine = AnswersLine} {old = old} {mid = mid} {left = left} {between = between} s piece new left' read fed = (
+    → (s : Served AnswersLine old mid left between written among pending) (piece : List ℕ) (new : S) (left' written' : Option (List ℕ))
+    → Consumes between left' piece → FeedErr AnswersLine mid ((cut s.input).rest ++ piece) new among written' → RunsSome AnswersLine old new left left'
+Served-some {AnswersLine = AnswersLine} {old = old} {mid = mid} {left = left} {between = between} s piece new left' written' read fed = (
   s.input ++ piece,
   (cut s.input).lines ++ fed.0,
   fed.1,
@@ -55,6 +56,14 @@ Served-some {AnswersLine = AnswersLine} {old = old} {mid = mid} {left = left} {b
       ∙ sym (append_assoc (cut s.input).lines fed.0 fed.1),
   Answers-append AnswersLine old mid new (cut s.input).lines fed.0 s.out fed.2 s.answered fed.4,
 )
+
+-- .. and what was written then
+pub Served-some_wrote : {S : Type 0} {AnswersLine : S → List ℕ → List ℕ → S → Type 0} {old mid : S} {left between written among : Option (List ℕ)} {pending : Pending}
+    → (s : Served AnswersLine old mid left between written among pending) (piece : List ℕ) (new : S) (left' written' : Option (List ℕ))
+    → (read : Consumes between left' piece) (fed : FeedErr AnswersLine mid ((cut s.input).rest ++ piece) new among written')
+    → AppendsSome written written' (Served-some s piece new left' written' read fed).3
+unfolding Served-some
+Served-some_wrote {written = written} {among = among} s piece new left' written' read fed = some_then written among written' s.out fed.2 s.wrote fed.5
 
 -- no more is read
 pub Served-no_more : {S : Type 0} {AnswersLine : S → List ℕ → List ℕ → S → Type 0} {old new : S} {left between written written' : Option (List ℕ)} {pending : Pending}

@@ -1,6 +1,8 @@
 -- Runs, reads and writes, one after another.
-use Rattle.std.proofs.Common.{ℕ, List, [], ◌∷◌, ◌++◌, Option, None, Some, refl, sym, ap, ◌∙◌, append_assoc, append-nil, subst}
+use Rattle.std.proofs.Common.{ℕ, List, [], ◌∷◌, ◌++◌, Option, None, Some, Result, Ok, Err, refl, sym, ap, ◌∙◌, append_assoc, append-nil, subst}
+use Rattle.std.specs.Prelude.{OnErr}
 use Rattle.std.specs.Io.KnownBytes.{Consumes, Appends, Keeps}
+use Rattle.org_serve.specs.Parts.{AppendsSome}
 use Rattle.org_serve.specs.Transcript.{Answers}
 
 pub Answers-append : {S : Type 0} (AnswersLine : S → List ℕ → List ℕ → S → Type 0) (old mid new : S) (ls ms : List (List ℕ)) (out more : List ℕ)
@@ -40,3 +42,34 @@ Consumes-kept (Some xs) (Some ys) kept = sym kept
 -- no more is read
 pub Consumes-no_more : (x y z : Option (List ℕ)) (a : List ℕ) → Consumes x y a → Consumes y z [] → Consumes x z a
 Consumes-no_more x y z a p q = subst (λ t. Consumes x z t) (append-nil a) (Consumes-append x y z a [] p q)
+
+-- Writes that fail.
+
+-- within the first of two texts
+pub some_first : (x y : Option (List ℕ)) (a b : List ℕ) → AppendsSome x y a → AppendsSome x y (a ++ b)
+some_first x y a b some = (some.0, some.1 ++ b, ap (λ t. t ++ b) some.2 ∙ append_assoc some.0 some.1 b, some.3)
+
+-- within the second
+pub some_then : (x y z : Option (List ℕ)) (a b : List ℕ) → Appends x y a → AppendsSome y z b → AppendsSome x z (a ++ b)
+some_then x y z a b all some =
+    (a ++ some.0, some.1, ap (λ t. a ++ t) some.2 ∙ sym (append_assoc a some.0 some.1), Appends-append x y z a some.0 all some.3)
+
+pub Appends-kept : (x y : Option (List ℕ)) → Keeps x y → Appends x y []
+Appends-kept None y kept = tt
+Appends-kept (Some xs) None kept = kept
+Appends-kept (Some xs) (Some ys) kept = kept ∙ sym (append-nil xs)
+
+pub all_some : (x y : Option (List ℕ)) (a : List ℕ) → Appends x y a → AppendsSome x y a
+all_some x y a all = (a, [], sym (append-nil a), all)
+
+-- behind the text
+pub some_kept : (x y z : Option (List ℕ)) (a : List ℕ) → Appends x y a → Keeps y z → AppendsSome x z a
+some_kept x y z a all kept = all_some x z a (subst (λ t. Appends x z t) (append-nil a) (Appends-append x y z a [] all (Appends-kept y z kept)))
+
+pub on_err : {A E P : Type 0} (r : Result A E) → P → OnErr r P
+on_err (Ok x) held = tt
+on_err (Err e) held = held
+
+pub on_err_more : {A E P Q : Type 0} (r : Result A E) → (P → Q) → OnErr r P → OnErr r Q
+on_err_more (Ok x) more held = tt
+on_err_more (Err e) more held = more held

@@ -21,10 +21,11 @@ use Rattle.org_serve.specs.declared.end.ServeEnd.{ServeEnd}
 use Rattle.org_serve.specs.declared.end.ServeEnd.TheVariants.{End, Device, Read, Write}
 use Rattle.org_store.specs.History.{Past, Lists}
 use Rattle.org_serve.specs.History.{LeadsBy}
+use Rattle.org_serve.specs.Parts.{WritesSome}
 use Rattle.org_serve.specs.Serving.{EndsBy, Finishes, Serves, end_of}
 use Rattle.org_serve.specs.Crashes.{RunsLine, HasSettledOver, Runs}
 use Rattle.org_serve.specs.Whole.{Begins, ServesOver, BreaksByCount, HoldsServed, IsOnTheWay, IsOnTheWayTo, Lasts}
-use Rattle.org_serve.proofs.History.{at_first, lift_run, session_of_past, since, whole_prefix}
+use Rattle.org_serve.proofs.History.{at_first, lift_run, lift_wrote, session_of_past, since, whole_prefix}
 use Rattle.org_serve.proofs.Honest.{HasSettledPast, PastLine, past_last, past_leads, past_lines, past_runs, up_to}
 
 -- one run after another, of which each leaves something else
@@ -61,10 +62,11 @@ module _ {D : Type 0} (files : D → List ℕ → FileState) (states : Keywords)
       → (honest store.disk → first_large (contents (files store.disk)) store.session.names ≡ None)
       → (honest begun.disk → honest disk) → (honest begun.disk → IsReopened (files disk) (files begun.disk))
       → {end : ServeEnd} {left left' written written' : Option (List ℕ)} (after : Kept D) (now : D) → now ≡ after.disk
-      → Runs (RunsLine honest files moment left_since) (HasSettledOver honest files moment left_since) begun after end left left' written written'
+      → (ran : Runs (RunsLine honest files moment left_since) (HasSettledOver honest files moment left_since) begun after end left left' written written')
+      → (end ≡ Write → WritesSome ran.input ran.others ran.out after.session.acknowledged written written')
       → (honest now → Serves begun.session end after.session left left' written written')
       → ServesOver honest files moment left_since states group given disk now end left left' written written'
-  serves honest moment left_since sorted sized began reopened after now given_up run told =
+  serves honest moment left_since sorted sized began reopened after now given_up run begins_replies told =
       let first : Past D = record { store = begun; texts = begun.session.files ∷ [] } in
       let past = lift_run honest files moment left_since first run in record {
         first = first;
@@ -76,6 +78,7 @@ module _ {D : Type 0} (files : D → List ℕ → FileState) (states : Keywords)
         texts = refl;
         run = past.1;
         given_up = given_up;
+        told = λ is. lift_wrote honest files moment left_since first run after.session.acknowledged (begins_replies is);
         so_far = λ here way honestly.
             session_of_past honest files moment left_since first way.answered way.written here
             (past_lines honest files moment left_since first way.answered way.written here way.before honestly).0;
@@ -262,7 +265,8 @@ module _ {D : Type 0} (honest : D → Type 0) (files : D → List ℕ → FileSt
   pub serves_lasting : AreSorted (with_archives given) store.session.names → (honest store.disk → first_large (contents (files store.disk)) store.session.names ≡ None)
       → (honest begun.disk → honest disk) → (honest begun.disk → IsReopened (files disk) (files begun.disk))
       → {end : ServeEnd} {left left' written written' : Option (List ℕ)} (after : Kept D) (now : D) → now ≡ after.disk
-      → Runs (RunsLine honest files moment left_since) (HasSettledOver honest files moment left_since) begun after end left left' written written'
+      → (ran : Runs (RunsLine honest files moment left_since) (HasSettledOver honest files moment left_since) begun after end left left' written written')
+      → (end ≡ Write → WritesSome ran.input ran.others ran.out after.session.acknowledged written written')
       → (honest now → Serves begun.session end after.session left left' written written')
       → (IsRecoverable (files disk) → EachRecovers (files disk) → honest begun.disk → LeavesOnly (moment disk) (moment begun.disk) (left_since disk) (left_since begun.disk) (RecoversAsBefore (files disk)))
       → (failures : D → ℕ) → (IsTrue after.session.broken → HasRisen (failures disk) (failures now)) × (IsFalse after.session.broken → failures now ≡ failures disk)
@@ -270,8 +274,8 @@ module _ {D : Type 0} (honest : D → Type 0) (files : D → List ℕ → FileSt
       × BreaksByCount failures served
       × (IsRecoverable (files disk) → EachRecovers (files disk) → Lasts served)
   unfolding serves
-  serves_lasting sorted sized began reopened after now given_up run told opening failures counts =
-      let served = serves files states group given disk store begun is opens honest moment left_since sorted sized began reopened after now given_up run told in (
+  serves_lasting sorted sized began reopened after now given_up run begins_replies told opening failures counts =
+      let served = serves files states group given disk store begun is opens honest moment left_since sorted sized began reopened after now given_up run begins_replies told in (
         served,
         record { broken = counts.0; sound = counts.1 },
         λ fit each. lasts only_now counts_now served (λ honestly. (reopened honestly).rest fit each) (λ honestly. opening fit each honestly),

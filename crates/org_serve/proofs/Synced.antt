@@ -97,6 +97,7 @@ module _ {D : Type 0} (honest : D → Type 0) (files : D → List ℕ → FileSt
       texts = served.texts;
       run = served.run;
       given_up = served.given_up;
+      told = served.told;
       so_far = served.so_far;
       serves = served.serves;
     }

@@ -4,6 +4,7 @@ use Rattle.std.specs.Io.KnownBytes.{Appends}
 use Rattle.org_serve.specs.declared.end.ServeEnd.{ServeEnd}
 use Rattle.org_serve.specs.declared.pending.Pending.{Pending}
 use Rattle.org_serve.specs.Lines.{cut}
+use Rattle.org_serve.specs.Parts.{AppendsSome}
 use Rattle.org_serve.specs.Pending.{Stands}
 use Rattle.org_serve.specs.Transcript.{Answers, AnswersRest}
 
@@ -12,10 +13,10 @@ abbrev pub FeedOk : {S : Type 0} → (S → List ℕ → List ℕ → S → Type
 FeedOk AnswersLine old bytes new written written' pending =
     (out : List ℕ) × Answers AnswersLine old (cut bytes).lines out new × Appends written written' out × Stands pending (cut bytes).rest
 
--- Some of the lines, from the first on, were run.
-abbrev pub FeedErr : {S : Type 0} → (S → List ℕ → List ℕ → S → Type 0) → S → List ℕ → S → Type 0
-FeedErr AnswersLine old bytes new =
-    (ran : List (List ℕ)) × (others : List (List ℕ)) × (out : List ℕ) × ((cut bytes).lines ≡ ran ++ others) × Answers AnswersLine old ran out new
+-- Some of the lines, from the first on, were run, and some of their replies written.
+abbrev pub FeedErr : {S : Type 0} → (S → List ℕ → List ℕ → S → Type 0) → S → List ℕ → S → Option (List ℕ) → Option (List ℕ) → Type 0
+FeedErr AnswersLine old bytes new written written' =
+    (ran : List (List ℕ)) × (others : List (List ℕ)) × (out : List ℕ) × ((cut bytes).lines ≡ ran ++ others) × Answers AnswersLine old ran out new × AppendsSome written written' out
 
 -- What stands behind the last newline is answered, and then the settling.
 abbrev pub EndsWith : {S : Type 0} → (S → ServeEnd → List ℕ → S → Type 0) → List ℕ → S → ServeEnd → S → Option (List ℕ) → Option (List ℕ) → Type 0

@@ -8,6 +8,7 @@ pub mod Pending
 pub mod Transcript
 pub mod Feeding
 pub mod Replies
+pub mod Parts
 pub mod Serving
 pub mod Crashes
 pub mod History

@@ -16,6 +16,7 @@ use Rattle.org_store.specs.Session.{Session, Holds}
 use Rattle.org_serve.specs.declared.end.ServeEnd.{ServeEnd}
 use Rattle.org_serve.specs.declared.end.ServeEnd.TheVariants.{End, Unsettled, Device, Read, Write}
 use Rattle.org_serve.specs.History.{PastLine, HasSettledPast, LeadsBy}
+use Rattle.org_serve.specs.Parts.{WritesSome}
 use Rattle.org_serve.specs.Serving.{AnswersLine, Serves}
 use Rattle.org_serve.specs.Crashes.{Runs}
 use Rattle.org_serve.specs.Syncing.{OutsideStable, IsAsFound}
@@ -44,6 +45,9 @@ pub record ServesOver {D : Type 0} (honest : D → Type 0) (files : D → List �
   pub texts : first.texts ≡ first.store.session.files ∷ []
   pub run : Runs (PastLine honest files moment left_since) (HasSettledPast honest files moment left_since) first last end left left' written written'
   pub given_up : now ≡ last.store.disk
+  -- where a write or a flush failed, what was written begins the replies to the lines that were run, and what is written at
+  -- the end
+  pub told : end ≡ Write → WritesSome run.input run.others run.out last.store.session.acknowledged written written'
   -- the lines that a store on the way had answered, and their replies
   pub so_far : (here : Past D) → (way : LeadsBy (PastLine honest files moment left_since) first run.ran run.out run.mid here) → honest here.store.disk
       → Answers AnswersLine first.store.session way.answered way.written here.store.session

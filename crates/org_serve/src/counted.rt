@@ -1,11 +1,12 @@
 //! Readers and writers of std, as a source of lines and a sink of replies.
-ghost use Rattle.std.specs.Prelude.{◌≡◌};
+ghost use Rattle.std.specs.Prelude.{◌≡◌, ◌<◌, ◌≤◌, length, IfOk, OnOk, OnErr};
+ghost use Rattle.std.specs.Io.KnownBytes.{WriteAppends};
 ghost use Rattle.org_disk.specs.Disk.{IsCounted};
 
 use crate::pipes::{PipeFault, Sink, Source};
 use std::io::{ErrorKind, Read, Write};
 
-/// How often a read is tried while signals interrupt it.
+/// How often a read or a write is tried while signals interrupt it.
 const ATTEMPTS: usize = 100;
 
 /// A `Source` of a std reader, and a `Sink` of a std writer: it has the bytes of what it wraps, and counts.
@@ -52,6 +53,27 @@ impl<T> Counted<T> {
     }
 }
 
+impl<T: Write> Counted<T> {
+    // Writes the first of the bytes, of which there are some, and answers how many.
+    fn put(&mut self, bytes: &[u8]) -> Result<usize, PipeFault>
+        ensures bytes { WriteAppends (T.contents self.old.inner) (T.contents self.new.inner) result
+            bytes.now }
+        ensures some { IfOk result (λ n. (0 < n) × (n ≤ length bytes.now)) }
+        ensures ok { OnOk result (self.new.failures ≡ self.old.failures) }
+        ensures err { OnErr result (IsCounted self.old.failures self.new.failures) }
+    {
+        for _ in 0..ATTEMPTS {
+            match self.inner.write(bytes) {
+                Ok(0) => break,
+                Ok(n) => return Ok(n),
+                Err(error) if error.kind() == ErrorKind::Interrupted => {}
+                Err(_) => break,
+            }
+        }
+        Err(self.fault())
+    }
+}
+
 impl<T: Read> Source for Counted<T> {
     ghost left = { λ c. T.remaining c.inner };
 
@@ -78,10 +100,12 @@ impl<T: Write> Sink for Counted<T> {
     ghost failures = { λ c. c.failures };
 
     fn write(&mut self, bytes: &[u8]) -> Result<(), PipeFault> {
-        match self.inner.write_all(bytes) {
-            Ok(()) => Ok(()),
-            Err(_) => Err(self.fault()),
+        let mut rest = bytes;
+        while !rest.is_empty() {
+            let n = self.put(rest)?;
+            rest = rest.split_at(n).1;
         }
+        Ok(())
     }
 
     fn flush(&mut self) -> Result<(), PipeFault> {

@@ -3,6 +3,7 @@ ghost use Rattle.std.specs.Prelude.{◌≡◌, ℕ, List, Option, OnOk, OnErr};
 ghost use Rattle.std.specs.Io.{ReadsAtMost};
 ghost use Rattle.std.specs.Io.KnownBytes.{ReadConsumes, Appends, Keeps};
 ghost use Rattle.org_disk.specs.Disk.{IsCounted};
+ghost use Rattle.org_serve.specs.Parts.{AppendsSome};
 
 /// A read, a write or a flush failed. It is the only fault.
 #[derive(Clone, Copy, Debug, PartialEq, Eq)]
@@ -37,15 +38,17 @@ pub trait Sink {
     /// How many calls failed.
     ghost failures: { Self → ℕ };
 
-    /// Writes all the bytes.
+    /// Writes all the bytes. Where it fails, some of them were written, from the first on.
     fn write(&mut self, bytes: &[u8]) -> Result<(), PipeFault>
         ensures bytes { OnOk result (Appends (written self.old) (written self.new) bytes.now) }
+        ensures part { OnErr result
+            (AppendsSome (written self.old) (written self.new) bytes.now) }
         ensures ok { OnOk result (failures self.new ≡ failures self.old) }
         ensures err { OnErr result (IsCounted (failures self.old) (failures self.new)) };
 
     /// Hands on what was written so far.
     fn flush(&mut self) -> Result<(), PipeFault>
-        ensures bytes { OnOk result (Keeps (written self.old) (written self.new)) }
+        ensures bytes { Keeps (written self.old) (written self.new) }
         ensures ok { OnOk result (failures self.new ≡ failures self.old) }
         ensures err { OnErr result (IsCounted (failures self.old) (failures self.new)) };
 }

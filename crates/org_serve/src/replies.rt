@@ -5,6 +5,7 @@ ghost use Rattle.org_stamp.specs.Stamp.{duration_text};
 ghost use Rattle.org_store.specs.declared.command.RunFault.TheVariants.{Refused};
 ghost use Rattle.org_disk.specs.Disk.{IsCounted};
 ghost use Rattle.org_serve.specs.Faults.{fault_text};
+ghost use Rattle.org_serve.specs.Parts.{AppendsSome};
 ghost use Rattle.org_serve.specs.Replies.{safe_line, safe_if_risen, fault_line, answer_text, settled_text};
 
 use crate::fault::LineFault;
@@ -20,6 +21,8 @@ pub fn write_answer<W: Sink>(
     safe: u64,
 ) -> Result<(), PipeFault>
     ensures ok { OnOk result (Appends (W.written writer.old) (W.written writer.new)
+        (answer_text answer.now before safe)) }
+    ensures part { OnErr result (AppendsSome (W.written writer.old) (W.written writer.new)
         (answer_text answer.now before safe)) }
     ensures same { OnOk result (W.failures writer.new ≡ W.failures writer.old) }
     ensures err { OnErr result (IsCounted (W.failures writer.old) (W.failures writer.new)) }
@@ -37,6 +40,8 @@ pub fn write_answer<W: Sink>(
 /// Writes why a line wasn't run, and flushes.
 pub fn write_unread<W: Sink>(writer: &mut W, fault: LineFault) -> Result<(), PipeFault>
     ensures ok { OnOk result (Appends (W.written writer.old) (W.written writer.new)
+        (fault_text fault)) }
+    ensures part { OnErr result (AppendsSome (W.written writer.old) (W.written writer.new)
         (fault_text fault)) }
     ensures same { OnOk result (W.failures writer.new ≡ W.failures writer.old) }
     ensures err { OnErr result (IsCounted (W.failures writer.old) (W.failures writer.new)) }
@@ -56,6 +61,8 @@ pub fn write_settled<W: Sink>(
 ) -> Result<(), PipeFault>
     ensures ok { OnOk result (Appends (W.written writer.old) (W.written writer.new)
         (settled_text answer safe)) }
+    ensures part { OnErr result (AppendsSome (W.written writer.old) (W.written writer.new)
+        (settled_text answer safe)) }
     ensures same { OnOk result (W.failures writer.new ≡ W.failures writer.old) }
     ensures err { OnErr result (IsCounted (W.failures writer.old) (W.failures writer.new)) }
 {
@@ -68,6 +75,8 @@ pub fn write_settled<W: Sink>(
 
 fn write_done<W: Sink>(writer: &mut W, n: u64, before: u64, safe: u64) -> Result<(), PipeFault>
     ensures ok { OnOk result (Appends (W.written writer.old) (W.written writer.new)
+        (codes "ok " ++ decimal n ++ codes "\n" ++ safe_if_risen before safe)) }
+    ensures part { OnErr result (AppendsSome (W.written writer.old) (W.written writer.new)
         (codes "ok " ++ decimal n ++ codes "\n" ++ safe_if_risen before safe)) }
     ensures same { OnOk result (W.failures writer.new ≡ W.failures writer.old) }
     ensures err { OnErr result (IsCounted (W.failures writer.old) (W.failures writer.new)) }
@@ -84,6 +93,8 @@ fn write_done<W: Sink>(writer: &mut W, n: u64, before: u64, safe: u64) -> Result
 fn write_safe<W: Sink>(writer: &mut W, safe: u64) -> Result<(), PipeFault>
     ensures ok { OnOk result (Appends (W.written writer.old) (W.written writer.new)
         (safe_line safe)) }
+    ensures part { OnErr result (AppendsSome (W.written writer.old) (W.written writer.new)
+        (safe_line safe)) }
     ensures same { OnOk result (W.failures writer.new ≡ W.failures writer.old) }
     ensures err { OnErr result (IsCounted (W.failures writer.old) (W.failures writer.new)) }
 {
@@ -94,6 +105,8 @@ fn write_safe<W: Sink>(writer: &mut W, safe: u64) -> Result<(), PipeFault>
 
 fn write_text<W: Sink>(writer: &mut W, bytes: &[u8]) -> Result<(), PipeFault>
     ensures ok { OnOk result (Appends (W.written writer.old) (W.written writer.new)
+        (codes "text " ++ decimal (length bytes.now) ++ codes "\n" ++ bytes.now ++ codes "\n")) }
+    ensures part { OnErr result (AppendsSome (W.written writer.old) (W.written writer.new)
         (codes "text " ++ decimal (length bytes.now) ++ codes "\n" ++ bytes.now ++ codes "\n")) }
     ensures same { OnOk result (W.failures writer.new ≡ W.failures writer.old) }
     ensures err { OnErr result (IsCounted (W.failures writer.old) (W.failures writer.new)) }
@@ -108,6 +121,8 @@ fn write_text<W: Sink>(writer: &mut W, bytes: &[u8]) -> Result<(), PipeFault>
 fn write_time<W: Sink>(writer: &mut W, minutes: u64) -> Result<(), PipeFault>
     ensures ok { OnOk result (Appends (W.written writer.old) (W.written writer.new)
         (codes "time " ++ duration_text minutes 1 ++ codes "\n")) }
+    ensures part { OnErr result (AppendsSome (W.written writer.old) (W.written writer.new)
+        (codes "time " ++ duration_text minutes 1 ++ codes "\n")) }
     ensures same { OnOk result (W.failures writer.new ≡ W.failures writer.old) }
     ensures err { OnErr result (IsCounted (W.failures writer.old) (W.failures writer.new)) }
 {
@@ -119,6 +134,8 @@ fn write_time<W: Sink>(writer: &mut W, minutes: u64) -> Result<(), PipeFault>
 
 fn write_fault<W: Sink>(writer: &mut W, fault: RunFault) -> Result<(), PipeFault>
     ensures ok { OnOk result (Appends (W.written writer.old) (W.written writer.new)
+        (fault_line fault)) }
+    ensures part { OnErr result (AppendsSome (W.written writer.old) (W.written writer.new)
         (fault_line fault)) }
     ensures same { OnOk result (W.failures writer.new ≡ W.failures writer.old) }
     ensures err { OnErr result (IsCounted (W.failures writer.old) (W.failures writer.new)) }
@@ -133,6 +150,8 @@ fn write_fault<W: Sink>(writer: &mut W, fault: RunFault) -> Result<(), PipeFault
 
 fn write_refusal<W: Sink>(writer: &mut W, why: Refusal) -> Result<(), PipeFault>
     ensures ok { OnOk result (Appends (W.written writer.old) (W.written writer.new)
+        (fault_line (Refused why))) }
+    ensures part { OnErr result (AppendsSome (W.written writer.old) (W.written writer.new)
         (fault_line (Refused why))) }
     ensures same { OnOk result (W.failures writer.new ≡ W.failures writer.old) }
     ensures err { OnErr result (IsCounted (W.failures writer.old) (W.failures writer.new)) }

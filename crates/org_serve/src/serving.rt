@@ -1,12 +1,15 @@
 //! Lines answered one by one, to the end of the input.
-ghost use Rattle.std.specs.Prelude.{◌≡◌, ◌≢◌, ◌⊎◌, ◌++◌, List, ℕ, [], OnOk, OnErr, MatchResult, IsTrue, Ok};
+ghost use Rattle.std.specs.Prelude.{◌≡◌, ◌≢◌, ◌⊎◌, ◌++◌, List, ℕ, [], OnOk, OnErr, MatchResult, IsTrue, Result, Ok};
 ghost use Rattle.std.specs.Io.KnownBytes.{Appends};
 ghost use Rattle.org_disk.specs.Disk.{IsCounted};
 ghost use Rattle.org_disk.specs.Accounts.{Accounts};
 ghost use Rattle.org_serve.specs.Counts.{EndsForCause};
 ghost use Rattle.org_serve.specs.Feeding.{FeedOk, FeedErr, EndsWith};
 ghost use Rattle.org_serve.specs.Lines.{cut};
+ghost use Rattle.org_serve.specs.Parts.{AppendsSome, EndsText, WritesSome};
 ghost use Rattle.org_serve.specs.Pending.{Stands};
+ghost use Rattle.org_serve.specs.Replies.{settled_text};
+ghost use Rattle.org_store.specs.declared.command.RunFault.{RunFault};
 ghost use Rattle.org_serve.specs.Serving.{IsReadAs, AnswersReadBy, HasBroken, EndsBroken, end_of, Serves};
 ghost use Rattle.org_serve.specs.Crashes.{RunsHonest, RunsLine, HasSettledOver, FinishesOver, Runs, KeepsDisk};
 ghost use Rattle.org_serve.specs.Transcript.{AnswersRest};
@@ -30,9 +33,11 @@ const PIECE: usize = 4096;
 ///
 /// Where it ends with `End`, `Unsettled` or `Device`, and the disk is honest then, the input was read to its end, and
 /// what was written is its transcript. It ends with `Read` where a read failed, and else only where the turns are used up:
-/// the lines that were read whole are answered then. It ends with `Write` exactly where a write or a flush failed: of the
-/// lines some, from the first on, were run then. One failure is counted in either case, so neither reader nor writer is
-/// called once it has failed.
+/// the lines that were read whole are answered then, and where no read failed each gave bytes, so the end of the input
+/// wasn't met. It ends with `Write` exactly where a write or a flush failed: of the lines some, from the first on, were run
+/// then, and what was written begins their replies, or is all of them and the beginning of what is written at the end. One
+/// failure is counted in either case, so neither reader nor writer is called once it has failed. There are no more reads
+/// than turns.
 ///
 /// The store is changed by calls of `run` and `settle` alone. What each of them did is told where the disk is honest
 /// after it (`calls`): a wrong answer takes nothing from what was done before it. What a crash leaves at any moment
@@ -51,9 +56,11 @@ pub fn serve<D: Disk, R: Source, W: Sink>(
     ensures causes { EndsForCause turns (Ok result) (R.left reader.old) (R.left reader.new)
         (R.reads reader.old) (R.reads reader.new) (R.failures reader.old)
         (R.failures reader.new) (W.failures writer.old) (W.failures writer.new) }
-    ensures calls { Runs (RunsLine D.honest D.files D.moment D.left_since)
+    ensures calls { (run : Runs (RunsLine D.honest D.files D.moment D.left_since)
         (HasSettledOver D.honest D.files D.moment D.left_since) store.old store.new result
-        (R.left reader.old) (R.left reader.new) (W.written writer.old) (W.written writer.new) }
+        (R.left reader.old) (R.left reader.new) (W.written writer.old) (W.written writer.new))
+        × (result ≡ ServeEnd.Write → WritesSome run.input run.others run.out
+        store.new.session.acknowledged (W.written writer.old) (W.written writer.new)) }
     ensures disk { D.honest store.new.disk → KeepsDisk D.files store.old store.new }
     ensures broken { EndsBroken result store.new.session }
     ensures untouched { IsTrue store.old.session.broken → store.new ≡ store.old }
@@ -89,7 +96,7 @@ fn feed<D: Disk, W: Sink>(
         store.new (W.written writer.old) (W.written writer.new) pending.new)
         (λ _. FeedErr (RunsLine D.honest D.files D.moment D.left_since) store.old (part ++
         piece.now)
-        store.new) }
+        store.new (W.written writer.old) (W.written writer.new)) }
     ensures same { OnOk result (W.failures writer.new ≡ W.failures writer.old) }
     ensures err { OnErr result (IsCounted (W.failures writer.old) (W.failures writer.new)) }
     ensures untouched { IsTrue store.old.session.broken → store.new ≡ store.old }
@@ -117,7 +124,8 @@ fn answer<D: Disk, W: Sink>(
         → (out : List ℕ) × RunsLine D.honest D.files D.moment D.left_since store.old (part ++
         last.now) out
         store.new
-        × OnOk result (Appends (W.written writer.old) (W.written writer.new) out) }
+        × OnOk result (Appends (W.written writer.old) (W.written writer.new) out)
+        × OnErr result (AppendsSome (W.written writer.old) (W.written writer.new) out) }
     ensures cleared { Stands pending.new [] }
     ensures same { OnOk result (W.failures writer.new ≡ W.failures writer.old) }
     ensures err { OnErr result (IsCounted (W.failures writer.old) (W.failures writer.new)) }
@@ -151,7 +159,8 @@ fn answer_read<D: Disk, W: Sink>(
         × AnswersReadBy (RunsHonest D.honest D.files D.moment D.left_since) (λ kept. kept.session)
         store.old
         read.now out store.new
-        × OnOk result (Appends (W.written writer.old) (W.written writer.new) out) }
+        × OnOk result (Appends (W.written writer.old) (W.written writer.new) out)
+        × OnErr result (AppendsSome (W.written writer.old) (W.written writer.new) out) }
     ensures same { OnOk result (W.failures writer.new ≡ W.failures writer.old) }
     ensures err { OnErr result (IsCounted (W.failures writer.old) (W.failures writer.new)) }
     ensures untouched { IsTrue store.old.session.broken → store.new ≡ store.old }
@@ -179,6 +188,9 @@ fn finish<D: Disk, W: Sink>(store: &mut Store<D>, pending: &Pending, writer: &mu
     ensures write { result ≡ ServeEnd.Write
         → (store.new ≡ store.old) ⊎ HasSettledOver D.honest D.files D.moment D.left_since store.old
         store.new }
+    ensures wrote { result ≡ ServeEnd.Write → (part : List ℕ) → Stands pending.now part
+        → (text : List ℕ) × EndsText part store.new.session.acknowledged text
+        × AppendsSome (W.written writer.old) (W.written writer.new) text }
     ensures write_cause { result ≡ ServeEnd.Write
         → IsCounted (W.failures writer.old) (W.failures writer.new) }
     ensures write_told { result ≢ ServeEnd.Write → W.failures writer.new ≡ W.failures writer.old }
@@ -197,7 +209,8 @@ fn finish<D: Disk, W: Sink>(store: &mut Store<D>, pending: &Pending, writer: &mu
 fn answer_rest<W: Sink>(pending: &Pending, writer: &mut W) -> Result<(), PipeFault>
     ensures rest { (part : List ℕ) → Stands pending.now part
         → (last : List ℕ) × AnswersRest part last
-        × OnOk result (Appends (W.written writer.old) (W.written writer.new) last) }
+        × OnOk result (Appends (W.written writer.old) (W.written writer.new) last)
+        × OnErr result (AppendsSome (W.written writer.old) (W.written writer.new) last) }
     ensures same { OnOk result (W.failures writer.new ≡ W.failures writer.old) }
     ensures err { OnErr result (IsCounted (W.failures writer.old) (W.failures writer.new)) }
 {
@@ -215,6 +228,9 @@ fn settle<D: Disk, W: Sink>(store: &mut Store<D>, writer: &mut W) -> ServeEnd
     ensures never { result ≢ ServeEnd.Read }
     ensures write { result ≡ ServeEnd.Write
         → HasSettledOver D.honest D.files D.moment D.left_since store.old store.new }
+    ensures wrote { result ≡ ServeEnd.Write → (answer : Result (Unit {0}) RunFault)
+        × AppendsSome (W.written writer.old) (W.written writer.new)
+        (settled_text answer store.new.session.acknowledged) }
     ensures write_cause { result ≡ ServeEnd.Write
         → IsCounted (W.failures writer.old) (W.failures writer.new) }
     ensures write_told { result ≢ ServeEnd.Write → W.failures writer.new ≡ W.failures writer.old }

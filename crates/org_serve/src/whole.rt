@@ -54,8 +54,9 @@ pub struct Served<D> {
 /// has the first a (`laws::safe_tells_acknowledged`). Where it ends with `End`, each image at the end recovers to the
 /// files after all of them. The disk is as recoverable at the end, so that all this may be done again.
 ///
-/// The faults are those of `Store::open`, and then nothing is read or written; the ends, and when each comes, those of
-/// `serve`. Too many names leave the disk unused. Where the journal is bad, as it reads, a crash leaves what it might
+/// The faults are those of `Store::open`, and then nothing is read or written; the ends, when each comes, and what is
+/// written then, those of `serve`. The store at the end is broken where the disk counted a failure, and isn't where it
+/// counted none. Too many names leave the disk unused. Where the journal is bad, as it reads, a crash leaves what it might
 /// have left before, whatever fault is told. With `Device`, or an opening that is refused so, it ends only where the
 /// disk counted a failure, and with `End` or `Unsettled` only where it counted none.
 pub fn serve_disk<D: Disk, R: Source, W: Sink>(

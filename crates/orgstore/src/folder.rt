@@ -46,7 +46,8 @@ const TURNS: u64 = 4_294_967_295;
 ///
 /// An opening is refused for its reason alone, and then nothing is read or written; too many names leave the disk unused.
 /// It ends with Read or Write for a cause alone: one failed call of the reader or the writer, which is always told so, or
-/// 4,294,967,295 reads; with Device, or an opening that is refused so, only where a call failed.
+/// 4,294,967,295 reads, each of which gave bytes, and never makes more; with Write, what was written begins the replies to
+/// the lines that were run. It ends with Device, or an opening that is refused so, only where a call failed.
 pub fn serve_folder<F: Files + AllocGlobal + Drop, S: Start, R: Source, W: Sink>(
     alloc: Global,
     disk: FolderDisk<F, S>,

@@ -4,7 +4,7 @@ use Rattle.org_serve.specs.Counts.{HasRisenBy, HasRead}
 use Rattle.org_serve.specs.Lines.{cut}
 use Rattle.org_serve.specs.Crashes.{HasSettledOver}
 use Rattle.org_serve.proofs.Cuts.{rest-free}
-use Rattle.org_serve.proofs.Inputs.{Served-more, Served-some, Served-no_more, serves_read, serves_some, serves_end}
+use Rattle.org_serve.proofs.Inputs.{Served-more, Served-some, Served-some_wrote, Served-no_more, serves_read, serves_some, serves_end}
 use Rattle.org_serve.proofs.Joins.{Consumes-kept}
 use Rattle.org_serve.proofs.Counting.{HasRisenBy-counted, within_counted, within_all, read_more, ended_read, ended_otherwise}
 use Rattle.org_serve.proofs.Breaking.{untouched_then, breaks_then}
@@ -41,12 +41,12 @@ returns-in-Ok-eq0-clause-calls g c =
     let read = rw zero at c.in-Ok-eq0.ensures.bytes in
     let s = Served-no_more c.loop.invariant.0 (g.R.Source.left c.read.new.self) read.0 in
     runs_finish d.honest d.files d.moment d.left_since s c.finish.new.store c.finish.result (g.W.Sink.written c.finish.new.writer)
-    (λ not. c.finish.ensures.told not (cut s.input).rest s.stands) c.finish.ensures.write
+    (λ not. c.finish.ensures.told not (cut s.input).rest s.stands) c.finish.ensures.write (λ is. c.finish.ensures.wrote is (cut s.input).rest s.stands)
 
 pub returns-in-Ok-eq0-clause-disk : goal.returns-in-Ok-eq0-clause-disk
 returns-in-Ok-eq0-clause-disk g c = λ honest.
     let d = g.D.Disk in
-    runs_keep d.honest d.files d.moment d.left_since (kept_runs d.honest d.files d.moment d.left_since (returns-in-Ok-eq0-clause-calls g c) honest)
+    runs_keep d.honest d.files d.moment d.left_since (kept_runs d.honest d.files d.moment d.left_since (returns-in-Ok-eq0-clause-calls g c).0 honest)
 
 pub returns-in-Err-feed-clause-serves : goal.returns-in-Err-feed-clause-serves
 returns-in-Err-feed-clause-serves g c = λ honest.
@@ -54,7 +54,7 @@ returns-in-Err-feed-clause-serves g c = λ honest.
     let s = c.loop.invariant.0 in
     serves_some (g.W.Sink.written c.args.writer.now) (g.W.Sink.written c.feed.new.writer)
     (session_of_some d.honest d.files d.moment d.left_since c.args.store.now c.feed.new.store _ _ (kept_some d.honest d.files d.moment d.left_since c.args.store.now c.feed.new.store _ _
-    (Served-some s (take c.in-Ok.n c.read.new.into) c.feed.new.store (g.R.Source.left c.read.new.self) c.in-Ok.ensures.bytes.0
+    (Served-some s (take c.in-Ok.n c.read.new.into) c.feed.new.store (g.R.Source.left c.read.new.self) (g.W.Sink.written c.feed.new.writer) c.in-Ok.ensures.bytes.0
     (c.in-Err-feed.ensures.fed (cut s.input).rest (rest-free s.input) s.stands)) honest))
 
 pub returns-in-Err-feed-clause-causes : goal.returns-in-Err-feed-clause-causes
@@ -67,14 +67,17 @@ pub returns-in-Err-feed-clause-calls : goal.returns-in-Err-feed-clause-calls
 returns-in-Err-feed-clause-calls g c =
     let d = g.D.Disk in
     let s = c.loop.invariant.0 in
-    runs_some (HasSettledOver d.honest d.files d.moment d.left_since) (g.W.Sink.written c.args.writer.now) (g.W.Sink.written c.feed.new.writer)
-    (Served-some s (take c.in-Ok.n c.read.new.into) c.feed.new.store (g.R.Source.left c.read.new.self) c.in-Ok.ensures.bytes.0
-    (c.in-Err-feed.ensures.fed (cut s.input).rest (rest-free s.input) s.stands))
+    let piece = take c.in-Ok.n c.read.new.into in
+    let left = g.R.Source.left c.read.new.self in
+    let fed = c.in-Err-feed.ensures.fed (cut s.input).rest (rest-free s.input) s.stands in
+    runs_some (HasSettledOver d.honest d.files d.moment d.left_since) (g.W.Sink.written c.args.writer.now) (g.W.Sink.written c.feed.new.writer) c.feed.new.store.session.acknowledged
+    (Served-some s piece c.feed.new.store left (g.W.Sink.written c.feed.new.writer) c.in-Ok.ensures.bytes.0 fed)
+    (Served-some_wrote s piece c.feed.new.store left (g.W.Sink.written c.feed.new.writer) c.in-Ok.ensures.bytes.0 fed)
 
 pub returns-in-Err-feed-clause-disk : goal.returns-in-Err-feed-clause-disk
 returns-in-Err-feed-clause-disk g c = λ honest.
     let d = g.D.Disk in
-    runs_keep d.honest d.files d.moment d.left_since (kept_runs d.honest d.files d.moment d.left_since (returns-in-Err-feed-clause-calls g c) honest)
+    runs_keep d.honest d.files d.moment d.left_since (kept_runs d.honest d.files d.moment d.left_since (returns-in-Err-feed-clause-calls g c).0 honest)
 
 pub returns-in-Err-clause-serves : goal.returns-in-Err-clause-serves
 returns-in-Err-clause-serves g c = λ honest.
@@ -91,13 +94,13 @@ returns-in-Err-clause-causes g c =
 pub returns-in-Err-clause-calls : goal.returns-in-Err-clause-calls
 returns-in-Err-clause-calls g c =
     let d = g.D.Disk in
-    runs_read (HasSettledOver d.honest d.files d.moment d.left_since)
+    runs_read (HasSettledOver d.honest d.files d.moment d.left_since) c.loop.store.session.acknowledged
     (Served-no_more c.loop.invariant.0 (g.R.Source.left c.read.new.self) (Consumes-kept _ _ c.in-Err.ensures.bytes))
 
 pub returns-in-Err-clause-disk : goal.returns-in-Err-clause-disk
 returns-in-Err-clause-disk g c = λ honest.
     let d = g.D.Disk in
-    runs_keep d.honest d.files d.moment d.left_since (kept_runs d.honest d.files d.moment d.left_since (returns-in-Err-clause-calls g c) honest)
+    runs_keep d.honest d.files d.moment d.left_since (kept_runs d.honest d.files d.moment d.left_since (returns-in-Err-clause-calls g c).0 honest)
 
 pub returns-clause-serves : goal.returns-clause-serves
 returns-clause-serves g c = λ honest.
@@ -114,12 +117,12 @@ returns-clause-causes g c =
 pub returns-clause-calls : goal.returns-clause-calls
 returns-clause-calls g c =
     let d = g.D.Disk in
-    runs_read (HasSettledOver d.honest d.files d.moment d.left_since) c.loop.invariant.0
+    runs_read (HasSettledOver d.honest d.files d.moment d.left_since) c.loop.store.session.acknowledged c.loop.invariant.0
 
 pub returns-clause-disk : goal.returns-clause-disk
 returns-clause-disk g c = λ honest.
     let d = g.D.Disk in
-    runs_keep d.honest d.files d.moment d.left_since (kept_runs d.honest d.files d.moment d.left_since (returns-clause-calls g c) honest)
+    runs_keep d.honest d.files d.moment d.left_since (kept_runs d.honest d.files d.moment d.left_since (returns-clause-calls g c).0 honest)
 
 pub loop-preserved : goal.loop-preserved
 loop-preserved g c = (

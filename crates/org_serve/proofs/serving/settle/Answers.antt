@@ -33,3 +33,6 @@ returns-in-Ok-clause-broken g c =
     let sound : c.args.store.now.session.broken ≡ false = sym c.is_broken.ensures ∙ c.if-is_broken.false in
     subst (λ end. EndsBroken end c.settle-answer.new.self.session) (sym c.end_of.ensures.value)
     (ends_broken c.settle-answer.result c.args.store.now.session c.settle-answer.new.self.session sound e.breaks.0 e.breaks.1 e.broken.0)
+
+pub returns-in-Err-clause-wrote : goal.returns-in-Err-clause-wrote
+returns-in-Err-clause-wrote g c = λ is. (c.settle-answer.result, rw c.acknowledged-2.ensures at c.in-Err.ensures.part)

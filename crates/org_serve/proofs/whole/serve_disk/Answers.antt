@@ -22,7 +22,7 @@ returns-in-Ok-clause-served g c =
     serves_lasting d.honest d.files d.moment d.left_since laws.only_now laws.counts_now setup.states setup.group setup.names.items c.args.disk store begun c.set_group.ensures opens
     c.in-Ok.ensures.names.1 c.in-Ok.ensures.sizes (here (λ k. d.honest k → d.honest c.args.disk) c.in-Ok.ensures.accounts.was_honest)
     (here (λ k. d.honest k → IsReopened (d.files c.args.disk) (d.files k)) (λ honestly. (reopens honestly).done))
-    c.serve-end.new.store c.into_disk.result c.into_disk.ensures c.serve-end.ensures.calls
+    c.serve-end.new.store c.into_disk.result c.into_disk.ensures c.serve-end.ensures.calls.0 c.serve-end.ensures.calls.1
     (λ honest. c.serve-end.ensures.serves (rw (← c.into_disk.ensures) honest))
     (λ fit each. here (λ k. d.honest k → LeavesOver d.moment d.left_since c.args.disk k (RecoversAsBefore (d.files c.args.disk))) (λ honestly. (reopens honestly).any_moment fit each))
     d.failures
