@@ -1,4 +1,7 @@
 // What calls of a disk do to the files of a folder.
+ghost use Rattle.std.specs.Prelude.{◌≡◌, [], IfOk};
+ghost use Rattle.org_folder.specs.FolderDisk.{record_of};
+
 use super::{
     Folder, append, disk, done, empty, holds, is_there, length, link, make, make_empty, name, put,
     remove, sync, take, write,
@@ -40,7 +43,9 @@ impl Start for OneByte {
     ghost world = { record { start = λ _. stable (42 ∷ []); left = λ _. [] } };
 }
 
-fn supposed(rt: &HostRuntime) -> Result<FolderDisk<HostRuntime, OneByte>, Fail> {
+fn supposed(rt: &HostRuntime) -> Result<FolderDisk<HostRuntime, OneByte>, Fail>
+    ensures { IfOk result (λ disk. record_of disk ≡ []) }
+{
     let folder = lock_folder(rt, "supposed")?;
     Ok(FolderDisk::new(rt.clone()?, rt.alloc(), &folder)?)
 }
