@@ -4,6 +4,7 @@ pub mod Elements
 pub mod Sorted
 mod Steps
 mod Takes
+pub mod Writes
 mod Replaying
 pub mod Recovers
 mod Armed

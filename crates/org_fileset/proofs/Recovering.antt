@@ -22,6 +22,8 @@ use Rattle.org_journal.specs.declared.record.Version.TheVariants.{Two}
 use Rattle.org_journal.specs.Record.{is_named, IsEntry, IsWellFormed}
 use Rattle.org_journal.specs.Recovered.{Image, SameFiles, RecoversTo, IsArmed, IsRecoverable, OthersStable, recovered, all_fit, replayed, contents}
 use Rattle.org_fileset.specs.Recovery.{EachRecovers, RecoversAsBefore, closed_journal}
+use Rattle.org_fileset.specs.Writes.{LeavesAlone, IsUnconcerned, IsUnwritten}
+use Rattle.org_fileset.proofs.Writes.{alone_fewer, alone_journal, alone_looks, alone_then}
 use Rattle.org_fileset.specs.Replay.{TakesTo, IsApplicable, AreApplicable, EachTakes, IsOpenOver, IsReplayable, IsAtRest}
 use Rattle.org_fileset.proofs.Recovers.{recovers_open, recovers_closed, open_recovers, takes-replayed}
 
@@ -334,6 +336,7 @@ pub record IsLookedAt {D : Type 0} (files : D → List ℕ → FileState) (momen
   pub is : IsSynced (files old) (files now)
   pub time : PassesOver moment left_since old now (AreImages (files old))
   pub since : EachRecovers (files old) → PassesOver moment left_since old now (RecoversAsBefore (files old))
+  pub alone : LeavesAlone files moment left_since (IsUnconcerned (contents (files old) journal_name)) old now
 
 pub looked_at : {D : Type 0} (files : D → List ℕ → FileState) (moment : D → ℕ) (left_since : D → ℕ → Image → Type 0) (old mid now : D) (journal : List ℕ) → journal ≡ journal_name
     → IsImage (files old journal_name) (files old journal_name).content → ((name : List ℕ) → IsImage (files mid name) (files mid name).content)
@@ -343,6 +346,9 @@ looked_at files moment left_since old mid now journal name_is own owns changes t
   is = is;
   time = images;
   since = λ each. passes_as images (as_before (files old) each);
+  alone = alone_then files moment left_since (IsUnconcerned (contents (files old) journal_name)) old mid now
+      (alone_journal files moment left_since journal (IsUnconcerned (contents (files old) journal_name)) (AreLeftBy sync journal (files old)) old mid name_is (λ name is. is.apart) changes.others time (λ image left. left.others))
+      (alone_looks files moment left_since (IsUnconcerned (contents (files old) journal_name)) mid now looks);
 }
   where
     is : IsSynced (files old) (files now)
@@ -352,3 +358,21 @@ looked_at files moment left_since old mid now journal name_is own owns changes t
     images = passes_then
         (passes_as time (λ image left. sync_left journal_name (files old) image own (subst (λ (n : List ℕ). AreLeftBy sync n (files old) image) name_is left)))
         looks.time (λ image left. is.images image (subst (λ (f : List ℕ → FileState). AreImages f image) (sym looks.same) left))
+
+-- a record that was found is applied to its files alone
+pub alone_replayed : {D : Type 0} (files : D → List ℕ → FileState) (moment : D → ℕ) (left_since : D → ℕ → Image → Type 0) (entries : List Entry) (old now new : D) → IsLookedAt files moment left_since old now
+    → IsOpenOver entries (files now) → LeavesAlone files moment left_since (IsUnwritten entries) now new → LeavesAlone files moment left_since (IsUnconcerned (contents (files old) journal_name)) old new
+alone_replayed files moment left_since entries old now new look over replays =
+    let same : contents (files now) journal_name ≡ contents (files old) journal_name = ap (λ (f : Image). f journal_name) look.is.same in
+    let opened : is_open (contents (files old) journal_name) ≡ true = ap is_open (sym same) ∙ over.opened in
+    let found : journal_at (drop 1 (contents (files old) journal_name)) ≡ Some entries = ap (λ (l : List ℕ). journal_at (drop 1 l)) (sym same) ∙ over.found in
+    alone_then files moment left_since (IsUnconcerned (contents (files old) journal_name)) old now new look.alone
+    (alone_fewer files moment left_since (IsUnconcerned (contents (files old) journal_name)) (IsUnwritten entries) now new replays
+    (λ name is. record { apart = is.apart; unnamed = is.unnamed opened entries found }))
+
+-- a closed gate that was looked at, and looked at once more
+pub alone_looked : {D : Type 0} (files : D → List ℕ → FileState) (moment : D → ℕ) (left_since : D → ℕ → Image → Type 0) (old now last : D) → IsLookedAt files moment left_since old now → Looks files moment left_since now last
+    → LeavesAlone files moment left_since (IsUnconcerned (contents (files old) journal_name)) old last
+alone_looked files moment left_since old now last look looks =
+    alone_then files moment left_since (IsUnconcerned (contents (files old) journal_name)) old now last look.alone
+    (alone_looks files moment left_since (IsUnconcerned (contents (files old) journal_name)) now last looks)

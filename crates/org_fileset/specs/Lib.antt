@@ -4,4 +4,5 @@ pub mod Set
 pub mod Recovery
 pub mod Names
 pub mod Opening
+pub mod Writes
 pub mod Laws

@@ -6,6 +6,7 @@ use Rattle.org_disk.specs.Names.{journal_name}
 use Rattle.org_journal.specs.Gate.{front_size, is_open, HasClosedGate}
 use Rattle.org_journal.specs.Recovered.{Image, SameFiles, RecoversTo, IsRecoverable, contents, recovered}
 use Rattle.org_fileset.specs.Replay.{IsAtRest}
+use Rattle.org_fileset.specs.Writes.{LeavesAlone, IsUnconcerned}
 
 -- whatever a crash leaves recovers to files: no journal is bad
 abbrev pub EachRecovers : (List ℕ → FileState) → Type 0
@@ -33,7 +34,8 @@ pub record IsReopened (old new : List ℕ → FileState) : Type 0 where
 
 -- What an opening does to a disk that is honest after it. Where the disk was recoverable, and each image of it
 -- recovered to files, a crash at any moment since it began leaves what recovers to them, and the disk is as recoverable
--- after it. Where the journal is bad, as it reads, a crash leaves what it might have left before, and nothing else.
+-- after it. Where the journal is bad, as it reads, a crash leaves what it might have left before, and nothing else. Files
+-- that no record of an open journal names are left alone.
 pub record Reopens {D A E : Type 0} (files : D → List ℕ → FileState) (moment : D → ℕ)
     (left_since : D → ℕ → Image → Type 0) (old new : D) (result : Result A E) : Type 0 where
   pub done : OnOk result (IsReopened (files old) (files new))
@@ -41,3 +43,4 @@ pub record Reopens {D A E : Type 0} (files : D → List ℕ → FileState) (mome
       → LeavesOver moment left_since old new (RecoversAsBefore (files old))
   pub recoverable : IsRecoverable (files old) → EachRecovers (files old) → IsRecoverable (files new)
   pub bad : recovered (contents (files old)) ≡ None → LeavesOver moment left_since old new (AreImages (files old))
+  pub alone : LeavesAlone files moment left_since (IsUnconcerned (contents (files old) journal_name)) old new

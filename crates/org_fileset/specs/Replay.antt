@@ -14,6 +14,7 @@ use Rattle.org_journal.specs.Record.{is_named, names_differ, greatest_length}
 use Rattle.org_journal.specs.Gate.{is_open, HasClosedGate}
 use Rattle.org_journal.specs.Reading.{journal_at}
 use Rattle.org_journal.specs.Recovered.{Image, SameFiles, RecoversTo, IsRecoverable, contents, replayed}
+use Rattle.org_fileset.specs.Writes.{LeavesAlone, IsUnwritten}
 
 -- whatever a crash leaves of the file takes the patches to this text
 abbrev pub EachPatchedTo : List (ℕ × List ℕ) → ℕ → List ℕ → FileState → Type 0
@@ -102,15 +103,16 @@ pub record ReplaysOver {D : Type 0} (files : D → List ℕ → FileState) (mome
   pub any_moment : (can : IsReplayable entries (files old))
       → PassesOver moment left_since old new (RecoversTo can.texts)
   pub recoverable : IsReplayable entries (files old) → IsRecoverable (files new)
+  pub alone : LeavesAlone files moment left_since (IsUnwritten entries) old new
 
 -- The files are these now; what was at rest is at rest.
 pub record IsCommitted (after : Image) (old new : List ℕ → FileState) : Type 0 where
   pub made : SameFiles (contents new) after
   pub rest : IsAtRest old → IsAtRest new
 
--- What a commit does that is to make these files, where the disk is honest after it.
+-- What a commit does that is to make these files, and to leave some alone, where the disk is honest after it.
 pub record Commits {D A E : Type 0} (files : D → List ℕ → FileState) (moment : D → ℕ)
-    (left_since : D → ℕ → Image → Type 0) (after : Image) (old new : D)
+    (left_since : D → ℕ → Image → Type 0) (after : Image) (Alone : List ℕ → Type 0) (old new : D)
     (result : Result A E) : Type 0 where
   pub done : OnOk result (IsCommitted after (files old) (files new))
   -- where all was on the disk: what a crash at any moment since the call began leaves
@@ -118,6 +120,7 @@ pub record Commits {D A E : Type 0} (files : D → List ℕ → FileState) (mome
       → LeavesOver moment left_since old new (IsBeforeOrAfter (contents (files old)) after)
   -- after a failure too, it may be opened again
   pub recoverable : IsAtRest (files old) → IsRecoverable (files new)
+  pub alone : LeavesAlone files moment left_since Alone old new
 
 -- `AppliesPatches` and `Replays` of a disk before calls and after them
 abbrev pub AppliesPatchesOver : {D : Type 0} → (D → List ℕ → FileState) → (D → ℕ)

@@ -8,6 +8,7 @@ ghost use Rattle.org_splice.specs.Texts.{pairs_of};
 ghost use Rattle.org_journal.specs.Record.{is_named};
 ghost use Rattle.org_journal.specs.Recovered.{Image, contents, all_fit, replayed};
 ghost use Rattle.org_fileset.specs.Replay.{AreApplicable, EachPatchedTo, EachTakes, AppliesPatchesOver, TakesOver};
+ghost use Rattle.org_fileset.specs.Writes.{LeavesAlone};
 
 use org_disk::{Disk, DiskFault};
 use org_journal::Entry;
@@ -28,8 +29,8 @@ pub fn apply_entry<D: Disk>(disk: &mut D, entry: &Entry) -> Result<(), DiskFault
     ensures content { OnOk result (D.honest disk.new → (D.files disk.new entry.now.name).content
         ≡ patched (pairs_of entry.now.patches) entry.now.length
         (D.files disk.old entry.now.name).content) }
-    ensures others { D.honest disk.new → (other : List ℕ) → other ≢ entry.now.name
-        → D.files disk.new other ≡ D.files disk.old other }
+    ensures alone { D.honest disk.new → LeavesAlone D.files D.moment D.left_since
+        (λ other. other ≢ entry.now.name) disk.old disk.new }
     ensures accounts { Accounts D.steady D.honest D.failures disk.old disk.new (IsErr result) }
 {
     for patch in entry.patches.as_slice() {
@@ -53,8 +54,8 @@ pub fn apply_all<D: Disk>(disk: &mut D, entries: &[Entry]) -> Result<(), DiskFau
     ensures contents { OnOk result (D.honest disk.new → (name : List ℕ)
         → contents (D.files disk.new) name ≡ replayed entries.now (contents (D.files disk.old))
         name) }
-    ensures others { D.honest disk.new → (name : List ℕ) → IsFalse (is_named name entries.now)
-        → D.files disk.new name ≡ D.files disk.old name }
+    ensures alone { D.honest disk.new → LeavesAlone D.files D.moment D.left_since
+        (λ name. IsFalse (is_named name entries.now)) disk.old disk.new }
     ensures accounts { Accounts D.steady D.honest D.failures disk.old disk.new (IsErr result) }
 {
     for entry in entries {
@@ -75,8 +76,8 @@ pub fn sync_all<D: Disk>(disk: &mut D, entries: &[Entry]) -> Result<(), DiskFaul
     ensures stable { OnOk result (D.honest disk.new → (name : List ℕ)
         → (IsFalse (is_named name entries.now) → IsStable (D.files disk.old name))
         → IsStable (D.files disk.new name)) }
-    ensures others { D.honest disk.new → (name : List ℕ) → IsFalse (is_named name entries.now)
-        → D.files disk.new name ≡ D.files disk.old name }
+    ensures alone { D.honest disk.new → LeavesAlone D.files D.moment D.left_since
+        (λ name. IsFalse (is_named name entries.now)) disk.old disk.new }
     ensures accounts { Accounts D.steady D.honest D.failures disk.old disk.new (IsErr result) }
 {
     for entry in entries {

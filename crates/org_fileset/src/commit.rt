@@ -1,11 +1,12 @@
 //! A record made to count: written to the journal, applied to its files, and done with.
-ghost use Rattle.std.specs.Prelude.{◌≡◌, ◌≤◌, ◌++◌, List, ℕ, Some, length, IsTrue, OnOk, IsErr};
+ghost use Rattle.std.specs.Prelude.{◌≡◌, ◌≤◌, ◌++◌, List, ℕ, Some, drop, length, IsTrue, OnOk, IsErr};
 ghost use Rattle.org_disk.specs.Accounts.{Accounts};
 ghost use Rattle.org_disk.specs.Names.{journal_name};
 ghost use Rattle.org_journal.specs.Gate.{HasClosedGate};
 ghost use Rattle.org_journal.specs.Reading.{journal_at};
 ghost use Rattle.org_journal.specs.Recovered.{all_fit, replayed, contents};
 ghost use Rattle.org_fileset.specs.Replay.{AreApplicable, Commits, IsOpenOver, ReplaysOver};
+ghost use Rattle.org_fileset.specs.Writes.{IsUnwritten};
 
 use crate::apply::{apply_all, sync_all};
 use org_disk::{Disk, DiskFault, FileName};
@@ -29,7 +30,7 @@ pub fn replay<D: Disk>(disk: &mut D, journal: &FileName, entries: &[Entry]) -> R
 
 /// Commits entries that fit their files. The body is their record, from the journal's second byte on. Where all files
 /// are on the disk at the start, every image at every moment since recovers to all files before, or to all files
-/// after.
+/// after. No other file is written; and behind the closed gate the record stays.
 pub fn commit_entries<D: Disk>(
     disk: &mut D,
     journal: &FileName,
@@ -43,7 +44,10 @@ pub fn commit_entries<D: Disk>(
     requires gate { D.honest disk.old → HasClosedGate (D.files disk.old journal_name) }
     requires fits { D.honest disk.old → IsTrue (all_fit entries.now (contents (D.files disk.old))) }
     ensures commits { D.honest disk.new → Commits D.files D.moment D.left_since
-        (replayed entries.now (contents (D.files disk.old))) disk.old disk.new result }
+        (replayed entries.now (contents (D.files disk.old))) (IsUnwritten entries.now)
+        disk.old disk.new result }
+    ensures record { D.honest disk.new → OnOk result
+        (journal_at (drop 1 (D.files disk.new journal_name).content) ≡ Some entries.now) }
     ensures gate { D.honest disk.new → OnOk result (HasClosedGate (D.files disk.new journal_name)) }
     ensures accounts { Accounts D.steady D.honest D.failures disk.old disk.new (IsErr result) }
 {

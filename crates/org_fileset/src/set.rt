@@ -1,16 +1,18 @@
 //! The files of a store as one.
-ghost use Rattle.std.specs.Prelude.{◌≡◌, ◌≤◌, [], None, true, false, length, IsFalse, IfOk, IfErr, IsErrOf, IsOk};
+ghost use Rattle.std.specs.Prelude.{◌≡◌, ◌≤◌, [], None, true, false, length, IsFalse, OnOk, IfOk, IfErr, IsErrOf, IsOk};
 ghost use Rattle.std.specs.List.{All, Contains};
+ghost use Rattle.std.specs.Map.{keys_of};
 ghost use Rattle.org_disk.specs.Accounts.{Accounts, Looks};
 ghost use Rattle.org_disk.specs.Names.{journal_name, IsOrgFile};
 ghost use Rattle.org_splice.specs.Texts.{IsEditOf};
 ghost use Rattle.org_journal.specs.Recovered.{recovered, contents};
-ghost use Rattle.org_fileset.specs.Entries.{changed};
+ghost use Rattle.org_fileset.specs.Entries.{HasRecordOf, changed};
 ghost use Rattle.org_fileset.specs.Names.{with_archives, AreSorted, AreFew, first_large};
 ghost use Rattle.org_fileset.specs.Opening.{IsDeviceRefusal, IsReason, disk_in};
 ghost use Rattle.org_fileset.specs.Recovery.{Reopens};
 ghost use Rattle.org_fileset.specs.Replay.{Commits};
 ghost use Rattle.org_fileset.specs.Set.{KeepsSet};
+ghost use Rattle.org_fileset.specs.Writes.{IsOther};
 
 use crate::commit::commit_entries;
 use crate::entries::entries_of;
@@ -144,8 +146,9 @@ impl<D: Disk> FileSet<D> {
     ///
     /// Where all is on the disk when the call begins, then at every moment since what a crash leaves recovers to all
     /// files as they were, or to all files with the changed texts; after Ok all is on the disk again, and after
-    /// `Device` it can be opened anew. All memory is taken before the first call of the disk. Where nothing was
-    /// changed, no call of the disk is made.
+    /// `Device` it can be opened anew. No file is written but the changed ones and the journal, behind whose gate the
+    /// record of the changes stays. All memory is taken before the first call of the disk. Where nothing was changed,
+    /// no call of the disk is made.
     pub fn commit<C: Changes<FileName>>(&mut self, changes: &C) -> Result<(), SetFault>
         requires named { All (λ change. Contains self.old.names change.0) (C.pairs changes.now) }
         requires small { All (λ change. length change.1.bytes ≤ LIMIT) (C.pairs changes.now) }
@@ -153,8 +156,10 @@ impl<D: Disk> FileSet<D> {
             → All (λ change. IsEditOf (contents (D.files self.old.disk) change.0) change.1)
             (C.pairs changes.now) }
         ensures commits { D.honest self.new.disk → Commits D.files D.moment D.left_since
-            (changed (C.pairs changes.now) (contents (D.files self.old.disk))) self.old.disk
-            self.new.disk result }
+            (changed (C.pairs changes.now) (contents (D.files self.old.disk)))
+            (IsOther (keys_of (C.pairs changes.now))) self.old.disk self.new.disk result }
+        ensures record { D.honest self.new.disk → OnOk result (HasRecordOf (C.pairs changes.now)
+            (contents (D.files self.new.disk) journal_name)) }
         ensures memory { IsErrOf result SetFault.OutOfMemory → self.new ≡ self.old }
         ensures nothing { C.pairs changes.now ≡ []
             → (self.new ≡ self.old) × (IsFalse self.old.broken → IsOk result) }

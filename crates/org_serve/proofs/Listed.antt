@@ -18,7 +18,7 @@ use Rattle.org_store.specs.declared.command.RunFault.TheVariants.{Refused, OutOf
 use Rattle.org_store.specs.InOrder.{text_at}
 use Rattle.org_store.specs.History.{Past, Adds, Lists, HoldsPrefix}
 use Rattle.org_store.specs.OnePlace.{HaveSameNodes, HasNodesOf, HasNodesOfPrefix, IsSessionOf}
-use Rattle.org_store.specs.Outcome.{Accepts, AsksToSettle, outcome, show}
+use Rattle.org_store.specs.Outcome.{Accepts, AsksToSettle, IsAccepted, outcome, show}
 use Rattle.org_store.specs.Reopening.{IsOpenable, AreSmall}
 use Rattle.org_store.specs.Session.{Session}
 use Rattle.org_store.specs.Step.{Step}
@@ -56,7 +56,7 @@ all_first P (one ∷ some) others all = (all.0, all_first P some others all.1)
 
 -- Q holds of the texts of all files after a command of a line that is allowed, where it held before it.
 module _ (names : List (List ℕ)) (Q : List (List ℕ) → Type 0) (Allowed : List ℕ → Type 0)
-    (keeps : (s : Session) (line : List ℕ) (command : Command) (files : List (List ℕ)) → s.names ≡ names → Allowed line → IsReadAs line (Ok command) → Q s.files → outcome s command ≡ Accepts files → Q files) where
+    (keeps : (s : Session) (line : List ℕ) (command : Command) (files : List (List ℕ)) → s.names ≡ names → Allowed line → IsReadAs line (Ok command) → Q s.files → IsAccepted (outcome s command) files → Q files) where
   pub record Each (s : Session) (texts : Texts) : Type 0 where
     pub same_names : s.names ≡ names
     pub lists : Lists s texts
@@ -73,7 +73,7 @@ module _ (names : List (List ℕ)) (Q : List (List ℕ) → Type 0) (Allowed : L
     ];
   }
     where
-      last : (files : List (List ℕ)) → outcome old command ≡ Accepts files → new.accepted ≡ old.accepted + 1 → Q files
+      last : (files : List (List ℕ)) → IsAccepted (outcome old command) files → new.accepted ≡ old.accepted + 1 → Q files
       last files accepts risen = elim (cases_Bool old.broken) [
         | inl fell ↦ absurd (omega (arith, risen, ap (λ (s : Session). s.accepted) (broken_stays old new command answer step fell)))
         | inr sound ↦ keeps old line command files each.same_names allowed read (each_at Q texts old.accepted old.files each.all (each.lists.files sound)) accepts
@@ -120,20 +120,20 @@ any_line : (lines : List (List ℕ)) → AllByRecursion Any lines
 any_line [] = tt
 any_line (line ∷ lines) = (tt, any_line lines)
 
-shows : (old : Option (List ℕ)) (files : List (List ℕ)) → show old ≡ Accepts files → ⊥
-shows None files accepts = absurd (cc)
-shows (Some text) files accepts = absurd (cc)
+shows : (old : Option (List ℕ)) (names files : List (List ℕ)) → show old ≡ Accepts names files → ⊥
+shows None names files accepts = absurd (cc)
+shows (Some text) names files accepts = absurd (cc)
 
-settles : (files : List (List ℕ)) → AsksToSettle ≡ Accepts files → ⊥
-settles files accepts = absurd (cc)
+settles : (names files : List (List ℕ)) → AsksToSettle ≡ Accepts names files → ⊥
+settles names files accepts = absurd (cc)
 
 line_keeps : (names base : List (List ℕ)) → IsDistinct bytes_eq names → (s : Session) (line : List ℕ) (command : Command) (files : List (List ℕ)) → s.names ≡ names → OnlyRefiles line → IsReadAs line (Ok command)
-    → KeptNodes names base s.files → outcome s command ≡ Accepts files → KeptNodes names base files
+    → KeptNodes names base s.files → IsAccepted (outcome s command) files → KeptNodes names base files
 line_keeps names base apart s line command files same only read kept accepts = ⊎_elim
     (λ refile. keeps_nodes names base apart s command files same refile kept accepts)
     (⊎_elim
-    (λ shown. absurd (shows (text_at s.names s.files shown.0) files (subst (λ (c : Command). outcome s c ≡ Accepts files) shown.1 accepts)))
-    (λ settle. absurd (settles files (subst (λ (c : Command). outcome s c ≡ Accepts files) settle accepts))))
+    (λ shown. absurd (shows (text_at s.names s.files shown.0) accepts.0 files (subst (λ (c : Command). outcome s c ≡ Accepts accepts.0 files) shown.1 accepts.1)))
+    (λ settle. absurd (settles accepts.0 files (subst (λ (c : Command). outcome s c ≡ Accepts accepts.0 files) settle accepts.1))))
     (only command read.1)
 
 -- a run of a store that has such a list as it begins

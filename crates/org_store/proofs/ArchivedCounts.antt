@@ -35,8 +35,8 @@ module _ (s : Session) (apart : IsDistinct bytes_eq s.names) (each : length s.fi
   line : IsLine file
   line = name_line file named
 
-  within_archives : (text : List ℕ) (to : Destination) (files : List (List ℕ)) (said : Result Document MoveFault) → file ≡ to.file → text_at s.names s.files file ≡ Some text → location s.states file path text ≡ Ok to
-      → archive_within s.states file path now to (tree text) ≡ said → with_moved s (text_within file) said ≡ Accepts files → ArchivesOne s file path now files
+  within_archives : (text : List ℕ) (to : Destination) {touched : List (List ℕ)} (files : List (List ℕ)) (said : Result Document MoveFault) → file ≡ to.file → text_at s.names s.files file ≡ Some text → location s.states file path text ≡ Ok to
+      → archive_within s.states file path now to (tree text) ≡ said → with_moved s (text_within file) said ≡ Accepts touched files → ArchivesOne s file path now files
   within_archives text to files (Err why) own at place is accepts = absurd (cc)
   within_archives text to files (Ok new) own at place is accepts =
       let first = found_of (find_path s.states (tree text) path) _ new is in
@@ -63,9 +63,9 @@ module _ (s : Session) (apart : IsDistinct bytes_eq s.names) (each : length s.fi
         );
       }
 
-  across_archives : (text target : List ℕ) (to : Destination) (files : List (List ℕ)) (said : Result Moved MoveFault) → file ≢ to.file → text_at s.names s.files file ≡ Some text
+  across_archives : (text target : List ℕ) (to : Destination) {touched : List (List ℕ)} (files : List (List ℕ)) (said : Result Moved MoveFault) → file ≢ to.file → text_at s.names s.files file ≡ Some text
       → text_at s.names s.files to.file ≡ Some target → location s.states file path text ≡ Ok to → archive_across s.states file path now (tree text) s.states to (tree target) ≡ said
-      → with_moved s (texts_across file to.file) said ≡ Accepts files → ArchivesOne s file path now files
+      → with_moved s (texts_across file to.file) said ≡ Accepts touched files → ArchivesOne s file path now files
   across_archives text target to files (Err why) different at there place is accepts = absurd (cc)
   across_archives text target to files (Ok new) different at there place is accepts =
       let first = found_of (find_path s.states (tree text) path) _ new is in
@@ -96,22 +96,22 @@ module _ (s : Session) (apart : IsDistinct bytes_eq s.names) (each : length s.fi
         );
       }
 
-  to_archives : (text : List ℕ) (to : Destination) (into : Option (List ℕ)) (files : List (List ℕ)) → text_at s.names s.files file ≡ Some text → location s.states file path text ≡ Ok to
-      → text_at s.names s.files to.file ≡ into → archive_to s file path now text to into ≡ Accepts files → ArchivesOne s file path now files
+  to_archives : (text : List ℕ) (to : Destination) (into : Option (List ℕ)) {touched : List (List ℕ)} (files : List (List ℕ)) → text_at s.names s.files file ≡ Some text → location s.states file path text ≡ Ok to
+      → text_at s.names s.files to.file ≡ into → archive_to s file path now text to into ≡ Accepts touched files → ArchivesOne s file path now files
   to_archives text to None files at place there accepts = absurd (cc)
   to_archives text to (Some target) files at place there accepts = elim (name_cases file to.file) [
     | inl is ↦ let t = is.1 in within_archives text to files (archive_within s.states file path now to (tree text)) is.0 at place refl (rw t at accepts)
     | inr not ↦ let f = not.1 in across_archives text target to files (archive_across s.states file path now (tree text) s.states to (tree target)) not.0 at there place refl (rw f at accepts)
   ]
 
-  at_archives : (text : List ℕ) (said : Result Destination MoveFault) (files : List (List ℕ)) → text_at s.names s.files file ≡ Some text → location s.states file path text ≡ said
-      → archive_at s file path now text said ≡ Accepts files → ArchivesOne s file path now files
+  at_archives : (text : List ℕ) (said : Result Destination MoveFault) {touched : List (List ℕ)} (files : List (List ℕ)) → text_at s.names s.files file ≡ Some text → location s.states file path text ≡ said
+      → archive_at s file path now text said ≡ Accepts touched files → ArchivesOne s file path now files
   at_archives text (Err why) files at place accepts = absurd (cc)
   at_archives text (Ok to) files at place accepts = to_archives text to (text_at s.names s.files to.file) files at place refl accepts
 
-  in_archives : (old : Option (List ℕ)) (files : List (List ℕ)) → text_at s.names s.files file ≡ old → archive s file path now old ≡ Accepts files → ArchivesOne s file path now files
+  in_archives : (old : Option (List ℕ)) {touched : List (List ℕ)} (files : List (List ℕ)) → text_at s.names s.files file ≡ old → archive s file path now old ≡ Accepts touched files → ArchivesOne s file path now files
   in_archives None files at accepts = absurd (cc)
   in_archives (Some text) files at accepts = at_archives text (location s.states file path text) files at refl accepts
 
-  pub archive_keeps : (files : List (List ℕ)) → outcome s (Archive file path now) ≡ Accepts files → ArchivesOne s file path now files
+  pub archive_keeps : {touched : List (List ℕ)} (files : List (List ℕ)) → outcome s (Archive file path now) ≡ Accepts touched files → ArchivesOne s file path now files
   archive_keeps files accepts = in_archives (text_at s.names s.files file) files refl accepts

@@ -15,14 +15,14 @@ use Rattle.org_store.specs.Calls.{Call, grouped, CallOver, CallPast, CallsPast}
 use Rattle.org_store.specs.Calls.Call.{Ran, Settled, Grouped}
 use Rattle.org_store.specs.History.{Past, Lists, HoldsPrefix}
 use Rattle.org_store.specs.Left.{MayHaveWritten}
-use Rattle.org_store.specs.Outcome.{Accepts, AsksToSettle, outcome}
+use Rattle.org_store.specs.Outcome.{AsksToSettle, outcome}
 use Rattle.org_store.specs.Runs.{RunsOver, SettlesOver, IsOnDisk}
 use Rattle.org_store.specs.Session.{Session, Kept, Holds}
 use Rattle.org_store.specs.Step.{Step, Settles}
 use Rattle.org_store.specs.Waiting.{Waits, WaitsSettled}
 use Rattle.org_store.proofs.History.{Begin, Counts, adds, begin_adds, further, lists_settling, lists_step, none_added, same_or_sound, texts_after, torn}
 use Rattle.org_store.proofs.Keeping.{left_as}
-use Rattle.org_store.proofs.Runs.{Course, answers_broken, course_none, course_run, course_leaves, falls, leaves_as, settling_ends}
+use Rattle.org_store.proofs.Runs.{Course, answers_broken, course_none, course_run, course_leaves, falls, leaves_as, no_settling, settling_ends}
 
 -- A settling, and the command to settle.
 
@@ -71,6 +71,7 @@ module _ {D : Type 0} (files : D → List ℕ → FileState) (moment : D → ℕ
           others = λ fine. ran.disk.others (λ failed. fine (ap (reply_of n) failed));
           rest = λ fine. ran.disk.rest (λ failed. fine (ap (reply_of n) failed));
           recoverable = ran.disk.recoverable;
+          alone = ran.disk.alone;
         };
         untouched = λ broken. ran.untouched (fault_of_reply n answer Broken broken);
         nothing = λ is. ran.nothing;
@@ -219,7 +220,7 @@ module _ {D : Type 0} (files : D → List ℕ → FileState) (moment : D → ℕ
               further old mid new (call_lists old mid (Settled answer) made lists) ends
               (same_or_sound old.store.session mid.store.session Settle (reply_of n answer) fine (settle_steps old.store.session mid.store.session answer made.0.step)) s later)
               (inl refl)
-              (λ texts failed (accepted : AsksToSettle ≡ Accepts texts) full. absurd (cc));
+              (λ texts failed accepted full. no_settling texts accepted);
           disk = to.disk;
           accepted = to.accepted;
         }

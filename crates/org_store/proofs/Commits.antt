@@ -2,6 +2,7 @@
 use Rattle.std.proofs.Common.{◌≡◌, ◌≢◌, ◌⊎◌, inl, inr, ℕ, ◌≤◌, Bool, true, false, List, [], ◌∷◌, length, map, Option, Some, None, Result, Ok, Err, refl, sym, ◌∙◌, ap, subst, if◌then◌else◌}
 use Rattle.std.specs.Prelude.{◌↔◌, IsErrOf, IsTrue}
 use Rattle.std.specs.List.{All, AllByRecursion, Contains, list_any}
+use Rattle.std.specs.Map.{keys_of}
 use Rattle.std.specs.Option.{IsSome, is_some, option_map}
 use Rattle.std.specs.Str.{bytes_eq}
 use Rattle.std.proofs.lemmas.Bool.{cases_Bool, false≢true}
@@ -17,6 +18,7 @@ use Rattle.org_fileset.specs.declared.fault.SetFault.{SetFault}
 use Rattle.org_fileset.specs.declared.fault.SetFault.TheVariants as set_fault
 use Rattle.org_fileset.specs.Names.{limit}
 use Rattle.org_fileset.specs.Replay.{Commits, IsAtRest}
+use Rattle.org_fileset.specs.Writes.{LeavesAlone, IsOther}
 use Rattle.org_texts.specs.Files.{waits}
 use Rattle.org_texts.specs.Texts.{Holding, TextSet, bytes_or, held_over, pairs, settled_set, text_of, text_or_none}
 use Rattle.org_texts.proofs.Looking.{held_over-settled, text_of-settled}
@@ -32,6 +34,10 @@ Change = List ℕ × EditedText
 
 abbrev pair_in : TextSet → List ℕ → Change
 pair_in set name = (name, text_or_none (text_of set name))
+
+pairs_keys : (set : TextSet) (names : List (List ℕ)) → keys_of (map (pair_in set) names) ≡ names
+pairs_keys set [] = refl
+pairs_keys set (name ∷ names) = ap (λ (ns : List (List ℕ)). name ∷ ns) (pairs_keys set names)
 
 -- what holds of each waiting name's text
 each_pair : (P : Change → Type 0) (set : TextSet) (names : List (List ℕ)) → ((name : List ℕ) → list_any (bytes_eq name) names ≡ true → P (pair_in set name)) → AllByRecursion P (map (pair_in set) names)
@@ -145,19 +151,22 @@ module _ {D : Type 0} (files : D → List ℕ → FileState) (moment : D → ℕ
   told : texts_of (changed (pairs set) before) names ≡ after
   told = texts_same (changed (pairs set) before) (held_over set before) names (λ name there. is_held name)
 
-  any_moment : {A E : Type 0} (result : Result A E) → Commits files moment left_since (changed (pairs set) before) old new result → IsAtRest (files old)
+  any_moment : {A E : Type 0} (result : Result A E) → Commits files moment left_since (changed (pairs set) before) (IsOther (keys_of (pairs set))) old new result → IsAtRest (files old)
       → LeavesOver moment left_since old new (HoldsEither names before after)
   any_moment result commits rest = leaves_as (commits.any_moment rest) (λ image left. subst (λ (texts : List (List ℕ)). HoldsEither names before texts image) told
       (left_by_commit names before (changed (pairs set) before) outside image left))
 
-  pub commit_failed : {A E : Type 0} (result : Result A E) (fault : E) → Commits files moment left_since (changed (pairs set) before) old new result
-      → CommitsTexts {A = A} files moment left_since names after old new (Err fault)
-  commit_failed result fault commits = record { texts = tt; others = tt; rest = tt; any_moment = any_moment result commits; recoverable = commits.recoverable }
+  alone_waiting : LeavesAlone files moment left_since (IsOther (keys_of (pairs set))) old new → LeavesAlone files moment left_since (IsOther set.waiting) old new
+  alone_waiting alone = subst (λ (ns : List (List ℕ)). LeavesAlone files moment left_since (IsOther ns) old new) (pairs_keys set set.waiting) alone
+
+  pub commit_failed : {A E : Type 0} (result : Result A E) (fault : E) → Commits files moment left_since (changed (pairs set) before) (IsOther (keys_of (pairs set))) old new result
+      → CommitsTexts {A = A} files moment left_since names set.waiting after old new (Err fault)
+  commit_failed result fault commits = record { texts = tt; others = tt; rest = tt; any_moment = any_moment result commits; recoverable = commits.recoverable; alone = alone_waiting commits.alone }
 
   pub made_held : SameFiles (contents (files new)) (changed (pairs set) before) → SameFiles (contents (files new)) (held_over set before)
   made_held made name not = made name not ∙ is_held name
 
-  pub commit_done : {A E : Type 0} (a : A) → Commits {A = A} {E = E} files moment left_since (changed (pairs set) before) old new (Ok a) → CommitsTexts {A = A} {E = E} files moment left_since names after old new (Ok a)
+  pub commit_done : {A E : Type 0} (a : A) → Commits {A = A} {E = E} files moment left_since (changed (pairs set) before) (IsOther (keys_of (pairs set))) old new (Ok a) → CommitsTexts {A = A} {E = E} files moment left_since names set.waiting after old new (Ok a)
   commit_done a commits =
       let now : texts_of (contents (files new)) names ≡ after = texts_same (contents (files new)) (held_over set before) names
       (λ name there. made_held commits.done.made name (apart_from names apart name there)) in
@@ -167,6 +176,7 @@ module _ {D : Type 0} (files : D → List ℕ → FileState) (moment : D → ℕ
         rest = commits.done.rest;
         any_moment = any_moment (Ok a) commits;
         recoverable = commits.recoverable;
+        alone = alone_waiting commits.alone;
       }
 
 -- where a commit failed and broke nothing, memory was refused

@@ -10,15 +10,15 @@ use Rattle.org_store.specs.Session.{Session}
 use Rattle.org_store.specs.Outcome.{Outcome, Accepts, Shows, Tells, AsksToSettle, Refuses, outcome}
 use Rattle.org_store.specs.Step.{fills, done, settled, Does, Step, Run, IsReply}
 
-same_done : (old new other : Session) (files more : List (List ℕ)) → Accepts files ≡ Accepts more → new ≡ done old files → other ≡ done old more → new ≡ other
-same_done old new other files more is first second =
+same_done : (old new other : Session) (names others files more : List (List ℕ)) → Accepts names files ≡ Accepts others more → new ≡ done old files → other ≡ done old more → new ≡ other
+same_done old new other names others files more is first second =
     let same : files ≡ more = cc in
     first ∙ ap (done old) same ∙ sym second
 
 does_one : (old new other : Session) (outcome : Outcome) (answer second : Result Reply RunFault) → IsReply answer → IsReply second → Does old outcome answer new → Does old outcome second other
     → (answer ≡ second) × (new ≡ other)
 does_one old new other outcome (Ok (Done n)) (Ok (Done m)) a b x y =
-    (ap (λ (k : ℕ). Ok (Done k)) (x.1.2 ∙ sym y.1.2), same_done old new other x.1.0 y.1.0 (sym x.1.1 ∙ y.1.1) x.1.3 y.1.3)
+    (ap (λ (k : ℕ). Ok (Done k)) (x.1.2 ∙ sym y.1.2), same_done old new other x.1.1.0 y.1.1.0 x.1.0 y.1.0 (sym x.1.1.1 ∙ y.1.1.1) x.1.3 y.1.3)
 does_one old new other outcome (Ok (Text s)) (Ok (Text t)) a b x y =
     let shown : Shows s ≡ Shows t = sym x.1 ∙ y.1 in
     let same : s ≡ t = cc in
@@ -31,27 +31,27 @@ does_one old new other outcome (Err (Refused why)) (Err (Refused how)) a b x y =
     let refused : Refuses why ≡ Refuses how = sym x.1 ∙ y.1 in
     let same : why ≡ how = cc in
     (ap (λ k. Err (Refused k)) same, x.2 ∙ sym y.2)
-does_one old new other outcome (Ok (Done n)) (Ok (Text t)) a b x y = let apart : Accepts x.1.0 ≡ Shows t = sym x.1.1 ∙ y.1 in absurd (cc)
-does_one old new other outcome (Ok (Done n)) (Err (Refused how)) a b x y = let apart : Accepts x.1.0 ≡ Refuses how = sym x.1.1 ∙ y.1 in absurd (cc)
-does_one old new other outcome (Ok (Text s)) (Ok (Done m)) a b x y = let apart : Shows s ≡ Accepts y.1.0 = sym x.1 ∙ y.1.1 in absurd (cc)
+does_one old new other outcome (Ok (Done n)) (Ok (Text t)) a b x y = let apart : Accepts x.1.1.0 x.1.0 ≡ Shows t = sym x.1.1.1 ∙ y.1 in absurd (cc)
+does_one old new other outcome (Ok (Done n)) (Err (Refused how)) a b x y = let apart : Accepts x.1.1.0 x.1.0 ≡ Refuses how = sym x.1.1.1 ∙ y.1 in absurd (cc)
+does_one old new other outcome (Ok (Text s)) (Ok (Done m)) a b x y = let apart : Shows s ≡ Accepts y.1.1.0 y.1.0 = sym x.1 ∙ y.1.1.1 in absurd (cc)
 does_one old new other outcome (Ok (Text s)) (Err (Refused how)) a b x y = let apart : Shows s ≡ Refuses how = sym x.1 ∙ y.1 in absurd (cc)
-does_one old new other outcome (Err (Refused why)) (Ok (Done m)) a b x y = let apart : Refuses why ≡ Accepts y.1.0 = sym x.1 ∙ y.1.1 in absurd (cc)
+does_one old new other outcome (Err (Refused why)) (Ok (Done m)) a b x y = let apart : Refuses why ≡ Accepts y.1.1.0 y.1.0 = sym x.1 ∙ y.1.1.1 in absurd (cc)
 does_one old new other outcome (Err (Refused why)) (Ok (Text t)) a b x y = let apart : Refuses why ≡ Shows t = sym x.1 ∙ y.1 in absurd (cc)
 does_one old new other outcome (Ok (Safe n)) (Ok (Safe m)) a b x y = (ap (λ (k : ℕ). Ok (Safe k)) (x.2 ∙ sym y.2), x.3 ∙ sym y.3)
-does_one old new other outcome (Ok (Safe n)) (Ok (Done m)) a b x y = let apart : AsksToSettle ≡ Accepts y.1.0 = sym x.1 ∙ y.1.1 in absurd (cc)
+does_one old new other outcome (Ok (Safe n)) (Ok (Done m)) a b x y = let apart : AsksToSettle ≡ Accepts y.1.1.0 y.1.0 = sym x.1 ∙ y.1.1.1 in absurd (cc)
 does_one old new other outcome (Ok (Safe n)) (Ok (Text t)) a b x y = let apart : AsksToSettle ≡ Shows t = sym x.1 ∙ y.1 in absurd (cc)
 does_one old new other outcome (Ok (Safe n)) (Err (Refused how)) a b x y = let apart : AsksToSettle ≡ Refuses how = sym x.1 ∙ y.1 in absurd (cc)
 does_one old new other outcome (Ok (Safe n)) (Err OutOfMemory) a b x y = absurd b
 does_one old new other outcome (Ok (Safe n)) (Err Device) a b x y = absurd b
 does_one old new other outcome (Ok (Safe n)) (Err Broken) a b x y = absurd b
-does_one old new other outcome (Ok (Done n)) (Ok (Safe m)) a b x y = let apart : Accepts x.1.0 ≡ AsksToSettle = sym x.1.1 ∙ y.1 in absurd (cc)
+does_one old new other outcome (Ok (Done n)) (Ok (Safe m)) a b x y = let apart : Accepts x.1.1.0 x.1.0 ≡ AsksToSettle = sym x.1.1.1 ∙ y.1 in absurd (cc)
 does_one old new other outcome (Ok (Text s)) (Ok (Safe m)) a b x y = let apart : Shows s ≡ AsksToSettle = sym x.1 ∙ y.1 in absurd (cc)
 does_one old new other outcome (Err (Refused why)) (Ok (Safe m)) a b x y = let apart : Refuses why ≡ AsksToSettle = sym x.1 ∙ y.1 in absurd (cc)
-does_one old new other outcome (Ok (Time n)) (Ok (Done m)) a b x y = let apart : Tells n ≡ Accepts y.1.0 = sym x.1 ∙ y.1.1 in absurd (cc)
+does_one old new other outcome (Ok (Time n)) (Ok (Done m)) a b x y = let apart : Tells n ≡ Accepts y.1.1.0 y.1.0 = sym x.1 ∙ y.1.1.1 in absurd (cc)
 does_one old new other outcome (Ok (Time n)) (Ok (Text t)) a b x y = let apart : Tells n ≡ Shows t = sym x.1 ∙ y.1 in absurd (cc)
 does_one old new other outcome (Ok (Time n)) (Ok (Safe m)) a b x y = let apart : Tells n ≡ AsksToSettle = sym x.1 ∙ y.1 in absurd (cc)
 does_one old new other outcome (Ok (Time n)) (Err (Refused how)) a b x y = let apart : Tells n ≡ Refuses how = sym x.1 ∙ y.1 in absurd (cc)
-does_one old new other outcome (Ok (Done n)) (Ok (Time m)) a b x y = let apart : Accepts x.1.0 ≡ Tells m = sym x.1.1 ∙ y.1 in absurd (cc)
+does_one old new other outcome (Ok (Done n)) (Ok (Time m)) a b x y = let apart : Accepts x.1.1.0 x.1.0 ≡ Tells m = sym x.1.1.1 ∙ y.1 in absurd (cc)
 does_one old new other outcome (Ok (Text s)) (Ok (Time m)) a b x y = let apart : Shows s ≡ Tells m = sym x.1 ∙ y.1 in absurd (cc)
 does_one old new other outcome (Ok (Safe n)) (Ok (Time m)) a b x y = let apart : AsksToSettle ≡ Tells m = sym x.1 ∙ y.1 in absurd (cc)
 does_one old new other outcome (Err (Refused why)) (Ok (Time m)) a b x y = let apart : Refuses why ≡ Tells m = sym x.1 ∙ y.1 in absurd (cc)

@@ -9,7 +9,7 @@ use Rattle.org_store.specs.declared.command.Reply.TheVariants.{Done, Safe, Text,
 use Rattle.org_store.specs.declared.command.RunFault.{RunFault}
 use Rattle.org_store.specs.declared.command.RunFault.TheVariants.{Refused, OutOfMemory, Device, Broken}
 use Rattle.org_store.specs.History.{Past, Adds, Lists}
-use Rattle.org_store.specs.Outcome.{Outcome, Accepts, Shows, Tells, AsksToSettle, Refuses, outcome}
+use Rattle.org_store.specs.Outcome.{IsAccepted, Outcome, Accepts, Shows, Tells, AsksToSettle, Refuses, outcome}
 use Rattle.org_store.specs.Session.{Session}
 use Rattle.org_store.specs.Step.{Step, Settles, fills, done, settled}
 use Rattle.org_store.proofs.Runs.{done_accepted, done_files}
@@ -31,8 +31,8 @@ pub at_end : (some : Texts) (files : List (List ℕ)) → slice_get (some ++ fil
 at_end [] files = refl
 at_end (one ∷ some) files = at_end some files
 
-pub same_accepted : (files more : List (List ℕ)) → Accepts files ≡ Accepts more → files ≡ more
-same_accepted files more same = cc
+pub same_accepted : {told : Outcome} (files more : List (List ℕ)) → IsAccepted told files → IsAccepted told more → files ≡ more
+same_accepted files more one other = let same : Accepts one.0 files ≡ Accepts other.0 more = sym one.1 ∙ other.1 in cc
 
 pub done_broken : (s : Session) (files : List (List ℕ)) → (done s files).broken ≡ s.broken
 done_broken s files = elim (cases_Bool (fills s)) [ inl t ↦ rw t refl | inr f ↦ rw f refl ]
@@ -40,19 +40,20 @@ done_broken s files = elim (cases_Bool (fills s)) [ inl t ↦ rw t refl | inr f 
 -- What a command adds to the list.
 
 abbrev pub texts_after : Outcome → ℕ → ℕ → Texts → Texts
-texts_after (Accepts files) before now texts = if nat_eq now before then texts else texts ++ files ∷ []
+texts_after (Accepts names files) before now texts = if nat_eq now before then texts else texts ++ files ∷ []
 texts_after (Shows text) before now texts = texts
 texts_after (Tells minutes) before now texts = texts
 texts_after AsksToSettle before now texts = texts
 texts_after (Refuses why) before now texts = texts
 
-adds_one : (told : Outcome) (files : List (List ℕ)) (before now : ℕ) (texts : Texts) → told ≡ Accepts files → now ≡ before + 1 → Adds told before now texts (texts_after told before now texts)
+adds_one : (told : Outcome) (files : List (List ℕ)) (before now : ℕ) (texts : Texts) → IsAccepted told files → now ≡ before + 1 → Adds told before now texts (texts_after told before now texts)
 adds_one told files before now texts accepts risen =
     let more : nat_eq (before + 1) before ≡ false = grind (arith) in
-    rw (accepts, risen, more) (inr (refl, (files, refl, refl)))
+    let is = accepts.1 in
+    rw (is, risen, more) (inr (refl, (files, (accepts.0, refl), refl)))
 
 adds_none : (told : Outcome) (before now : ℕ) (texts : Texts) → now ≡ before → Adds told before now texts (texts_after told before now texts)
-adds_none (Accepts files) before now texts same =
+adds_none (Accepts names files) before now texts same =
     let is : nat_eq before before ≡ true = grind (arith) in
     rw (same, is) (inl (refl, refl))
 adds_none (Shows text) before now texts same = inl (same, refl)
@@ -85,11 +86,11 @@ lists_same old new texts more same is lists = subst (λ s. Lists s more) (sym sa
 pub none_added : (outcome : Outcome) (before now : ℕ) (old new : Texts) → Adds outcome before now old new → now ≡ before → new ≡ old
 none_added outcome before now old new added same = elim added [ inl none ↦ none.1 | inr one ↦ absurd (omega (arith, one.0, same)) ]
 
-lists_done : (old : Session) (files : List (List ℕ)) (texts more : Texts) → Adds (Accepts files) old.accepted (done old files).accepted texts more → Lists old texts → Lists (done old files) more
-lists_done old files texts more added lists = elim added [
+lists_done : (old : Session) (told : Outcome) (files : List (List ℕ)) (texts more : Texts) → IsAccepted told files → Adds told old.accepted (done old files).accepted texts more → Lists old texts → Lists (done old files) more
+lists_done old told files texts more accepted added lists = elim added [
   | inl none ↦ absurd (omega (arith, none.0, done_accepted old files))
   | inr one ↦
-      let same : files ≡ one.1.0 = same_accepted files one.1.0 one.1.1 in
+      let same : files ≡ one.1.0 = same_accepted files one.1.0 accepted one.1.1 in
       let is : more ≡ texts ++ files ∷ [] = one.1.2 ∙ ap (λ t. texts ++ t ∷ []) (sym same) in
       let here : slice_get (texts ++ files ∷ []) (old.accepted + 1) ≡ Some files = subst (λ n. slice_get (texts ++ files ∷ []) n ≡ Some files) lists.size (at_end texts files) in
       subst (Lists (done old files)) (sym is) (elim (cases_Bool (fills old)) [
@@ -128,7 +129,7 @@ pub lists_step : (old new : Session) (command : Command) (answer : Result Reply 
 lists_step old new command (Ok (Done n)) texts more step added lists =
     let is : new ≡ done old step.1.0 = step.1.3 in
     subst (λ s. Lists s more) (sym is)
-    (lists_done old step.1.0 texts more (subst (λ o. Adds o old.accepted (done old step.1.0).accepted texts more) step.1.1 (subst (λ (s : Session). Adds (outcome old command) old.accepted s.accepted texts more) is added)) lists)
+    (lists_done old (outcome old command) step.1.0 texts more step.1.1 (subst (λ (s : Session). Adds (outcome old command) old.accepted s.accepted texts more) is added) lists)
 lists_step old new command (Ok (Text bytes)) texts more step added lists =
     lists_same old new texts more step.2 (none_added (outcome old command) old.accepted new.accepted texts more added (ap (λ (s : Session). s.accepted) step.2)) lists
 lists_step old new command (Ok (Time minutes)) texts more step added lists =
@@ -204,13 +205,13 @@ further old mid last lists ends whole s (inl same) = ⊎_elim
 -- a command that was to be accepted, and in which the disk failed
 pub torn : {D : Type 0} (old mid last : Past D) (command : Command) (texts : List (List ℕ)) → Lists old.store.session old.texts → Begin mid.texts last.texts
     → last.store.session.accepted ≡ mid.store.session.accepted → Adds (outcome old.store.session command) old.store.session.accepted mid.store.session.accepted old.texts mid.texts
-    → outcome old.store.session command ≡ Accepts texts → Counts last old (done old.store.session texts)
+    → IsAccepted (outcome old.store.session command) texts → Counts last old (done old.store.session texts)
 torn old mid last command texts lists ends same added accepted =
     let counted : (done old.store.session texts).accepted ≡ old.store.session.accepted + 1 = done_accepted old.store.session texts in
     ⊎_elim
     (λ none. inr (inr (omega (arith, same, counted, none.0))))
     (λ one.
-    let is : texts ≡ one.1.0 = same_accepted texts one.1.0 (sym accepted ∙ one.1.1) in
+    let is : texts ≡ one.1.0 = same_accepted texts one.1.0 accepted one.1.1 in
     let list : mid.texts ≡ old.texts ++ texts ∷ [] = one.1.2 ∙ ap (λ t. old.texts ++ t ∷ []) (sym is) in
     let here : slice_get mid.texts (old.store.session.accepted + 1) ≡ Some texts =
     subst (λ l. slice_get l (old.store.session.accepted + 1) ≡ Some texts) (sym list) (subst (λ n. slice_get (old.texts ++ texts ∷ []) n ≡ Some texts) lists.size (at_end old.texts texts)) in

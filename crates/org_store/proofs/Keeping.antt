@@ -1,5 +1,5 @@
 -- What the calls of a store do to its session, and what a crash may leave.
-use Rattle.std.proofs.Common.{◌≡◌, inl, inr, ⊎_elim, ℕ, ◌+◌, true, false, List, Result, Err, refl, sym, ◌∙◌, ap, subst, if◌then◌else◌}
+use Rattle.std.proofs.Common.{◌≡◌, inl, inr, ⊎_elim, ℕ, ◌+◌, true, false, List, map, Result, Err, refl, sym, ◌∙◌, ap, subst, if◌then◌else◌}
 use Rattle.org_disk.specs.Disk.{FileState, AreImages}
 use Rattle.org_journal.specs.Recovered.{Image, SameFiles, contents}
 use Rattle.org_fileset.specs.Replay.{IsAtRest}
@@ -39,7 +39,7 @@ pub left_as : {A B : Type 0} (s : Session) (others : Image) (outcome : Outcome) 
 left_as s others outcome answer given accepted image wrote left = ⊎_elim (λ held. inl held) (λ put. inr (wrote put.0, put.1)) left
 
 -- texts that are put, and what is refused of them
-pub counts_small : (s : Session) (changes : List (List ℕ × List ℕ)) → has_large changes ≡ false → changed s changes ≡ counted s (with_all s.names s.files changes)
+pub counts_small : (s : Session) (changes : List (List ℕ × List ℕ)) → has_large changes ≡ false → changed s changes ≡ counted s (map (λ change. change.0) changes) (with_all s.names s.files changes)
 counts_small s changes small = rw small refl
 
 pub refuses_large : (s : Session) (changes : List (List ℕ × List ℕ)) → has_large changes ≡ true → changed s changes ≡ Refuses TooLarge

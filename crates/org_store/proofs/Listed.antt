@@ -20,7 +20,7 @@ use Rattle.org_store.specs.Calls.{Call, CallPast, CallsPast}
 use Rattle.org_store.specs.Calls.Call.{Ran, Settled, Grouped}
 use Rattle.org_store.specs.History.{Past, Lists, HoldsPrefix}
 use Rattle.org_store.specs.OnePlace.{HaveSameNodes, HasNodesOf, HasNodesOfPrefix, IsRefile, IsSessionOf, MayBeAccepted, MayRefile}
-use Rattle.org_store.specs.Outcome.{Accepts, outcome}
+use Rattle.org_store.specs.Outcome.{IsAccepted, outcome}
 use Rattle.org_store.specs.Reopening.{IsOpenable, AreSmall}
 use Rattle.org_store.specs.Session.{Session, Kept, Holds}
 use Rattle.org_store.specs.Step.{Step}
@@ -49,7 +49,7 @@ may_be old new command (Err Broken) step risen = absurd (omega (arith, risen, ap
 -- P holds of the list with the texts after a command that is allowed, where it held before it.
 module _ (names : List (List ℕ)) (P : Texts → Type 0) (Allowed : Call → Type 0)
     (keeps : (s : Session) (command : Command) (answer : Result Reply RunFault) (texts : Texts) (files : List (List ℕ)) → s.names ≡ names → Lists s texts → s.broken ≡ false → Allowed (Ran command answer)
-    → MayBeAccepted answer → outcome s command ≡ Accepts files → P texts → P (texts ++ files ∷ [])) where
+    → MayBeAccepted answer → IsAccepted (outcome s command) files → P texts → P (texts ++ files ∷ [])) where
   pub record Has (s : Session) (texts : Texts) : Type 0 where
     pub same_names : s.names ≡ names
     pub lists : Lists s texts
@@ -66,7 +66,7 @@ module _ (names : List (List ℕ)) (P : Texts → Type 0) (Allowed : Call → Ty
           made.1;
     }
       where
-        more : (texts : List (List ℕ)) → outcome old.store.session command ≡ Accepts texts → new.store.session.accepted ≡ old.store.session.accepted + 1 → P (old.texts ++ texts ∷ [])
+        more : (texts : List (List ℕ)) → IsAccepted (outcome old.store.session command) texts → new.store.session.accepted ≡ old.store.session.accepted + 1 → P (old.texts ++ texts ∷ [])
         more texts accepts risen = ⊎_elim
             (λ fell. absurd (omega (
               arith,
@@ -101,7 +101,7 @@ any_call : (calls : List Call) → AllByRecursion Any calls
 any_call [] = tt
 any_call (call ∷ calls) = (tt, any_call calls)
 
-pub keeps_small : (names : List (List ℕ)) (s : Session) (command : Command) (files : List (List ℕ)) → s.names ≡ names → AreSmall names s.files → outcome s command ≡ Accepts files → AreSmall names files
+pub keeps_small : (names : List (List ℕ)) (s : Session) (command : Command) (files : List (List ℕ)) → s.names ≡ names → AreSmall names s.files → IsAccepted (outcome s command) files → AreSmall names files
 keeps_small names s command files same are accepts =
     subst (λ ns. AreSmall ns files) same (accepted_small s command files (subst (λ ns. AreSmall ns s.files) (sym same) are) accepts)
 
@@ -110,7 +110,7 @@ abbrev pub KeptNodes : List (List ℕ) → List (List ℕ) → List (List ℕ) �
 KeptNodes names base files = AreSmall names files × HaveSameNodes files base
 
 pub keeps_nodes : (names base : List (List ℕ)) → IsDistinct bytes_eq names → (s : Session) (command : Command) (files : List (List ℕ)) → s.names ≡ names → IsRefile command → KeptNodes names base s.files
-    → outcome s command ≡ Accepts files → KeptNodes names base files
+    → IsAccepted (outcome s command) files → KeptNodes names base files
 keeps_nodes names base apart s command files same refile kept accepts = (
   keeps_small names s command files same kept.0 accepts,
   λ rest section.

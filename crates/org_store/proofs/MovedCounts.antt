@@ -21,7 +21,7 @@ use Rattle.org_store.specs.declared.command.Command.TheVariants.{Archive}
 use Rattle.org_store.specs.Calls.{Call, CallsPast}
 use Rattle.org_store.specs.History.{Past, Adds, Lists}
 use Rattle.org_store.specs.OnePlace.{ArchivesOne, HaveNodesButFew, IsArchiving, IsRefile, MayMove, NewSection}
-use Rattle.org_store.specs.Outcome.{Accepts, outcome}
+use Rattle.org_store.specs.Outcome.{IsAccepted, Accepts, outcome}
 use Rattle.org_store.specs.Reopening.{AreSmall}
 use Rattle.org_store.specs.Session.{Session}
 use Rattle.org_store.proofs.ArchivedCounts.{archive_keeps}
@@ -56,12 +56,12 @@ archived_changes s file path now files a =
       counts = λ rest section. omega (arith, a.counts rest section, made_sum rest section a.to a.up);
     }
 
-accepted_changes : (s : Session) (command : Command) (files : List (List ℕ)) → IsDistinct bytes_eq s.names → AreSmall s.names s.files → IsRefile command ⊎ IsArchiving command → outcome s command ≡ Accepts files
+accepted_changes : (s : Session) (command : Command) (files : List (List ℕ)) → IsDistinct bytes_eq s.names → AreSmall s.names s.files → IsRefile command ⊎ IsArchiving command → IsAccepted (outcome s command) files
     → HaveNodesButFew 1 files s.files
 accepted_changes s command files apart small (inl is) accepts =
     record { roots = []; made = []; few_roots = omega arith; few_made = omega arith; counts = λ rest section. omega (arith, accepted_keeps s command files apart small is accepts rest section) }
 accepted_changes s command files apart small (inr is) accepts =
-    archived_changes s is.0 is.1 is.2 files (archive_keeps s apart small.one_each is.0 is.3 is.1 is.2 files (subst (λ (c : Command). outcome s c ≡ Accepts files) is.4 accepts))
+    archived_changes s is.0 is.1 is.2 files (archive_keeps s apart small.one_each is.0 is.3 is.1 is.2 files (subst (λ (c : Command). outcome s c ≡ Accepts accepts.0 files) is.4 accepts.1))
 
 -- ---- commands, one after another
 
@@ -153,7 +153,7 @@ archive_moves first last lists apart file path now named each sound added k text
     (λ none. inl (as_first (subst (λ (l : Texts). slice_get l k ≡ Some texts) none.1 at)))
     (λ one. ⊎_elim
     (λ old. inl (as_first old))
-    (λ end. inr (subst (ArchivesOne first.store.session file path now) (sym end.1) (archive_keeps first.store.session apart each file named path now one.1.0 one.1.1)))
+    (λ end. inr (subst (ArchivesOne first.store.session file path now) (sym end.1) (archive_keeps first.store.session apart each file named path now one.1.0 one.1.1.1)))
     (before_end first.texts one.1.0 k texts (subst (λ (l : Texts). slice_get l k ≡ Some texts) one.1.2 at)))
     added
   where

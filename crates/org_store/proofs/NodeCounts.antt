@@ -1,5 +1,5 @@
 -- Refiles keep how often each node is there over all files of a store.
-use Rattle.std.proofs.Common.{◌≡◌, ◌≢◌, inl, inr, ℕ, ◌+◌, ◌-◌, ◌^◌, ◌==◌, Bool, true, false, List, [], ◌∷◌, length, Option, Some, None, Result, Ok, Err, refl, sym, ◌∙◌, ap, subst, if◌then◌else◌, arith}
+use Rattle.std.proofs.Common.{◌≡◌, ◌≢◌, inl, inr, ℕ, ◌+◌, ◌-◌, ◌^◌, ◌==◌, Bool, true, false, List, [], ◌∷◌, length, map, Option, Some, None, Result, Ok, Err, refl, sym, ◌∙◌, ap, subst, if◌then◌else◌, arith}
 use Rattle.std.specs.List.{AllByRecursion, IsDistinct, sum_by}
 use Rattle.std.specs.Str.{bytes_eq}
 use Rattle.std.proofs.lemmas.Bool.{false≢true}
@@ -81,10 +81,10 @@ still_long (one ∷ names) (text ∷ texts) name new same = let more = still_lon
 
 -- ---- a refile
 
-pub accepted_are : (s : Session) (changes : List (List ℕ × List ℕ)) (files : List (List ℕ)) → changed s changes ≡ Accepts files → with_all s.names s.files changes ≡ files
-accepted_are s changes files = go (has_large changes) (s.accepted == 2 ^ 64 - 1)
+pub accepted_are : (s : Session) (changes : List (List ℕ × List ℕ)) {touched : List (List ℕ)} (files : List (List ℕ)) → changed s changes ≡ Accepts touched files → with_all s.names s.files changes ≡ files
+accepted_are s changes {touched} files = go (has_large changes) (s.accepted == 2 ^ 64 - 1)
   where
-    go : (large full : Bool) → (if large then Refuses TooLarge else if full then Refuses TooLarge else Accepts (with_all s.names s.files changes)) ≡ Accepts files → with_all s.names s.files changes ≡ files
+    go : (large full : Bool) → (if large then Refuses TooLarge else if full then Refuses TooLarge else Accepts (map (λ change. change.0) changes) (with_all s.names s.files changes)) ≡ Accepts touched files → with_all s.names s.files changes ≡ files
     go true full accepts = absurd (cc)
     go false true accepts = absurd (cc)
     go false false accepts = cc
@@ -96,8 +96,8 @@ module _ (s : Session) (apart : IsDistinct bytes_eq s.names) (each : length s.fi
   pub again : (d : Document) → IsValid d → weight (print d) ≡ count_in rest section d
   again d valid = ap (count_in rest section) (tree-print d valid)
 
-  within_keeps : (file : List ℕ) (path to : List (List ℕ)) (place : Place) (text : List ℕ) (files : List (List ℕ)) (said : Result Document MoveFault) → text_at s.names s.files file ≡ Some text
-      → refile_within s.states path to place (tree text) ≡ said → with_moved s (text_within file) said ≡ Accepts files → count_over rest section files ≡ count_over rest section s.files
+  within_keeps : (file : List ℕ) (path to : List (List ℕ)) (place : Place) (text : List ℕ) {touched : List (List ℕ)} (files : List (List ℕ)) (said : Result Document MoveFault) → text_at s.names s.files file ≡ Some text
+      → refile_within s.states path to place (tree text) ≡ said → with_moved s (text_within file) said ≡ Accepts touched files → count_over rest section files ≡ count_over rest section s.files
   within_keeps file path to place text files (Err why) at is accepts = absurd (cc)
   within_keeps file path to place text files (Ok new) at is accepts =
       let made : with_text s.names s.files file (print new) ≡ files = accepted_are s (text_within file new) files accepts in
@@ -109,9 +109,9 @@ module _ (s : Session) (apart : IsDistinct bytes_eq s.names) (each : length s.fi
         within_counts s.states path to place (tree text) new is rest section,
       )
 
-  across_keeps : (file : List ℕ) (path : List (List ℕ)) (to_file : List ℕ) (to : List (List ℕ)) (place : Place) (text target : List ℕ) (files : List (List ℕ)) (said : Result Moved MoveFault) → file ≢ to_file
+  across_keeps : (file : List ℕ) (path : List (List ℕ)) (to_file : List ℕ) (to : List (List ℕ)) (place : Place) (text target : List ℕ) {touched : List (List ℕ)} (files : List (List ℕ)) (said : Result Moved MoveFault) → file ≢ to_file
       → text_at s.names s.files file ≡ Some text → text_at s.names s.files to_file ≡ Some target → refile_across s.states path (tree text) s.states to (tree target) place ≡ said
-      → with_moved s (texts_across file to_file) said ≡ Accepts files → count_over rest section files ≡ count_over rest section s.files
+      → with_moved s (texts_across file to_file) said ≡ Accepts touched files → count_over rest section files ≡ count_over rest section s.files
   across_keeps file path to_file to place text target files (Err why) different at there is accepts = absurd (cc)
   across_keeps file path to_file to place text target files (Ok new) different at there is accepts =
       let left = with_text s.names s.files file (print new.source) in
@@ -127,8 +127,8 @@ module _ (s : Session) (apart : IsDistinct bytes_eq s.names) (each : length s.fi
         across_counts s.states s.states path to place (tree text) (tree target) new is rest section,
       )
 
-  pub refile_keeps : (file : List ℕ) (path : List (List ℕ)) (to_file : List ℕ) (to : List (List ℕ)) (place : Place) (old into : Option (List ℕ)) (files : List (List ℕ)) → text_at s.names s.files file ≡ old
-      → text_at s.names s.files to_file ≡ into → refile s file path to_file to place old into ≡ Accepts files → count_over rest section files ≡ count_over rest section s.files
+  pub refile_keeps : (file : List ℕ) (path : List (List ℕ)) (to_file : List ℕ) (to : List (List ℕ)) (place : Place) (old into : Option (List ℕ)) {touched : List (List ℕ)} (files : List (List ℕ)) → text_at s.names s.files file ≡ old
+      → text_at s.names s.files to_file ≡ into → refile s file path to_file to place old into ≡ Accepts touched files → count_over rest section files ≡ count_over rest section s.files
   refile_keeps file path to_file to place None into files at there accepts = absurd (cc)
   refile_keeps file path to_file to place (Some text) None files at there accepts = absurd (cc)
   refile_keeps file path to_file to place (Some text) (Some target) files at there accepts = elim (name_cases file to_file) [

@@ -20,7 +20,7 @@ use Rattle.org_store.specs.declared.command.RunFault.{RunFault}
 use Rattle.org_store.specs.declared.command.RunFault.TheVariants.{Refused, OutOfMemory, Device, Broken}
 use Rattle.org_store.specs.InOrder.{is_name, text_at, texts_of, with_texts}
 use Rattle.org_store.specs.OnePlace.{HaveSameNodes, HasNodesOf, IsSessionOf, IsRefile, MayBeAccepted, OnlyRefiles}
-use Rattle.org_store.specs.Outcome.{Accepts, outcome}
+use Rattle.org_store.specs.Outcome.{IsAccepted, Accepts, outcome}
 use Rattle.org_store.specs.Reopening.{AreSmall}
 use Rattle.org_store.specs.Session.{Session, Holds}
 use Rattle.org_store.specs.Step.{Step, Run, done, fills, settled}
@@ -76,10 +76,10 @@ module _ (given : List (List ℕ)) (s : Session) (of : IsSessionOf given s) wher
 
 -- ---- refiles
 
-pub accepted_keeps : (s : Session) (command : Command) (files : List (List ℕ)) → IsDistinct bytes_eq s.names → AreSmall s.names s.files → IsRefile command → outcome s command ≡ Accepts files
+pub accepted_keeps : (s : Session) (command : Command) (files : List (List ℕ)) → IsDistinct bytes_eq s.names → AreSmall s.names s.files → IsRefile command → IsAccepted (outcome s command) files
     → HaveSameNodes files s.files
 accepted_keeps s command files apart small is accepts rest section =
-    let told = subst (λ (c : Command). outcome s c ≡ Accepts files) is.5 accepts in
+    let told = subst (λ (c : Command). outcome s c ≡ Accepts accepts.0 files) is.5 accepts.1 in
     refile_keeps s apart small.one_each rest section is.0 is.1 is.2 is.3 is.4 (text_at s.names s.files is.0) (text_at s.names s.files is.2) files refl refl told
 
 then_keeps : (old mid new : Session) → HaveSameNodes new.files mid.files → HaveSameNodes mid.files old.files → HaveSameNodes new.files old.files
@@ -95,7 +95,7 @@ keeps_none : (old new : Session) → new ≡ old → KeepsNodes old new
 keeps_none old new is = subst (KeepsNodes old) (sym is) (λ rest section. refl, λ same. same)
 
 keeps_done : (old new : Session) (command : Command) (files : List (List ℕ)) → IsDistinct bytes_eq old.names → AreSmall old.names old.files → IsRefile command
-    → outcome old command ≡ Accepts files → new ≡ done old files → KeepsNodes old new
+    → IsAccepted (outcome old command) files → new ≡ done old files → KeepsNodes old new
 keeps_done old new command files apart small is accepts goes = subst (KeepsNodes old) (sym goes) (go (fills old))
   where
     kept : HaveSameNodes files old.files

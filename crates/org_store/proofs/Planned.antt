@@ -18,6 +18,7 @@ use Rattle.org_store.specs.Session.{session_over}
 use Rattle.org_store.proofs.Held.{plan_held, plan_other}
 use Rattle.org_store.proofs.InOrder.{texts_same, texts_with}
 use Rattle.org_store.proofs.Keeping.{counts_small}
+use Rattle.org_store.proofs.Waiting.{names_in}
 
 -- one file with a text of a set
 abbrev with_one : TextSet → List ℕ → Image → Image
@@ -63,7 +64,8 @@ planned_texts plan held files names is ready =
 -- a plan that is put counts with its texts
 pub counted_texts : {D : Type 0} (texts : D → Image) (states : Keywords) (old mid : OpenFiles D) (tally : Tally) (plan : Plan) → mid.disk ≡ old.disk → mid.names ≡ old.names → mid.held.now ≡ planned plan old.held.now
     → IsPlanFor old.names old.held plan → has_large (new_texts plan old.held.now) ≡ false
-    → changed (session_over texts states old tally) (new_texts plan old.held.now) ≡ counted (session_over texts states old tally) (texts_of (held_over mid.held.now (texts mid.disk)) mid.names)
+    → changed (session_over texts states old tally) (new_texts plan old.held.now) ≡ counted (session_over texts states old tally) (files_of plan) (texts_of (held_over mid.held.now (texts mid.disk)) mid.names)
 counted_texts texts states old mid tally plan disk names now is small =
     counts_small (session_over texts states old tally) (new_texts plan old.held.now) small
-    ∙ ap (counted (session_over texts states old tally)) (sym (planned_texts plan old.held (texts old.disk) old.names is.is is.ready) ∙ rw (now, disk, names) refl)
+    ∙ ap (λ ns. counted (session_over texts states old tally) ns (with_all old.names (texts_of (held_over old.held.before (texts old.disk)) old.names) (new_texts plan old.held.now))) (names_in (planned plan old.held.now) (files_of plan))
+    ∙ ap (counted (session_over texts states old tally) (files_of plan)) (sym (planned_texts plan old.held (texts old.disk) old.names is.is is.ready) ∙ rw (now, disk, names) refl)

@@ -22,7 +22,7 @@ use Rattle.org_store.specs.declared.command.RunFault.{RunFault}
 use Rattle.org_store.specs.declared.command.RunFault.TheVariants as run
 use Rattle.org_store.specs.InOrder.{texts_of, with_all, with_text, with_texts}
 use Rattle.org_store.specs.Session.{Session, Holds}
-use Rattle.org_store.specs.Outcome.{Outcome, Accepts, Shows, Tells, AsksToSettle, Refuses, outcome}
+use Rattle.org_store.specs.Outcome.{IsAccepted, Outcome, Accepts, Shows, Tells, AsksToSettle, Refuses, outcome}
 use Rattle.org_store.specs.Step.{Step, fills, done, settled}
 use Rattle.org_store.specs.Left.{IsLeft, PutsOnDisk}
 use Rattle.org_store.specs.Reopening.{AreSameNames, IsOpenable, AreSmall}
@@ -166,13 +166,13 @@ small_with_all names texts [] each are = are
 small_with_all names texts (change ∷ changes) each are =
     small_with_all names (with_text names texts change.0 change.1) changes each.1 (small_with names texts change.0 change.1 each.0 are)
 
-pub accepted_small : (s : Session) (command : Command) (files : List (List ℕ)) → AreSmall s.names s.files → outcome s command ≡ Accepts files → AreSmall s.names files
-accepted_small s command files are accepts = let put = accepted_puts s command files accepts in subst (AreSmall s.names) put.2 (small_with_all s.names s.files put.0 put.1 are)
+pub accepted_small : (s : Session) (command : Command) (files : List (List ℕ)) → AreSmall s.names s.files → IsAccepted (outcome s command) files → AreSmall s.names files
+accepted_small s command files are accepts = let put = accepted_puts s command files accepts.1 in subst (AreSmall s.names) put.2 (small_with_all s.names s.files put.0 put.1 are)
 
 -- what a crash leaves while a command runs
-small_put : (s : Session) (outcome : Outcome) (accepted : ℕ) (texts : List (List ℕ)) → AreSmall s.names s.files → ((files : List (List ℕ)) → outcome ≡ Accepts files → AreSmall s.names files)
+small_put : (s : Session) (outcome : Outcome) (accepted : ℕ) (texts : List (List ℕ)) → AreSmall s.names s.files → ((files : List (List ℕ)) → IsAccepted outcome files → AreSmall s.names files)
     → PutsOnDisk s outcome accepted texts → AreSmall s.names texts
-small_put s (Accepts files) accepted texts are small puts = subst (AreSmall s.names) (sym puts.0) (small files refl)
+small_put s (Accepts names files) accepted texts are small puts = subst (AreSmall s.names) (sym puts.0) (small files (names, refl))
 small_put s AsksToSettle accepted texts are small puts = subst (AreSmall s.names) (sym puts) are
 small_put s (Shows text) accepted texts are small puts = absurd puts
 small_put s (Tells minutes) accepted texts are small puts = absurd puts

@@ -36,13 +36,13 @@ line l = l ++ 10 ∷ []
 absent_file : shown_in (store [] []) (codes "a.org") ≡ Shows []
 absent_file = refl
 
-into_an_empty_file : captured_in (store [] []) (codes "a.org") (codes "* TODO Call Ann") ≡ Accepts (line (codes "* TODO Call Ann") ∷ [] ∷ [])
+into_an_empty_file : captured_in (store [] []) (codes "a.org") (codes "* TODO Call Ann") ≡ Accepts (codes "a.org" ∷ []) (line (codes "* TODO Call Ann") ∷ [] ∷ [])
 into_an_empty_file = refl
 
-only_the_changed_file_is_terminated : captured_in (store (codes "* A") (codes "* Z")) (codes "a.org") (codes "* B") ≡ Accepts ((line (codes "* A") ++ line (codes "* B")) ∷ codes "* Z" ∷ [])
+only_the_changed_file_is_terminated : captured_in (store (codes "* A") (codes "* Z")) (codes "a.org") (codes "* B") ≡ Accepts (codes "a.org" ∷ []) ((line (codes "* A") ++ line (codes "* B")) ∷ codes "* Z" ∷ [])
 only_the_changed_file_is_terminated = refl
 
-below_level_one : captured_in (store [] []) (codes "a.org") (line (codes "** A") ++ codes "*** B") ≡ Accepts ((line (codes "* A") ++ line (codes "** B")) ∷ [] ∷ [])
+below_level_one : captured_in (store [] []) (codes "a.org") (line (codes "** A") ++ codes "*** B") ≡ Accepts (codes "a.org" ∷ []) ((line (codes "* A") ++ line (codes "** B")) ∷ [] ∷ [])
 below_level_one = refl
 
 unknown_file : shown_in (store [] []) (codes "q.org") ≡ Refuses NoSuchFile
@@ -70,12 +70,12 @@ abbrev deep : List ℕ
 deep = line (codes "* S") ++ line (codes "** B") ++ line (codes "**** C") ++ line (codes "* T") ++ line (codes "** U") ++ line (codes "*** V")
 
 within_a_file : refiled_in (store deep []) (codes "a.org") (codes "S" ∷ codes "B" ∷ []) (codes "a.org") (codes "T" ∷ codes "U" ∷ codes "V" ∷ []) Last
-    ≡ Accepts ((line (codes "* S") ++ line (codes "* T") ++ line (codes "** U") ++ line (codes "*** V") ++ line (codes "**** B") ++ line (codes "****** C")) ∷ [] ∷ [])
+    ≡ Accepts (codes "a.org" ∷ []) ((line (codes "* S") ++ line (codes "* T") ++ line (codes "** U") ++ line (codes "*** V") ++ line (codes "**** B") ++ line (codes "****** C")) ∷ [] ∷ [])
 within_a_file = refl
 
 -- both files are terminated
 across_files : refiled_in (store (line (codes "* A") ++ line (codes "** B") ++ codes "b") (line (codes "* T") ++ codes "** K")) (codes "a.org") (codes "A" ∷ codes "B" ∷ []) (codes "b.org") (codes "T" ∷ []) First
-    ≡ Accepts (line (codes "* A") ∷ (line (codes "* T") ++ line (codes "** B") ++ line (codes "b") ++ line (codes "** K")) ∷ [])
+    ≡ Accepts (codes "a.org" ∷ codes "b.org" ∷ []) (line (codes "* A") ∷ (line (codes "* T") ++ line (codes "** B") ++ line (codes "b") ++ line (codes "** K")) ∷ [])
 across_files = refl
 
 below_itself : refiled_in (store (line (codes "* A") ++ line (codes "** B")) []) (codes "a.org") (codes "A" ∷ []) (codes "a.org") (codes "A" ∷ codes "B" ∷ []) Last ≡ Refuses InsideItself

@@ -16,7 +16,7 @@ use Rattle.org_store.specs.declared.command.RunFault.{RunFault}
 use Rattle.org_store.specs.declared.command.RunFault.TheVariants.{Refused, OutOfMemory, Device, Broken}
 use Rattle.org_store.specs.InOrder.{text_at, with_all, with_text, with_texts}
 use Rattle.org_store.specs.Session.{Session, Kept, Holds}
-use Rattle.org_store.specs.Outcome.{Outcome, Accepts, Shows, Tells, AsksToSettle, Refuses, outcome}
+use Rattle.org_store.specs.Outcome.{IsAccepted, Outcome, Accepts, Shows, Tells, AsksToSettle, Refuses, outcome}
 use Rattle.org_store.specs.Step.{Does, Step, Settles, fills, done, settled}
 use Rattle.org_store.specs.Left.{IsLeft, PutsOnDisk}
 use Rattle.org_store.proofs.Accepted.{accepted_puts}
@@ -59,8 +59,8 @@ with_all_has names texts (change ∷ changes) other =
     with_all_has names (with_text names texts change.0 change.1) changes other ∙ with_text_has names texts change.0 change.1 other
 
 -- A command that is accepted keeps the names that have texts.
-accepts : (s : Session) (command : Command) (files : List (List ℕ)) → outcome s command ≡ Accepts files → HaveTexts s.names s.files files
-accepts s command files is = let put = accepted_puts s command files is in subst (HaveTexts s.names s.files) put.2 (with_all_has s.names s.files put.0)
+accepts : (s : Session) (command : Command) (files : List (List ℕ)) → IsAccepted (outcome s command) files → HaveTexts s.names s.files files
+accepts s command files is = let put = accepted_puts s command files is.1 in subst (HaveTexts s.names s.files) put.2 (with_all_has s.names s.files put.0)
 
 -- What a call that met no failure of the disk does to the session.
 pub record Onward (old new : Session) : Type 0 where
@@ -157,29 +157,33 @@ IsLeftOf old others IsReached image = Holds old others old.settled image ⊎ ((m
 pub leaves_as : {m n : ℕ} {s u : ℕ → Image → Type 0} {P Q : Image → Type 0} → LeavesOnly m n s u P → ((image : Image) → P image → Q image) → LeavesOnly m n s u Q
 leaves_as leaves weaker = record { each = λ image left. weaker image (leaves.each image left); passes = passes_as leaves.passes weaker }
 
+-- settling accepts no command
+pub no_settling : {P : Type 0} (texts : List (List ℕ)) → IsAccepted AsksToSettle texts → P
+no_settling texts accepts = let apart : AsksToSettle ≡ Accepts accepts.0 texts = accepts.1 in absurd (cc)
+
 -- What is left of one call: the files that were settled, or those of a session that was reached.
 
 left_of : {A : Type 0} (old : Session) (others : Image) (outcome : Outcome) (answer : Result A RunFault) (accepted : ℕ) (image : Image) (IsReached : Session → Type 0) → IsReached old
-    → ((files : List (List ℕ)) → outcome ≡ Accepts files → IsTrue (fills old) → accepted ≡ old.accepted + 1 → IsReached (done old files)) → IsLeft old others outcome answer accepted image
+    → ((files : List (List ℕ)) → IsAccepted outcome files → IsTrue (fills old) → accepted ≡ old.accepted + 1 → IsReached (done old files)) → IsLeft old others outcome answer accepted image
     → IsLeftOf old others IsReached image
 left_of old others outcome answer accepted image IsReached self full left = ⊎_elim (λ before. inl before) (λ put. inr (some outcome full put.1.0 put.1.1 put.1.2)) left
   where
-    some : (outcome : Outcome) → ((files : List (List ℕ)) → outcome ≡ Accepts files → IsTrue (fills old) → accepted ≡ old.accepted + 1 → IsReached (done old files))
+    some : (outcome : Outcome) → ((files : List (List ℕ)) → IsAccepted outcome files → IsTrue (fills old) → accepted ≡ old.accepted + 1 → IsReached (done old files))
         → (texts : List (List ℕ)) → PutsOnDisk old outcome accepted texts → Holds old others texts image → (mid : Session) × IsReached mid × Holds old others mid.files image
-    some (Accepts files) full texts puts now = (done old files, full files refl puts.1 puts.2, subst (λ t. Holds old others t image) (puts.0 ∙ sym (done_files old files)) now)
+    some (Accepts names files) full texts puts now = (done old files, full files (names, refl) puts.1 puts.2, subst (λ t. Holds old others t image) (puts.0 ∙ sym (done_files old files)) now)
     some AsksToSettle full texts puts now = (old, self, subst (λ t. Holds old others t image) puts now)
     some (Shows text) full texts puts now = absurd puts
     some (Tells minutes) full texts puts now = absurd puts
     some (Refuses why) full texts puts now = absurd puts
 
 -- a command that is counted, and met no failure of the disk, is done
-is_done : (old new : Session) (outcome : Outcome) (answer : Result Reply RunFault) (files : List (List ℕ)) → (IsErrOf answer Device → ⊥) → Does old outcome answer new → outcome ≡ Accepts files
+is_done : (old new : Session) (outcome : Outcome) (answer : Result Reply RunFault) (files : List (List ℕ)) → (IsErrOf answer Device → ⊥) → Does old outcome answer new → IsAccepted outcome files
     → new.accepted ≡ old.accepted + 1 → new ≡ done old files
-is_done old new outcome (Ok (Done n)) files fine does accepts counted = let same : does.1.0 ≡ files = one does.1.0 files (sym does.1.1 ∙ accepts) in does.1.3 ∙ ap (done old) same
+is_done old new outcome (Ok (Done n)) files fine does accepts counted = let same : does.1.0 ≡ files = one does.1.1.0 accepts.0 does.1.0 files (sym does.1.1.1 ∙ accepts.1) in does.1.3 ∙ ap (done old) same
   where
-    one : (files more : List (List ℕ)) → Accepts files ≡ Accepts more → files ≡ more
-    one files more same = cc
-is_done old new outcome (Ok (Safe n)) files fine does accepts counted = let apart : AsksToSettle ≡ Accepts files = sym does.1 ∙ accepts in absurd (cc)
+    one : (names others files more : List (List ℕ)) → Accepts names files ≡ Accepts others more → files ≡ more
+    one names others files more same = cc
+is_done old new outcome (Ok (Safe n)) files fine does accepts counted = let apart : AsksToSettle ≡ Accepts accepts.0 files = sym does.1 ∙ accepts.1 in absurd (cc)
 is_done old new outcome (Ok (Text bytes)) files fine does accepts counted = absurd (omega (arith, counted, ap (λ (s : Session). s.accepted) does.2))
 is_done old new outcome (Ok (Time minutes)) files fine does accepts counted = absurd (omega (arith, counted, ap (λ (s : Session). s.accepted) does.2))
 is_done old new outcome (Err (Refused why)) files fine does accepts counted = absurd (omega (arith, counted, ap (λ (s : Session). s.accepted) does.2))
@@ -321,7 +325,7 @@ module _ {D : Type 0} (files : D → List ℕ → FileState) (moment : D → ℕ
   -- one call, and a run after it
   module _ (old mid new : Kept D) (command : Command) (answer : Result Reply RunFault) (P Later : Session → Type 0) (ran : RunsOver files moment left_since old command answer mid) (course : Goes mid new Later)
       (self : P old.session) (later : (IsErrOf answer Device → ⊥) → (s : Session) → Later s → P s) (first : Later mid.session)
-      (torn : (texts : List (List ℕ)) → IsErrOf answer Device → outcome old.session command ≡ Accepts texts → IsTrue (fills old.session) → P (done old.session texts)) where
+      (torn : (texts : List (List ℕ)) → IsErrOf answer Device → IsAccepted (outcome old.session command) texts → IsTrue (fills old.session) → P (done old.session texts)) where
     rises : old.session.accepted ≤ new.session.accepted
     rises = omega (arith, counts_rise old.session mid.session command answer ran.step, course.rises)
 
@@ -338,7 +342,7 @@ module _ {D : Type 0} (files : D → List ℕ → FileState) (moment : D → ℕ
         let fallen = falls old.session mid.session command (subst (λ a. Step old.session command a mid.session) failed ran.step) in
         let same : new ≡ mid = course.stays fallen in
         let broken : new.session.broken ≡ true = ap (λ (k : Kept D). k.session.broken) same ∙ fallen in
-        let reached : (texts : List (List ℕ)) → outcome old.session command ≡ Accepts texts → IsTrue (fills old.session) → mid.session.accepted ≡ old.session.accepted + 1
+        let reached : (texts : List (List ℕ)) → IsAccepted (outcome old.session command) texts → IsTrue (fills old.session) → mid.session.accepted ≡ old.session.accepted + 1
         → Reached old.session new.session P (done old.session texts) =
         λ texts accepted full counted. (
           rw (done_files old.session texts) (accepts old.session command texts accepted),
@@ -421,7 +425,7 @@ module _ {D : Type 0} (files : D → List ℕ → FileState) (moment : D → ℕ
           passes = λ rest disk sound.
               passes_as (ran.disk.any_moment rest).passes
               (λ image left. left_of old.session (contents (files old.disk)) AsksToSettle answer new.session.accepted image (Reached old.session new.session P) (λ name. refl, self_between old.session new.session ends.0, self)
-              (λ texts (accepts : AsksToSettle ≡ Accepts texts). absurd (cc)) left);
+              (λ texts accepts. no_settling texts accepts) left);
           rest = λ sound rest. ran.disk.rest (ends.1 sound).0 rest;
           recoverable = ran.disk.recoverable;
           others = λ sound disk. ran.disk.others (ends.1 sound).0;

@@ -7,6 +7,8 @@ use Rattle.org_journal.specs.Recovered.{Image, IsRecoverable, contents}
 use Rattle.org_fileset.specs.declared.fault.SetFault.{SetFault}
 use Rattle.org_fileset.specs.declared.fault.SetFault.TheVariants as set
 use Rattle.org_fileset.specs.Replay.{IsAtRest}
+use Rattle.org_fileset.specs.Writes.{LeavesAlone, IsOther}
+use Rattle.org_fileset.proofs.Writes.{alone_fewer}
 use Rattle.org_texts.specs.Texts.{held_over}
 use Rattle.org_store.specs.declared.command.RunFault.{RunFault}
 use Rattle.org_store.specs.declared.command.RunFault.TheVariants.{Refused, OutOfMemory, Device, Broken}
@@ -16,7 +18,7 @@ use Rattle.org_store.specs.InOrder.{HoldsEither, texts_of}
 use Rattle.org_store.specs.Session.{Session, Kept, kept_over, session_over}
 use Rattle.org_store.specs.Outcome.{Outcome, AsksToSettle}
 use Rattle.org_store.specs.Step.{Does, Settles, failed_in_read}
-use Rattle.org_store.specs.Left.{IsLeft}
+use Rattle.org_store.specs.Left.{IsLeft, IsLeftAlone}
 use Rattle.org_store.specs.Keeping.{Reads, fault_of_set}
 use Rattle.org_store.specs.Runs.{LeavesDisk}
 use Rattle.org_store.proofs.Committing.{leaves_as}
@@ -50,22 +52,26 @@ module _ {D : Type 0} (files : D → List ℕ → FileState) (moment : D → ℕ
   abbrev now : Kept D
   now = kept_over files states new tally
 
-  settle_unwritten : (fault : RunFault) → new ≡ old → LeavesDisk files moment left_since before now (IsLeft {A = Unit {0}} before.session (contents (files old.disk)) AsksToSettle (Err fault) now.session.accepted) (IsErrOf {T = Unit {0}} (Err fault) Device)
+  settle_unwritten : (fault : RunFault) → new ≡ old → LeavesDisk files moment left_since before now (IsLeft {A = Unit {0}} before.session (contents (files old.disk)) AsksToSettle (Err fault) now.session.accepted)
+      (IsLeftAlone before.session before.waiting AsksToSettle) (IsErrOf {T = Unit {0}} (Err fault) Device)
   settle_unwritten fault same =
-      leaves_unwritten files moment left_since before (IsLeft {A = Unit {0}} before.session (contents (files old.disk)) AsksToSettle (Err fault) now.session.accepted) (IsErrOf {T = Unit {0}} (Err fault) Device) start refl (λ image holds. inl holds) now (ap (λ (held : OpenFiles D). held.disk) same) refl
+      leaves_unwritten files moment left_since before (IsLeft {A = Unit {0}} before.session (contents (files old.disk)) AsksToSettle (Err fault) now.session.accepted)
+      (IsLeftAlone before.session before.waiting AsksToSettle) (IsErrOf {T = Unit {0}} (Err fault) Device) start refl (λ image holds. inl holds) now (ap (λ (held : OpenFiles D). held.disk) same) refl
 
   pub settle_leaves : (result : Result (Unit {0}) SetFault) (fault : SetFault) → Fails old new result fault
       → (IsAtRest (files old.disk) → LeavesOnly (moment old.disk) (moment new.disk) (left_since old.disk) (left_since new.disk) (HoldsEither old.names (contents (files old.disk)) before.session.files))
-      → (IsAtRest (files old.disk) → IsRecoverable (files new.disk))
-      → LeavesDisk files moment left_since before now (IsLeft {A = Unit {0}} before.session (contents (files old.disk)) AsksToSettle (Err (fault_of_set fault)) now.session.accepted) (IsErrOf {T = Unit {0}} (Err (fault_of_set fault)) Device)
-  settle_leaves result set.OutOfMemory fails leaves fit = settle_unwritten OutOfMemory (fails.memory fails.is)
-  settle_leaves result set.Device fails leaves fit = record {
+      → (IsAtRest (files old.disk) → IsRecoverable (files new.disk)) → LeavesAlone files moment left_since (IsOther old.held.before.waiting) old.disk new.disk
+      → LeavesDisk files moment left_since before now (IsLeft {A = Unit {0}} before.session (contents (files old.disk)) AsksToSettle (Err (fault_of_set fault)) now.session.accepted)
+      (IsLeftAlone before.session before.waiting AsksToSettle) (IsErrOf {T = Unit {0}} (Err (fault_of_set fault)) Device)
+  settle_leaves result set.OutOfMemory fails leaves fit alone = settle_unwritten OutOfMemory (fails.memory fails.is)
+  settle_leaves result set.Device fails leaves fit alone = record {
     any_moment = λ rest. leaves_as (leaves rest) (λ image either. ⊎_elim (λ held. inl held) (λ all. inr (refl, (before.session.files, refl, all))) either);
     others = λ fine. absurd (fine refl);
     rest = λ fine. absurd (fine refl);
     recoverable = fit;
+    alone = alone_fewer files moment left_since (IsLeftAlone before.session before.waiting AsksToSettle) (IsOther old.held.before.waiting) old.disk new.disk alone (λ name this. this);
   }
-  settle_leaves result set.Broken fails leaves fit = absurd (fails.works fails.is)
+  settle_leaves result set.Broken fails leaves fit alone = absurd (fails.works fails.is)
 
 -- a call that changes no text
 still_texts : {D : Type 0} (texts : D → Image) (old new : OpenFiles D) → new.names ≡ old.names → texts new.disk ≡ texts old.disk

@@ -11,6 +11,7 @@ use Rattle.org_disk.specs.Accounts.{LeavesOver}
 use Rattle.org_journal.specs.Recovered.{Image, IsRecoverable, SameFiles, contents}
 use Rattle.org_fileset.specs.Names.{limit}
 use Rattle.org_fileset.specs.Replay.{IsAtRest}
+use Rattle.org_fileset.specs.Writes.{LeavesAlone, IsOther}
 use Rattle.org_texts.specs.declared.plan.FileEdits.{FileEdits}
 use Rattle.org_texts.specs.declared.plan.Plan.{Plan}
 use Rattle.org_texts.specs.Files.{StandOver, waits}
@@ -111,9 +112,10 @@ PutsPlan plan old (Err (Refused TooLarge)) new = (has_large (new_texts plan old.
 PutsPlan plan old (Err OutOfMemory) new = new.now ≡ old.before
 PutsPlan plan old (Err fault) new = ⊥
 
--- What a commit does that is to give files of these names these texts, where the disk is honest after it.
+-- What a commit does that is to give files of these names these texts, of which those that wait are written, where the
+-- disk is honest after it.
 pub record CommitsTexts {D A E : Type 0} (files : D → List ℕ → FileState) (moment : D → ℕ) (left_since : D → ℕ → Image → Type 0)
-    (names after : List (List ℕ)) (old new : D) (result : Result A E) : Type 0 where
+    (names waiting after : List (List ℕ)) (old new : D) (result : Result A E) : Type 0 where
   pub texts : OnOk result (texts_of (contents (files new)) names ≡ after)
   pub others : OnOk result (SameFiles (contents (files new)) (with_texts names after (contents (files old))))
   pub rest : OnOk result (IsAtRest (files old) → IsAtRest (files new))
@@ -121,3 +123,4 @@ pub record CommitsTexts {D A E : Type 0} (files : D → List ℕ → FileState) 
   pub any_moment : IsAtRest (files old) → LeavesOver moment left_since old new (HoldsEither names (contents (files old)) after)
   -- after a failure too, it may be opened again
   pub recoverable : IsAtRest (files old) → IsRecoverable (files new)
+  pub alone : LeavesAlone files moment left_since (IsOther waiting) old new

@@ -2,7 +2,7 @@
 -- command.
 use Rattle.std.specs.Prelude.{◌≡◌, ◌⊎◌, ℕ, ◌+◌, ◌≤◌, List, [], ◌∷◌, ◌++◌, length, slice_get, Some, IsFalse, IsSomeAnd}
 use Rattle.org_journal.specs.Recovered.{Image}
-use Rattle.org_store.specs.Outcome.{Outcome, Accepts}
+use Rattle.org_store.specs.Outcome.{Outcome, IsAccepted}
 use Rattle.org_store.specs.Session.{Session, Kept, Holds}
 
 -- A store, and at place k of the list the texts of all its files after the first k accepted commands.
@@ -22,7 +22,7 @@ pub record Lists (s : Session) (texts : List (List (List ℕ))) : Type 0 where
 abbrev pub Adds : Outcome → ℕ → ℕ → List (List (List ℕ)) → List (List (List ℕ)) → Type 0
 Adds outcome before now old new =
     ((now ≡ before) × (new ≡ old))
-    ⊎ ((now ≡ before + 1) × ((texts : List (List ℕ)) × (outcome ≡ Accepts texts) × (new ≡ old ++ texts ∷ [])))
+    ⊎ ((now ≡ before + 1) × ((texts : List (List ℕ)) × IsAccepted outcome texts × (new ≡ old ++ texts ∷ [])))
 
 -- The image recovers to the files after one prefix of the accepted commands, which has at least so many of them.
 -- `first` is the session as it began, and `others` are the files that aren't the store's.

@@ -1,6 +1,7 @@
 -- What a crash may leave while a call of a store runs: the files after the commands that were acknowledged when it
 -- began, or those that the call puts on the disk.
-use Rattle.std.specs.Prelude.{◌≡◌, ◌⊎◌, ℕ, ◌+◌, List, Result, Ok, Err, IsTrue}
+use Rattle.std.specs.Prelude.{◌≡◌, ◌⊎◌, ℕ, ◌+◌, List, ◌++◌, Result, Ok, Err, IsTrue, IsFalse}
+use Rattle.org_fileset.specs.Writes.{IsOther}
 use Rattle.org_journal.specs.Recovered.{Image}
 use Rattle.org_store.specs.declared.command.RunFault.{RunFault}
 use Rattle.org_store.specs.declared.command.RunFault.TheVariants.{Device}
@@ -11,7 +12,7 @@ use Rattle.org_store.specs.Step.{fills}
 -- A call with this outcome puts these texts on the disk, where so many commands are accepted when it ends: it settles all,
 -- as it was asked to, or as the command fills the group; a command that isn't counted then is not on the disk.
 abbrev pub PutsOnDisk : Session → Outcome → ℕ → List (List ℕ) → Type 0
-PutsOnDisk old (Accepts files) accepted texts = (texts ≡ files) × IsTrue (fills old) × (accepted ≡ old.accepted + 1)
+PutsOnDisk old (Accepts names files) accepted texts = (texts ≡ files) × IsTrue (fills old) × (accepted ≡ old.accepted + 1)
 PutsOnDisk old AsksToSettle accepted texts = texts ≡ old.files
 PutsOnDisk old (Shows text) accepted texts = ⊥
 PutsOnDisk old (Tells minutes) accepted texts = ⊥
@@ -28,3 +29,13 @@ abbrev pub IsLeft : {A : Type 0} → Session → Image → Outcome → Result A 
 IsLeft old others outcome answer accepted image =
     Holds old others old.settled image
     ⊎ (MayHaveWritten answer × ((texts : List (List ℕ)) × PutsOnDisk old outcome accepted texts × Holds old others texts image))
+
+-- A call with this outcome leaves the file of this name alone, where these files wait. It writes only where it settles:
+-- then the journal, the files that wait, and those that the command gives new texts; where there are none of these,
+-- nothing.
+abbrev pub IsLeftAlone : Session → List (List ℕ) → Outcome → List ℕ → Type 0
+IsLeftAlone old waiting (Accepts names files) name = IsFalse (fills old) ⊎ IsOther (waiting ++ names) name
+IsLeftAlone old waiting AsksToSettle name = IsOther waiting name
+IsLeftAlone old waiting (Shows text) name = Unit {0}
+IsLeftAlone old waiting (Tells minutes) name = Unit {0}
+IsLeftAlone old waiting (Refuses why) name = Unit {0}

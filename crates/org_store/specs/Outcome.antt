@@ -1,7 +1,7 @@
 -- What a command is to do, on plain texts.
 use Rattle.std.specs.Option.{unwrap_or}
 use Rattle.std.specs.Str.{bytes_eq}
-use Rattle.std.specs.Prelude.{ℕ, ◌-◌, ◌^◌, ◌==◌, List, [], ◌∷◌, Option, Some, None, Result, Ok, Err, if◌then◌else◌}
+use Rattle.std.specs.Prelude.{◌≡◌, ℕ, ◌-◌, ◌^◌, ◌==◌, List, [], ◌∷◌, map, Option, Some, None, Result, Ok, Err, if◌then◌else◌}
 use Rattle.org_outline.specs.declared.moves.Place.{Place}
 use Rattle.org_outline.specs.declared.paths.PathFault.{PathFault}
 use Rattle.org_outline.specs.Paths.{find_path}
@@ -43,16 +43,30 @@ pub data Outcome : Type 0 where
   Tells : ℕ → Outcome
   -- to settle what was accepted
   AsksToSettle : Outcome
-  -- to be accepted, with these texts of all files after it
-  Accepts : List (List ℕ) → Outcome
+  -- to be accepted: it gives the files of these names new texts, and these are the texts of all files after it
+  Accepts : List (List ℕ) → List (List ℕ) → Outcome
 
--- one more command with these texts after it, unless the accepted commands are as many as can be counted
-abbrev pub counted : Session → List (List ℕ) → Outcome
-counted s files = if s.accepted == 2 ^ 64 - 1 then Refuses TooLarge else Accepts files
+-- it is to be accepted, with these texts of all files after it
+abbrev pub IsAccepted : Outcome → List (List ℕ) → Type 0
+IsAccepted outcome files = (names : List (List ℕ)) × (outcome ≡ Accepts names files)
+
+-- the files that it gives new texts
+abbrev pub written : Outcome → List (List ℕ)
+written (Accepts names files) = names
+written (Refuses why) = []
+written (Shows text) = []
+written (Tells minutes) = []
+written AsksToSettle = []
+
+-- one more command, which gives the files of these names new texts, with these texts of all files after it, unless the
+-- accepted commands are as many as can be counted
+abbrev pub counted : Session → List (List ℕ) → List (List ℕ) → Outcome
+counted s names files = if s.accepted == 2 ^ 64 - 1 then Refuses TooLarge else Accepts names files
 
 -- new texts for files, unless one is past the limit
 abbrev pub changed : Session → List (List ℕ × List ℕ) → Outcome
-changed s changes = if has_large changes then Refuses TooLarge else counted s (with_all s.names s.files changes)
+changed s changes =
+    if has_large changes then Refuses TooLarge else counted s (map (λ change. change.0) changes) (with_all s.names s.files changes)
 
 -- why a capture is refused; no definition answers want of memory
 abbrev pub refusal_of : CaptureFault → Refusal

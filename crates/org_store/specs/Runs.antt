@@ -4,6 +4,7 @@ use Rattle.std.specs.Prelude.{◌≡◌, ℕ, List, [], Result, IsErrOf}
 use Rattle.org_disk.specs.Disk.{FileState, LeavesOnly}
 use Rattle.org_journal.specs.Recovered.{Image, SameFiles, IsRecoverable, contents}
 use Rattle.org_fileset.specs.Replay.{IsAtRest}
+use Rattle.org_fileset.specs.Writes.{LeavesAlone}
 use Rattle.org_store.specs.declared.command.Command.{Command}
 use Rattle.org_store.specs.declared.command.Command.TheVariants.{Settle}
 use Rattle.org_store.specs.declared.command.Reply.{Reply}
@@ -13,13 +14,13 @@ use Rattle.org_store.specs.InOrder.{with_texts}
 use Rattle.org_store.specs.Session.{Session, Kept}
 use Rattle.org_store.specs.Outcome.{AsksToSettle, outcome}
 use Rattle.org_store.specs.Step.{Step, Settles}
-use Rattle.org_store.specs.Left.{IsLeft}
+use Rattle.org_store.specs.Left.{IsLeft, IsLeftAlone}
 use Rattle.org_store.specs.Waiting.{Waits, WaitsSettled}
 
 -- What a call of a store leaves of its disk, where the disk is honest after it. `files`, `moment` and `left_since` are
--- what is seen of a disk of the type D; `Left` is what a crash may leave while the call runs, and `Failed` says that
--- the call answers Device.
-pub record LeavesDisk {D : Type 0} (files : D → List ℕ → FileState) (moment : D → ℕ) (left_since : D → ℕ → Image → Type 0) (old new : Kept D) (Left : Image → Type 0) (Failed : Type 0) : Type 0 where
+-- what is seen of a disk of the type D; `Left` is what a crash may leave while the call runs, `Alone` are the files that
+-- it leaves alone, and `Failed` says that the call answers Device.
+pub record LeavesDisk {D : Type 0} (files : D → List ℕ → FileState) (moment : D → ℕ) (left_since : D → ℕ → Image → Type 0) (old new : Kept D) (Left : Image → Type 0) (Alone : List ℕ → Type 0) (Failed : Type 0) : Type 0 where
   -- where all was on the disk: what a crash at any moment since the call began leaves
   pub any_moment : IsAtRest (files old.disk) → LeavesOnly (moment old.disk) (moment new.disk) (left_since old.disk) (left_since new.disk) Left
   -- where the disk didn't fail: the store's files have the texts that are settled, and all others are as they were
@@ -28,12 +29,14 @@ pub record LeavesDisk {D : Type 0} (files : D → List ℕ → FileState) (momen
   pub rest : (Failed → ⊥) → IsAtRest (files old.disk) → IsAtRest (files new.disk)
   -- after a failure too, it may be opened again
   pub recoverable : IsAtRest (files old.disk) → IsRecoverable (files new.disk)
+  pub alone : LeavesAlone files moment left_since Alone old.disk new.disk
 
 -- A command was run over a disk of the type D that is honest after it: the store was `old`, this was answered, and the
 -- store is `new`. These are the clauses of `Store::run`.
 pub record RunsOver {D : Type 0} (files : D → List ℕ → FileState) (moment : D → ℕ) (left_since : D → ℕ → Image → Type 0) (old : Kept D) (command : Command) (answer : Result Reply RunFault) (new : Kept D) : Type 0 where
   pub step : Step old.session command answer new.session
-  pub disk : LeavesDisk files moment left_since old new (IsLeft old.session (contents (files old.disk)) (outcome old.session command) answer new.session.accepted) (IsErrOf answer Device)
+  pub disk : LeavesDisk files moment left_since old new (IsLeft old.session (contents (files old.disk)) (outcome old.session command) answer new.session.accepted)
+      (IsLeftAlone old.session old.waiting (outcome old.session command)) (IsErrOf answer Device)
   pub untouched : IsErrOf answer Broken → new ≡ old
   pub nothing : command ≡ Settle → old.session.acknowledged ≡ old.session.accepted → new ≡ old
   pub waits : Waits old (outcome old.session command) answer new
@@ -42,7 +45,8 @@ pub record RunsOver {D : Type 0} (files : D → List ℕ → FileState) (moment 
 -- The same of settling: the clauses of `Store::settle`.
 pub record SettlesOver {D : Type 0} (files : D → List ℕ → FileState) (moment : D → ℕ) (left_since : D → ℕ → Image → Type 0) (old : Kept D) (answer : Result (Unit {0}) RunFault) (new : Kept D) : Type 0 where
   pub step : Settles old.session answer new.session
-  pub disk : LeavesDisk files moment left_since old new (IsLeft old.session (contents (files old.disk)) AsksToSettle answer new.session.accepted) (IsErrOf answer Device)
+  pub disk : LeavesDisk files moment left_since old new (IsLeft old.session (contents (files old.disk)) AsksToSettle answer new.session.accepted)
+      (IsLeftAlone old.session old.waiting AsksToSettle) (IsErrOf answer Device)
   pub untouched : IsErrOf answer Broken → new ≡ old
   pub nothing : old.session.acknowledged ≡ old.session.accepted → new ≡ old
   pub waits : WaitsSettled old.waiting answer new.waiting

@@ -6,7 +6,7 @@ use Rattle.org_store.specs.declared.command.Reply.TheVariants.{Done, Safe, Text,
 use Rattle.org_store.specs.declared.command.RunFault.{RunFault}
 use Rattle.org_store.specs.declared.command.RunFault.TheVariants.{Refused, OutOfMemory, Device, Broken}
 use Rattle.org_store.specs.Session.{Session}
-use Rattle.org_store.specs.Outcome.{Outcome, Accepts, Shows, Tells, AsksToSettle, Refuses, outcome}
+use Rattle.org_store.specs.Outcome.{Outcome, IsAccepted, Shows, Tells, AsksToSettle, Refuses, outcome}
 
 -- with one more accepted command, the group is full
 abbrev pub fills : Session → Bool
@@ -46,12 +46,12 @@ IsTornBetween old outcome new = (left : List (List ℕ)) × (now : List (List �
 -- the disk failed as a command was settled that would be accepted and fills the group
 abbrev pub IsTorn : Session → Outcome → Session → Type 0
 IsTorn old outcome new = (files : List (List ℕ)) × (left : List (List ℕ)) × (now : List (List ℕ))
-    × (outcome ≡ Accepts files) × IsTrue (fills old) × (new ≡ torn_in old left now)
+    × IsAccepted outcome files × IsTrue (fills old) × (new ≡ torn_in old left now)
 
 -- The store was `old`, a command is to do this, its answer is this one, and the store is `new`.
 abbrev pub Does : Session → Outcome → Result Reply RunFault → Session → Type 0
 Does old outcome (Ok (Done n)) new =
-    (old.broken ≡ false) × ((files : List (List ℕ)) × (outcome ≡ Accepts files) × (n ≡ old.accepted + 1) × (new ≡ done old files))
+    (old.broken ≡ false) × ((files : List (List ℕ)) × IsAccepted outcome files × (n ≡ old.accepted + 1) × (new ≡ done old files))
 Does old outcome (Ok (Text bytes)) new = (old.broken ≡ false) × (outcome ≡ Shows bytes) × (new ≡ old)
 Does old outcome (Ok (Time minutes)) new = (old.broken ≡ false) × (outcome ≡ Tells minutes) × (new ≡ old)
 Does old outcome (Ok (Safe n)) new = (old.broken ≡ false) × (outcome ≡ AsksToSettle) × (n ≡ old.accepted) × (new ≡ settled old)

@@ -1,13 +1,12 @@
 -- Which files of a store wait for a commit: those that accepted commands have changed since all was settled.
-use Rattle.std.specs.Prelude.{◌≡◌, ◌⊎◌, ℕ, Bool, true, List, [], map, Result, Ok, Err, IsTrue, if◌then◌else◌}
+use Rattle.std.specs.Prelude.{◌≡◌, ℕ, Bool, true, List, [], ◌++◌, Result, Ok, Err, IsTrue, if◌then◌else◌}
 use Rattle.std.specs.List.{list_any}
 use Rattle.std.specs.Str.{bytes_eq}
 use Rattle.org_texts.specs.Texts.{Holding}
 use Rattle.org_store.specs.declared.command.Reply.{Reply}
 use Rattle.org_store.specs.declared.command.Reply.TheVariants.{Done, Safe, Text, Time}
 use Rattle.org_store.specs.declared.command.RunFault.{RunFault}
-use Rattle.org_store.specs.InOrder.{is_name}
-use Rattle.org_store.specs.Outcome.{Outcome, changed}
+use Rattle.org_store.specs.Outcome.{Outcome, written}
 use Rattle.org_store.specs.Session.{Kept}
 use Rattle.org_store.specs.Step.{fills}
 
@@ -15,16 +14,14 @@ use Rattle.org_store.specs.Step.{fills}
 abbrev pub is_waiting : List (List ℕ) → List ℕ → Bool
 is_waiting waiting name = list_any (bytes_eq name) waiting
 
--- a file waits now only where it waited before, or is one of these that got a new text
-abbrev pub Joins : List (List ℕ) → List (List ℕ × List ℕ) → List (List ℕ) → Type 0
-Joins old changes new =
-    (name : List ℕ) → is_waiting new name ≡ true → (is_waiting old name ≡ true) ⊎ (is_name (map (λ change. change.0) changes) name ≡ true)
+-- a file waits now only where it waited before, or is one of these
+abbrev pub Joins : List (List ℕ) → List (List ℕ) → List (List ℕ) → Type 0
+Joins old names new = (name : List ℕ) → is_waiting new name ≡ true → is_waiting (old ++ names) name ≡ true
 
 -- Which files wait behind a call of a store that is to do this and got this answer: none where all was settled; behind a
--- command that was accepted those of before, and at most those that it changes; else those of before.
+-- command that was accepted those of before, and at most those that it gives new texts; else those of before.
 abbrev pub Waits : {D : Type 0} → Kept D → Outcome → Result Reply RunFault → Kept D → Type 0
-Waits old outcome (Ok (Done n)) new = (IsTrue (fills old.session) → new.waiting ≡ [])
-    × ((changes : List (List ℕ × List ℕ)) × (outcome ≡ changed old.session changes) × Joins old.waiting changes new.waiting)
+Waits old outcome (Ok (Done n)) new = (IsTrue (fills old.session) → new.waiting ≡ []) × Joins old.waiting (written outcome) new.waiting
 Waits old outcome (Ok (Safe n)) new = new.waiting ≡ []
 Waits old outcome (Ok (Text bytes)) new = new.waiting ≡ old.waiting
 Waits old outcome (Ok (Time minutes)) new = new.waiting ≡ old.waiting
@@ -46,6 +43,6 @@ WaitsCounted full old (Ok _) new = new.before.waiting ≡ (if full then [] else 
 WaitsCounted full old (Err fault) new = new.before.waiting ≡ old.before.waiting
 
 -- The same of a command that was planned to give these files new texts.
-abbrev pub WaitsAccepted : {A : Type 0} → Bool → List (List ℕ × List ℕ) → Holding → Result A RunFault → Holding → Type 0
-WaitsAccepted full changes old (Ok _) new = (IsTrue full → new.before.waiting ≡ []) × Joins old.before.waiting changes new.before.waiting
-WaitsAccepted full changes old (Err fault) new = new.before.waiting ≡ old.before.waiting
+abbrev pub WaitsAccepted : {A : Type 0} → Bool → List (List ℕ) → Holding → Result A RunFault → Holding → Type 0
+WaitsAccepted full names old (Ok _) new = (IsTrue full → new.before.waiting ≡ []) × Joins old.before.waiting names new.before.waiting
+WaitsAccepted full names old (Err fault) new = new.before.waiting ≡ old.before.waiting

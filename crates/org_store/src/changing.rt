@@ -1,21 +1,21 @@
 //! How a change is made: planned on held texts, and accepted.
-ghost use Rattle.std.specs.Prelude.{◌≡◌, ◌≤◌, ◌<◌, ◌+◌, ◌^◌, ◌↔◌, [], IfOk, IsErrOf, IsTrue, false};
+ghost use Rattle.std.specs.Prelude.{◌≡◌, ◌≤◌, ◌<◌, ◌+◌, ◌^◌, ◌↔◌, ℕ, List, [], IfOk, IsErrOf, IsTrue, false};
 ghost use Rattle.std.specs.Option.{ForSome};
 ghost use Rattle.org_disk.specs.Accounts.{Accounts};
 ghost use Rattle.org_journal.specs.Recovered.{contents};
 ghost use Rattle.org_outline.specs.States.{Keywords};
 ghost use Rattle.org_texts.specs.Texts.{held_over};
 ghost use Rattle.org_store.specs.declared.tally.Tally.{Tally as Counted};
-ghost use Rattle.org_store.specs.Files.{AreBetweenCommands, AreSmallToWrite, IsPlanFor, new_texts};
+ghost use Rattle.org_store.specs.Files.{AreBetweenCommands, AreSmallToWrite, IsPlanFor, files_of, new_texts};
 ghost use Rattle.org_store.specs.InOrder.{texts_of};
 ghost use Rattle.org_store.specs.Keeping.{Acts, Keeps, KeepsCounts, PlansOrStays};
-ghost use Rattle.org_store.specs.Left.{IsLeft};
+ghost use Rattle.org_store.specs.Left.{IsLeft, IsLeftAlone};
 ghost use Rattle.org_store.specs.Outcome.{Accepts, IsChange, changed, counted, outcome};
 ghost use Rattle.org_store.specs.Reading.{OnlyReads};
 ghost use Rattle.org_store.specs.Runs.{LeavesDisk};
 ghost use Rattle.org_store.specs.Session.{kept_over};
 ghost use Rattle.org_store.specs.Step.{fills};
-ghost use Rattle.org_store.specs.Waiting.{Waits, WaitsAccepted, WaitsCounted};
+ghost use Rattle.org_store.specs.Waiting.{Joins, Waits, WaitsAccepted, WaitsCounted};
 
 use crate::command::{Command, Refusal, Reply, RunFault};
 use crate::commands::archive::plan_archive;
@@ -46,8 +46,13 @@ fn keep_or_settle<D: Disk>(files: &mut Files<D>, tally: &mut Tally) -> Result<()
         (kept_over D.files states files.new tally.new)
         (IsLeft (kept_over D.files states files.old tally.old).session
         (contents (D.files files.old.disk))
-        (Accepts (texts_of (held_over files.old.held.now (contents (D.files files.old.disk)))
-        files.old.names)) result tally.new.accepted) (IsErrOf result RunFault.Device) }
+        (Accepts files.old.held.now.waiting
+        (texts_of (held_over files.old.held.now (contents (D.files files.old.disk)))
+        files.old.names)) result tally.new.accepted)
+        (IsLeftAlone (kept_over D.files states files.old tally.old).session []
+        (Accepts files.old.held.now.waiting
+        (texts_of (held_over files.old.held.now (contents (D.files files.old.disk)))
+        files.old.names))) (IsErrOf result RunFault.Device) }
     ensures counts { (states : Keywords)
         → KeepsCounts (kept_over D.files states files.old tally.old).session result
         (kept_over D.files states files.new tally.new).session }
@@ -90,9 +95,10 @@ fn count<D: Disk>(files: &mut Files<D>, tally: &mut Tally) -> Result<Reply, RunF
     requires unbroken { files.old.broken ≡ false }
     requires small { AreSmallToWrite files.old.held.now }
     requires counted { tally.old.acknowledged ≤ tally.old.accepted }
-    ensures acts { (states : Keywords)
+    ensures acts { (states : Keywords) (names : List (List ℕ))
+        → Joins files.old.held.before.waiting names files.old.held.now.waiting
         → Acts D.files D.moment D.left_since D.honest (kept_over D.files states files.old tally.old)
-        (counted (kept_over D.files states files.old tally.old).session
+        (counted (kept_over D.files states files.old tally.old).session names
         (texts_of (held_over files.old.held.now (contents (D.files files.old.disk)))
         files.old.names)) result (kept_over D.files states files.new tally.new) }
     ensures waits { (states : Keywords)
@@ -124,7 +130,7 @@ fn accept<D: Disk>(files: &mut Files<D>, tally: &mut Tally, plan: &Plan) -> Resu
         (kept_over D.files states files.new tally.new) }
     ensures waits { (states : Keywords)
         → WaitsAccepted (fills (kept_over D.files states files.old tally.old).session)
-        (new_texts plan.now files.old.held.now) files.old.held result files.new.held }
+        (files_of plan.now) files.old.held result files.new.held }
     ensures begun { files.new.held.now ≡ files.new.held.before }
     ensures counted { tally.new.acknowledged ≤ tally.new.accepted }
     ensures accounts { Accounts D.steady D.honest D.failures files.old.disk files.new.disk

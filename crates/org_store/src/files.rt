@@ -273,7 +273,7 @@ impl<D: Disk> Files<D> {
         requires small { (self.old.held.now ≡ self.old.held.before)
             ⊎ AreSmallToWrite self.old.held.now }
         ensures commits { D.honest self.new.disk → CommitsTexts D.files D.moment D.left_since
-            self.old.names (texts_of (held_over self.old.held.now
+            self.old.names self.old.held.now.waiting (texts_of (held_over self.old.held.now
             (contents (D.files self.old.disk))) self.old.names) self.old.disk self.new.disk result }
         ensures texts { OnOk result (D.honest self.new.disk
             → texts_of (held_over self.new.held.before (contents (D.files self.new.disk)))

@@ -26,7 +26,7 @@ ghost use Rattle.org_store.specs.Calls.Call.{Ran};
 ghost use Rattle.org_store.specs.History.{Past, Lists, HoldsPrefix};
 ghost use Rattle.org_store.specs.Left.{IsLeft};
 ghost use Rattle.org_store.specs.OnePlace.{ArchivesOne, HaveNodesButFew, HaveSameNodes, HasNodesOf, HasNodesOfPrefix, IsSessionOf, MayMove, MayRefile, OnlyRefiles};
-ghost use Rattle.org_store.specs.Outcome.{Accepts, outcome};
+ghost use Rattle.org_store.specs.Outcome.{IsAccepted, outcome};
 ghost use Rattle.org_store.specs.Reopening.{AreSameNames, AreSmall, IsOpenable};
 ghost use Rattle.org_store.specs.Opening.{opened};
 ghost use Rattle.org_store.specs.Runs.{RunsOver, SettlesOver, IsOnDisk};
@@ -199,7 +199,7 @@ pub fn texts_stay_small()
     ensures opened { (files : Image) (names : List (List ℕ)) → first_large files names ≡ None
         → AreSmall names (texts_of files names) }
     ensures accepted { (s : Session) (command : Command) (files : List (List ℕ))
-        → AreSmall s.names s.files → outcome s command ≡ Accepts files → AreSmall s.names files }
+        → AreSmall s.names s.files → IsAccepted (outcome s command) files → AreSmall s.names files }
 {}
 
 /// A refile that is accepted keeps how often each node is there over all files, by its heading line without the stars and
@@ -207,7 +207,7 @@ pub fn texts_stay_small()
 pub fn refiles_keep_counts()
     ensures { (s : Session) (file to_file : List ℕ) (path to : List (List ℕ)) (place : Place)
         (files : List (List ℕ)) → IsDistinct bytes_eq s.names → length s.files ≡ length s.names
-        → outcome s (Refile file path to_file to place) ≡ Accepts files
+        → IsAccepted (outcome s (Refile file path to_file to place)) files
         → (rest : List ℕ) (section : List (List ℕ))
         → count_over rest section files ≡ count_over rest section s.files }
 {}
@@ -218,7 +218,7 @@ pub fn refiles_keep_counts()
 pub fn archives_keep_counts()
     ensures { (s : Session) (file : List ℕ) (path : List (List ℕ)) (now : CivilMinute)
         (files : List (List ℕ)) → IsDistinct bytes_eq s.names → length s.files ≡ length s.names
-        → IsDiskName file → outcome s (Archive file path now) ≡ Accepts files
+        → IsDiskName file → IsAccepted (outcome s (Archive file path now)) files
         → ArchivesOne s file path now files }
 {}
 

@@ -14,7 +14,7 @@ ghost use Rattle.org_store.specs.Opening.{opened};
 ghost use Rattle.org_store.specs.Reopening.{IsOpenable};
 ghost use Rattle.org_store.specs.Runs.{LeavesDisk};
 ghost use Rattle.org_store.specs.Step.{Step, Settles};
-ghost use Rattle.org_store.specs.Left.{IsLeft};
+ghost use Rattle.org_store.specs.Left.{IsLeft, IsLeftAlone};
 ghost use Rattle.org_store.specs.Outcome.{AsksToSettle, outcome};
 ghost use Rattle.org_store.specs.Counts.{Counts, SettledCounts};
 ghost use Rattle.org_store.specs.Waiting.{Waits, WaitsSettled};
@@ -161,14 +161,16 @@ impl<D: Disk> Store<D> {
     /// At every moment since the call began, what a crash leaves recovers to the files after the commands that were
     /// acknowledged then, or for those after all that are accepted. `OutOfMemory` leaves files and counts as they were.
     /// `Device` comes only where the disk counted a failure in this call, and breaks the store; `Broken` comes exactly
-    /// where it was broken before. Where no accepted command waits to be acknowledged, it does nothing; where no file
-    /// waits for a commit, it makes no call of the disk.
+    /// where it was broken before. No file is written but those that wait for a commit, and the journal. Where no
+    /// accepted command waits to be acknowledged, it does nothing; where no file waits, it makes no call of the disk.
     pub fn settle(&mut self) -> Result<(), RunFault>
         ensures step { D.honest self.new.disk → Settles self.old.session result self.new.session }
         ensures disk { D.honest self.new.disk
             → LeavesDisk D.files D.moment D.left_since self.old self.new
             (IsLeft self.old.session (contents (D.files self.old.disk)) AsksToSettle result
-            self.new.session.accepted) (IsErrOf result RunFault.Device) }
+            self.new.session.accepted)
+            (IsLeftAlone self.old.session self.old.waiting AsksToSettle)
+            (IsErrOf result RunFault.Device) }
         ensures counts { SettledCounts self.old.session result self.new.session }
         ensures broken { IsErrOf result RunFault.Broken ↔ IsTrue self.old.session.broken }
         ensures untouched { IsErrOf result RunFault.Broken → self.new ≡ self.old }
@@ -196,7 +198,9 @@ impl<D: Disk> Store<D> {
     /// Runs one command.
     ///
     /// At every moment since the call began, what a crash leaves recovers to the files after the commands that were
-    /// acknowledged then, or, where this command settles, for those after all that are accepted when it ends.
+    /// acknowledged then, or, where this command settles, for those after all that are accepted when it ends. It writes
+    /// only where it settles, and no file then but those that wait for a commit, those that it gives new texts, and the
+    /// journal; where there are none of these, it writes nothing (`IsLeftAlone`, specs/Left.antt).
     ///
     /// `Refused` and `OutOfMemory` leave files and counts as they were; where a settling finds no memory, this command
     /// is undone, and those before it stay pending. `Device` comes only where the disk counted a failure in this call,
@@ -209,7 +213,8 @@ impl<D: Disk> Store<D> {
             → LeavesDisk D.files D.moment D.left_since self.old self.new
             (IsLeft self.old.session (contents (D.files self.old.disk))
             (outcome self.old.session command.now) result self.new.session.accepted)
-            (IsErrOf result RunFault.Device) }
+            (IsLeftAlone self.old.session self.old.waiting
+            (outcome self.old.session command.now)) (IsErrOf result RunFault.Device) }
         ensures counts { Counts self.old.session result self.new.session }
         ensures broken { IsErrOf result RunFault.Broken ↔ IsTrue self.old.session.broken }
         ensures untouched { IsErrOf result RunFault.Broken → self.new ≡ self.old }

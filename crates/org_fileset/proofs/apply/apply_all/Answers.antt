@@ -1,13 +1,16 @@
 use Rattle.std.proofs.Common.{length, refl, sym, ◌∙◌, ap, subst, arith}
+use Rattle.std.specs.Prelude.{IsFalse}
 use Rattle.std.proofs.lemmas.Option.{slice_get_read}
 use Rattle.org_disk.specs.Disk.{FileState}
 use Rattle.org_splice.specs.Patches.{Fit, patched}
 use Rattle.org_splice.specs.Texts.{pairs_of}
+use Rattle.org_journal.specs.Record.{is_named}
 use Rattle.org_journal.specs.Recovered.{contents, replayed}
-use Rattle.org_fileset.proofs.Takes.{applicable_at, named_apart}
+use Rattle.org_fileset.proofs.Takes.{applicable_at}
 use Rattle.org_fileset.proofs.Recovers.{replayed-entry, replayed-other}
 use Rattle.org_fileset.proofs.Replaying.{entry_takes, replays_none, replays_entry, texts_more, untouched_more, all_texts}
 use Rattle.org_disk.proofs.Accounting.{accounts_none, accounts_then, accounts_ok}
+use Rattle.org_fileset.proofs.Writes.{alone_none, alone_entry}
 use Rattle.org_fileset.proofs.apply.apply_all.Goals as goal
 
 pub loop-entry-init : goal.loop-entry-init
@@ -16,7 +19,7 @@ loop-entry-init g c = record {
   replays = λ honest stable texts takes. replays_none (g.D.Disk.moment c.args.disk.now) (g.D.Disk.left_since c.args.disk.now) (g.D.Disk.files c.args.disk.now) takes;
   have = λ honest j entry none is. absurd (omega arith);
   untouched = λ honest j entry le is. refl;
-  others = λ honest name none. refl;
+  alone = λ honest. alone_none g.D.Disk.files g.D.Disk.moment g.D.Disk.left_since (λ name. IsFalse (is_named name c.args.entries.now)) c.args.disk.now;
 }
 
 pub apply_entry-requires-clause-formed : goal.apply_entry-requires-clause-formed
@@ -59,14 +62,13 @@ returns-in_err-apply_entry-clause-replays g c ended stable texts takes =
     replays_entry i entry (c.requires.applicable honest) is stable now
     (c.apply_entry.ensures.applies ended (texts entry.name) (entry_takes c.args.entries.now texts (g.D.Disk.files c.loop-entry.disk) i entry (c.requires.applicable honest) is now.takes))
 
-pub returns-in_err-apply_entry-clause-others : goal.returns-in_err-apply_entry-clause-others
-returns-in_err-apply_entry-clause-others g c ended name none =
-    let sofar = c.loop-entry.invariant in
-    let h = c.apply_entry.ensures.accounts.was_honest ended in
+pub returns-in_err-apply_entry-clause-alone : goal.returns-in_err-apply_entry-clause-alone
+returns-in_err-apply_entry-clause-alone g c ended =
     let i = c.loop-entry.entry-index in
     let entry = c.entry-item.result in
     let is = slice_get_read c.args.entries.now (length c.args.entries.now) i entry refl c.loop-entry-test.true c.entry-item.is in
-    c.apply_entry.ensures.others ended name (named_apart c.args.entries.now i entry name none is) ∙ sofar.others h name none
+    alone_entry g.D.Disk.files g.D.Disk.moment g.D.Disk.left_since c.args.entries.now i entry c.args.disk.now c.loop-entry.disk c.apply_entry.new.disk is
+    (c.loop-entry.invariant.alone (c.apply_entry.ensures.accounts.was_honest ended)) (c.apply_entry.ensures.alone ended)
 
 pub loop-entry-preserved : goal.loop-entry-preserved
 loop-entry-preserved g c =
@@ -87,11 +89,12 @@ loop-entry-preserved g c =
           let applies = replayed-entry c.args.entries.now (contents old) i entry (c.requires.applicable (sofar.accounts.was_honest (back ended))) (c.requires.fits (sofar.accounts.was_honest (back ended))) is in
           texts_more c.args.entries.now (replayed c.args.entries.now (contents old)) i entry mid (g.D.Disk.files c.apply_entry.new.disk) is
           (c.in_ok-apply_entry.ensures.content ended ∙ ap (λ (f : FileState). patched (pairs_of entry.patches) entry.length f.content) (sofar.untouched (back ended) i entry (omega arith) is) ∙ applies.makes)
-          (c.apply_entry.ensures.others ended) (sofar.have (back ended));
+          (c.apply_entry.ensures.alone ended).same (sofar.have (back ended));
       untouched = λ ended.
-          untouched_more c.args.entries.now i entry old mid (g.D.Disk.files c.apply_entry.new.disk) (c.requires.applicable (sofar.accounts.was_honest (back ended))) is (c.apply_entry.ensures.others ended) (sofar.untouched (back ended));
-      others = λ ended name none.
-          c.apply_entry.ensures.others ended name (named_apart c.args.entries.now i entry name none is) ∙ sofar.others (back ended) name none;
+          untouched_more c.args.entries.now i entry old mid (g.D.Disk.files c.apply_entry.new.disk) (c.requires.applicable (sofar.accounts.was_honest (back ended))) is (c.apply_entry.ensures.alone ended).same (sofar.untouched (back ended));
+      alone = λ ended.
+          alone_entry g.D.Disk.files g.D.Disk.moment g.D.Disk.left_since c.args.entries.now i entry c.args.disk.now c.loop-entry.disk c.apply_entry.new.disk is (sofar.alone (back ended))
+          (c.apply_entry.ensures.alone ended);
     }
 
 pub returns-clause-contents : goal.returns-clause-contents
@@ -100,4 +103,4 @@ returns-clause-contents g c ended name =
     let honest = sofar.accounts.was_honest ended in
     let old = g.D.Disk.files c.args.disk.now in
     all_texts c.args.entries.now (replayed c.args.entries.now (contents old)) c.loop-entry.entry-index old (g.D.Disk.files c.loop-entry.disk) name c.loop-entry-test.false (sofar.have ended)
-    (sofar.others ended) (λ none. replayed-other c.args.entries.now (contents old) name (c.requires.fits honest) none)
+    (sofar.alone ended).same (λ none. replayed-other c.args.entries.now (contents old) name (c.requires.fits honest) none)

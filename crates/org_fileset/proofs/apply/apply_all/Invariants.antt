@@ -1,4 +1,3 @@
-use Rattle.std.proofs.Common.{◌≡◌, List, ℕ}
 use Rattle.std.specs.Prelude.{IsFalse}
 use Rattle.org_disk.specs.Disk.{IsStable}
 use Rattle.org_disk.specs.Accounts.{Accounts}
@@ -6,6 +5,7 @@ use Rattle.org_disk.specs.Names.{journal_name}
 use Rattle.org_journal.specs.Record.{is_named}
 use Rattle.org_journal.specs.Recovered.{Image, contents, replayed}
 use Rattle.org_fileset.specs.Replay.{EachTakes, Replays}
+use Rattle.org_fileset.specs.Writes.{LeavesAlone}
 use Rattle.org_fileset.proofs.Replaying.{HaveTexts, AreUntouched}
 use Rattle.org_fileset.proofs.apply.apply_all.Given as goal
 
@@ -19,5 +19,5 @@ invariant-loop-entry g l =
           → Replays l.entries texts (disk.moment l.fn.disk) (disk.moment l.disk) (disk.left_since l.fn.disk) (disk.left_since l.disk) (disk.files l.fn.disk) (disk.files l.disk);
       have : disk.honest l.disk → HaveTexts l.entries (replayed l.entries (contents (disk.files l.fn.disk))) l.entry-index (disk.files l.disk);
       untouched : disk.honest l.disk → AreUntouched l.entries l.entry-index (disk.files l.fn.disk) (disk.files l.disk);
-      others : disk.honest l.disk → (name : List ℕ) → IsFalse (is_named name l.entries) → disk.files l.disk name ≡ disk.files l.fn.disk name;
+      alone : disk.honest l.disk → LeavesAlone disk.files disk.moment disk.left_since (λ name. IsFalse (is_named name l.entries)) l.fn.disk l.disk;
     }

@@ -1,16 +1,17 @@
-use Rattle.std.proofs.Common.{◌≤◌, ◌+◌, ℕ, List, length, refl, sym, ◌∙◌, ap, subst, arith}
+use Rattle.std.proofs.Common.{◌≢◌, ◌≤◌, ◌+◌, ℕ, List, length, refl, sym, ◌∙◌, ap, subst, arith}
 use Rattle.org_disk.specs.Disk.{FileState, write, cut}
 use Rattle.org_splice.specs.Texts.{pairs_of}
 use Rattle.org_fileset.proofs.Patching.{applies_none, applies_call, applies_read, takes_write, takes_cut}
 use Rattle.org_fileset.proofs.Steps.{pair_at, patched_each-more, next_within, next_small, long_enough}
 use Rattle.org_disk.proofs.Accounting.{accounts_none, accounts_then, accounts_call_ok}
+use Rattle.org_fileset.proofs.Writes.{alone_none, alone_then, alone_looks, alone_call}
 use Rattle.org_fileset.proofs.apply.apply_entry.Goals as goal
 
 pub loop-patch-init : goal.loop-patch-init
 loop-patch-init g c = record {
   accounts = accounts_none g.D.Disk.steady g.D.Disk.honest g.D.Disk.failures c.args.disk.now;
   content = λ honest. refl;
-  others = λ honest other apart. refl;
+  alone = λ honest. alone_none g.D.Disk.files g.D.Disk.moment g.D.Disk.left_since (λ other. other ≢ c.args.entry.now.name) c.args.disk.now;
   applies = λ honest to takes. applies_none (g.D.Disk.moment c.args.disk.now) (g.D.Disk.left_since c.args.disk.now) (g.D.Disk.files c.args.disk.now) takes;
 }
 
@@ -73,7 +74,8 @@ loop-patch-preserved g c =
           ap (λ (f : FileState). f.content) done
           ∙ ap (λ (t : List ℕ). (write from bytes (record (mid name) { content = t })).content) (sofar.content (back ended))
           ∙ sym (patched_each-more patches c.loop-patch.patch-index from bytes (g.D.Disk.files c.args.disk.now name).content is);
-      others = λ ended other apart. (c.write_at.ensures.effect ended).others other apart ∙ sofar.others (back ended) other apart;
+      alone = λ ended. alone_then g.D.Disk.files g.D.Disk.moment g.D.Disk.left_since (λ other. other ≢ name) c.args.disk.now c.loop-patch.disk c.write_at.new.self (sofar.alone (back ended))
+          (alone_call g.D.Disk.files g.D.Disk.moment g.D.Disk.left_since (write from bytes) name c.loop-patch.disk c.write_at.new.self c.write_at.result (c.write_at.ensures.effect ended) (c.write_at.ensures.time ended));
       applies = λ ended to takes.
           let le = next_within patches c.args.entry.now.length c.loop-patch.patch-index from bytes (g.D.Disk.files c.args.disk.now name).content
           (mid name).content (c.requires.formed (sofar.accounts.was_honest (back ended))) (c.requires.fits (sofar.accounts.was_honest (back ended))) is (sofar.content (back ended)) in
@@ -133,38 +135,42 @@ returns-else-length-entry-clause-applies g c ended to takes =
     let h = c.length.ensures.accounts.was_honest ended in
     applies_read (sofar.applies h to takes) (c.length.ensures.looks ended).same (c.length.ensures.looks ended).time
 
-pub returns-in_err-write_at-clause-others : goal.returns-in_err-write_at-clause-others
-returns-in_err-write_at-clause-others g c ended other apart =
-    let sofar = c.loop-patch.invariant in
-    let h = c.write_at.ensures.accounts.was_honest ended in
-    (c.write_at.ensures.effect ended).others other apart ∙ sofar.others h other apart
+pub returns-in_err-write_at-clause-alone : goal.returns-in_err-write_at-clause-alone
+returns-in_err-write_at-clause-alone g c ended =
+    let name = c.args.entry.now.name in
+    let mid = c.loop-patch.disk in
+    alone_then g.D.Disk.files g.D.Disk.moment g.D.Disk.left_since (λ other. other ≢ name) c.args.disk.now mid c.write_at.new.self (c.loop-patch.invariant.alone (c.write_at.ensures.accounts.was_honest ended))
+    (alone_call g.D.Disk.files g.D.Disk.moment g.D.Disk.left_since (write c.patch-item.result.from c.as_slice.result.now) name mid c.write_at.new.self c.write_at.result
+    (c.write_at.ensures.effect ended) (c.write_at.ensures.time ended))
 
-pub returns-in_err-length-clause-others : goal.returns-in_err-length-clause-others
-returns-in_err-length-clause-others g c ended other apart =
-    let sofar = c.loop-patch.invariant in
-    let h = c.length.ensures.accounts.was_honest ended in
-    let same = ap (λ (f : List ℕ → FileState). f other) (c.length.ensures.looks ended).same ∙ sofar.others h other apart in
-    same
+pub returns-in_err-length-clause-alone : goal.returns-in_err-length-clause-alone
+returns-in_err-length-clause-alone g c ended =
+    let Mine : List ℕ → Type 0 = λ other. other ≢ c.args.entry.now.name in
+    alone_then g.D.Disk.files g.D.Disk.moment g.D.Disk.left_since Mine c.args.disk.now c.loop-patch.disk c.length.new.self (c.loop-patch.invariant.alone (c.length.ensures.accounts.was_honest ended))
+    (alone_looks g.D.Disk.files g.D.Disk.moment g.D.Disk.left_since Mine c.loop-patch.disk c.length.new.self (c.length.ensures.looks ended))
 
-pub returns-in_err-cut-clause-others : goal.returns-in_err-cut-clause-others
-returns-in_err-cut-clause-others g c ended other apart =
-    let sofar = c.loop-patch.invariant in
+pub returns-in_err-cut-clause-alone : goal.returns-in_err-cut-clause-alone
+returns-in_err-cut-clause-alone g c ended =
+    let name = c.args.entry.now.name in
     let h1 = c.cut.ensures.accounts.was_honest ended in
-    let h = c.length.ensures.accounts.was_honest h1 in
-    let same = ap (λ (f : List ℕ → FileState). f other) (c.length.ensures.looks h1).same ∙ sofar.others h other apart in
-    (c.cut.ensures.effect ended).others other apart ∙ same
+    let Mine : List ℕ → Type 0 = λ other. other ≢ name in
+    let looked = alone_then g.D.Disk.files g.D.Disk.moment g.D.Disk.left_since Mine c.args.disk.now c.loop-patch.disk c.length.new.self (c.loop-patch.invariant.alone (c.length.ensures.accounts.was_honest h1))
+    (alone_looks g.D.Disk.files g.D.Disk.moment g.D.Disk.left_since Mine c.loop-patch.disk c.length.new.self (c.length.ensures.looks h1)) in
+    alone_then g.D.Disk.files g.D.Disk.moment g.D.Disk.left_since Mine c.args.disk.now c.length.new.self c.cut.new.self looked
+    (alone_call g.D.Disk.files g.D.Disk.moment g.D.Disk.left_since (cut c.args.entry.now.length) name c.length.new.self c.cut.new.self c.cut.result (c.cut.ensures.effect ended) (c.cut.ensures.time ended))
 
-pub returns-in_ok-cut-clause-others : goal.returns-in_ok-cut-clause-others
-returns-in_ok-cut-clause-others g c ended other apart =
-    let sofar = c.loop-patch.invariant in
+pub returns-in_ok-cut-clause-alone : goal.returns-in_ok-cut-clause-alone
+returns-in_ok-cut-clause-alone g c ended =
+    let name = c.args.entry.now.name in
     let h1 = c.cut.ensures.accounts.was_honest ended in
-    let h = c.length.ensures.accounts.was_honest h1 in
-    let same = ap (λ (f : List ℕ → FileState). f other) (c.length.ensures.looks h1).same ∙ sofar.others h other apart in
-    (c.cut.ensures.effect ended).others other apart ∙ same
+    let Mine : List ℕ → Type 0 = λ other. other ≢ name in
+    let looked = alone_then g.D.Disk.files g.D.Disk.moment g.D.Disk.left_since Mine c.args.disk.now c.loop-patch.disk c.length.new.self (c.loop-patch.invariant.alone (c.length.ensures.accounts.was_honest h1))
+    (alone_looks g.D.Disk.files g.D.Disk.moment g.D.Disk.left_since Mine c.loop-patch.disk c.length.new.self (c.length.ensures.looks h1)) in
+    alone_then g.D.Disk.files g.D.Disk.moment g.D.Disk.left_since Mine c.args.disk.now c.length.new.self c.cut.new.self looked
+    (alone_call g.D.Disk.files g.D.Disk.moment g.D.Disk.left_since (cut c.args.entry.now.length) name c.length.new.self c.cut.new.self c.cut.result (c.cut.ensures.effect ended) (c.cut.ensures.time ended))
 
-pub returns-else-length-entry-clause-others : goal.returns-else-length-entry-clause-others
-returns-else-length-entry-clause-others g c ended other apart =
-    let sofar = c.loop-patch.invariant in
-    let h = c.length.ensures.accounts.was_honest ended in
-    let same = ap (λ (f : List ℕ → FileState). f other) (c.length.ensures.looks ended).same ∙ sofar.others h other apart in
-    same
+pub returns-else-length-entry-clause-alone : goal.returns-else-length-entry-clause-alone
+returns-else-length-entry-clause-alone g c ended =
+    let Mine : List ℕ → Type 0 = λ other. other ≢ c.args.entry.now.name in
+    alone_then g.D.Disk.files g.D.Disk.moment g.D.Disk.left_since Mine c.args.disk.now c.loop-patch.disk c.length.new.self (c.loop-patch.invariant.alone (c.length.ensures.accounts.was_honest ended))
+    (alone_looks g.D.Disk.files g.D.Disk.moment g.D.Disk.left_since Mine c.loop-patch.disk c.length.new.self (c.length.ensures.looks ended))

@@ -3,6 +3,7 @@ use Rattle.org_disk.specs.Accounts.{Accounts}
 use Rattle.org_splice.specs.Patches.{patched_each}
 use Rattle.org_splice.specs.Texts.{pairs_of}
 use Rattle.org_fileset.specs.Replay.{EachPatchedTo, AppliesPatches}
+use Rattle.org_fileset.specs.Writes.{LeavesAlone}
 use Rattle.org_fileset.proofs.apply.apply_entry.Given as goal
 
 -- the patches so far are applied, and the rest will make the same of whatever a crash leaves
@@ -13,7 +14,7 @@ invariant-loop-patch g l =
     record {
       accounts : Accounts disk.steady disk.honest disk.failures l.fn.disk l.disk ⊥;
       content : disk.honest l.disk → (disk.files l.disk l.entry.name).content ≡ patched_each (take l.patch-index patches) (disk.files l.fn.disk l.entry.name).content;
-      others : disk.honest l.disk → (other : List ℕ) → other ≢ l.entry.name → disk.files l.disk other ≡ disk.files l.fn.disk other;
+      alone : disk.honest l.disk → LeavesAlone disk.files disk.moment disk.left_since (λ other. other ≢ l.entry.name) l.fn.disk l.disk;
       applies : disk.honest l.disk → (to : List ℕ) → EachPatchedTo patches l.entry.length to (disk.files l.fn.disk l.entry.name)
           → AppliesPatches patches l.entry.length l.entry.name to (disk.moment l.fn.disk) (disk.moment l.disk) (disk.left_since l.fn.disk) (disk.left_since l.disk) (disk.files l.fn.disk) (disk.files l.disk);
     }

@@ -1,11 +1,13 @@
 use Rattle.std.proofs.Common.{inl, inr, ℕ, List, length, refl, sym, ◌∙◌, ap, arith}
+use Rattle.std.specs.Prelude.{IsFalse}
 use Rattle.std.proofs.lemmas.Option.{slice_get_read}
-use Rattle.org_disk.specs.Disk.{FileState}
+use Rattle.org_disk.specs.Disk.{FileState, sync}
 use Rattle.org_disk.proofs.Images.{is_stable}
 use Rattle.org_disk.proofs.Names.{name_cases}
-use Rattle.org_fileset.proofs.Takes.{named_apart}
+use Rattle.org_journal.specs.Record.{is_named}
 use Rattle.org_fileset.proofs.Replaying.{entry_takes, replays_none, replays_entry, applies_sync, stable_more, all_stable}
 use Rattle.org_disk.proofs.Accounting.{accounts_none, accounts_then, accounts_call_ok}
+use Rattle.org_fileset.proofs.Writes.{alone_none, alone_call, alone_entry}
 use Rattle.org_fileset.proofs.apply.sync_all.Goals as goal
 
 pub loop-entry-init : goal.loop-entry-init
@@ -13,7 +15,7 @@ loop-entry-init g c = record {
   accounts = accounts_none g.D.Disk.steady g.D.Disk.honest g.D.Disk.failures c.args.disk.now;
   replays = λ honest stable texts takes. replays_none (g.D.Disk.moment c.args.disk.now) (g.D.Disk.left_since c.args.disk.now) (g.D.Disk.files c.args.disk.now) takes;
   contents = λ honest name. refl;
-  others = λ honest name none. refl;
+  alone = λ honest. alone_none g.D.Disk.files g.D.Disk.moment g.D.Disk.left_since (λ name. IsFalse (is_named name c.args.entries.now)) c.args.disk.now;
   stable = λ honest j entry none is. absurd (omega arith);
 }
 
@@ -51,7 +53,9 @@ loop-entry-preserved g c =
                 ∙ ap (λ (x : List ℕ). (mid x).content) (sym same.0) ∙ sofar.contents (back ended) name
             | inr other ↦ ap (λ (f : FileState). f.content) ((c.sync.ensures.effect ended).others name other.0) ∙ sofar.contents (back ended) name
           ];
-      others = λ ended name none. (c.sync.ensures.effect ended).others name (named_apart c.args.entries.now i entry name none is) ∙ sofar.others (back ended) name none;
+      alone = λ ended.
+          alone_entry g.D.Disk.files g.D.Disk.moment g.D.Disk.left_since c.args.entries.now i entry c.args.disk.now c.loop-entry.disk c.sync.new.self is (sofar.alone (back ended))
+          (alone_call g.D.Disk.files g.D.Disk.moment g.D.Disk.left_since sync entry.name c.loop-entry.disk c.sync.new.self c.sync.result (c.sync.ensures.effect ended) (c.sync.ensures.time ended));
       stable = λ ended.
           stable_more c.args.entries.now i entry mid (g.D.Disk.files c.sync.new.self) is (is_stable _ (mid entry.name).content (c.in_ok-sync.ensures.effect ended).ok)
           (c.sync.ensures.effect ended).others (sofar.stable (back ended));
@@ -61,13 +65,13 @@ pub returns-clause-stable : goal.returns-clause-stable
 returns-clause-stable g c ended name before =
     let sofar = c.loop-entry.invariant in
     all_stable c.args.entries.now c.loop-entry.entry-index (g.D.Disk.files c.args.disk.now) (g.D.Disk.files c.loop-entry.disk) name c.loop-entry-test.false
-    (sofar.stable ended) (sofar.others ended) before
+    (sofar.stable ended) (sofar.alone ended).same before
 
-pub returns-in_err-sync-clause-others : goal.returns-in_err-sync-clause-others
-returns-in_err-sync-clause-others g c ended name none =
-    let sofar = c.loop-entry.invariant in
-    let h = c.sync.ensures.accounts.was_honest ended in
+pub returns-in_err-sync-clause-alone : goal.returns-in_err-sync-clause-alone
+returns-in_err-sync-clause-alone g c ended =
     let i = c.loop-entry.entry-index in
     let entry = c.entry-item.result in
     let is = slice_get_read c.args.entries.now (length c.args.entries.now) i entry refl c.loop-entry-test.true c.entry-item.is in
-    (c.sync.ensures.effect ended).others name (named_apart c.args.entries.now i entry name none is) ∙ sofar.others h name none
+    alone_entry g.D.Disk.files g.D.Disk.moment g.D.Disk.left_since c.args.entries.now i entry c.args.disk.now c.loop-entry.disk c.sync.new.self is
+    (c.loop-entry.invariant.alone (c.sync.ensures.accounts.was_honest ended))
+    (alone_call g.D.Disk.files g.D.Disk.moment g.D.Disk.left_since sync entry.name c.loop-entry.disk c.sync.new.self c.sync.result (c.sync.ensures.effect ended) (c.sync.ensures.time ended))

@@ -6,6 +6,7 @@ use Rattle.org_disk.specs.Disk.{IsStable}
 use Rattle.org_disk.specs.Accounts.{Accounts}
 use Rattle.org_disk.specs.Names.{journal_name}
 use Rattle.org_fileset.specs.Replay.{EachTakes, Replays}
+use Rattle.org_fileset.specs.Writes.{LeavesAlone}
 use Rattle.org_fileset.proofs.Replaying.{AreStable}
 use Rattle.org_fileset.proofs.apply.sync_all.Given as goal
 
@@ -18,6 +19,6 @@ invariant-loop-entry g l =
       replays : disk.honest l.disk → IsStable (disk.files l.fn.disk journal_name) → (texts : Image) → EachTakes l.entries texts (disk.files l.fn.disk)
           → Replays l.entries texts (disk.moment l.fn.disk) (disk.moment l.disk) (disk.left_since l.fn.disk) (disk.left_since l.disk) (disk.files l.fn.disk) (disk.files l.disk);
       contents : disk.honest l.disk → (name : List ℕ) → contents (disk.files l.disk) name ≡ contents (disk.files l.fn.disk) name;
-      others : disk.honest l.disk → (name : List ℕ) → IsFalse (is_named name l.entries) → disk.files l.disk name ≡ disk.files l.fn.disk name;
+      alone : disk.honest l.disk → LeavesAlone disk.files disk.moment disk.left_since (λ name. IsFalse (is_named name l.entries)) l.fn.disk l.disk;
       stable : disk.honest l.disk → AreStable l.entries l.entry-index (disk.files l.disk);
     }

@@ -1,11 +1,14 @@
-use Rattle.std.proofs.Common.{rules, ◌≡◌, ◌≢◌, inl, inr, ◌∷◌, ℕ, List, drop, Ok, IsErr, sym, ◌∙◌, subst}
+use Rattle.std.proofs.Common.{rules, ◌≡◌, ◌≢◌, inl, inr, ◌∷◌, ℕ, List, drop, Ok, IsErr, sym, ◌∙◌, ap, subst}
 use Rattle.std.proofs.lemmas.Result.{on_ok_weaker}
 use Rattle.org_splice.specs.Overwritten.{overwritten}
 use Rattle.org_disk.specs.Disk.{IsStable}
 use Rattle.org_disk.proofs.Moments.{passes_as, passes_then}
 use Rattle.org_journal.specs.Gate.{LeavesClosed, LeavesBody, Puts}
+use Rattle.org_journal.specs.Reading.{journal_at}
 use Rattle.org_journal.specs.Recovered.{contents, replayed}
 use Rattle.org_fileset.specs.Replay.{IsAtRest, IsReplayable}
+use Rattle.org_fileset.specs.Writes.{IsUnwritten}
+use Rattle.org_fileset.proofs.Writes.{alone_then, alone_journal}
 use Rattle.org_fileset.proofs.Starting.{since_start}
 use Rattle.org_fileset.proofs.Armed.{on_ok_never}
 use Rattle.org_fileset.proofs.Commits.{at_rest_recovers, while_arming, while_opening, opened_over, opened_fits, opened_takes, opened_made}
@@ -27,6 +30,8 @@ returns-in_err-arm-clause-commits g c ended =
       done = on_ok_never _ c.from_residual.result failed;
       any_moment = λ rest. since_start (armed rest) files (g.met.D.Disk.only_now c.args.disk.now) honest (λ image left. inl (at_rest_recovers files rest image left));
       recoverable = λ rest. inl (λ name not. subst IsStable (sym (others name not)) (rest.stable name));
+      alone = alone_journal g.D.Disk.files g.D.Disk.moment g.D.Disk.left_since c.args.journal.now (IsUnwritten entries) (LeavesClosed c.args.journal.now files) c.args.disk.now c.arm.new.disk
+          name_is (λ name is. is.apart) (c.arm.ensures.puts ended).others (c.arm.ensures.any_moment ended) (λ image left. left.others);
     }
 
 pub returns-in_err-open_gate-clause-commits : goal.returns-in_err-open_gate-clause-commits
@@ -52,6 +57,11 @@ returns-in_err-open_gate-clause-commits g c ended =
       done = on_ok_never _ c.from_residual-in_err-open_gate.result failed;
       any_moment = λ rest. since_start (opening rest) files (g.met.D.Disk.only_now c.args.disk.now) honest (λ image left. inl (at_rest_recovers files rest image left));
       recoverable = λ rest. inl (λ name not. subst IsStable (sym (others name not ∙ put.others name not)) (rest.stable name));
+      alone = alone_then g.D.Disk.files g.D.Disk.moment g.D.Disk.left_since (IsUnwritten entries) c.args.disk.now c.arm.new.disk c.open_gate.new.disk
+          (alone_journal g.D.Disk.files g.D.Disk.moment g.D.Disk.left_since c.args.journal.now (IsUnwritten entries) (LeavesClosed c.args.journal.now files) c.args.disk.now c.arm.new.disk
+          name_is (λ name is. is.apart) (c.arm.ensures.puts h1).others (c.arm.ensures.any_moment h1) (λ image left. left.others))
+          (alone_journal g.D.Disk.files g.D.Disk.moment g.D.Disk.left_since c.args.journal.now (IsUnwritten entries) (LeavesBody c.args.journal.now mid) c.arm.new.disk c.open_gate.new.disk
+          name_is (λ name is. is.apart) (c.open_gate.ensures.puts ended).others (c.open_gate.ensures.any_moment ended) (λ image left. left.others));
     }
 
 pub replay-requires-clause-opened : goal.replay-requires-clause-opened
@@ -82,6 +92,23 @@ replay-requires-clause-fits g c ended =
 
 pub returns-clause-gate : goal.returns-clause-gate
 returns-clause-gate g c ended = on_ok_weaker c.replay.result (λ done. done.gate) (c.replay.ensures.replays ended).done
+
+-- the record stays behind the gate
+pub returns-clause-record : goal.returns-clause-record
+returns-clause-record g c ended =
+    let h2 = c.replay.ensures.accounts.was_honest ended in
+    let h1 = c.open_gate.ensures.accounts.was_honest h2 in
+    let honest = c.arm.ensures.accounts.was_honest h1 in
+    let files = g.D.Disk.files c.args.disk.now in
+    let mid = g.D.Disk.files c.arm.new.disk in
+    let last = g.D.Disk.files c.open_gate.new.disk in
+    let name_is = c.requires.journal in
+    let put = subst (λ (n : List ℕ). Puts n (overwritten 1 c.args.body.now (files n).content) files mid (Ok tt)) name_is (c.in_ok-arm.ensures.puts h1) in
+    let opened = subst (λ (n : List ℕ). Puts n (1 ∷ drop 1 (mid n).content) mid last (Ok tt)) name_is (c.in_ok-open_gate.ensures.puts h2) in
+    let is =
+    opened_over c.args.entries.now files (c.requires.applicable honest) (c.requires.gate honest) (c.requires.fits honest) c.args.body.now c.requires.body c.requires.long
+    mid put.is put.others last opened.stable opened.is in
+    on_ok_weaker c.replay.result (λ done. ap (λ (l : List ℕ). journal_at (drop 1 l)) done.journal ∙ is.found) (c.replay.ensures.replays ended).done
 
 pub returns-clause-commits : goal.returns-clause-commits
 returns-clause-commits g c ended =
@@ -116,4 +143,11 @@ returns-clause-commits g c ended =
       any_moment = λ rest. since_start (passes_then (opening rest) (replays.any_moment (can rest)) (λ image stands. inr stands)) files
           (g.met.D.Disk.only_now c.args.disk.now) honest (λ image left. inl (at_rest_recovers files rest image left));
       recoverable = λ rest. replays.recoverable (can rest);
+      alone = alone_then g.D.Disk.files g.D.Disk.moment g.D.Disk.left_since (IsUnwritten entries) c.args.disk.now c.open_gate.new.disk c.replay.new.disk
+          (alone_then g.D.Disk.files g.D.Disk.moment g.D.Disk.left_since (IsUnwritten entries) c.args.disk.now c.arm.new.disk c.open_gate.new.disk
+          (alone_journal g.D.Disk.files g.D.Disk.moment g.D.Disk.left_since c.args.journal.now (IsUnwritten entries) (LeavesClosed c.args.journal.now files) c.args.disk.now c.arm.new.disk
+          name_is (λ name is. is.apart) (c.arm.ensures.puts h1).others (c.arm.ensures.any_moment h1) (λ image left. left.others))
+          (alone_journal g.D.Disk.files g.D.Disk.moment g.D.Disk.left_since c.args.journal.now (IsUnwritten entries) (LeavesBody c.args.journal.now mid) c.arm.new.disk c.open_gate.new.disk
+          name_is (λ name is. is.apart) (c.open_gate.ensures.puts h2).others (c.open_gate.ensures.any_moment h2) (λ image left. left.others)))
+          replays.alone;
     }

@@ -3,9 +3,11 @@ use Rattle.org_disk.specs.Disk.{FileState, IsStable}
 use Rattle.org_disk.specs.Names.{journal_name}
 use Rattle.org_disk.proofs.Moments.{passes_as, passes_then}
 use Rattle.org_disk.proofs.Names.{name_cases}
-use Rattle.org_journal.specs.Gate.{front_size, Puts}
+use Rattle.org_journal.specs.Gate.{front_size, LeavesBody, Puts}
 use Rattle.org_journal.specs.Recovered.{contents}
 use Rattle.org_fileset.specs.Replay.{IsReplayable}
+use Rattle.org_fileset.specs.Writes.{IsUnwritten}
+use Rattle.org_fileset.proofs.Writes.{alone_then, alone_applied, alone_journal}
 use Rattle.org_fileset.proofs.Takes.{journal_unnamed}
 use Rattle.org_fileset.proofs.Recovers.{replayed-takes}
 use Rattle.org_fileset.proofs.Armed.{replays_then, taking_recovers, replayable_armed, still_open, still_replayable, IsDone, closing_recovers, closed_after, rest_after, open_long, on_ok_both, on_ok_never}
@@ -23,8 +25,9 @@ returns-in_err-apply_all-clause-replays g c ended =
     let failed : IsErr c.from_residual.result = search rules in
     record {
       any_moment = λ can. passes_as (applied can).any_moment (taking_recovers entries can.texts (files journal_name).content applicable is.opened is.found);
-      recoverable = λ can. inr (replayable_armed entries new applicable (still_open entries files new applicable is (c.apply_all.ensures.others ended)) (still_replayable can (applied can)));
+      recoverable = λ can. inr (replayable_armed entries new applicable (still_open entries files new applicable is (c.apply_all.ensures.alone ended).same) (still_replayable can (applied can)));
       done = on_ok_never _ c.from_residual.result failed;
+      alone = alone_applied g.D.Disk.files g.D.Disk.moment g.D.Disk.left_since entries c.args.disk.now c.apply_all.new.disk (c.apply_all.ensures.alone ended);
     }
 
 pub returns-in_err-sync_all-clause-replays : goal.returns-in_err-sync_all-clause-replays
@@ -35,9 +38,9 @@ returns-in_err-sync_all-clause-replays g c ended =
     let entries = c.args.entries.now in
     let applicable = c.requires.applicable honest in
     let is = c.requires.opened honest in
-    let is1 = still_open entries files (g.D.Disk.files c.apply_all.new.disk) applicable is (c.apply_all.ensures.others h1) in
+    let is1 = still_open entries files (g.D.Disk.files c.apply_all.new.disk) applicable is (c.apply_all.ensures.alone h1).same in
     let last = g.D.Disk.files c.sync_all.new.disk in
-    let is2 = still_open entries (g.D.Disk.files c.apply_all.new.disk) last applicable is1 (c.sync_all.ensures.others ended) in
+    let is2 = still_open entries (g.D.Disk.files c.apply_all.new.disk) last applicable is1 (c.sync_all.ensures.alone ended).same in
     let synced = λ (can : IsReplayable entries files).
     let applied = c.apply_all.ensures.replays h1 is.stable can.texts can.takes in
     replays_then applicable applied (c.sync_all.ensures.replays ended is1.stable can.texts applied.takes) in
@@ -46,15 +49,18 @@ returns-in_err-sync_all-clause-replays g c ended =
       any_moment = λ can. passes_as (synced can).any_moment (taking_recovers entries can.texts (files journal_name).content applicable is.opened is.found);
       recoverable = λ can. inr (replayable_armed entries last applicable is2 (still_replayable can (synced can)));
       done = on_ok_never _ c.from_residual-in_err-sync_all.result failed;
+      alone = alone_then g.D.Disk.files g.D.Disk.moment g.D.Disk.left_since (IsUnwritten entries) c.args.disk.now c.apply_all.new.disk c.sync_all.new.disk
+          (alone_applied g.D.Disk.files g.D.Disk.moment g.D.Disk.left_since entries c.args.disk.now c.apply_all.new.disk (c.apply_all.ensures.alone h1))
+          (alone_applied g.D.Disk.files g.D.Disk.moment g.D.Disk.left_since entries c.apply_all.new.disk c.sync_all.new.disk (c.sync_all.ensures.alone ended));
     }
 
 pub close_gate-requires-clause-nonempty : goal.close_gate-requires-clause-nonempty
 close_gate-requires-clause-nonempty g c ended =
     let h1 = c.sync_all.ensures.accounts.was_honest ended in
     let honest = c.apply_all.ensures.accounts.was_honest h1 in
-    let is1 = still_open c.args.entries.now (g.D.Disk.files c.args.disk.now) (g.D.Disk.files c.apply_all.new.disk) (c.requires.applicable honest) (c.requires.opened honest) (c.apply_all.ensures.others h1) in
+    let is1 = still_open c.args.entries.now (g.D.Disk.files c.args.disk.now) (g.D.Disk.files c.apply_all.new.disk) (c.requires.applicable honest) (c.requires.opened honest) (c.apply_all.ensures.alone h1).same in
     let last = g.D.Disk.files c.sync_all.new.disk in
-    let is2 = still_open c.args.entries.now (g.D.Disk.files c.apply_all.new.disk) last (c.requires.applicable honest) is1 (c.sync_all.ensures.others ended) in
+    let is2 = still_open c.args.entries.now (g.D.Disk.files c.apply_all.new.disk) last (c.requires.applicable honest) is1 (c.sync_all.ensures.alone ended).same in
     let long : front_size ≤ length (last journal_name).content = open_long (last journal_name).content is2.opened in
     let P : List ℕ → Type 0 = λ n. 1 ≤ length (last n).content in
     subst P (sym c.requires.journal) (omega arith)
@@ -69,10 +75,10 @@ returns-clause-replays g c ended =
     let applicable = c.requires.applicable honest in
     let is = c.requires.opened honest in
     let applied = λ (can : IsReplayable entries files). c.apply_all.ensures.replays h1 is.stable can.texts can.takes in
-    let is1 = still_open entries files (g.D.Disk.files c.apply_all.new.disk) applicable is (c.apply_all.ensures.others h1) in
+    let is1 = still_open entries files (g.D.Disk.files c.apply_all.new.disk) applicable is (c.apply_all.ensures.alone h1).same in
     let synced = λ (can : IsReplayable entries files). replays_then applicable (applied can) (c.sync_all.ensures.replays h2 is1.stable can.texts (applied can).takes) in
     let last = g.D.Disk.files c.sync_all.new.disk in
-    let is2 = still_open entries (g.D.Disk.files c.apply_all.new.disk) last applicable is1 (c.sync_all.ensures.others h2) in
+    let is2 = still_open entries (g.D.Disk.files c.apply_all.new.disk) last applicable is1 (c.sync_all.ensures.alone h2).same in
     let made = λ (name : List ℕ). c.in_ok-sync_all.ensures.contents h2 name ∙ c.in_ok-apply_all.ensures.contents h1 name in
     let stable : IsReplayable entries files → (name : List ℕ) → IsStable (last name) = λ can name. c.in_ok-sync_all.ensures.stable h2 name (λ none. elim (name_cases name journal_name) [
       | inl same ↦ subst (λ (n : List ℕ). IsStable (g.D.Disk.files c.apply_all.new.disk n)) (sym same.0) is1.stable
@@ -86,7 +92,7 @@ returns-clause-replays g c ended =
       found = is2.found;
     } in
     let none = journal_unnamed entries applicable.each in
-    let same : last journal_name ≡ files journal_name = c.sync_all.ensures.others h2 journal_name none ∙ c.apply_all.ensures.others h1 journal_name none in
+    let same : last journal_name ≡ files journal_name = (c.sync_all.ensures.alone h2).same journal_name none ∙ (c.apply_all.ensures.alone h1).same journal_name none in
     let after = g.D.Disk.files c.close_gate.new.disk in
     let puts = subst (λ (n : List ℕ). Puts n (0 ∷ drop 1 (last n).content) last after c.close_gate.result) c.requires.journal (c.close_gate.ensures.puts ended) in
     record {
@@ -100,4 +106,10 @@ returns-clause-replays g c ended =
         made = λ name not. ap (λ (f : FileState). f.content) (puts.others name not) ∙ made name;
         rest = λ can. rest_after last after (drop 1 (last journal_name).content) only zero puts.others (λ name apart. stable can name);
       });
+      alone = alone_then g.D.Disk.files g.D.Disk.moment g.D.Disk.left_since (IsUnwritten entries) c.args.disk.now c.sync_all.new.disk c.close_gate.new.disk
+          (alone_then g.D.Disk.files g.D.Disk.moment g.D.Disk.left_since (IsUnwritten entries) c.args.disk.now c.apply_all.new.disk c.sync_all.new.disk
+          (alone_applied g.D.Disk.files g.D.Disk.moment g.D.Disk.left_since entries c.args.disk.now c.apply_all.new.disk (c.apply_all.ensures.alone h1))
+          (alone_applied g.D.Disk.files g.D.Disk.moment g.D.Disk.left_since entries c.apply_all.new.disk c.sync_all.new.disk (c.sync_all.ensures.alone h2)))
+          (alone_journal g.D.Disk.files g.D.Disk.moment g.D.Disk.left_since c.args.journal.now (IsUnwritten entries) (LeavesBody c.args.journal.now last) c.sync_all.new.disk c.close_gate.new.disk
+          c.requires.journal (λ name is. is.apart) (c.close_gate.ensures.puts ended).others (c.close_gate.ensures.any_moment ended) (λ image left. left.others));
     }

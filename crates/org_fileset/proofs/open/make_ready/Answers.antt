@@ -4,7 +4,10 @@ use Rattle.org_disk.proofs.Moments.{passes_then}
 use Rattle.org_journal.specs.Recovered.{Image, SameFiles, IsRecoverable, contents}
 use Rattle.org_fileset.specs.Recovery.{IsReopened}
 use Rattle.org_fileset.proofs.Armed.{on_ok_always, on_ok_never}
+use Rattle.org_disk.specs.Names.{journal_name}
+use Rattle.org_fileset.specs.Writes.{IsUnconcerned}
 use Rattle.org_fileset.proofs.Starting.{since_start}
+use Rattle.org_fileset.proofs.Writes.{alone_looks, alone_then}
 use Rattle.org_fileset.proofs.Recovering.{as_before}
 use Rattle.org_fileset.proofs.Sorted.{left_after}
 use Rattle.org_fileset.proofs.open.make_ready.Goals as goal
@@ -13,7 +16,7 @@ pub returns-in_err-recover-clause-reopens : goal.returns-in_err-recover-clause-r
 returns-in_err-recover-clause-reopens g c ended =
     let made = c.recover.ensures.reopens ended in
     let failed : IsErr c.from_residual.result = search rules in
-    record { done = on_ok_never _ c.from_residual.result failed; any_moment = made.any_moment; recoverable = made.recoverable; bad = made.bad }
+    record { done = on_ok_never _ c.from_residual.result failed; any_moment = made.any_moment; recoverable = made.recoverable; bad = made.bad; alone = made.alone }
 
 pub returns-clause-reopens : goal.returns-clause-reopens
 returns-clause-reopens g c ended =
@@ -30,4 +33,6 @@ returns-clause-reopens g c ended =
           old (g.met.D.Disk.only_now c.args.disk.now) honest (as_before old each);
       recoverable = λ fit each. subst IsRecoverable (sym looks.same) (made.recoverable fit each);
       bad = λ none. absurd (subst (λ (o : Option Image). IsSomeAnd o (SameFiles (contents mid))) none made.done.recovered_then);
+      alone = alone_then g.D.Disk.files g.D.Disk.moment g.D.Disk.left_since (IsUnconcerned (contents old journal_name)) c.args.disk.now c.recover.new.disk c.check_sizes.new.disk made.alone
+          (alone_looks g.D.Disk.files g.D.Disk.moment g.D.Disk.left_since (IsUnconcerned (contents old journal_name)) c.recover.new.disk c.check_sizes.new.disk looks);
     }

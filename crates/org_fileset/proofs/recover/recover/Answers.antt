@@ -14,9 +14,11 @@ use Rattle.org_journal.specs.Finding.{Finds, IsWritable}
 use Rattle.org_journal.specs.Recovered.{contents, recovered, SameFiles, IsRecoverable}
 use Rattle.org_fileset.specs.Recovery.{closed_journal}
 use Rattle.org_fileset.specs.Replay.{IsOpenOver, AreApplicable, IsAtRest}
+use Rattle.org_fileset.specs.Writes.{IsUnconcerned}
 use Rattle.org_fileset.proofs.Starting.{since_start}
+use Rattle.org_fileset.proofs.Writes.{alone_journal, alone_then}
 use Rattle.org_fileset.proofs.Armed.{closed_after, on_ok_never}
-use Rattle.org_fileset.proofs.Recovering.{as_before, sync_left, sync_recoverable, looked_at, armed_before, closed_before, formed_applicable, recoverable_replayable, closed_stable, closed_rest, found_good, shut_gate, closed_open, closed_short, closed_shut, recovered_closed}
+use Rattle.org_fileset.proofs.Recovering.{as_before, sync_left, sync_recoverable, looked_at, armed_before, closed_before, formed_applicable, recoverable_replayable, closed_stable, closed_rest, found_good, shut_gate, closed_open, closed_short, closed_shut, recovered_closed, alone_looked, alone_replayed}
 use Rattle.org_fileset.proofs.recover.recover.Goals as goal
 
 pub returns-in_err-sync-clause-reopens : goal.returns-in_err-sync-clause-reopens
@@ -35,6 +37,8 @@ returns-in_err-sync-clause-reopens g c ended =
           (subst (λ (n : List ℕ). Changes sync n old mid c.sync.result) c.requires (c.sync.ensures.effect ended)) fit;
       bad = λ none. since_start (passes_as (c.sync.ensures.time ended) (λ image left. sync_left journal_name old image own (subst (λ (n : List ℕ). AreLeftBy sync n old image) c.requires left)))
           old (g.met.D.Disk.only_now c.args.disk.now) honest (λ image left. left);
+      alone = alone_journal g.D.Disk.files g.D.Disk.moment g.D.Disk.left_since c.args.journal.now (IsUnconcerned (contents old journal_name)) (AreLeftBy sync c.args.journal.now old) c.args.disk.now c.sync.new.self c.requires (λ name is. is.apart)
+          (c.sync.ensures.effect ended).others (c.sync.ensures.time ended) (λ image left. left.others);
     }
 
 pub returns-in_err-record-clause-bad : goal.returns-in_err-record-clause-bad
@@ -68,6 +72,7 @@ returns-in_err-record-clause-reopens g c ended =
       any_moment = λ fit each. since_start (look.since each) old (g.met.D.Disk.only_now c.args.disk.now) honest (as_before old each);
       recoverable = λ fit each. look.is.recoverable fit;
       bad = λ none. since_start look.time old (g.met.D.Disk.only_now c.args.disk.now) honest (λ image left. left);
+      alone = look.alone;
     }
 
 pub replay-requires-clause-applicable : goal.replay-requires-clause-applicable
@@ -101,6 +106,7 @@ returns-in_err-replay-in-Armed-clause-reopens g c ended =
           old (g.met.D.Disk.only_now c.args.disk.now) honest (as_before old each);
       recoverable = λ fit each. replays.recoverable (can fit);
       bad = λ none. absurd (found_good (contents now) c.in_ok-record.field-0 whole (ap recovered look.is.same ∙ none));
+      alone = alone_replayed g.D.Disk.files g.D.Disk.moment g.D.Disk.left_since entries c.args.disk.now c.find.new.disk c.replay.new.disk look over replays.alone;
     }
 
 pub returns-in_ok-replay-in-Armed-clause-reopens : goal.returns-in_ok-replay-in-Armed-clause-reopens
@@ -139,6 +145,7 @@ returns-in_ok-replay-in-Armed-clause-reopens g c ended =
           old (g.met.D.Disk.only_now c.args.disk.now) honest (as_before old each);
       recoverable = λ fit each. replays.recoverable (can fit);
       bad = λ none. absurd (found_good (contents now) c.in_ok-record.field-0 whole (ap recovered look.is.same ∙ none));
+      alone = alone_replayed g.D.Disk.files g.D.Disk.moment g.D.Disk.left_since entries c.args.disk.now c.find.new.disk c.replay.new.disk look over replays.alone;
     }
 
 pub returns-in_err-length-in-Closed-clause-reopens : goal.returns-in_err-length-in-Closed-clause-reopens
@@ -161,6 +168,7 @@ returns-in_err-length-in-Closed-clause-reopens g c ended =
           old (g.met.D.Disk.only_now c.args.disk.now) honest (as_before old each);
       recoverable = λ fit each. subst IsRecoverable (sym again) (look.is.recoverable fit);
       bad = λ none. absurd (found_good (contents now) c.in_ok-record.field-0 (subst (λ (f : List ℕ → FileState). Finds (contents f) (Ok c.in_ok-record.field-0)) (sym looks.same) (c.in_ok-record.ensures.found h2)) (ap recovered look.is.same ∙ none));
+      alone = alone_looked g.D.Disk.files g.D.Disk.moment g.D.Disk.left_since c.args.disk.now c.find.new.disk c.length.new.self look (c.length.ensures.looks ended);
     }
 
 pub returns-else-branch-lt-FRONT-clause-reopens : goal.returns-else-branch-lt-FRONT-clause-reopens
@@ -197,6 +205,7 @@ returns-else-branch-lt-FRONT-clause-reopens g c ended =
           old (g.met.D.Disk.only_now c.args.disk.now) honest (as_before old each);
       recoverable = λ fit each. subst IsRecoverable (sym again) (look.is.recoverable fit);
       bad = λ none. absurd (found_good (contents now) c.in_ok-record.field-0 (subst (λ (f : List ℕ → FileState). Finds (contents f) (Ok c.in_ok-record.field-0)) (sym looks.same) (c.in_ok-record.ensures.found h2)) (ap recovered look.is.same ∙ none));
+      alone = alone_looked g.D.Disk.files g.D.Disk.moment g.D.Disk.left_since c.args.disk.now c.find.new.disk c.length.new.self look (c.length.ensures.looks ended);
     }
 
 pub returns-in_err-prepare-in-Closed-clause-reopens : goal.returns-in_err-prepare-in-Closed-clause-reopens
@@ -229,6 +238,10 @@ returns-in_err-prepare-in-Closed-clause-reopens g c ended =
           old (g.met.D.Disk.only_now c.args.disk.now) honest (as_before old each);
       recoverable = λ fit each. inl (λ name not. subst IsStable (sym (puts.others name not ∙ ap (λ (f : List ℕ → FileState). f name) again)) (others fit name not));
       bad = λ none. absurd (found_good (contents now) c.in_ok-record.field-0 (subst (λ (f : List ℕ → FileState). Finds (contents f) (Ok c.in_ok-record.field-0)) (sym looks.same) (c.in_ok-record.ensures.found h2)) (ap recovered look.is.same ∙ none));
+      alone = alone_then g.D.Disk.files g.D.Disk.moment g.D.Disk.left_since (IsUnconcerned (contents old journal_name)) c.args.disk.now c.length.new.self c.prepare.new.disk
+          (alone_looked g.D.Disk.files g.D.Disk.moment g.D.Disk.left_since c.args.disk.now c.find.new.disk c.length.new.self look (c.length.ensures.looks h3))
+          (alone_journal g.D.Disk.files g.D.Disk.moment g.D.Disk.left_since c.args.journal.now (IsUnconcerned (contents old journal_name)) (LeavesClosed c.args.journal.now last) c.length.new.self c.prepare.new.disk c.requires (λ name is. is.apart)
+          (c.prepare.ensures.puts ended).others (c.prepare.ensures.any_moment ended) (λ image left. left.others));
     }
 
 pub returns-in_ok-prepare-in-Closed-clause-reopens : goal.returns-in_ok-prepare-in-Closed-clause-reopens
@@ -273,4 +286,8 @@ returns-in_ok-prepare-in-Closed-clause-reopens g c ended =
           old (g.met.D.Disk.only_now c.args.disk.now) honest (as_before old each);
       recoverable = λ fit each. inl (λ name not. subst IsStable (sym (puts.others name not ∙ ap (λ (f : List ℕ → FileState). f name) again)) (others fit name not));
       bad = λ none. absurd (found_good (contents now) c.in_ok-record.field-0 (subst (λ (f : List ℕ → FileState). Finds (contents f) (Ok c.in_ok-record.field-0)) (sym looks.same) (c.in_ok-record.ensures.found h2)) (ap recovered look.is.same ∙ none));
+      alone = alone_then g.D.Disk.files g.D.Disk.moment g.D.Disk.left_since (IsUnconcerned (contents old journal_name)) c.args.disk.now c.length.new.self c.prepare.new.disk
+          (alone_looked g.D.Disk.files g.D.Disk.moment g.D.Disk.left_since c.args.disk.now c.find.new.disk c.length.new.self look (c.length.ensures.looks h3))
+          (alone_journal g.D.Disk.files g.D.Disk.moment g.D.Disk.left_since c.args.journal.now (IsUnconcerned (contents old journal_name)) (LeavesClosed c.args.journal.now last) c.length.new.self c.prepare.new.disk c.requires (λ name is. is.apart)
+          (c.prepare.ensures.puts ended).others (c.prepare.ensures.any_moment ended) (λ image left. left.others));
     }

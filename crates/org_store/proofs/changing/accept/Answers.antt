@@ -3,7 +3,7 @@ use Rattle.org_journal.specs.Recovered.{contents}
 use Rattle.org_texts.specs.Texts.{TextSet, held_over}
 use Rattle.org_store.specs.declared.command.Reply.{Reply}
 use Rattle.org_store.specs.declared.command.RunFault.{RunFault}
-use Rattle.org_store.specs.Files.{new_texts}
+use Rattle.org_store.specs.Files.{files_of}
 use Rattle.org_store.specs.InOrder.{texts_of}
 use Rattle.org_store.specs.Keeping.{Acts}
 use Rattle.org_store.specs.Outcome.{Outcome, counted}
@@ -11,8 +11,8 @@ use Rattle.org_store.specs.Session.{Kept, kept_over}
 use Rattle.org_store.proofs.Acting.{acts_put, kept_same}
 use Rattle.org_store.proofs.Planned.{counted_texts}
 use Rattle.org_store.specs.Step.{fills}
-use Rattle.org_store.specs.Waiting.{WaitsAccepted}
-use Rattle.org_store.proofs.Waiting.{waits_put}
+use Rattle.org_store.specs.Waiting.{Joins, WaitsAccepted}
+use Rattle.org_store.proofs.Waiting.{joins_planned, waits_put}
 use Rattle.org_store.proofs.changing.accept.Goals as goal
 
 pub returns-in_err-put-clause-acts : goal.returns-in_err-put-clause-acts
@@ -40,14 +40,16 @@ returns-clause-acts g c states =
     let puts = c.in_ok-put.ensures.puts in
     let told = counted_texts (λ disk. contents (d.files disk)) states files edited tally c.args.plan.now put.memory.disk put.memory.names puts.1 c.requires.plan puts.0 in
     let same : mid ≡ old = kept_same d.files states files edited tally put.memory put.before in
+    let joins : Joins edited.held.before.waiting (files_of c.args.plan.now) edited.held.now.waiting =
+    rw (puts.1, put.before) (joins_planned c.args.plan.now files.held c.requires.plan.ready) in
     subst (λ (o : Outcome). Acts d.files d.moment d.left_since d.honest old o c.count.result new) (sym told)
-    (subst (λ (k : Kept g.row.D.Denot). Acts d.files d.moment d.left_since d.honest k (counted k.session texts) c.count.result new) same (c.count.ensures.acts states))
+    (subst (λ (k : Kept g.row.D.Denot). Acts d.files d.moment d.left_since d.honest k (counted k.session (files_of c.args.plan.now) texts) c.count.result new) same (c.count.ensures.acts states (files_of c.args.plan.now) joins))
 
 pub returns-in_err-put-clause-waits : goal.returns-in_err-put-clause-waits
 returns-in_err-put-clause-waits g c states =
     let old = kept_over g.D.Disk.files states c.args.files.now c.args.tally.now in
     let given : c.from_residual.result ≡ Err c.in_err-put.field-0.0 = search rules in
-    subst (λ (r : Result Reply RunFault). WaitsAccepted (fills old.session) (new_texts c.args.plan.now c.args.files.now.held.now) c.args.files.now.held r c.put.new.self.held) (sym given)
+    subst (λ (r : Result Reply RunFault). WaitsAccepted (fills old.session) (files_of c.args.plan.now) c.args.files.now.held r c.put.new.self.held) (sym given)
     (ap (λ (s : TextSet). s.waiting) c.put.ensures.before)
 
 pub returns-clause-waits : goal.returns-clause-waits

@@ -1,4 +1,4 @@
-use Rattle.std.proofs.Common.{◌≡◌, List, ℕ, ap, ◌∙◌, subst}
+use Rattle.std.proofs.Common.{◌≡◌, List, [], ℕ, ap, ◌∙◌, subst}
 use Rattle.org_journal.specs.Recovered.{contents}
 use Rattle.org_texts.specs.Texts.{TextSet, held_over}
 use Rattle.org_store.specs.InOrder.{texts_of}
@@ -7,7 +7,8 @@ use Rattle.org_store.specs.Outcome.{counted}
 use Rattle.org_store.specs.Session.{Kept, kept_over}
 use Rattle.org_store.proofs.Acting.{kept_same}
 use Rattle.org_store.specs.Step.{fills}
-use Rattle.org_store.proofs.Waiting.{waits_unchanged}
+use Rattle.org_store.specs.Waiting.{Joins}
+use Rattle.org_store.proofs.Waiting.{joins_same, waits_unchanged}
 use Rattle.org_store.proofs.changing.accept_unchanged.Goals as goal
 
 pub returns-clause-acts : goal.returns-clause-acts
@@ -26,8 +27,9 @@ returns-clause-acts g c states =
     ap (λ (t : TextSet). texts_of (held_over t (contents (d.files after.disk))) after.names) undone.now
     ∙ ap (λ disk. texts_of (held_over files.held.before (contents (d.files disk))) after.names) undone.memory.disk
     ∙ ap (λ (ns : List (List ℕ)). texts_of (held_over files.held.before (contents (d.files files.disk))) ns) undone.memory.names in
-    subst (λ (t : List (List ℕ)). Acts d.files d.moment d.left_since d.honest old (counted old.session t) c.count.result new) back
-    (subst (λ (k : Kept g.row.D.Denot). Acts d.files d.moment d.left_since d.honest k (counted k.session texts) c.count.result new) same (c.count.ensures.acts states))
+    let joins : Joins after.held.before.waiting [] after.held.now.waiting = rw (undone.now, undone.before) (joins_same files.held.before.waiting []) in
+    subst (λ (t : List (List ℕ)). Acts d.files d.moment d.left_since d.honest old (counted old.session [] t) c.count.result new) back
+    (subst (λ (k : Kept g.row.D.Denot). Acts d.files d.moment d.left_since d.honest k (counted k.session [] texts) c.count.result new) same (c.count.ensures.acts states [] joins))
 
 pub returns-clause-waits : goal.returns-clause-waits
 returns-clause-waits g c states =

@@ -14,7 +14,7 @@ use Rattle.org_store.proofs.Acting.{acts_done, acts_fault, acts_refused, kept_sa
 use Rattle.org_store.proofs.changing.count.Goals as goal
 
 pub returns-then-tally-clause-acts : goal.returns-then-tally-clause-acts
-returns-then-tally-clause-acts g c states =
+returns-then-tally-clause-acts g c states names joins =
     let d = g.D.Disk in
     let undone = c.undo.ensures in
     let files = c.args.files.now in
@@ -24,10 +24,10 @@ returns-then-tally-clause-acts g c states =
     let full : (c.args.tally.now.accepted == 2 ^ 64 - 1) ≡ true = search rules in
     acts_refused d.files d.moment d.left_since d.honest old (λ honest image left. g.met.D.Disk.only_now old.disk image honest left) refl new
     (kept_same d.files states files c.undo.new.self c.args.tally.now undone.memory undone.before)
-    c.requires.unbroken (counted old.session texts) TooLarge (ap (λ t. if t then Refuses TooLarge else Accepts texts) full)
+    c.requires.unbroken (counted old.session names texts) TooLarge (ap (λ t. if t then Refuses TooLarge else Accepts names texts) full)
 
 pub returns-in_err-keep_or_settle-clause-acts : goal.returns-in_err-keep_or_settle-clause-acts
-returns-in_err-keep_or_settle-clause-acts g c states =
+returns-in_err-keep_or_settle-clause-acts g c states names joins =
     let d = g.D.Disk in
     let kept = c.keep_or_settle.ensures in
     let files = c.args.files.now in
@@ -37,13 +37,13 @@ returns-in_err-keep_or_settle-clause-acts g c states =
     let fault = c.in_err-keep_or_settle.field-0.0 in
     let countable : (c.args.tally.now.accepted == 2 ^ 64 - 1) ≡ false = search rules in
     let given : c.from_residual.result ≡ Err fault = search rules in
-    subst (λ (r : Result Reply RunFault). Acts d.files d.moment d.left_since d.honest old (counted old.session texts) r new) (sym given)
-    (acts_fault d.files d.moment d.left_since d.honest old (λ honest image left. g.met.D.Disk.only_now old.disk image honest left) refl new (counted old.session texts)
-    texts c.keep_or_settle.result (ap (λ t. if t then Refuses TooLarge else Accepts texts) countable) c.requires.unbroken
+    subst (λ (r : Result Reply RunFault). Acts d.files d.moment d.left_since d.honest old (counted old.session names texts) r new) (sym given)
+    (acts_fault d.files d.moment d.left_since d.honest old (λ honest image left. g.met.D.Disk.only_now old.disk image honest left) refl new (counted old.session names texts)
+    names files.held.now.waiting texts c.keep_or_settle.result joins (ap (λ t. if t then Refuses TooLarge else Accepts names texts) countable) c.requires.unbroken
     (kept.keeps states) (kept.disk states) (kept.counts states) kept.breaks fault c.in_err-keep_or_settle.was)
 
 pub returns-clause-acts : goal.returns-clause-acts
-returns-clause-acts g c states =
+returns-clause-acts g c states names joins =
     let d = g.D.Disk in
     let kept = c.keep_or_settle.ensures in
     let files = c.args.files.now in
@@ -51,8 +51,8 @@ returns-clause-acts g c states =
     let new = kept_over d.files states c.keep_or_settle.new.files c.keep_or_settle.new.tally in
     let texts = texts_of (held_over files.held.now (contents (d.files files.disk))) files.names in
     let countable : (c.args.tally.now.accepted == 2 ^ 64 - 1) ≡ false = search rules in
-    acts_done d.files d.moment d.left_since d.honest old (λ honest image left. g.met.D.Disk.only_now old.disk image honest left) refl new (counted old.session texts)
-    texts c.keep_or_settle.result (ap (λ t. if t then Refuses TooLarge else Accepts texts) countable) c.requires.unbroken
+    acts_done d.files d.moment d.left_since d.honest old (λ honest image left. g.met.D.Disk.only_now old.disk image honest left) refl new (counted old.session names texts)
+    names files.held.now.waiting texts c.keep_or_settle.result joins (ap (λ t. if t then Refuses TooLarge else Accepts names texts) countable) c.requires.unbroken
     (kept.keeps states) (kept.disk states) (kept.counts states) kept.breaks c.keep_or_settle.new.tally.accepted c.in_ok-keep_or_settle.was refl
 
 pub returns-in_err-keep_or_settle-clause-waits : goal.returns-in_err-keep_or_settle-clause-waits

@@ -1,10 +1,10 @@
-use Rattle.std.proofs.Common.{◌≡◌, ◌∙◌, inl, ◌+◌, Ok, Err, refl, ap, subst, rules}
+use Rattle.std.proofs.Common.{◌≡◌, ◌∙◌, inl, ◌+◌, [], Ok, Err, refl, ap, subst, rules}
 use Rattle.org_journal.specs.Recovered.{contents}
 use Rattle.org_texts.specs.Texts.{held_over}
 use Rattle.org_store.specs.declared.command.RunFault.TheVariants.{OutOfMemory}
 use Rattle.org_store.specs.Files.{OpenFiles}
 use Rattle.org_store.specs.InOrder.{texts_of}
-use Rattle.org_store.specs.Left.{IsLeft}
+use Rattle.org_store.specs.Left.{IsLeft, IsLeftAlone}
 use Rattle.org_store.specs.Outcome.{Accepts}
 use Rattle.org_store.specs.Session.{kept_over}
 use Rattle.org_store.proofs.Leaving.{leaves_unwritten}
@@ -17,7 +17,8 @@ returns-then-not-fills-clause-disk g c states honest =
     let files = contents (d.files c.args.files.now.disk) in
     let texts = texts_of (held_over c.args.files.now.held.now files) c.args.files.now.names in
     let was = subst d.honest c.keep.ensures.memory.disk honest in
-    leaves_unwritten d.files d.moment d.left_since old (IsLeft old.session files (Accepts texts) (Ok (tt {0})) (c.args.tally.now.accepted + 1)) _
+    leaves_unwritten d.files d.moment d.left_since old (IsLeft old.session files (Accepts c.args.files.now.held.now.waiting texts) (Ok (tt {0})) (c.args.tally.now.accepted + 1))
+    (IsLeftAlone old.session [] (Accepts c.args.files.now.held.now.waiting texts)) _
     (λ image left. g.met.D.Disk.only_now c.args.files.now.disk image was left) refl (λ image holds. inl holds) _ c.keep.ensures.memory.disk refl
 
 pub returns-in-Err-OutOfMemory-clause-disk : goal.returns-in-Err-OutOfMemory-clause-disk
@@ -29,5 +30,6 @@ returns-in-Err-OutOfMemory-clause-disk g c states honest =
     let unwritten : c.commit.new.self ≡ c.args.files.now = search rules in
     let same = c.undo-in-Err-OutOfMemory.ensures.memory.disk ∙ ap (λ (f : OpenFiles g.row.D.Denot). f.disk) unwritten in
     let was = subst d.honest same honest in
-    leaves_unwritten d.files d.moment d.left_since old (IsLeft {A = Unit {0}} old.session files (Accepts texts) (Err OutOfMemory) c.args.tally.now.accepted) _
+    leaves_unwritten d.files d.moment d.left_since old (IsLeft {A = Unit {0}} old.session files (Accepts c.args.files.now.held.now.waiting texts) (Err OutOfMemory) c.args.tally.now.accepted)
+    (IsLeftAlone old.session [] (Accepts c.args.files.now.held.now.waiting texts)) _
     (λ image left. g.met.D.Disk.only_now c.args.files.now.disk image was left) refl (λ image holds. inl holds) _ same refl

@@ -1,6 +1,8 @@
-use Rattle.std.proofs.Common.{rules, ◌≡◌, ℕ, List, [], Ok, Err, IsErr, length, sym, ◌∙◌, ap, subst, arith}
+use Rattle.std.proofs.Common.{rules, ◌≡◌, ℕ, List, [], Option, Some, Ok, Err, IsErr, length, sym, ◌∙◌, ap, subst, arith}
 use Rattle.std.specs.Prelude.{IsTrue}
+use Rattle.std.specs.Map.{keys_of}
 use Rattle.std.proofs.lemmas.List.{nil_from_length}
+use Rattle.org_disk.specs.Names.{journal_name}
 use Rattle.org_disk.specs.declared.disk.DiskFault.{DiskFault}
 use Rattle.org_splice.specs.Texts.{EditedText}
 use Rattle.org_journal.specs.declared.record.Entry.{Entry}
@@ -9,10 +11,11 @@ use Rattle.org_journal.specs.Record.{IsWellFormed}
 use Rattle.org_journal.specs.Recovered.{contents, all_fit, replayed}
 use Rattle.org_fileset.specs.Entries.{changed}
 use Rattle.org_fileset.specs.Replay.{AreApplicable, Commits}
+use Rattle.org_fileset.specs.Writes.{IsOther, IsUnwritten}
 use Rattle.org_fileset.specs.declared.fault.SetFault.TheVariants.{Device}
 use Rattle.org_fileset.proofs.Armed.{on_ok_never}
 use Rattle.org_fileset.proofs.Recorded.{changes_applicable, changes_fit}
-use Rattle.org_fileset.proofs.Committing.{committable, all_edits, changes_formed, commits_none, commits_changes}
+use Rattle.org_fileset.proofs.Committing.{committable, all_edits, changes_formed, commits_none, commits_changes, has_record}
 use Rattle.org_fileset.proofs.set.FileSet.commit.Goals as goal
 
 pub encode-requires : goal.encode-requires
@@ -43,7 +46,7 @@ returns-then-len-eq0-clause-commits g c honest =
     let changes = g.C.Changes.pairs c.args.changes.now in
     let files = contents (d.files disk) in
     let none : changes ≡ [] = nil_from_length changes (omega (arith, c.if-len-eq0.true, c.len.ensures.len)) in
-    commits_none d.files d.moment d.left_since (changed changes files) disk (Ok tt) (λ image left. g.met.D.Disk.only_now disk image honest left)
+    commits_none d.files d.moment d.left_since (changed changes files) (IsOther (keys_of changes)) disk (Ok tt) (λ image left. g.met.D.Disk.only_now disk image honest left)
     (record { made = λ name not. ap (λ (l : List (List ℕ × EditedText)). changed l files name) (sym none); rest = λ rest. rest })
 
 pub returns-in_err-entries_of-clause-commits : goal.returns-in_err-entries_of-clause-commits
@@ -52,7 +55,7 @@ returns-in_err-entries_of-clause-commits g c honest =
     let disk = c.args.self.now.disk in
     let after = changed (g.C.Changes.pairs c.args.changes.now) (contents (d.files disk)) in
     let failed : IsErr c.from_residual.result = search rules in
-    commits_none d.files d.moment d.left_since after disk c.from_residual.result (λ image left. g.met.D.Disk.only_now disk image honest left) (on_ok_never _ c.from_residual.result failed)
+    commits_none d.files d.moment d.left_since after (IsOther (keys_of (g.C.Changes.pairs c.args.changes.now))) disk c.from_residual.result (λ image left. g.met.D.Disk.only_now disk image honest left) (on_ok_never _ c.from_residual.result failed)
 
 pub returns-in_err-body-clause-commits : goal.returns-in_err-body-clause-commits
 returns-in_err-body-clause-commits g c honest =
@@ -60,7 +63,7 @@ returns-in_err-body-clause-commits g c honest =
     let disk = c.args.self.now.disk in
     let after = changed (g.C.Changes.pairs c.args.changes.now) (contents (d.files disk)) in
     let failed : IsErr c.from_residual-in_err-body.result = search rules in
-    commits_none d.files d.moment d.left_since after disk c.from_residual-in_err-body.result (λ image left. g.met.D.Disk.only_now disk image honest left) (on_ok_never _ c.from_residual-in_err-body.result failed)
+    commits_none d.files d.moment d.left_since after (IsOther (keys_of (g.C.Changes.pairs c.args.changes.now))) disk c.from_residual-in_err-body.result (λ image left. g.met.D.Disk.only_now disk image honest left) (on_ok_never _ c.from_residual-in_err-body.result failed)
 
 pub returns-in-Ok-clause-commits : goal.returns-in-Ok-clause-commits
 returns-in-Ok-clause-commits g c = rw (← c.self.view_is) (λ ended.
@@ -71,9 +74,9 @@ returns-in-Ok-clause-commits g c = rw (← c.self.view_is) (λ ended.
     let after = c.commit_entries.new.disk in
     let entries = c.in_ok-entries_of.field-0.items in
     let files = contents (d.files disk) in
-    let made : Commits {A = Unit {0}} {E = DiskFault} d.files d.moment d.left_since (replayed entries files) disk after (Ok tt) =
-    subst (λ (l : List Entry). Commits {A = Unit {0}} {E = DiskFault} d.files d.moment d.left_since (replayed l files) disk after (Ok tt)) (c.entries.ensures ∙ c.new-record.ensures) (c.in-Ok.ensures.commits ended) in
-    commits_changes d.files d.moment d.left_since (g.C.Changes.pairs c.args.changes.now) entries disk after (Ok tt) (Ok tt) c.in_ok-entries_of.ensures.entries
+    let made : Commits {A = Unit {0}} {E = DiskFault} d.files d.moment d.left_since (replayed entries files) (IsUnwritten entries) disk after (Ok tt) =
+    subst (λ (l : List Entry). Commits {A = Unit {0}} {E = DiskFault} d.files d.moment d.left_since (replayed l files) (IsUnwritten l) disk after (Ok tt)) (c.entries.ensures ∙ c.new-record.ensures) (c.in-Ok.ensures.commits ended) in
+    commits_changes d.files d.moment d.left_since (g.C.Changes.pairs c.args.changes.now) entries disk after (Ok tt) (Ok tt) (λ none. omega (arith, c.if-len-eq0.false, c.len.ensures.len ∙ ap length none)) c.in_ok-entries_of.ensures.entries
     (all_edits files (g.C.Changes.pairs c.args.changes.now) (edits c.if-self.false honest)) made made.done)
 
 pub returns-clause-commits : goal.returns-clause-commits
@@ -85,7 +88,14 @@ returns-clause-commits g c = rw (← c.self.view_is) (λ ended.
     let after = c.commit_entries.new.disk in
     let entries = c.in_ok-entries_of.field-0.items in
     let files = contents (d.files disk) in
-    let made : Commits {A = Unit {0}} {E = DiskFault} d.files d.moment d.left_since (replayed entries files) disk after c.commit_entries.result =
-    subst (λ (l : List Entry). Commits {A = Unit {0}} {E = DiskFault} d.files d.moment d.left_since (replayed l files) disk after c.commit_entries.result) (c.entries.ensures ∙ c.new-record.ensures) (c.commit_entries.ensures.commits ended) in
-    commits_changes d.files d.moment d.left_since (g.C.Changes.pairs c.args.changes.now) entries disk after c.commit_entries.result (Err Device) c.in_ok-entries_of.ensures.entries
+    let made : Commits {A = Unit {0}} {E = DiskFault} d.files d.moment d.left_since (replayed entries files) (IsUnwritten entries) disk after c.commit_entries.result =
+    subst (λ (l : List Entry). Commits {A = Unit {0}} {E = DiskFault} d.files d.moment d.left_since (replayed l files) (IsUnwritten l) disk after c.commit_entries.result) (c.entries.ensures ∙ c.new-record.ensures) (c.commit_entries.ensures.commits ended) in
+    commits_changes d.files d.moment d.left_since (g.C.Changes.pairs c.args.changes.now) entries disk after c.commit_entries.result (Err Device) (λ none. omega (arith, c.if-len-eq0.false, c.len.ensures.len ∙ ap length none)) c.in_ok-entries_of.ensures.entries
     (all_edits files (g.C.Changes.pairs c.args.changes.now) (edits c.if-self.false honest)) made tt)
+
+-- the record of the changes
+pub returns-in-Ok-clause-record : goal.returns-in-Ok-clause-record
+returns-in-Ok-clause-record g c ended =
+    let journal = contents (g.D.Disk.files c.commit_entries.new.disk) journal_name in
+    has_record (g.C.Changes.pairs c.args.changes.now) c.in_ok-entries_of.field-0.items journal c.in_ok-entries_of.ensures.entries
+    (c.in-Ok.ensures.record ended ∙ ap (λ (l : List Entry). let o : Option (List Entry) = Some l in o) (c.entries.ensures ∙ c.new-record.ensures))

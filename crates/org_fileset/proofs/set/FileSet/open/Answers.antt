@@ -1,6 +1,10 @@
 use Rattle.org_disk.specs.Disk.{AreImages}
 use Rattle.org_disk.proofs.Moments.{passes_none}
+use Rattle.org_disk.specs.Names.{journal_name}
+use Rattle.org_journal.specs.Recovered.{contents}
 use Rattle.org_fileset.specs.Recovery.{RecoversAsBefore}
+use Rattle.org_fileset.specs.Writes.{IsUnconcerned}
+use Rattle.org_fileset.proofs.Writes.{alone_none}
 use Rattle.org_fileset.proofs.Starting.{since_start}
 use Rattle.org_fileset.proofs.Recovering.{as_before}
 use Rattle.org_fileset.proofs.set.FileSet.open.Goals as goal
@@ -15,14 +19,15 @@ returns-in-Err-clause-reopens g c honest =
       recoverable = λ fit each. fit;
       bad = λ none. since_start (passes_none (g.D.Disk.moment c.args.disk) (g.D.Disk.left_since c.args.disk) (AreImages old))
           old (g.met.D.Disk.only_now c.args.disk) honest (λ image left. left);
+      alone = alone_none g.D.Disk.files g.D.Disk.moment g.D.Disk.left_since (IsUnconcerned (contents old journal_name)) c.args.disk;
     }
 
 pub returns-in-Ok-make_ready-clause-reopens : goal.returns-in-Ok-make_ready-clause-reopens
 returns-in-Ok-make_ready-clause-reopens g c ended =
     let made = c.in-Ok-make_ready.ensures.reopens ended in
-    record { done = made.done; any_moment = made.any_moment; recoverable = made.recoverable; bad = made.bad }
+    record { done = made.done; any_moment = made.any_moment; recoverable = made.recoverable; bad = made.bad; alone = made.alone }
 
 pub returns-in-Err-make_ready-clause-reopens : goal.returns-in-Err-make_ready-clause-reopens
 returns-in-Err-make_ready-clause-reopens g c ended =
     let made = c.in-Err-make_ready.ensures.reopens ended in
-    record { done = tt; any_moment = made.any_moment; recoverable = made.recoverable; bad = made.bad }
+    record { done = tt; any_moment = made.any_moment; recoverable = made.recoverable; bad = made.bad; alone = made.alone }

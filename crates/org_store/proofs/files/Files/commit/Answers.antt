@@ -46,7 +46,7 @@ returns-in_err-commit-clause-commits g c =
     let unbroken : inside.set.broken ≡ false = rw (← c.self.view_is) at c.requires.unbroken in
     let given : c.from_residual.result ≡ Err fault = search rules in
     rw (← c.self.view_is) (λ honest.
-    subst (λ r. CommitsTexts d.files d.moment d.left_since inside.set.names (texts_of (held_over inside.texts.now (contents (d.files inside.set.disk))) inside.set.names) inside.set.disk c.commit.new.self.disk r) (sym given)
+    subst (λ r. CommitsTexts d.files d.moment d.left_since inside.set.names inside.texts.now.waiting (texts_of (held_over inside.texts.now (contents (d.files inside.set.disk))) inside.set.names) inside.set.disk c.commit.new.self.disk r) (sym given)
     (commit_failed d.files d.moment d.left_since inside.set.names ((inside.set.broken ≡ false) × d.honest inside.set.disk) inside.set.disk c.commit.new.self.disk inside.texts.now c.self.invariant.0.apart c.self.invariant.0.now
     (unbroken, c.commit.ensures.accounts.was_honest honest) c.commit.result fault (c.commit.ensures.commits honest)))
 

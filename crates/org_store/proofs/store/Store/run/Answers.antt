@@ -7,7 +7,7 @@ use Rattle.org_store.specs.declared.command.Reply.{Reply}
 use Rattle.org_store.specs.declared.command.Command.TheVariants.{Time, Show}
 use Rattle.org_store.specs.InOrder.{texts_of}
 use Rattle.org_store.specs.Keeping.{Acts}
-use Rattle.org_store.specs.Left.{IsLeft}
+use Rattle.org_store.specs.Left.{IsLeft, IsLeftAlone}
 use Rattle.org_store.specs.Outcome.{outcome}
 use Rattle.org_store.specs.Session.{kept_over}
 use Rattle.org_store.specs.Waiting.{Waits}
@@ -23,7 +23,7 @@ returns-then-is_broken-clause-disk g c = λ honest.
     let s = old.session in
     let files = contents (d.files old.disk) in
     let own : s.settled ≡ texts_of files s.names = rw (← c.self.view_is) refl in
-    leaves_unwritten d.files d.moment d.left_since old (IsLeft {A = Reply} s files (outcome s c.args.command.now) (Err Broken) s.accepted) _ (λ image left. g.met.D.Disk.only_now old.disk image honest left) own
+    leaves_unwritten d.files d.moment d.left_since old (IsLeft {A = Reply} s files (outcome s c.args.command.now) (Err Broken) s.accepted) (IsLeftAlone s old.waiting (outcome s c.args.command.now)) _ (λ image left. g.met.D.Disk.only_now old.disk image honest left) own
     (λ image holds. inl holds) old refl own
 
 pub returns-in-Time-clause-disk : goal.returns-in-Time-clause-disk

@@ -2,10 +2,11 @@ use Rattle.std.proofs.Common.{◌≡◌, inl, false, Ok, Err, refl, subst, rules
 use Rattle.org_journal.specs.Recovered.{contents}
 use Rattle.org_store.specs.declared.command.RunFault.TheVariants.{Broken}
 use Rattle.org_disk.specs.Accounts.{LeavesOver}
+use Rattle.org_fileset.specs.Writes.{LeavesAlone, IsOther}
 use Rattle.org_texts.specs.Texts.{TextSet, held_over}
 use Rattle.org_store.specs.InOrder.{HoldsEither, texts_of}
 use Rattle.org_store.specs.Keeping.{fault_of_set}
-use Rattle.org_store.specs.Left.{IsLeft}
+use Rattle.org_store.specs.Left.{IsLeft, IsLeftAlone}
 use Rattle.org_store.specs.Outcome.{AsksToSettle}
 use Rattle.org_store.proofs.Leaving.{leaves_unwritten}
 use Rattle.org_store.proofs.Sessions.{Fails, settle_failed, settle_leaves}
@@ -18,7 +19,7 @@ returns-then-is_broken-clause-disk g c = λ honest.
     let s = old.session in
     let files = contents (d.files old.disk) in
     let own : s.settled ≡ texts_of files s.names = rw (← c.self.view_is) refl in
-    leaves_unwritten d.files d.moment d.left_since old (IsLeft {A = Unit {0}} s files AsksToSettle (Err Broken) s.accepted) _ (λ image left. g.met.D.Disk.only_now old.disk image honest left) own (λ image holds. inl holds) old refl own
+    leaves_unwritten d.files d.moment d.left_since old (IsLeft {A = Unit {0}} s files AsksToSettle (Err Broken) s.accepted) (IsLeftAlone s old.waiting AsksToSettle) _ (λ image left. g.met.D.Disk.only_now old.disk image honest left) own (λ image holds. inl holds) old refl own
 
 pub returns-then-self-clause-disk : goal.returns-then-self-clause-disk
 returns-then-self-clause-disk g c = λ honest.
@@ -27,7 +28,7 @@ returns-then-self-clause-disk g c = λ honest.
     let s = old.session in
     let files = contents (d.files old.disk) in
     let own : s.settled ≡ texts_of files s.names = rw (← c.self.view_is) refl in
-    leaves_unwritten d.files d.moment d.left_since old (IsLeft s files AsksToSettle (Ok (tt {0})) s.accepted) _ (λ image left. g.met.D.Disk.only_now old.disk image honest left) own (λ image holds. inl holds) old refl own
+    leaves_unwritten d.files d.moment d.left_since old (IsLeft s files AsksToSettle (Ok (tt {0})) s.accepted) (IsLeftAlone s old.waiting AsksToSettle) _ (λ image left. g.met.D.Disk.only_now old.disk image honest left) own (λ image holds. inl holds) old refl own
 
 pub returns-in_err-commit-clause-step : goal.returns-in_err-commit-clause-step
 returns-in_err-commit-clause-step g c =
@@ -56,4 +57,5 @@ returns-in_err-commit-clause-disk g c =
     settle_leaves d.files d.moment d.left_since inside.states inside.files c.commit.new.self inside.tally
     (λ image left. g.met.D.Disk.only_now inside.files.disk image (made.accounts.was_honest ended) left) c.commit.result fault fails
     (λ rest. subst (λ (s : TextSet). LeavesOver d.moment d.left_since inside.files.disk c.commit.new.self.disk (HoldsEither inside.files.names files (texts_of (held_over s files) inside.files.names))) c.self.invariant.1
-    ((made.commits ended).any_moment rest)) (made.commits ended).recoverable)
+    ((made.commits ended).any_moment rest)) (made.commits ended).recoverable
+    (subst (λ (s : TextSet). LeavesAlone d.files d.moment d.left_since (IsOther s.waiting) inside.files.disk c.commit.new.self.disk) c.self.invariant.1 (made.commits ended).alone))

@@ -1,0 +1,100 @@
+-- Calls that leave files alone, one after another.
+use Rattle.std.proofs.Common.{◌≡◌, ◌≢◌, inl, inr, ℕ, List, [], ◌∷◌, true, false, Result, refl, sym, ◌∙◌, ap, subst}
+use Rattle.std.specs.Prelude.{Bool, IsFalse, ◌||◌, slice_get, Some}
+use Rattle.std.specs.List.{list_any}
+use Rattle.std.specs.Map.{keys_of}
+use Rattle.std.specs.Str.{bytes_eq}
+use Rattle.org_disk.specs.Disk.{FileState, IsImage, AreLeftBy, Changes}
+use Rattle.org_disk.specs.Accounts.{Looks, PassesOver}
+use Rattle.org_disk.specs.Names.{journal_name}
+use Rattle.org_disk.specs.declared.disk.DiskFault.{DiskFault}
+use Rattle.org_disk.proofs.Moments.{Image, passes_none, passes_as, passes_then}
+use Rattle.org_disk.proofs.Names.{name_cases}
+use Rattle.org_splice.specs.Texts.{EditedText}
+use Rattle.org_journal.specs.declared.record.Entry.{Entry}
+use Rattle.org_journal.specs.Record.{is_named}
+use Rattle.org_fileset.specs.Entries.{AreEntriesOf}
+use Rattle.org_fileset.proofs.Takes.{named_apart}
+use Rattle.org_fileset.specs.Writes.{HasImagesOf, LeavesAlone, IsOther, IsUnwritten}
+
+module _ {D : Type 0} (files : D → List ℕ → FileState) (moment : D → ℕ) (left_since : D → ℕ → Image → Type 0) where
+  -- no call
+  pub alone_none : (These : List ℕ → Type 0) (disk : D) → LeavesAlone files moment left_since These disk disk
+  alone_none These disk = record { same = λ name this. refl; time = passes_none (moment disk) (left_since disk) (HasImagesOf These (files disk)) }
+
+  -- one run of calls after another
+  pub alone_then : (These : List ℕ → Type 0) (old mid new : D) → LeavesAlone files moment left_since These old mid → LeavesAlone files moment left_since These mid new
+      → LeavesAlone files moment left_since These old new
+  alone_then These old mid new first second = record {
+    same = λ name this. second.same name this ∙ first.same name this;
+    time = passes_then first.time second.time (λ image has name this. subst (λ f. IsImage f (image name)) (first.same name this) (has name this));
+  }
+
+  -- fewer files
+  pub alone_fewer : (These Those : List ℕ → Type 0) (old new : D) → LeavesAlone files moment left_since Those old new → ((name : List ℕ) → These name → Those name)
+      → LeavesAlone files moment left_since These old new
+  alone_fewer These Those old new alone fewer = record {
+    same = λ name this. alone.same name (fewer name this);
+    time = passes_as alone.time (λ image has name this. has name (fewer name this));
+  }
+
+  -- a call that looks
+  pub alone_looks : (These : List ℕ → Type 0) (old new : D) → Looks files moment left_since old new → LeavesAlone files moment left_since These old new
+  alone_looks These old new looks = record {
+    same = λ name this. ap (λ (f : List ℕ → FileState). f name) looks.same;
+    time = passes_as looks.time (λ image left name this. left name);
+  }
+
+  -- calls on the file of one name, of which these words are said
+  pub alone_but : (name : List ℕ) (P : Image → Type 0) (old new : D) → ((other : List ℕ) → other ≢ name → files new other ≡ files old other) → PassesOver moment left_since old new P
+      → ((image : Image) → P image → HasImagesOf (λ other. other ≢ name) (files old) image) → LeavesAlone files moment left_since (λ other. other ≢ name) old new
+  alone_but name P old new others time has = record { same = others; time = passes_as time has }
+
+  -- one such call
+  pub alone_call : (effect : FileState → FileState) (name : List ℕ) (old new : D) (result : Result (Unit {0}) DiskFault) → Changes effect name (files old) (files new) result
+      → PassesOver moment left_since old new (AreLeftBy effect name (files old)) → LeavesAlone files moment left_since (λ other. other ≢ name) old new
+  alone_call effect name old new result changes time = alone_but name (AreLeftBy effect name (files old)) old new changes.others time (λ image left. left.others)
+
+-- calls on the file of one entry of a record
+pub alone_entry : {D : Type 0} (files : D → List ℕ → FileState) (moment : D → ℕ) (left_since : D → ℕ → Image → Type 0) (entries : List Entry) (i : ℕ) (entry : Entry) (old mid new : D) → slice_get entries i ≡ Some entry
+    → LeavesAlone files moment left_since (λ name. IsFalse (is_named name entries)) old mid → LeavesAlone files moment left_since (λ other. other ≢ entry.name) mid new
+    → LeavesAlone files moment left_since (λ name. IsFalse (is_named name entries)) old new
+alone_entry files moment left_since entries i entry old mid new is sofar here =
+    alone_then files moment left_since (λ name. IsFalse (is_named name entries)) old mid new sofar
+    (alone_fewer files moment left_since (λ name. IsFalse (is_named name entries)) (λ other. other ≢ entry.name) mid new here (λ name none. named_apart entries i entry name none is))
+
+-- What no record names, and isn't the journal, is left alone by calls on its files ..
+pub alone_applied : {D : Type 0} (files : D → List ℕ → FileState) (moment : D → ℕ) (left_since : D → ℕ → Image → Type 0) (entries : List Entry) (old new : D)
+    → LeavesAlone files moment left_since (λ name. IsFalse (is_named name entries)) old new → LeavesAlone files moment left_since (IsUnwritten entries) old new
+alone_applied files moment left_since entries old new alone = alone_fewer files moment left_since (IsUnwritten entries) (λ name. IsFalse (is_named name entries)) old new alone (λ name is. is.unnamed)
+
+-- .. and on the journal
+pub alone_journal : {D : Type 0} (files : D → List ℕ → FileState) (moment : D → ℕ) (left_since : D → ℕ → Image → Type 0) (journal : List ℕ) (These : List ℕ → Type 0) (P : Image → Type 0) (old new : D) → journal ≡ journal_name
+    → ((name : List ℕ) → These name → name ≢ journal_name) → ((other : List ℕ) → other ≢ journal → files new other ≡ files old other) → PassesOver moment left_since old new P
+    → ((image : Image) → P image → HasImagesOf (λ other. other ≢ journal) (files old) image) → LeavesAlone files moment left_since These old new
+alone_journal files moment left_since journal These P old new is apart others time has =
+    alone_fewer files moment left_since These (λ other. other ≢ journal) old new (alone_but files moment left_since journal P old new others time has) (λ name this same. apart name this (same ∙ is))
+
+-- The files that a record of changes doesn't name are those that aren't changed.
+
+either_false : (a b : Bool) → a || b ≡ false → (a ≡ false) × (b ≡ false)
+either_false true b none = absurd (cc)
+either_false false b none = (refl, none)
+
+key_unnamed : (changes : List (List ℕ × EditedText)) (entries : List Entry) (name : List ℕ) → AreEntriesOf changes entries → list_any (bytes_eq name) (keys_of changes) ≡ false → is_named name entries ≡ false
+key_unnamed [] [] name are none = refl
+key_unnamed (change ∷ changes) (entry ∷ entries) name are none =
+    let parts = either_false (bytes_eq name change.0) (list_any (bytes_eq name) (keys_of changes)) none in
+    elim (name_cases entry.name name) [
+      | inl same ↦ elim (name_cases name change.0) [
+        | inl here ↦ absurd (cc)
+        | inr apart ↦ absurd (apart.0 (sym same.0 ∙ are.0.name))
+      ]
+      | inr other ↦ ap (λ (b : Bool). b || is_named name entries) other.1 ∙ key_unnamed changes entries name are.1 parts.1
+    ]
+key_unnamed [] (entry ∷ entries) name are none = absurd are
+key_unnamed (change ∷ changes) [] name are none = absurd are
+
+pub others_unwritten : (changes : List (List ℕ × EditedText)) (entries : List Entry) (name : List ℕ) → AreEntriesOf changes entries → (changes ≡ [] → ⊥) → IsOther (keys_of changes) name → IsUnwritten entries name
+others_unwritten [] entries name are some other = absurd (some refl)
+others_unwritten (change ∷ changes) entries name are some other = record { apart = other.0; unnamed = key_unnamed (change ∷ changes) entries name are other.1 }

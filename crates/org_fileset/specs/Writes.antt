@@ -1,0 +1,40 @@
+-- Which files calls write.
+use Rattle.std.specs.Prelude.{◌≡◌, ◌≢◌, ℕ, List, [], ◌∷◌, IsTrue, IsFalse, Some, drop}
+use Rattle.std.specs.List.{list_any}
+use Rattle.std.specs.Str.{bytes_eq}
+use Rattle.org_disk.specs.Disk.{FileState, IsImage}
+use Rattle.org_disk.specs.Accounts.{PassesOver}
+use Rattle.org_disk.specs.Names.{journal_name}
+use Rattle.org_journal.specs.declared.record.Entry.{Entry}
+use Rattle.org_journal.specs.Gate.{is_open}
+use Rattle.org_journal.specs.Reading.{journal_at}
+use Rattle.org_journal.specs.Record.{is_named}
+use Rattle.org_journal.specs.Recovered.{Image}
+
+-- what is left has an image of each of these files
+abbrev pub HasImagesOf : (List ℕ → Type 0) → (List ℕ → FileState) → Image → Type 0
+HasImagesOf These files image = (name : List ℕ) → These name → IsImage (files name) (image name)
+
+-- Calls leave these files alone: each is as it was, and a crash meanwhile leaves of it what it might have left before.
+pub record LeavesAlone {D : Type 0} (files : D → List ℕ → FileState) (moment : D → ℕ)
+    (left_since : D → ℕ → Image → Type 0) (These : List ℕ → Type 0) (old new : D) : Type 0 where
+  pub same : (name : List ℕ) → These name → files new name ≡ files old name
+  pub time : PassesOver moment left_since old new (HasImagesOf These (files old))
+
+-- A commit of the files of these names doesn't write the file of this name: there is nothing to commit, or it is neither
+-- one of these nor the journal.
+abbrev pub IsOther : List (List ℕ) → List ℕ → Type 0
+IsOther [] name = Unit {0}
+IsOther (first ∷ names) name = (name ≢ journal_name) × IsFalse (list_any (bytes_eq name) (first ∷ names))
+
+-- the file of this name is neither the journal nor one of the record's
+pub record IsUnwritten (entries : List Entry) (name : List ℕ) : Type 0 where
+  pub apart : name ≢ journal_name
+  pub unnamed : IsFalse (is_named name entries)
+
+-- The file of this name isn't the journal, which has these bytes; nor does a record name it that stands behind an open
+-- gate.
+pub record IsUnconcerned (journal : List ℕ) (name : List ℕ) : Type 0 where
+  pub apart : name ≢ journal_name
+  pub unnamed : IsTrue (is_open journal) → (entries : List Entry) → journal_at (drop 1 journal) ≡ Some entries
+      → IsFalse (is_named name entries)
