@@ -1,5 +1,5 @@
 -- What calls over a store's files do, told of the store.
-use Rattle.std.proofs.Common.{◌≡◌, inl, inr, ⊎_elim, ℕ, ◌+◌, false, List, [], Result, Ok, Err, refl, sym, ◌∙◌, ap, subst, if◌then◌else◌}
+use Rattle.std.proofs.Common.{◌≡◌, inl, inr, ℕ, ◌+◌, false, List, [], Result, Ok, Err, refl, sym, ◌∙◌, ap, subst, if◌then◌else◌}
 use Rattle.std.specs.Prelude.{◌↔◌, IsErrOf, IsTrue}
 use Rattle.std.proofs.lemmas.Bool.{false≢true}
 use Rattle.org_disk.specs.Accounts.{Looks}
@@ -19,7 +19,7 @@ use Rattle.org_store.specs.Counts.{Counts, SameCounts}
 use Rattle.org_store.specs.Files.{OpenFiles, PutsPlan, StaysInMemory, new_texts}
 use Rattle.org_store.specs.InOrder.{texts_of}
 use Rattle.org_store.specs.Keeping.{Acts, Keeps, KeepsCounts, Reads}
-use Rattle.org_store.specs.Left.{IsLeft, IsLeftAlone, MayHaveWritten}
+use Rattle.org_store.specs.Left.{IsLeft, IsLeftAlone, IsSpared, MayHaveWritten}
 use Rattle.org_store.specs.Outcome.{Outcome, Accepts, Refuses, changed}
 use Rattle.org_store.specs.Runs.{LeavesDisk}
 use Rattle.org_store.specs.Session.{Kept, Session, kept_over}
@@ -77,7 +77,7 @@ module _ {D : Type 0} (files : D → List ℕ → FileState) (moment : D → ℕ
   acts_quiet new outcome answer quiet was does looks now same works breaks = record {
     does = does;
     disk = λ h. leaves_same files moment left_since old (IsLeft old.session (contents (files old.disk)) outcome answer new.session.accepted)
-        (IsLeftAlone old.session old.waiting outcome) (IsErrOf answer Device) (start (was h)) own
+        (IsLeftAlone old.session old.waiting outcome answer new.session.accepted) (IsErrOf answer Device) (start (was h)) own
         (λ image holds. inl holds) new (looks h).time (looks h).same now;
     counts = quiet_counts old.session new.session same answer quiet;
     works = works;
@@ -87,10 +87,10 @@ module _ {D : Type 0} (files : D → List ℕ → FileState) (moment : D → ℕ
   -- a call that changes nothing, for this reason
   module _ (new : Kept D) (same : new ≡ old) (unbroken : old.session.broken ≡ false) (outcome : Outcome) where
     unwritten : (fault : RunFault) → honest new.disk → LeavesDisk files moment left_since old new (IsLeft {A = Reply} old.session (contents (files old.disk)) outcome (Err fault) new.session.accepted)
-        (IsLeftAlone old.session old.waiting outcome) (IsErrOf {T = Reply} (Err fault) Device)
+        (IsLeftAlone {A = Reply} old.session old.waiting outcome (Err fault) new.session.accepted) (IsErrOf {T = Reply} (Err fault) Device)
     unwritten fault h =
         leaves_unwritten files moment left_since old (IsLeft {A = Reply} old.session (contents (files old.disk)) outcome (Err fault) new.session.accepted)
-        (IsLeftAlone old.session old.waiting outcome) (IsErrOf {T = Reply} (Err fault) Device)
+        (IsLeftAlone {A = Reply} old.session old.waiting outcome (Err fault) new.session.accepted) (IsErrOf {T = Reply} (Err fault) Device)
         (start (subst (λ (k : Kept D). honest k.disk) same h)) own (λ image holds. inl holds)
         new (ap (λ (k : Kept D). k.disk) same) (subst (λ (k : Kept D). k.session.settled ≡ texts_of (contents (files k.disk)) k.session.names) (sym same) own)
 
@@ -170,14 +170,14 @@ module _ {D : Type 0} (files : D → List ℕ → FileState) (moment : D → ℕ
     disk = λ h.
         let is = plans (was h) in
         let looked = looks (was h) in
-        leaves_after files moment left_since old (IsLeft old.session (contents (files old.disk)) outcome answer new.session.accepted) (IsLeftAlone old.session old.waiting outcome) (IsErrOf answer Device)
+        leaves_after files moment left_since old (IsLeft old.session (contents (files old.disk)) outcome answer new.session.accepted) (IsLeftAlone old.session old.waiting outcome answer new.session.accepted) (IsErrOf answer Device)
         (start (was_before (was h))) own
         (λ image holds. inl holds)
-        mid new (IsLeft mid.session (contents (files mid.disk)) later answer new.session.accepted) (IsLeftAlone mid.session mid.waiting later) (IsErrOf answer Device) looked.time looked.same (acts.disk h)
+        mid new (IsLeft mid.session (contents (files mid.disk)) later answer new.session.accepted) (IsLeftAlone mid.session mid.waiting later answer new.session.accepted) (IsErrOf answer Device) looked.time looked.same (acts.disk h)
         (λ image left. subst (λ (s : Session). IsLeft s (contents (files old.disk)) outcome answer new.session.accepted image) is.1
         (subst (λ (o : Outcome). IsLeft mid.session (contents (files old.disk)) o answer new.session.accepted image) (sym is.0)
         (subst (λ (f : List ℕ → FileState). IsLeft mid.session (contents f) later answer new.session.accepted image) looked.same left)))
-        (λ name this. rw (is.1, waits) (subst (λ (o : Outcome). IsLeftAlone old.session old.waiting o name) is.0 this))
+        (λ name this. rw (is.1, waits) (subst (λ (o : Outcome). IsLeftAlone old.session old.waiting o answer new.session.accepted name) is.0 this))
         (λ fell. fell);
     counts = counts_from old.session mid.session new.session same answer acts.counts;
     works = acts.works;
@@ -188,17 +188,19 @@ module _ {D : Type 0} (files : D → List ℕ → FileState) (moment : D → ℕ
   module _ (new : Kept D) (outcome : Outcome) (names waiting texts : List (List ℕ)) (result : Result (Unit {0}) RunFault) (joins : Joins old.waiting names waiting) (accepts : outcome ≡ Accepts names texts) (unbroken : old.session.broken ≡ false)
       (keeps : honest new.disk → Keeps old.session texts result new.session)
       (leaves : honest new.disk → LeavesDisk files moment left_since old new (IsLeft old.session (contents (files old.disk)) (Accepts waiting texts) result new.session.accepted)
-      (IsLeftAlone old.session [] (Accepts waiting texts)) (IsErrOf result Device))
+      (IsLeftAlone old.session [] (Accepts waiting texts) result new.session.accepted) (IsErrOf result Device))
       (counts : KeepsCounts old.session result new.session) (breaks : IsErrOf result Device ↔ IsTrue new.session.broken) where
     left_accepting : (answer : Result Reply RunFault) (image : Image) → IsLeft old.session (contents (files old.disk)) (Accepts waiting texts) answer new.session.accepted image
         → IsLeft old.session (contents (files old.disk)) outcome answer new.session.accepted image
     left_accepting answer image left = subst (λ (o : Outcome). IsLeft old.session (contents (files old.disk)) o answer new.session.accepted image) (sym accepts) left
 
     -- fewer files wait to be written
-    alone_accepting : (name : List ℕ) → IsLeftAlone old.session old.waiting outcome name → IsLeftAlone old.session [] (Accepts waiting texts) name
-    alone_accepting name this =
-        let told : IsLeftAlone old.session old.waiting (Accepts names texts) name = subst (λ (o : Outcome). IsLeftAlone old.session old.waiting o name) accepts this in
-        ⊎_elim (λ empty. inl empty) (λ other. inr (other_joined old.waiting names waiting joins name other)) told
+    alone_accepting : (answer : Result Reply RunFault) → (MayHaveWritten result → MayHaveWritten answer) → (name : List ℕ) → IsLeftAlone old.session old.waiting outcome answer new.session.accepted name
+        → IsLeftAlone old.session [] (Accepts waiting texts) result new.session.accepted name
+    alone_accepting answer wrote name this writing full counted =
+        let told : IsSpared old.session old.waiting (Accepts names texts) new.session.accepted name =
+        subst (λ (o : Outcome). IsSpared old.session old.waiting o new.session.accepted name) accepts (this (wrote writing)) in
+        other_joined old.waiting names waiting joins name (told full counted)
 
     pub acts_done : (n : ℕ) → result ≡ Ok tt → n ≡ new.session.accepted → Acts files moment left_since honest old outcome (Ok (Done n)) new
     acts_done n is number =
@@ -207,9 +209,9 @@ module _ {D : Type 0} (files : D → List ℕ → FileState) (moment : D → ℕ
         record {
           does = λ h. (unbroken, (texts, (names, accepts), more, subst (λ r. Keeps old.session texts r new.session) is (keeps h)));
           disk = λ h. leaves_weaker files moment left_since old new (IsLeft old.session (contents (files old.disk)) (Accepts waiting texts) result new.session.accepted) (IsLeft old.session (contents (files old.disk)) outcome (Ok (Done n)) new.session.accepted)
-              (IsLeftAlone old.session [] (Accepts waiting texts)) (IsLeftAlone old.session old.waiting outcome) (IsErrOf result Device) (IsErrOf {T = Reply} (Ok (Done n)) Device) (leaves h)
+              (IsLeftAlone old.session [] (Accepts waiting texts) result new.session.accepted) (IsLeftAlone old.session old.waiting outcome (Ok (Done n)) new.session.accepted) (IsErrOf result Device) (IsErrOf {T = Reply} (Ok (Done n)) Device) (leaves h)
               (λ image left. left_accepting (Ok (Done n)) image (left_as old.session (contents (files old.disk)) (Accepts waiting texts) result (Ok (Done n)) new.session.accepted image (λ wrote. tt) left))
-              alone_accepting
+              (alone_accepting (Ok (Done n)) (λ wrote. tt))
               (λ fell. let no : Ok tt ≡ Err Device = sym is ∙ fell in absurd (cc));
           counts = (more, sym number, done.1 ∙ ap (λ (k : ℕ). if fills old.session then k else old.session.acknowledged) (sym more), done.2);
           works = λ is. absurd (cc);
@@ -220,9 +222,9 @@ module _ {D : Type 0} (files : D → List ℕ → FileState) (moment : D → ℕ
     acts_fault fault is = record {
       does = λ h. does_fault fault (subst (λ r. KeepsCounts old.session r new.session) is counts) (subst (λ r. Keeps old.session texts r new.session) is (keeps h));
       disk = λ h. leaves_weaker files moment left_since old new (IsLeft old.session (contents (files old.disk)) (Accepts waiting texts) result new.session.accepted) (IsLeft {A = Reply} old.session (contents (files old.disk)) outcome (Err fault) new.session.accepted)
-          (IsLeftAlone old.session [] (Accepts waiting texts)) (IsLeftAlone old.session old.waiting outcome) (IsErrOf result Device) (IsErrOf {T = Reply} (Err fault) Device) (leaves h)
+          (IsLeftAlone old.session [] (Accepts waiting texts) result new.session.accepted) (IsLeftAlone {A = Reply} old.session old.waiting outcome (Err fault) new.session.accepted) (IsErrOf result Device) (IsErrOf {T = Reply} (Err fault) Device) (leaves h)
           (λ image left. left_accepting (Err fault) image (left_as {B = Reply} old.session (contents (files old.disk)) (Accepts waiting texts) result (Err fault) new.session.accepted image (λ wrote. subst MayHaveWritten is wrote) left))
-          alone_accepting
+          (alone_accepting (Err fault) (λ wrote. subst MayHaveWritten is wrote))
           (λ fell. same_answer fault Device (sym is ∙ fell));
       counts = counts_fault fault (subst (λ r. KeepsCounts old.session r new.session) is counts);
       works = λ broken. no_broken fault (subst (λ r. KeepsCounts old.session r new.session) is counts) broken;

@@ -6,6 +6,7 @@ use Rattle.org_disk.specs.Disk.{FileState, AreImages, LeavesOnly}
 use Rattle.org_disk.proofs.Moments.{passes_as}
 use Rattle.org_journal.specs.Recovered.{Image, IsRecoverable, contents}
 use Rattle.org_fileset.specs.Replay.{IsAtRest}
+use Rattle.org_fileset.proofs.Writes.{alone_fewer}
 use Rattle.org_store.specs.declared.command.Command.TheVariants.{Settle}
 use Rattle.org_store.specs.declared.command.Reply.{Reply}
 use Rattle.org_store.specs.declared.command.Reply.TheVariants.{Safe}
@@ -14,7 +15,7 @@ use Rattle.org_store.specs.declared.command.RunFault.TheVariants.{Refused, OutOf
 use Rattle.org_store.specs.Calls.{Call, grouped, CallOver, CallPast, CallsPast}
 use Rattle.org_store.specs.Calls.Call.{Ran, Settled, Grouped}
 use Rattle.org_store.specs.History.{Past, Lists, HoldsPrefix}
-use Rattle.org_store.specs.Left.{MayHaveWritten}
+use Rattle.org_store.specs.Left.{IsLeftAlone, MayHaveWritten}
 use Rattle.org_store.specs.Outcome.{AsksToSettle, outcome}
 use Rattle.org_store.specs.Runs.{RunsOver, SettlesOver, IsOnDisk}
 use Rattle.org_store.specs.Session.{Session, Kept, Holds}
@@ -71,7 +72,8 @@ module _ {D : Type 0} (files : D → List ℕ → FileState) (moment : D → ℕ
           others = λ fine. ran.disk.others (λ failed. fine (ap (reply_of n) failed));
           rest = λ fine. ran.disk.rest (λ failed. fine (ap (reply_of n) failed));
           recoverable = ran.disk.recoverable;
-          alone = ran.disk.alone;
+          alone = alone_fewer files moment left_since (IsLeftAlone old.session old.waiting AsksToSettle (reply_of n answer) new.session.accepted) (IsLeftAlone old.session old.waiting AsksToSettle answer new.session.accepted)
+              old.disk new.disk ran.disk.alone (λ name this wrote. this (settle_wrote n answer wrote));
         };
         untouched = λ broken. ran.untouched (fault_of_reply n answer Broken broken);
         nothing = λ is. ran.nothing;

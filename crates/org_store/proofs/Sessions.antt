@@ -10,6 +10,7 @@ use Rattle.org_fileset.specs.Replay.{IsAtRest}
 use Rattle.org_fileset.specs.Writes.{LeavesAlone, IsOther}
 use Rattle.org_fileset.proofs.Writes.{alone_fewer}
 use Rattle.org_texts.specs.Texts.{held_over}
+use Rattle.org_store.specs.declared.command.Reply.{Reply}
 use Rattle.org_store.specs.declared.command.RunFault.{RunFault}
 use Rattle.org_store.specs.declared.command.RunFault.TheVariants.{Refused, OutOfMemory, Device, Broken}
 use Rattle.org_store.specs.declared.tally.Tally.{Tally}
@@ -23,7 +24,8 @@ use Rattle.org_store.specs.Keeping.{Reads, fault_of_set}
 use Rattle.org_store.specs.Runs.{LeavesDisk}
 use Rattle.org_store.proofs.Committing.{leaves_as}
 use Rattle.org_store.proofs.InOrder.{texts_same}
-use Rattle.org_store.proofs.Leaving.{leaves_unwritten}
+use Rattle.org_store.proofs.Keeping.{same_fault}
+use Rattle.org_store.proofs.Leaving.{leaves_unwritten, leaves_weaker}
 
 -- what a settling answers, where it is no Ok
 pub record Fails {D : Type 0} (old new : OpenFiles D) (result : Result (Unit {0}) SetFault) (fault : SetFault) : Type 0 where
@@ -53,25 +55,41 @@ module _ {D : Type 0} (files : D → List ℕ → FileState) (moment : D → ℕ
   now = kept_over files states new tally
 
   settle_unwritten : (fault : RunFault) → new ≡ old → LeavesDisk files moment left_since before now (IsLeft {A = Unit {0}} before.session (contents (files old.disk)) AsksToSettle (Err fault) now.session.accepted)
-      (IsLeftAlone before.session before.waiting AsksToSettle) (IsErrOf {T = Unit {0}} (Err fault) Device)
+      (IsLeftAlone {A = Unit {0}} before.session before.waiting AsksToSettle (Err fault) now.session.accepted) (IsErrOf {T = Unit {0}} (Err fault) Device)
   settle_unwritten fault same =
       leaves_unwritten files moment left_since before (IsLeft {A = Unit {0}} before.session (contents (files old.disk)) AsksToSettle (Err fault) now.session.accepted)
-      (IsLeftAlone before.session before.waiting AsksToSettle) (IsErrOf {T = Unit {0}} (Err fault) Device) start refl (λ image holds. inl holds) now (ap (λ (held : OpenFiles D). held.disk) same) refl
+      (IsLeftAlone {A = Unit {0}} before.session before.waiting AsksToSettle (Err fault) now.session.accepted) (IsErrOf {T = Unit {0}} (Err fault) Device) start refl (λ image holds. inl holds) now (ap (λ (held : OpenFiles D). held.disk) same) refl
 
   pub settle_leaves : (result : Result (Unit {0}) SetFault) (fault : SetFault) → Fails old new result fault
       → (IsAtRest (files old.disk) → LeavesOnly (moment old.disk) (moment new.disk) (left_since old.disk) (left_since new.disk) (HoldsEither old.names (contents (files old.disk)) before.session.files))
       → (IsAtRest (files old.disk) → IsRecoverable (files new.disk)) → LeavesAlone files moment left_since (IsOther old.held.before.waiting) old.disk new.disk
       → LeavesDisk files moment left_since before now (IsLeft {A = Unit {0}} before.session (contents (files old.disk)) AsksToSettle (Err (fault_of_set fault)) now.session.accepted)
-      (IsLeftAlone before.session before.waiting AsksToSettle) (IsErrOf {T = Unit {0}} (Err (fault_of_set fault)) Device)
+      (IsLeftAlone {A = Unit {0}} before.session before.waiting AsksToSettle (Err (fault_of_set fault)) now.session.accepted) (IsErrOf {T = Unit {0}} (Err (fault_of_set fault)) Device)
   settle_leaves result set.OutOfMemory fails leaves fit alone = settle_unwritten OutOfMemory (fails.memory fails.is)
   settle_leaves result set.Device fails leaves fit alone = record {
     any_moment = λ rest. leaves_as (leaves rest) (λ image either. ⊎_elim (λ held. inl held) (λ all. inr (refl, (before.session.files, refl, all))) either);
     others = λ fine. absurd (fine refl);
     rest = λ fine. absurd (fine refl);
     recoverable = fit;
-    alone = alone_fewer files moment left_since (IsLeftAlone before.session before.waiting AsksToSettle) (IsOther old.held.before.waiting) old.disk new.disk alone (λ name this. this);
+    alone = alone_fewer files moment left_since (IsLeftAlone {A = Unit {0}} before.session before.waiting AsksToSettle (Err Device) now.session.accepted) (IsOther old.held.before.waiting) old.disk new.disk alone (λ name this. this refl);
   }
   settle_leaves result set.Broken fails leaves fit alone = absurd (fails.works fails.is)
+
+-- the same fault of a settling, handed on as a command's
+pub leaves_handed : {D : Type 0} (files : D → List ℕ → FileState) (moment : D → ℕ) (left_since : D → ℕ → Image → Type 0) (old new : Kept D) (result : Result (Unit {0}) RunFault) (given : Result Reply RunFault) (fault : RunFault)
+    → result ≡ Err fault → given ≡ Err fault
+    → LeavesDisk files moment left_since old new (IsLeft old.session (contents (files old.disk)) AsksToSettle result new.session.accepted) (IsLeftAlone old.session old.waiting AsksToSettle result new.session.accepted) (IsErrOf result Device)
+    → LeavesDisk files moment left_since old new (IsLeft old.session (contents (files old.disk)) AsksToSettle given new.session.accepted) (IsLeftAlone old.session old.waiting AsksToSettle given new.session.accepted) (IsErrOf given Device)
+leaves_handed files moment left_since old new result given fault was is leaves =
+    let s = old.session in
+    let others = contents (files old.disk) in
+    let n = new.session.accepted in
+    subst (λ (r : Result Reply RunFault). LeavesDisk files moment left_since old new (IsLeft s others AsksToSettle r n) (IsLeftAlone s old.waiting AsksToSettle r n) (IsErrOf r Device)) (sym is)
+    (leaves_weaker files moment left_since old new (IsLeft {A = Unit {0}} s others AsksToSettle (Err fault) n) (IsLeft {A = Reply} s others AsksToSettle (Err fault) n)
+    (IsLeftAlone {A = Unit {0}} s old.waiting AsksToSettle (Err fault) n) (IsLeftAlone {A = Reply} s old.waiting AsksToSettle (Err fault) n)
+    (IsErrOf {T = Unit {0}} (Err fault) Device) (IsErrOf {T = Reply} (Err fault) Device)
+    (subst (λ (r : Result (Unit {0}) RunFault). LeavesDisk files moment left_since old new (IsLeft s others AsksToSettle r n) (IsLeftAlone s old.waiting AsksToSettle r n) (IsErrOf r Device)) was leaves)
+    (λ image left. left) (λ name this. this) (same_fault fault Device))
 
 -- a call that changes no text
 still_texts : {D : Type 0} (texts : D → Image) (old new : OpenFiles D) → new.names ≡ old.names → texts new.disk ≡ texts old.disk

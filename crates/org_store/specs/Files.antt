@@ -112,8 +112,8 @@ PutsPlan plan old (Err (Refused TooLarge)) new = (has_large (new_texts plan old.
 PutsPlan plan old (Err OutOfMemory) new = new.now ≡ old.before
 PutsPlan plan old (Err fault) new = ⊥
 
--- What a commit does that is to give files of these names these texts, of which those that wait are written, where the
--- disk is honest after it.
+-- What a commit does that is to give files of these names these texts, where the disk is honest after it. It writes
+-- those that wait, and the journal.
 pub record CommitsTexts {D A E : Type 0} (files : D → List ℕ → FileState) (moment : D → ℕ) (left_since : D → ℕ → Image → Type 0)
     (names waiting after : List (List ℕ)) (old new : D) (result : Result A E) : Type 0 where
   pub texts : OnOk result (texts_of (contents (files new)) names ≡ after)

@@ -57,7 +57,7 @@ pub record Acts {D : Type 0} (files : D → List ℕ → FileState) (moment : D 
     (honest : D → Type 0) (old : Kept D) (outcome : Outcome) (answer : Result Reply RunFault) (new : Kept D) : Type 0 where
   pub does : honest new.disk → Does old.session outcome answer new.session
   pub disk : honest new.disk → LeavesDisk files moment left_since old new
-      (IsLeft old.session (contents (files old.disk)) outcome answer new.session.accepted) (IsLeftAlone old.session old.waiting outcome) (IsErrOf answer Device)
+      (IsLeft old.session (contents (files old.disk)) outcome answer new.session.accepted) (IsLeftAlone old.session old.waiting outcome answer new.session.accepted) (IsErrOf answer Device)
   pub counts : Counts old.session answer new.session
   pub works : IsErrOf answer Broken → ⊥
   pub breaks : IsErrOf answer Device ↔ IsTrue new.session.broken

@@ -1,6 +1,6 @@
 -- What a crash may leave while a call of a store runs: the files after the commands that were acknowledged when it
 -- began, or those that the call puts on the disk.
-use Rattle.std.specs.Prelude.{◌≡◌, ◌⊎◌, ℕ, ◌+◌, List, ◌++◌, Result, Ok, Err, IsTrue, IsFalse}
+use Rattle.std.specs.Prelude.{◌≡◌, ◌⊎◌, ℕ, ◌+◌, List, ◌++◌, Result, Ok, Err, IsTrue}
 use Rattle.org_fileset.specs.Writes.{IsOther}
 use Rattle.org_journal.specs.Recovered.{Image}
 use Rattle.org_store.specs.declared.command.RunFault.{RunFault}
@@ -30,12 +30,16 @@ IsLeft old others outcome answer accepted image =
     Holds old others old.settled image
     ⊎ (MayHaveWritten answer × ((texts : List (List ℕ)) × PutsOnDisk old outcome accepted texts × Holds old others texts image))
 
--- A call with this outcome leaves the file of this name alone, where these files wait. It writes only where it settles:
--- then the journal, the files that wait, and those that the command gives new texts; where there are none of these,
--- nothing.
-abbrev pub IsLeftAlone : Session → List (List ℕ) → Outcome → List ℕ → Type 0
-IsLeftAlone old waiting (Accepts names files) name = IsFalse (fills old) ⊎ IsOther (waiting ++ names) name
-IsLeftAlone old waiting AsksToSettle name = IsOther waiting name
-IsLeftAlone old waiting (Shows text) name = Unit {0}
-IsLeftAlone old waiting (Tells minutes) name = Unit {0}
-IsLeftAlone old waiting (Refuses why) name = Unit {0}
+-- The file of this name isn't written by a call with this outcome, where these files wait, and so many commands are
+-- accepted when it ends. Only a settling writes: the journal, the files that wait, and those that the command is to give
+-- new texts; where there are none of these files, nothing.
+abbrev pub IsSpared : Session → List (List ℕ) → Outcome → ℕ → List ℕ → Type 0
+IsSpared old waiting (Accepts names files) accepted name = IsTrue (fills old) → accepted ≡ old.accepted + 1 → IsOther (waiting ++ names) name
+IsSpared old waiting AsksToSettle accepted name = IsOther waiting name
+IsSpared old waiting (Shows text) accepted name = Unit {0}
+IsSpared old waiting (Tells minutes) accepted name = Unit {0}
+IsSpared old waiting (Refuses why) accepted name = Unit {0}
+
+-- .. and it is left alone by one with this answer, which may not have written at all
+abbrev pub IsLeftAlone : {A : Type 0} → Session → List (List ℕ) → Outcome → Result A RunFault → ℕ → List ℕ → Type 0
+IsLeftAlone old waiting outcome answer accepted name = MayHaveWritten answer → IsSpared old waiting outcome accepted name

@@ -36,7 +36,7 @@ pub record LeavesDisk {D : Type 0} (files : D → List ℕ → FileState) (momen
 pub record RunsOver {D : Type 0} (files : D → List ℕ → FileState) (moment : D → ℕ) (left_since : D → ℕ → Image → Type 0) (old : Kept D) (command : Command) (answer : Result Reply RunFault) (new : Kept D) : Type 0 where
   pub step : Step old.session command answer new.session
   pub disk : LeavesDisk files moment left_since old new (IsLeft old.session (contents (files old.disk)) (outcome old.session command) answer new.session.accepted)
-      (IsLeftAlone old.session old.waiting (outcome old.session command)) (IsErrOf answer Device)
+      (IsLeftAlone old.session old.waiting (outcome old.session command) answer new.session.accepted) (IsErrOf answer Device)
   pub untouched : IsErrOf answer Broken → new ≡ old
   pub nothing : command ≡ Settle → old.session.acknowledged ≡ old.session.accepted → new ≡ old
   pub waits : Waits old (outcome old.session command) answer new
@@ -46,7 +46,7 @@ pub record RunsOver {D : Type 0} (files : D → List ℕ → FileState) (moment 
 pub record SettlesOver {D : Type 0} (files : D → List ℕ → FileState) (moment : D → ℕ) (left_since : D → ℕ → Image → Type 0) (old : Kept D) (answer : Result (Unit {0}) RunFault) (new : Kept D) : Type 0 where
   pub step : Settles old.session answer new.session
   pub disk : LeavesDisk files moment left_since old new (IsLeft old.session (contents (files old.disk)) AsksToSettle answer new.session.accepted)
-      (IsLeftAlone old.session old.waiting AsksToSettle) (IsErrOf answer Device)
+      (IsLeftAlone old.session old.waiting AsksToSettle answer new.session.accepted) (IsErrOf answer Device)
   pub untouched : IsErrOf answer Broken → new ≡ old
   pub nothing : old.session.acknowledged ≡ old.session.accepted → new ≡ old
   pub waits : WaitsSettled old.waiting answer new.waiting

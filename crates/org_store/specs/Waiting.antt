@@ -1,4 +1,4 @@
--- Which files of a store wait for a commit: those that accepted commands have changed since all was settled.
+-- Which files of a store wait for a commit: those that accepted commands gave new texts since all was settled.
 use Rattle.std.specs.Prelude.{◌≡◌, ℕ, Bool, true, List, [], ◌++◌, Result, Ok, Err, IsTrue, if◌then◌else◌}
 use Rattle.std.specs.List.{list_any}
 use Rattle.std.specs.Str.{bytes_eq}
@@ -19,7 +19,7 @@ abbrev pub Joins : List (List ℕ) → List (List ℕ) → List (List ℕ) → T
 Joins old names new = (name : List ℕ) → is_waiting new name ≡ true → is_waiting (old ++ names) name ≡ true
 
 -- Which files wait behind a call of a store that is to do this and got this answer: none where all was settled; behind a
--- command that was accepted those of before, and at most those that it gives new texts; else those of before.
+-- command that was accepted at most those of before, and those that it gives new texts; else those of before.
 abbrev pub Waits : {D : Type 0} → Kept D → Outcome → Result Reply RunFault → Kept D → Type 0
 Waits old outcome (Ok (Done n)) new = (IsTrue (fills old.session) → new.waiting ≡ []) × Joins old.waiting (written outcome) new.waiting
 Waits old outcome (Ok (Safe n)) new = new.waiting ≡ []

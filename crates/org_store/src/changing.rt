@@ -52,7 +52,7 @@ fn keep_or_settle<D: Disk>(files: &mut Files<D>, tally: &mut Tally) -> Result<()
         (IsLeftAlone (kept_over D.files states files.old tally.old).session []
         (Accepts files.old.held.now.waiting
         (texts_of (held_over files.old.held.now (contents (D.files files.old.disk)))
-        files.old.names))) (IsErrOf result RunFault.Device) }
+        files.old.names)) result tally.new.accepted) (IsErrOf result RunFault.Device) }
     ensures counts { (states : Keywords)
         → KeepsCounts (kept_over D.files states files.old tally.old).session result
         (kept_over D.files states files.new tally.new).session }

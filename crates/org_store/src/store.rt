@@ -33,10 +33,10 @@ use std::marker::Model;
 
 /// Org files on a disk, and what was done to them since the store was opened.
 ///
-/// A clause sees its disk, its session (specs/Session.antt) and which of its files wait for a commit. What is said of files and of crashes is said where the
-/// disk is honest after the call; of crashes in `run` and `settle` also only where it was at rest, as an opening of a
-/// recoverable disk and each call without a failure leave it (`LeavesDisk`, specs/Runs.antt). A store that is broken
-/// does nothing any more: open its files anew.
+/// A clause sees its disk, its session (specs/Session.antt) and which of its files wait for a commit. What is said of
+/// files and of crashes is said where the disk is honest after the call; of crashes in `run` and `settle` also only where
+/// it was at rest, as an opening of a recoverable disk and each call without a failure leave it (`LeavesDisk`,
+/// specs/Runs.antt). A store that is broken does nothing any more: open its files anew.
 #[derive(Drop)]
 pub struct Store<D: Disk> {
     files: Files<D>,
@@ -66,7 +66,8 @@ impl<D: Disk> Model for Store<D> {
 impl<D: Disk> Store<D> {
     /// A store over the files of the given names and of their archive files, with nothing accepted and a group of 1. No
     /// name is an archive file's or the journal's; a repeated one counts once. What a crash cut short is brought to an
-    /// end first; a journal whose gate is closed stays as it is.
+    /// end first; after Ok a whole journal whose gate was closed is as it was. No file is written but the journal and those
+    /// that the record of an open one names.
     ///
     /// On a disk that is recoverable, and honest after the call, of which each image recovers to files, every image at
     /// every moment since the call began recovers to what an image at the start recovered to, whatever is answered; so
@@ -169,8 +170,8 @@ impl<D: Disk> Store<D> {
             → LeavesDisk D.files D.moment D.left_since self.old self.new
             (IsLeft self.old.session (contents (D.files self.old.disk)) AsksToSettle result
             self.new.session.accepted)
-            (IsLeftAlone self.old.session self.old.waiting AsksToSettle)
-            (IsErrOf result RunFault.Device) }
+            (IsLeftAlone self.old.session self.old.waiting AsksToSettle result
+            self.new.session.accepted) (IsErrOf result RunFault.Device) }
         ensures counts { SettledCounts self.old.session result self.new.session }
         ensures broken { IsErrOf result RunFault.Broken ↔ IsTrue self.old.session.broken }
         ensures untouched { IsErrOf result RunFault.Broken → self.new ≡ self.old }
@@ -200,7 +201,7 @@ impl<D: Disk> Store<D> {
     /// At every moment since the call began, what a crash leaves recovers to the files after the commands that were
     /// acknowledged then, or, where this command settles, for those after all that are accepted when it ends. It writes
     /// only where it settles, and no file then but those that wait for a commit, those that it gives new texts, and the
-    /// journal; where there are none of these, it writes nothing (`IsLeftAlone`, specs/Left.antt).
+    /// journal; where no file waits and it gives none a new text, it writes nothing (`IsLeftAlone`, specs/Left.antt).
     ///
     /// `Refused` and `OutOfMemory` leave files and counts as they were; where a settling finds no memory, this command
     /// is undone, and those before it stay pending. `Device` comes only where the disk counted a failure in this call,
@@ -214,7 +215,8 @@ impl<D: Disk> Store<D> {
             (IsLeft self.old.session (contents (D.files self.old.disk))
             (outcome self.old.session command.now) result self.new.session.accepted)
             (IsLeftAlone self.old.session self.old.waiting
-            (outcome self.old.session command.now)) (IsErrOf result RunFault.Device) }
+            (outcome self.old.session command.now) result self.new.session.accepted)
+            (IsErrOf result RunFault.Device) }
         ensures counts { Counts self.old.session result self.new.session }
         ensures broken { IsErrOf result RunFault.Broken ↔ IsTrue self.old.session.broken }
         ensures untouched { IsErrOf result RunFault.Broken → self.new ≡ self.old }

@@ -18,7 +18,7 @@ returns-then-not-fills-clause-disk g c states honest =
     let texts = texts_of (held_over c.args.files.now.held.now files) c.args.files.now.names in
     let was = subst d.honest c.keep.ensures.memory.disk honest in
     leaves_unwritten d.files d.moment d.left_since old (IsLeft old.session files (Accepts c.args.files.now.held.now.waiting texts) (Ok (tt {0})) (c.args.tally.now.accepted + 1))
-    (IsLeftAlone old.session [] (Accepts c.args.files.now.held.now.waiting texts)) _
+    (IsLeftAlone old.session [] (Accepts c.args.files.now.held.now.waiting texts) (Ok (tt {0})) (c.args.tally.now.accepted + 1)) _
     (λ image left. g.met.D.Disk.only_now c.args.files.now.disk image was left) refl (λ image holds. inl holds) _ c.keep.ensures.memory.disk refl
 
 pub returns-in-Err-OutOfMemory-clause-disk : goal.returns-in-Err-OutOfMemory-clause-disk
@@ -31,5 +31,5 @@ returns-in-Err-OutOfMemory-clause-disk g c states honest =
     let same = c.undo-in-Err-OutOfMemory.ensures.memory.disk ∙ ap (λ (f : OpenFiles g.row.D.Denot). f.disk) unwritten in
     let was = subst d.honest same honest in
     leaves_unwritten d.files d.moment d.left_since old (IsLeft {A = Unit {0}} old.session files (Accepts c.args.files.now.held.now.waiting texts) (Err OutOfMemory) c.args.tally.now.accepted)
-    (IsLeftAlone old.session [] (Accepts c.args.files.now.held.now.waiting texts)) _
+    (IsLeftAlone {A = Unit {0}} old.session [] (Accepts c.args.files.now.held.now.waiting texts) (Err OutOfMemory) c.args.tally.now.accepted) _
     (λ image left. g.met.D.Disk.only_now c.args.files.now.disk image was left) refl (λ image holds. inl holds) _ same refl

@@ -1,7 +1,8 @@
 use Rattle.std.proofs.Common.{◌≡◌, ◌∙◌, inl, inr, ⊎_elim, false, Err, refl, sym, subst, rules}
+use Rattle.std.specs.Prelude.{IsErrOf}
 use Rattle.std.proofs.lemmas.Bool.{false≢true}
 use Rattle.org_journal.specs.Recovered.{contents}
-use Rattle.org_store.specs.declared.command.RunFault.TheVariants.{Broken}
+use Rattle.org_store.specs.declared.command.RunFault.TheVariants.{Broken, Device}
 use Rattle.org_store.specs.declared.command.Command.{Command}
 use Rattle.org_store.specs.declared.command.Reply.{Reply}
 use Rattle.org_store.specs.declared.command.Command.TheVariants.{Time, Show}
@@ -12,6 +13,8 @@ use Rattle.org_store.specs.Outcome.{outcome}
 use Rattle.org_store.specs.Session.{kept_over}
 use Rattle.org_store.specs.Waiting.{Waits}
 use Rattle.org_store.proofs.Leaving.{leaves_unwritten}
+use Rattle.org_store.specs.Runs.{LeavesDisk}
+use Rattle.org_store.proofs.Sessions.{leaves_handed}
 use Rattle.org_store.proofs.Settled.{settled_on}
 use Rattle.org_store.proofs.Waiting.{none_waits_on}
 use Rattle.org_store.proofs.store.Store.run.Goals as goal
@@ -23,8 +26,18 @@ returns-then-is_broken-clause-disk g c = λ honest.
     let s = old.session in
     let files = contents (d.files old.disk) in
     let own : s.settled ≡ texts_of files s.names = rw (← c.self.view_is) refl in
-    leaves_unwritten d.files d.moment d.left_since old (IsLeft {A = Reply} s files (outcome s c.args.command.now) (Err Broken) s.accepted) (IsLeftAlone s old.waiting (outcome s c.args.command.now)) _ (λ image left. g.met.D.Disk.only_now old.disk image honest left) own
+    leaves_unwritten d.files d.moment d.left_since old (IsLeft {A = Reply} s files (outcome s c.args.command.now) (Err Broken) s.accepted) (IsLeftAlone {A = Reply} s old.waiting (outcome s c.args.command.now) (Err Broken) s.accepted) _ (λ image left. g.met.D.Disk.only_now old.disk image honest left) own
     (λ image holds. inl holds) old refl own
+
+pub returns-in_err-settle-in-Settle-clause-disk : goal.returns-in_err-settle-in-Settle-clause-disk
+returns-in_err-settle-in-Settle-clause-disk g c = λ honest.
+    let d = g.D.Disk in
+    let old = c.args.self.now in
+    let new = c.settle.new.self in
+    let given : c.from_residual.result ≡ Err c.in_err-settle-in-Settle.field-0.0 = search rules in
+    subst (λ (command : Command). LeavesDisk d.files d.moment d.left_since old new (IsLeft old.session (contents (d.files old.disk)) (outcome old.session command) c.from_residual.result new.session.accepted)
+    (IsLeftAlone old.session old.waiting (outcome old.session command) c.from_residual.result new.session.accepted) (IsErrOf c.from_residual.result Device)) (sym c.in-Settle.is)
+    (leaves_handed d.files d.moment d.left_since old new c.settle.result c.from_residual.result c.in_err-settle-in-Settle.field-0.0 c.in_err-settle-in-Settle.was given (c.settle.ensures.disk honest))
 
 pub returns-in-Time-clause-disk : goal.returns-in-Time-clause-disk
 returns-in-Time-clause-disk g c =

@@ -19,7 +19,8 @@ returns-then-is_broken-clause-disk g c = λ honest.
     let s = old.session in
     let files = contents (d.files old.disk) in
     let own : s.settled ≡ texts_of files s.names = rw (← c.self.view_is) refl in
-    leaves_unwritten d.files d.moment d.left_since old (IsLeft {A = Unit {0}} s files AsksToSettle (Err Broken) s.accepted) (IsLeftAlone s old.waiting AsksToSettle) _ (λ image left. g.met.D.Disk.only_now old.disk image honest left) own (λ image holds. inl holds) old refl own
+    leaves_unwritten d.files d.moment d.left_since old (IsLeft {A = Unit {0}} s files AsksToSettle (Err Broken) s.accepted)
+    (IsLeftAlone {A = Unit {0}} s old.waiting AsksToSettle (Err Broken) s.accepted) _ (λ image left. g.met.D.Disk.only_now old.disk image honest left) own (λ image holds. inl holds) old refl own
 
 pub returns-then-self-clause-disk : goal.returns-then-self-clause-disk
 returns-then-self-clause-disk g c = λ honest.
@@ -28,7 +29,7 @@ returns-then-self-clause-disk g c = λ honest.
     let s = old.session in
     let files = contents (d.files old.disk) in
     let own : s.settled ≡ texts_of files s.names = rw (← c.self.view_is) refl in
-    leaves_unwritten d.files d.moment d.left_since old (IsLeft s files AsksToSettle (Ok (tt {0})) s.accepted) (IsLeftAlone s old.waiting AsksToSettle) _ (λ image left. g.met.D.Disk.only_now old.disk image honest left) own (λ image holds. inl holds) old refl own
+    leaves_unwritten d.files d.moment d.left_since old (IsLeft s files AsksToSettle (Ok (tt {0})) s.accepted) (IsLeftAlone s old.waiting AsksToSettle (Ok (tt {0})) s.accepted) _ (λ image left. g.met.D.Disk.only_now old.disk image honest left) own (λ image holds. inl holds) old refl own
 
 pub returns-in_err-commit-clause-step : goal.returns-in_err-commit-clause-step
 returns-in_err-commit-clause-step g c =
