@@ -1,10 +1,11 @@
--- A command that is accepted puts texts in the places of files'.
-use Rattle.std.proofs.Common.{◌≡◌, inl, inr, ℕ, ◌-◌, ◌^◌, ◌==◌, ◌≤◌, nat_lt, length, map, Bool, true, false, List, [], ◌∷◌, Option, Some, None, Result, Ok, Err, refl, if◌then◌else◌, arith}
+-- A command that is to be accepted gives files of the store new texts, which are put in the places of others.
+use Rattle.std.proofs.Common.{◌≡◌, ◌⊎◌, inl, inr, sym, ap, ◌∙◌, subst, ℕ, ◌-◌, ◌^◌, ◌==◌, ◌≤◌, nat_lt, length, map, Bool, true, false, List, [], ◌∷◌, Option, Some, None, Result, Ok, Err, refl, if◌then◌else◌, arith}
 use Rattle.std.specs.List.{AllByRecursion}
-use Rattle.std.specs.Option.{unwrap_or}
+use Rattle.std.specs.Option.{option_map, option_or, unwrap_or}
 use Rattle.std.specs.Str.{bytes_eq}
 use Rattle.std.proofs.lemmas.Bool.{cases_Bool}
 use Rattle.std.proofs.lemmas.Bool.Decides.{nat_tests}
+use Rattle.org_disk.proofs.Names.{same_name}
 use Rattle.org_outline.specs.declared.moves.Place.{Place}
 use Rattle.org_outline.specs.declared.paths.PathFault.{PathFault}
 use Rattle.org_outline.specs.Paths.{find_path}
@@ -20,7 +21,7 @@ use Rattle.org_move.specs.Location.{Destination, location}
 use Rattle.org_move.specs.Refile.{Moved, refile_across, refile_within}
 use Rattle.org_state.specs.declared.fault.StateFault.{StateFault}
 use Rattle.org_state.specs.declared.run.Running.{Running}
-use Rattle.org_state.specs.Clock.{clocked_at}
+use Rattle.org_state.specs.Clock.{clocked_at, running_in}
 use Rattle.org_state.specs.Todo.{todo as in_state}
 use Rattle.org_store.specs.declared.command.Command.{Command}
 use Rattle.org_store.specs.declared.command.Command.TheVariants.{Capture, Refile, Todo, ClockIn, ClockOut, Archive, Time, Show, Settle}
@@ -29,10 +30,10 @@ use Rattle.org_store.specs.Capture.{new_entry}
 use Rattle.org_store.specs.Clocks.{running_over}
 use Rattle.org_store.specs.Clocking.{clocked_in, clocked_out, clock_moved}
 use Rattle.org_store.specs.Files.{has_large}
-use Rattle.org_store.specs.InOrder.{text_at, with_all}
+use Rattle.org_store.specs.InOrder.{AreNames, is_name, text_at, with_all}
 use Rattle.org_store.specs.Refile.{text_within, texts_across}
 use Rattle.org_store.specs.Session.{Session}
-use Rattle.org_store.specs.Outcome.{Accepts, Refuses, changed, with_document, with_entry, capture, refile, with_moved, with_minutes, with_state, time, todo, with_clock_moved, clock_in_beside, clock_in, clock_out, archive_to, archive_at, archive, show, outcome}
+use Rattle.org_store.specs.Outcome.{Accepts, AsksToSettle, Outcome, Refuses, Shows, Tells, written, changed, with_document, with_entry, capture, refile, with_moved, with_minutes, with_state, time, todo, with_clock_moved, clock_in_beside, clock_in, clock_out, archive_to, archive_at, archive, show, outcome}
 
 -- texts of which none is past the limit
 abbrev pub AreWithin : List (List ℕ × List ℕ) → Type 0
@@ -49,110 +50,171 @@ within (change ∷ changes) none = elim (cases_Bool (nat_lt limit (length change
   | inr f ↦ (grind (arith, nat_tests, f), within changes (rw f at none))
 ]
 
-changed_puts : (s : Session) (changes : List (List ℕ × List ℕ)) {touched : List (List ℕ)} (files : List (List ℕ)) → changed s changes ≡ Accepts touched files → Puts s files
-changed_puts s changes {touched} files = go (has_large changes) refl (s.accepted == 2 ^ 64 - 1)
+-- it is no outcome of a command that is accepted
+abbrev IsUnaccepted : Outcome → Type 0
+IsUnaccepted outcome = (touched files : List (List ℕ)) → outcome ≡ Accepts touched files → ⊥
+
+-- it gives files of the store new texts, unless it is refused, or changes nothing
+abbrev pub IsChanging : Session → Outcome → Type 0
+IsChanging s outcome = ((changes : List (List ℕ × List ℕ)) × AreNames s.names (map (λ change. change.0) changes) × (outcome ≡ changed s changes)) ⊎ IsUnaccepted outcome
+
+-- the file of a name that has a text
+text_named : (names texts : List (List ℕ)) (name text : List ℕ) → text_at names texts name ≡ Some text → is_name names name ≡ true
+text_named [] texts name text is = absurd (cc)
+text_named (one ∷ names) [] name text is = absurd (cc)
+text_named (one ∷ names) (t ∷ texts) name text is = elim (cases_Bool (bytes_eq one name)) [
+  | inl t ↦ rw t refl
+  | inr f ↦ rw f (text_named names texts name text (rw f at is))
+]
+
+-- the file in which a clock runs
+clock_in_first : (one : List ℕ) (names : List (List ℕ)) (found : Option Running) (later : Option (List ℕ × Running)) (clock : List ℕ × Running)
+    → option_or (option_map (λ running. (one, running)) found) later ≡ Some clock → (later ≡ Some clock → is_name names clock.0 ≡ true) → is_name (one ∷ names) clock.0 ≡ true
+clock_in_first one names (Some running) later clock is behind =
+    let same : one ≡ clock.0 = ap (λ (o : Option (List ℕ × Running)). unwrap_or (option_map (λ (c : List ℕ × Running). c.0) o) one) is in
+    subst (λ (name : List ℕ). is_name (one ∷ names) name ≡ true) same (let t = same_name one in rw t refl)
+clock_in_first one names None later clock is behind = elim (cases_Bool (bytes_eq one clock.0)) [ inl t ↦ rw t refl | inr f ↦ rw f (behind is) ]
+
+clock_named : (names texts : List (List ℕ)) (clock : List ℕ × Running) → running_over names texts ≡ Some clock → is_name names clock.0 ≡ true
+clock_named [] texts clock is = absurd (cc)
+clock_named (one ∷ names) [] clock is = absurd (cc)
+clock_named (one ∷ names) (text ∷ texts) clock is = clock_in_first one names (running_in (tree text)) (running_over names texts) clock is (λ later. clock_named names texts clock later)
+
+changes_one : (s : Session) (file text : List ℕ) → is_name s.names file ≡ true → IsChanging s (changed s ((file, text) ∷ []))
+changes_one s file text own = inl ((file, text) ∷ [], (own, tt), refl)
+
+changes_across : (s : Session) (file to_file : List ℕ) (new : Moved) → is_name s.names file ≡ true → is_name s.names to_file ≡ true → IsChanging s (changed s (texts_across file to_file new))
+changes_across s file to_file new own to_own = inl (texts_across file to_file new, (own, (to_own, tt)), refl)
+
+document_changes : (s : Session) (name : List ℕ) (made : Result Document CaptureFault) → is_name s.names name ≡ true → IsChanging s (with_document s name made)
+document_changes s name (Err why) own = inr (λ touched files accepts. absurd (cc))
+document_changes s name (Ok new) own = changes_one s name (print new) own
+
+entry_changes : (s : Session) (name : List ℕ) (target : Target) (place : Place) (moment : CivilMinute) (entry : Result Node CaptureFault) (text : List ℕ) → is_name s.names name ≡ true
+    → IsChanging s (with_entry s name target place moment entry text)
+entry_changes s name target place moment (Err why) text own = inr (λ touched files accepts. absurd (cc))
+entry_changes s name target place moment (Ok entry) text own = document_changes s name (captured s.states target place moment entry (tree text)) own
+
+capture_changes : (s : Session) (name : List ℕ) (target : Target) (place : Place) (moment : CivilMinute) (template initial : List ℕ) (old : Option (List ℕ)) → text_at s.names s.files name ≡ old
+    → IsChanging s (capture s name target place moment template initial old)
+capture_changes s name target place moment template initial None is = inr (λ touched files accepts. absurd (cc))
+capture_changes s name target place moment template initial (Some text) is = entry_changes s name target place moment (new_entry moment template initial) text (text_named s.names s.files name text is)
+
+within_changes : (s : Session) (name : List ℕ) (said : Result Document MoveFault) → is_name s.names name ≡ true → IsChanging s (with_moved s (text_within name) said)
+within_changes s name (Err why) own = inr (λ touched files accepts. absurd (cc))
+within_changes s name (Ok new) own = changes_one s name (print new) own
+
+across_changes : (s : Session) (name to_file : List ℕ) (said : Result Moved MoveFault) → is_name s.names name ≡ true → is_name s.names to_file ≡ true → IsChanging s (with_moved s (texts_across name to_file) said)
+across_changes s name to_file (Err why) own to_own = inr (λ touched files accepts. absurd (cc))
+across_changes s name to_file (Ok new) own to_own = changes_across s name to_file new own to_own
+
+refile_changes : (s : Session) (name : List ℕ) (path : List (List ℕ)) (to_file : List ℕ) (to : List (List ℕ)) (place : Place) (old into : Option (List ℕ)) → text_at s.names s.files name ≡ old → text_at s.names s.files to_file ≡ into
+    → IsChanging s (refile s name path to_file to place old into)
+refile_changes s name path to_file to place None into is to_is = inr (λ touched files accepts. absurd (cc))
+refile_changes s name path to_file to place (Some text) None is to_is = inr (λ touched files accepts. absurd (cc))
+refile_changes s name path to_file to place (Some text) (Some target) is to_is =
+    let own = text_named s.names s.files name text is in
+    elim (cases_Bool (bytes_eq name to_file)) [
+      | inl t ↦ rw t (within_changes s name (refile_within s.states path to place (tree text)) own)
+      | inr f ↦ rw f (across_changes s name to_file (refile_across s.states path (tree text) s.states to (tree target) place) own (text_named s.names s.files to_file target to_is))
+    ]
+
+state_changes : (s : Session) (name : List ℕ) (said : Result (Option Document) StateFault) → is_name s.names name ≡ true → IsChanging s (with_state s name said)
+state_changes s name (Err why) own = inr (λ touched files accepts. absurd (cc))
+state_changes s name (Ok None) own = inl ([], tt, refl)
+state_changes s name (Ok (Some new)) own = changes_one s name (print new) own
+
+todo_changes : (s : Session) (name : List ℕ) (path : List (List ℕ)) (state : List ℕ) (moment : CivilMinute) (old : Option (List ℕ)) → text_at s.names s.files name ≡ old → IsChanging s (todo s name path state moment old)
+todo_changes s name path state moment None is = inr (λ touched files accepts. absurd (cc))
+todo_changes s name path state moment (Some text) is = state_changes s name (in_state s.states path state moment (tree text)) (text_named s.names s.files name text is)
+
+archive_to_changes : (s : Session) (name : List ℕ) (path : List (List ℕ)) (moment : CivilMinute) (text : List ℕ) (to : Destination) (into : Option (List ℕ)) → is_name s.names name ≡ true → text_at s.names s.files to.file ≡ into
+    → IsChanging s (archive_to s name path moment text to into)
+archive_to_changes s name path moment text to None own is = inr (λ touched files accepts. absurd (cc))
+archive_to_changes s name path moment text to (Some target) own is = elim (cases_Bool (bytes_eq name to.file)) [
+  | inl t ↦ rw t (within_changes s name (archive_within s.states name path moment to (tree text)) own)
+  | inr f ↦ rw f (across_changes s name to.file (archive_across s.states name path moment (tree text) s.states to (tree target)) own (text_named s.names s.files to.file target is))
+]
+
+archive_at_changes : (s : Session) (name : List ℕ) (path : List (List ℕ)) (moment : CivilMinute) (text : List ℕ) (to : Result Destination MoveFault) → is_name s.names name ≡ true → IsChanging s (archive_at s name path moment text to)
+archive_at_changes s name path moment text (Err why) own = inr (λ touched files accepts. absurd (cc))
+archive_at_changes s name path moment text (Ok to) own = archive_to_changes s name path moment text to (text_at s.names s.files to.file) own refl
+
+archive_changes : (s : Session) (name : List ℕ) (path : List (List ℕ)) (moment : CivilMinute) (old : Option (List ℕ)) → text_at s.names s.files name ≡ old → IsChanging s (archive s name path moment old)
+archive_changes s name path moment None is = inr (λ touched files accepts. absurd (cc))
+archive_changes s name path moment (Some text) is = archive_at_changes s name path moment text (location s.states name path text) (text_named s.names s.files name text is)
+
+clock_moved_changes : (s : Session) (other name : List ℕ) (said : Result Moved StateFault) → is_name s.names other ≡ true → is_name s.names name ≡ true → IsChanging s (with_clock_moved s other name said)
+clock_moved_changes s other name (Err why) other_own own = inr (λ touched files accepts. absurd (cc))
+clock_moved_changes s other name (Ok new) other_own own = changes_across s other name new other_own own
+
+clock_in_beside_changes : (s : Session) (name : List ℕ) (moment : CivilMinute) (d : Document) (found : Result ℕ PathFault) (clock : Option (List ℕ × Running)) → is_name s.names name ≡ true → running_over s.names s.files ≡ clock
+    → IsChanging s (clock_in_beside s name moment d found clock)
+clock_in_beside_changes s name moment d found None own is = state_changes s name (clocked_in moment None d found) own
+clock_in_beside_changes s name moment d found (Some clock) own is = elim (cases_Bool (bytes_eq clock.0 name)) [
+  | inl t ↦ rw t (state_changes s name (clocked_in moment (Some clock.1) d found) own)
+  | inr f ↦ rw f (clock_moved_changes s clock.0 name (clock_moved moment clock.1 (tree (unwrap_or (text_at s.names s.files clock.0) [])) d found) (clock_named s.names s.files clock is) own)
+]
+
+clock_in_changes : (s : Session) (name : List ℕ) (path : List (List ℕ)) (moment : CivilMinute) (old : Option (List ℕ)) → text_at s.names s.files name ≡ old → IsChanging s (clock_in s name path moment old)
+clock_in_changes s name path moment None is = inr (λ touched files accepts. absurd (cc))
+clock_in_changes s name path moment (Some text) is =
+    clock_in_beside_changes s name moment (tree text) (find_path s.states (tree text) path) (running_over s.names s.files) (text_named s.names s.files name text is) refl
+
+clock_out_changes : (s : Session) (moment : CivilMinute) (clock : Option (List ℕ × Running)) → running_over s.names s.files ≡ clock → IsChanging s (clock_out s moment clock)
+clock_out_changes s moment None is = inr (λ touched files accepts. absurd (cc))
+clock_out_changes s moment (Some clock) is = state_changes s clock.0 (clocked_out moment clock.1 (tree (unwrap_or (text_at s.names s.files clock.0) []))) (clock_named s.names s.files clock is)
+
+shows_none : (old : Option (List ℕ)) → IsUnaccepted (show old)
+shows_none None touched files accepts = absurd (cc)
+shows_none (Some text) touched files accepts = absurd (cc)
+
+minutes_none : (said : Result ℕ PathFault) → IsUnaccepted (with_minutes said)
+minutes_none (Ok minutes) touched files accepts = absurd (cc)
+minutes_none (Err why) touched files accepts = absurd (cc)
+
+time_none : (s : Session) (path : List (List ℕ)) (old : Option (List ℕ)) → IsUnaccepted (time s path old)
+time_none s path None touched files accepts = absurd (cc)
+time_none s path (Some text) touched files accepts = minutes_none (clocked_at s.states path (tree text)) touched files accepts
+
+pub command_changes : (s : Session) (command : Command) → IsChanging s (outcome s command)
+command_changes s (Capture file target place moment template initial) = capture_changes s file target place moment template initial (text_at s.names s.files file) refl
+command_changes s (Refile file path to_file to_path place) = refile_changes s file path to_file to_path place (text_at s.names s.files file) (text_at s.names s.files to_file) refl refl
+command_changes s (Todo file path state moment) = todo_changes s file path state moment (text_at s.names s.files file) refl
+command_changes s (Archive file path moment) = archive_changes s file path moment (text_at s.names s.files file) refl
+command_changes s (ClockIn file path moment) = clock_in_changes s file path moment (text_at s.names s.files file) refl
+command_changes s (ClockOut moment) = clock_out_changes s moment (running_over s.names s.files) refl
+command_changes s (Time file path) = inr (time_none s path (text_at s.names s.files file))
+command_changes s (Show file) = inr (shows_none (text_at s.names s.files file))
+command_changes s Settle = inr (λ touched files accepts. absurd (cc))
+
+-- changes that are accepted
+changed_accepts : (s : Session) (changes : List (List ℕ × List ℕ)) (touched files : List (List ℕ)) → changed s changes ≡ Accepts touched files
+    → (has_large changes ≡ false) × (touched ≡ map (λ change. change.0) changes) × (with_all s.names s.files changes ≡ files)
+changed_accepts s changes touched files = go (has_large changes) (s.accepted == 2 ^ 64 - 1)
   where
-    go : (large : Bool) → has_large changes ≡ large → (full : Bool)
-        → (if large then Refuses TooLarge else if full then Refuses TooLarge else Accepts (map (λ change. change.0) changes) (with_all s.names s.files changes)) ≡ Accepts touched files → Puts s files
-    go true is full accepts = absurd (cc)
-    go false is true accepts = absurd (cc)
-    go false is false accepts =
-        let same : with_all s.names s.files changes ≡ files = cc in
-        (changes, within changes is, same)
-
-document_puts : (s : Session) (name : List ℕ) (made : Result Document CaptureFault) {touched : List (List ℕ)} (files : List (List ℕ)) → with_document s name made ≡ Accepts touched files → Puts s files
-document_puts s name (Err why) files accepts = absurd (cc)
-document_puts s name (Ok new) files accepts = changed_puts s ((name, print new) ∷ []) files accepts
-
-entry_puts : (s : Session) (name : List ℕ) (target : Target) (place : Place) (moment : CivilMinute) (entry : Result Node CaptureFault) (text : List ℕ) {touched : List (List ℕ)} (files : List (List ℕ))
-    → with_entry s name target place moment entry text ≡ Accepts touched files → Puts s files
-entry_puts s name target place moment (Err why) text files accepts = absurd (cc)
-entry_puts s name target place moment (Ok entry) text files accepts = document_puts s name (captured s.states target place moment entry (tree text)) files accepts
-
-capture_puts : (s : Session) (name : List ℕ) (target : Target) (place : Place) (moment : CivilMinute) (template initial : List ℕ) (old : Option (List ℕ)) {touched : List (List ℕ)} (files : List (List ℕ))
-    → capture s name target place moment template initial old ≡ Accepts touched files → Puts s files
-capture_puts s name target place moment template initial None files accepts = absurd (cc)
-capture_puts s name target place moment template initial (Some text) files accepts = entry_puts s name target place moment (new_entry moment template initial) text files accepts
-
-moved_puts : {B : Type 0} (s : Session) (texts : B → List (List ℕ × List ℕ)) (said : Result B MoveFault) {touched : List (List ℕ)} (files : List (List ℕ)) → with_moved s texts said ≡ Accepts touched files → Puts s files
-moved_puts s texts (Err why) files accepts = absurd (cc)
-moved_puts s texts (Ok new) files accepts = changed_puts s (texts new) files accepts
-
-refile_puts : (s : Session) (name : List ℕ) (path : List (List ℕ)) (to_file : List ℕ) (to : List (List ℕ)) (place : Place) (old into : Option (List ℕ)) {touched : List (List ℕ)} (files : List (List ℕ))
-    → refile s name path to_file to place old into ≡ Accepts touched files → Puts s files
-refile_puts s name path to_file to place None into files accepts = absurd (cc)
-refile_puts s name path to_file to place (Some text) None files accepts = absurd (cc)
-refile_puts s name path to_file to place (Some text) (Some target) files accepts = elim (cases_Bool (bytes_eq name to_file)) [
-  | inl t ↦ moved_puts s (text_within name) (refile_within s.states path to place (tree text)) files (rw t at accepts)
-  | inr f ↦ moved_puts s (texts_across name to_file) (refile_across s.states path (tree text) s.states to (tree target) place) files (rw f at accepts)
-]
-
-state_puts : (s : Session) (name : List ℕ) (said : Result (Option Document) StateFault) {touched : List (List ℕ)} (files : List (List ℕ)) → with_state s name said ≡ Accepts touched files → Puts s files
-state_puts s name (Err why) files accepts = absurd (cc)
-state_puts s name (Ok None) files accepts = changed_puts s [] files accepts
-state_puts s name (Ok (Some new)) files accepts = changed_puts s ((name, print new) ∷ []) files accepts
-
-todo_puts : (s : Session) (name : List ℕ) (path : List (List ℕ)) (state : List ℕ) (moment : CivilMinute) (old : Option (List ℕ)) {touched : List (List ℕ)} (files : List (List ℕ)) → todo s name path state moment old ≡ Accepts touched files → Puts s files
-todo_puts s name path state moment None files accepts = absurd (cc)
-todo_puts s name path state moment (Some text) files accepts = state_puts s name (in_state s.states path state moment (tree text)) files accepts
-
-archive_to_puts : (s : Session) (name : List ℕ) (path : List (List ℕ)) (moment : CivilMinute) (text : List ℕ) (to : Destination) (into : Option (List ℕ)) {touched : List (List ℕ)} (files : List (List ℕ)) → archive_to s name path moment text to into ≡ Accepts touched files → Puts s files
-archive_to_puts s name path moment text to None files accepts = absurd (cc)
-archive_to_puts s name path moment text to (Some target) files accepts = elim (cases_Bool (bytes_eq name to.file)) [
-  | inl t ↦ moved_puts s (text_within name) (archive_within s.states name path moment to (tree text)) files (rw t at accepts)
-  | inr f ↦ moved_puts s (texts_across name to.file) (archive_across s.states name path moment (tree text) s.states to (tree target)) files (rw f at accepts)
-]
-
-archive_at_puts : (s : Session) (name : List ℕ) (path : List (List ℕ)) (moment : CivilMinute) (text : List ℕ) (to : Result Destination MoveFault) {touched : List (List ℕ)} (files : List (List ℕ)) → archive_at s name path moment text to ≡ Accepts touched files → Puts s files
-archive_at_puts s name path moment text (Err why) files accepts = absurd (cc)
-archive_at_puts s name path moment text (Ok to) files accepts = archive_to_puts s name path moment text to (text_at s.names s.files to.file) files accepts
-
-archive_puts : (s : Session) (name : List ℕ) (path : List (List ℕ)) (moment : CivilMinute) (old : Option (List ℕ)) {touched : List (List ℕ)} (files : List (List ℕ)) → archive s name path moment old ≡ Accepts touched files → Puts s files
-archive_puts s name path moment None files accepts = absurd (cc)
-archive_puts s name path moment (Some text) files accepts = archive_at_puts s name path moment text (location s.states name path text) files accepts
-
-clock_moved_puts : (s : Session) (other name : List ℕ) (said : Result Moved StateFault) {touched : List (List ℕ)} (files : List (List ℕ)) → with_clock_moved s other name said ≡ Accepts touched files → Puts s files
-clock_moved_puts s other name (Err why) files accepts = absurd (cc)
-clock_moved_puts s other name (Ok new) files accepts = changed_puts s (texts_across other name new) files accepts
-
-clock_in_beside_puts : (s : Session) (name : List ℕ) (moment : CivilMinute) (d : Document) (found : Result ℕ PathFault) (clock : Option (List ℕ × Running)) {touched : List (List ℕ)} (files : List (List ℕ))
-    → clock_in_beside s name moment d found clock ≡ Accepts touched files → Puts s files
-clock_in_beside_puts s name moment d found None files accepts = state_puts s name (clocked_in moment None d found) files accepts
-clock_in_beside_puts s name moment d found (Some clock) files accepts = elim (cases_Bool (bytes_eq clock.0 name)) [
-  | inl t ↦ state_puts s name (clocked_in moment (Some clock.1) d found) files (rw t at accepts)
-  | inr f ↦ clock_moved_puts s clock.0 name (clock_moved moment clock.1 (tree (unwrap_or (text_at s.names s.files clock.0) [])) d found) files (rw f at accepts)
-]
-
-clock_in_puts : (s : Session) (name : List ℕ) (path : List (List ℕ)) (moment : CivilMinute) (old : Option (List ℕ)) {touched : List (List ℕ)} (files : List (List ℕ)) → clock_in s name path moment old ≡ Accepts touched files → Puts s files
-clock_in_puts s name path moment None files accepts = absurd (cc)
-clock_in_puts s name path moment (Some text) files accepts =
-    clock_in_beside_puts s name moment (tree text) (find_path s.states (tree text) path) (running_over s.names s.files) files accepts
-
-clock_out_puts : (s : Session) (moment : CivilMinute) (clock : Option (List ℕ × Running)) {touched : List (List ℕ)} (files : List (List ℕ)) → clock_out s moment clock ≡ Accepts touched files → Puts s files
-clock_out_puts s moment None files accepts = absurd (cc)
-clock_out_puts s moment (Some clock) files accepts = state_puts s clock.0 (clocked_out moment clock.1 (tree (unwrap_or (text_at s.names s.files clock.0) []))) files accepts
-
-shows_none : (old : Option (List ℕ)) {touched : List (List ℕ)} (files : List (List ℕ)) → show old ≡ Accepts touched files → ⊥
-shows_none None files accepts = absurd (cc)
-shows_none (Some text) files accepts = absurd (cc)
-
-minutes_none : (said : Result ℕ PathFault) {touched : List (List ℕ)} (files : List (List ℕ)) → with_minutes said ≡ Accepts touched files → ⊥
-minutes_none (Ok minutes) files accepts = absurd (cc)
-minutes_none (Err why) files accepts = absurd (cc)
-
-time_none : (s : Session) (path : List (List ℕ)) (old : Option (List ℕ)) {touched : List (List ℕ)} (files : List (List ℕ)) → time s path old ≡ Accepts touched files → ⊥
-time_none s path None files accepts = absurd (cc)
-time_none s path (Some text) files accepts = minutes_none (clocked_at s.states path (tree text)) files accepts
+    go : (large full : Bool) → (if large then Refuses TooLarge else if full then Refuses TooLarge else Accepts (map (λ change. change.0) changes) (with_all s.names s.files changes)) ≡ Accepts touched files
+        → (large ≡ false) × (touched ≡ map (λ change. change.0) changes) × (with_all s.names s.files changes ≡ files)
+    go true full accepts = absurd (cc)
+    go false true accepts = absurd (cc)
+    go false false accepts = (refl, cc, cc)
 
 pub accepted_puts : (s : Session) (command : Command) {touched : List (List ℕ)} (files : List (List ℕ)) → outcome s command ≡ Accepts touched files → Puts s files
-accepted_puts s (Capture file target place moment template initial) files accepts =
-    capture_puts s file target place moment template initial (text_at s.names s.files file) files accepts
-accepted_puts s (Refile file path to_file to_path place) files accepts =
-    refile_puts s file path to_file to_path place (text_at s.names s.files file) (text_at s.names s.files to_file) files accepts
-accepted_puts s (Todo file path state moment) files accepts = todo_puts s file path state moment (text_at s.names s.files file) files accepts
-accepted_puts s (Archive file path moment) files accepts = archive_puts s file path moment (text_at s.names s.files file) files accepts
-accepted_puts s (ClockIn file path moment) files accepts = clock_in_puts s file path moment (text_at s.names s.files file) files accepts
-accepted_puts s (ClockOut moment) files accepts = clock_out_puts s moment (running_over s.names s.files) files accepts
-accepted_puts s (Time file path) files accepts = absurd (time_none s path (text_at s.names s.files file) files accepts)
-accepted_puts s (Show file) files accepts = absurd (shows_none (text_at s.names s.files file) files accepts)
-accepted_puts s Settle files accepts = absurd (cc)
+accepted_puts s command {touched} files accepts = elim (command_changes s command) [
+  | inl makes ↦ let so = changed_accepts s makes.0 touched files (sym makes.2 ∙ accepts) in (makes.0, within makes.0 so.0, so.2)
+  | inr none ↦ absurd (none touched files accepts)
+]
+
+-- the files that a command is to give new texts are files of the store
+pub written_named : (s : Session) (command : Command) → AreNames s.names (written (outcome s command))
+written_named s command = go (outcome s command) refl
+  where
+    go : (does : Outcome) → outcome s command ≡ does → AreNames s.names (written does)
+    go (Refuses why) is = tt
+    go (Shows text) is = tt
+    go (Tells minutes) is = tt
+    go AsksToSettle is = tt
+    go (Accepts touched files) is = elim (command_changes s command) [
+      | inl makes ↦ let so = changed_accepts s makes.0 touched files (sym makes.2 ∙ is) in subst (AreNames s.names) (sym so.1) makes.1
+      | inr none ↦ absurd (none touched files is)
+    ]

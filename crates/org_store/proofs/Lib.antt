@@ -22,6 +22,7 @@ pub mod Sessions
 pub mod Settled
 pub mod Accepted
 pub mod Follows
+pub mod Own
 pub mod Sortings
 pub mod Runs
 pub mod History

@@ -1,6 +1,6 @@
 -- Texts of files in the order of their names.
-use Rattle.std.specs.Prelude.{◌⊎◌, ℕ, Bool, List, [], ◌∷◌, Option, Some, None, if◌then◌else◌}
-use Rattle.std.specs.List.{list_any}
+use Rattle.std.specs.Prelude.{◌≡◌, ◌⊎◌, true, ℕ, Bool, List, [], ◌∷◌, Option, Some, None, if◌then◌else◌}
+use Rattle.std.specs.List.{AllByRecursion, list_any}
 use Rattle.std.specs.Str.{bytes_eq}
 use Rattle.org_journal.specs.Recovered.{Image, RecoversTo}
 
@@ -12,6 +12,10 @@ texts_of files (name ∷ names) = files name ∷ texts_of files names
 -- whether it is one of these names
 abbrev pub is_name : List (List ℕ) → List ℕ → Bool
 is_name names name = list_any (λ one. bytes_eq one name) names
+
+-- each of the others is one of these names
+abbrev pub AreNames : List (List ℕ) → List (List ℕ) → Type 0
+AreNames names others = AllByRecursion (λ name. is_name names name ≡ true) others
 
 -- the text of the file of a name; there is none where it is none of these names
 abbrev pub text_at : List (List ℕ) → List (List ℕ) → List ℕ → Option (List ℕ)

@@ -1,10 +1,12 @@
 -- What a crash may leave while a call of a store runs: the files after the commands that were acknowledged when it
 -- began, or those that the call puts on the disk.
-use Rattle.std.specs.Prelude.{◌≡◌, ◌⊎◌, ℕ, ◌+◌, List, ◌++◌, Result, Ok, Err, IsTrue}
+use Rattle.std.specs.Prelude.{◌≡◌, ◌≢◌, ◌⊎◌, ℕ, ◌+◌, List, ◌++◌, Result, Ok, Err, IsTrue, IsFalse}
+use Rattle.org_disk.specs.Names.{journal_name}
 use Rattle.org_fileset.specs.Writes.{IsOther}
 use Rattle.org_journal.specs.Recovered.{Image}
 use Rattle.org_store.specs.declared.command.RunFault.{RunFault}
 use Rattle.org_store.specs.declared.command.RunFault.TheVariants.{Device}
+use Rattle.org_store.specs.InOrder.{is_name}
 use Rattle.org_store.specs.Session.{Session, Holds}
 use Rattle.org_store.specs.Outcome.{Outcome, Accepts, Shows, Tells, AsksToSettle, Refuses}
 use Rattle.org_store.specs.Step.{fills}
@@ -43,3 +45,8 @@ IsSpared old waiting (Refuses why) accepted name = Unit {0}
 -- .. and it is left alone by one with this answer, which may not have written at all
 abbrev pub IsLeftAlone : {A : Type 0} → Session → List (List ℕ) → Outcome → Result A RunFault → ℕ → List ℕ → Type 0
 IsLeftAlone old waiting outcome answer accepted name = MayHaveWritten answer → IsSpared old waiting outcome accepted name
+
+-- the file of this name is neither the journal nor one of these
+pub record IsApart (names : List (List ℕ)) (name : List ℕ) : Type 0 where
+  pub apart : name ≢ journal_name
+  pub unnamed : IsFalse (is_name names name)

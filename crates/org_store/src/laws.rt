@@ -9,6 +9,7 @@ ghost use Rattle.org_disk.specs.Names.{IsDiskName, IsOrgFile};
 ghost use Rattle.org_fileset.specs.Names.{with_archives, AreSorted, AreFew, first_large};
 ghost use Rattle.org_fileset.specs.Opening.{IsReason};
 ghost use Rattle.org_fileset.specs.Replay.{IsAtRest};
+ghost use Rattle.org_fileset.specs.Writes.{LeavesAlone};
 ghost use Rattle.org_fileset.specs.declared.open.OpenFault.{OpenFault};
 ghost use Rattle.org_fileset.specs.declared.open.OpenFault.TheVariants.{OutOfMemory, Device};
 ghost use Rattle.org_stamp.specs.Calendar.{CivilMinute};
@@ -24,13 +25,13 @@ ghost use Rattle.org_store.specs.declared.command.RunFault.TheVariants as run_fa
 ghost use Rattle.org_store.specs.Calls.{Call, CallOver, CallPast, CallsPast, grouped};
 ghost use Rattle.org_store.specs.Calls.Call.{Ran};
 ghost use Rattle.org_store.specs.History.{Past, Lists, HoldsPrefix};
-ghost use Rattle.org_store.specs.Left.{IsLeft};
+ghost use Rattle.org_store.specs.Left.{IsApart, IsLeft};
 ghost use Rattle.org_store.specs.OnePlace.{ArchivesOne, HaveNodesButFew, HaveSameNodes, HasNodesOf, HasNodesOfPrefix, IsSessionOf, MayMove, MayRefile, OnlyRefiles};
-ghost use Rattle.org_store.specs.Outcome.{IsAccepted, outcome};
+ghost use Rattle.org_store.specs.Outcome.{IsAccepted, outcome, written};
 ghost use Rattle.org_store.specs.Reopening.{AreSameNames, AreSmall, IsOpenable};
 ghost use Rattle.org_store.specs.Opening.{opened};
 ghost use Rattle.org_store.specs.Runs.{RunsOver, SettlesOver, IsOnDisk};
-ghost use Rattle.org_store.specs.InOrder.{texts_of};
+ghost use Rattle.org_store.specs.InOrder.{AreNames, texts_of};
 ghost use Rattle.org_store.specs.Session.{Session, Kept, Holds};
 ghost use Rattle.org_store.specs.Step.{Step, Run, IsReply};
 
@@ -78,6 +79,26 @@ pub fn settled_is_on_disk<D: Disk>()
         → (IsErrOf answer run_fault.Device → ⊥)
         → SettlesOver D.files D.moment D.left_since old answer new
         → IsOnDisk new.session (contents (D.files new.disk)) }
+{}
+
+/// A store writes no file but its own and the journal: the files that a command gives new texts, and so those that wait for
+/// a commit, are files of the store's names. Calls of a store that was just opened (`Store::open`), for which no file
+/// waits, leave every other file alone: each is as it was, and a crash meanwhile leaves of it what it might have left
+/// before, whatever lies in the folder and whether it is on the disk or not.
+pub fn only_its_own_files_are_written<D: Disk>()
+    ensures written { (s : Session) (command : Command)
+        → AreNames s.names (written (outcome s command)) }
+    ensures calls { (first last : Past D) (calls : List Call)
+        → AreNames first.store.session.names first.store.waiting
+        → CallsPast D.files D.moment D.left_since first calls last
+        → LeavesAlone D.files D.moment D.left_since (IsApart first.store.session.names)
+        first.store.disk last.store.disk }
+    // so it goes on with further calls
+    ensures waits { (first last : Past D) (calls : List Call)
+        → AreNames first.store.session.names first.store.waiting
+        → CallsPast D.files D.moment D.left_since first calls last
+        → (last.store.session.names ≡ first.store.session.names)
+        × AreNames last.store.session.names last.store.waiting }
 {}
 
 /// What a crash leaves of a run of the calls that change a store: commands, settlings and new sizes of the group. A run

@@ -1,0 +1,140 @@
+-- Calls of a store write no file but its own.
+use Rattle.std.proofs.Common.{◌≡◌, inl, inr, ℕ, List, [], ◌∷◌, ◌++◌, true, false, Result, Ok, Err, refl, sym, ap, ◌∙◌, subst, IsTrue}
+use Rattle.std.specs.Prelude.{IsFalse}
+use Rattle.std.proofs.lemmas.Bool.{cases_Bool, false≢true}
+use Rattle.std.specs.List.{list_any}
+use Rattle.std.specs.Str.{bytes_eq}
+use Rattle.org_disk.specs.Disk.{FileState}
+use Rattle.org_disk.proofs.Names.{name_cases, same_name}
+use Rattle.org_journal.specs.Recovered.{Image}
+use Rattle.org_fileset.specs.Writes.{LeavesAlone, IsOther}
+use Rattle.org_fileset.proofs.Writes.{alone_fewer, alone_none, alone_then}
+use Rattle.org_store.specs.declared.command.Command.{Command}
+use Rattle.org_store.specs.declared.command.Reply.{Reply}
+use Rattle.org_store.specs.declared.command.Reply.TheVariants.{Done, Safe, Text, Time}
+use Rattle.org_store.specs.declared.command.RunFault.{RunFault}
+use Rattle.org_store.specs.declared.command.RunFault.TheVariants.{Refused, OutOfMemory, Device, Broken}
+use Rattle.org_store.specs.Calls.{Call, CallPast, CallsPast, grouped}
+use Rattle.org_store.specs.Calls.Call.{Ran, Settled, Grouped}
+use Rattle.org_store.specs.History.{Past}
+use Rattle.org_store.specs.InOrder.{AreNames, is_name}
+use Rattle.org_store.specs.Left.{IsApart, IsSpared}
+use Rattle.org_store.specs.Outcome.{Outcome, Accepts, AsksToSettle, Refuses, Shows, Tells, written, outcome}
+use Rattle.org_store.specs.Runs.{RunsOver, SettlesOver}
+use Rattle.org_store.specs.Session.{Session, Kept}
+use Rattle.org_store.specs.Step.{Settles}
+use Rattle.org_store.specs.Waiting.{Joins, Waits, WaitsSettled, is_waiting}
+use Rattle.org_store.proofs.Accepted.{written_named}
+use Rattle.org_store.proofs.Follows.{step_setting}
+
+-- Files that wait, as names and by the test of one name.
+
+named_waiting : (names some : List (List ℕ)) → AreNames names some → (name : List ℕ) → is_waiting some name ≡ true → is_name names name ≡ true
+named_waiting names [] all name there = absurd (false≢true there)
+named_waiting names (one ∷ some) all name there = elim (name_cases name one) [
+  | inl same ↦ subst (λ (n : List ℕ). is_name names n ≡ true) (sym same.0) all.0
+  | inr apart ↦ let f = apart.1 in named_waiting names some all.1 name (rw f at there)
+]
+
+waiting_named : (names some : List (List ℕ)) → ((name : List ℕ) → is_waiting some name ≡ true → is_name names name ≡ true) → AreNames names some
+waiting_named names [] all = tt
+waiting_named names (one ∷ some) all = (
+  all one (let t = same_name one in rw t refl),
+  waiting_named names some (λ name there. all name (waits_too one some name there)),
+)
+  where
+    waits_too : (one : List ℕ) (some : List (List ℕ)) (name : List ℕ) → is_waiting some name ≡ true → is_waiting (one ∷ some) name ≡ true
+    waits_too one some name there = elim (cases_Bool (bytes_eq name one)) [ inl t ↦ rw t refl | inr f ↦ rw f there ]
+
+named_both : (names first second : List (List ℕ)) → AreNames names first → AreNames names second → AreNames names (first ++ second)
+named_both names [] second a b = b
+named_both names (one ∷ first) second a b = (a.0, named_both names first second a.1 b)
+
+-- a name that is none of these isn't among some of them
+other_named : (names some : List (List ℕ)) (name : List ℕ) → AreNames names some → IsApart names name → IsOther some name
+other_named names [] name all apart = tt
+other_named names (one ∷ some) name all apart = (
+  apart.apart,
+  elim (cases_Bool (list_any (bytes_eq name) (one ∷ some))) [
+    | inl t ↦ absurd (false≢true (sym apart.unnamed ∙ named_waiting names (one ∷ some) all name t))
+    | inr f ↦ f
+  ],
+)
+
+-- a file that isn't the store's is written by no call
+spared : (s : Session) (waiting : List (List ℕ)) (does : Outcome) (accepted : ℕ) (name : List ℕ) → AreNames s.names waiting → AreNames s.names (written does) → IsApart s.names name → IsSpared s waiting does accepted name
+spared s waiting (Accepts names files) accepted name waits gives apart = λ full counts. other_named s.names (waiting ++ names) name (named_both s.names waiting names waits gives) apart
+spared s waiting AsksToSettle accepted name waits gives apart = other_named s.names waiting name waits apart
+spared s waiting (Shows text) accepted name waits gives apart = tt
+spared s waiting (Tells minutes) accepted name waits gives apart = tt
+spared s waiting (Refuses why) accepted name waits gives apart = tt
+
+joined_named : (names old some new : List (List ℕ)) → AreNames names old → AreNames names some → Joins old some new → AreNames names new
+joined_named names old some new waits gives joins =
+    waiting_named names new (λ name there. named_waiting names (old ++ some) (named_both names old some waits gives) name (joins name there))
+
+waits_on : {D : Type 0} (old new : Kept D) (does : Outcome) (answer : Result Reply RunFault) → AreNames old.session.names old.waiting → AreNames old.session.names (written does) → Waits old does answer new → AreNames old.session.names new.waiting
+waits_on old new does (Ok (Done n)) named gives waits = joined_named old.session.names old.waiting (written does) new.waiting named gives waits.1
+waits_on old new does (Ok (Safe n)) named gives waits = subst (AreNames old.session.names) (sym waits) tt
+waits_on old new does (Ok (Text bytes)) named gives waits = subst (AreNames old.session.names) (sym waits) named
+waits_on old new does (Ok (Time minutes)) named gives waits = subst (AreNames old.session.names) (sym waits) named
+waits_on old new does (Err fault) named gives waits = subst (AreNames old.session.names) (sym waits) named
+
+waits_settled_on : {D : Type 0} (old new : Kept D) (answer : Result (Unit {0}) RunFault) → AreNames old.session.names old.waiting → WaitsSettled old.waiting answer new.waiting → AreNames old.session.names new.waiting
+waits_settled_on old new (Ok done) named waits = subst (AreNames old.session.names) (sym waits) tt
+waits_settled_on old new (Err fault) named waits = subst (AreNames old.session.names) (sym waits) named
+
+settles_names : (old new : Session) (answer : Result (Unit {0}) RunFault) → Settles old answer new → new.names ≡ old.names
+settles_names old new (Ok done) step = ap (λ (s : Session). s.names) step.1
+settles_names old new (Err (Refused why)) step = absurd step
+settles_names old new (Err OutOfMemory) step = ap (λ (s : Session). s.names) step.1
+settles_names old new (Err Device) step = ap (λ (s : Session). s.names) step.1.2
+settles_names old new (Err Broken) step = ap (λ (s : Session). s.names) step.1
+
+module _ {D : Type 0} (files : D → List ℕ → FileState) (moment : D → ℕ) (left_since : D → ℕ → Image → Type 0) where
+  -- Calls of a store whose waiting files are its own: they still are, and no other file was written.
+  pub record KeepsToItsOwn (old new : Kept D) : Type 0 where
+    pub names : new.session.names ≡ old.session.names
+    pub waits : AreNames old.session.names new.waiting
+    pub alone : LeavesAlone files moment left_since (IsApart old.session.names) old.disk new.disk
+
+  pub own_none : (old new : Kept D) → AreNames old.session.names old.waiting → new ≡ old → KeepsToItsOwn old new
+  own_none old new named same = subst (KeepsToItsOwn old) (sym same) (record { names = refl; waits = named; alone = alone_none files moment left_since (IsApart old.session.names) old.disk })
+
+  pub own_then : (old mid new : Kept D) → KeepsToItsOwn old mid → (AreNames mid.session.names mid.waiting → KeepsToItsOwn mid new) → KeepsToItsOwn old new
+  own_then old mid new first second =
+      let more = second (subst (λ (ns : List (List ℕ)). AreNames ns mid.waiting) (sym first.names) first.waits) in record {
+        names = more.names ∙ first.names;
+        waits = subst (λ (ns : List (List ℕ)). AreNames ns new.waiting) first.names more.waits;
+        alone = alone_then files moment left_since (IsApart old.session.names) old.disk mid.disk new.disk first.alone
+            (subst (λ (ns : List (List ℕ)). LeavesAlone files moment left_since (IsApart ns) mid.disk new.disk) first.names more.alone);
+      }
+
+  pub own_run : (old new : Kept D) (command : Command) (answer : Result Reply RunFault) → AreNames old.session.names old.waiting → RunsOver files moment left_since old command answer new → KeepsToItsOwn old new
+  own_run old new command answer named ran =
+      let does = outcome old.session command in
+      let gives = written_named old.session command in record {
+        names = (step_setting old.session new.session command answer ran.step).1;
+        waits = waits_on old new does answer named gives ran.waits;
+        alone = alone_fewer files moment left_since (IsApart old.session.names) _ old.disk new.disk ran.disk.alone
+            (λ name apart wrote. spared old.session old.waiting does new.session.accepted name named gives apart);
+      }
+
+  pub own_settling : (old new : Kept D) (answer : Result (Unit {0}) RunFault) → AreNames old.session.names old.waiting → SettlesOver files moment left_since old answer new → KeepsToItsOwn old new
+  own_settling old new answer named ran = record {
+    names = settles_names old.session new.session answer ran.step;
+    waits = waits_settled_on old new answer named ran.waits;
+    alone = alone_fewer files moment left_since (IsApart old.session.names) _ old.disk new.disk ran.disk.alone
+        (λ name apart wrote. spared old.session old.waiting AsksToSettle new.session.accepted name named tt apart);
+  }
+
+  own_call : (old new : Past D) (call : Call) → AreNames old.store.session.names old.store.waiting → CallPast files moment left_since old call new → KeepsToItsOwn old.store new.store
+  own_call old new (Ran command answer) named made = own_run old.store new.store command answer named made.0
+  own_call old new (Settled answer) named made = own_settling old.store new.store answer named made.0
+  own_call old new (Grouped group) named made =
+      subst (KeepsToItsOwn old.store) (sym made.0) (record { names = refl; waits = named; alone = alone_none files moment left_since (IsApart old.store.session.names) old.store.disk })
+
+  pub own_calls : (old new : Past D) (calls : List Call) → AreNames old.store.session.names old.store.waiting → CallsPast files moment left_since old calls new → KeepsToItsOwn old.store new.store
+  own_calls old new [] named run = own_none old.store new.store named (ap (λ (p : Past D). p.store) run)
+  own_calls old new (call ∷ calls) named run =
+      own_then old.store run.0.store new.store (own_call old run.0 call named run.1) (λ named. own_calls run.0 new calls named run.2)

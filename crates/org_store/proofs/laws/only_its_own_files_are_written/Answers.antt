@@ -1,0 +1,17 @@
+use Rattle.std.proofs.Common.{ℕ, List, sym, subst}
+use Rattle.org_store.specs.InOrder.{AreNames}
+use Rattle.org_store.proofs.Accepted.{written_named}
+use Rattle.org_store.proofs.Own.{own_calls}
+use Rattle.org_store.proofs.laws.only_its_own_files_are_written.Goals as goal
+
+pub returns-clause-written : goal.returns-clause-written
+returns-clause-written g c = λ s command. written_named s command
+
+pub returns-clause-calls : goal.returns-clause-calls
+returns-clause-calls g c = λ first last calls named run. let d = g.D.Disk in (own_calls d.files d.moment d.left_since first last calls named run).alone
+
+pub returns-clause-waits : goal.returns-clause-waits
+returns-clause-waits g c = λ first last calls named run.
+    let d = g.D.Disk in
+    let own = own_calls d.files d.moment d.left_since first last calls named run in
+    (own.names, subst (λ (ns : List (List ℕ)). AreNames ns last.store.waiting) (sym own.names) own.waits)
