@@ -12,6 +12,7 @@ pub mod Paths
 pub mod Honest
 pub mod Crashes
 pub mod History
+pub mod Foreign
 mod Opened
 mod Times
 mod Told

@@ -2,12 +2,15 @@
 use Rattle.std.proofs.Common.{◌≡◌, ◌⊎◌, inl, inr, ⊎_elim, ℕ, ◌≤◌, Bool, true, false, nat_lt, is_some, List, [], ◌∷◌, Option, Some, None, Result, Ok, Err, refl, sym, ap, ◌∙◌, subst, arith}
 use Rattle.std.specs.Prelude.{IsSomeAnd, IsTrue, IsFalse, slice_get}
 use Rattle.org_disk.specs.Disk.{FileState, AreImages, HasRisen, LeavesOnly}
+use Rattle.org_disk.specs.Names.{journal_name}
 use Rattle.org_disk.proofs.Moments.{Image, passes_as, passes_then, leaves_only}
 use Rattle.org_outline.specs.States.{Keywords}
 use Rattle.org_journal.specs.Recovered.{SameFiles, RecoversTo, IsRecoverable, recovered, contents}
 use Rattle.org_fileset.specs.Names.{with_archives, AreSorted, first_large}
 use Rattle.org_fileset.specs.Recovery.{EachRecovers, IsReopened, RecoversAsBefore}
 use Rattle.org_fileset.specs.Replay.{IsAtRest}
+use Rattle.org_fileset.specs.Writes.{LeavesAlone, IsUnconcerned}
+use Rattle.org_fileset.proofs.Writes.{alone_fewer}
 use Rattle.org_store.specs.declared.command.RunFault.{RunFault}
 use Rattle.org_store.specs.declared.command.RunFault.TheVariants as run
 use Rattle.org_store.specs.declared.command.RunFault.TheVariants.{Refused, OutOfMemory, Broken}
@@ -24,7 +27,8 @@ use Rattle.org_serve.specs.History.{LeadsBy}
 use Rattle.org_serve.specs.Parts.{WritesSome}
 use Rattle.org_serve.specs.Serving.{EndsBy, Finishes, Serves, end_of}
 use Rattle.org_serve.specs.Crashes.{RunsLine, HasSettledOver, Runs}
-use Rattle.org_serve.specs.Whole.{Begins, ServesOver, BreaksByCount, HoldsServed, IsOnTheWay, IsOnTheWayTo, Lasts}
+use Rattle.org_serve.specs.Whole.{Begins, ServesOver, BreaksByCount, HoldsServed, IsForeign, IsOnTheWay, IsOnTheWayTo, Lasts, LeavesForeign}
+use Rattle.org_serve.proofs.Foreign.{leaves_foreign}
 use Rattle.org_serve.proofs.History.{at_first, lift_run, lift_wrote, session_of_past, since, whole_prefix}
 use Rattle.org_serve.proofs.Honest.{HasSettledPast, PastLine, past_last, past_leads, past_lines, past_runs, up_to}
 
@@ -61,12 +65,13 @@ module _ {D : Type 0} (files : D → List ℕ → FileState) (states : Keywords)
   pub serves : (honest : D → Type 0) (moment : D → ℕ) (left_since : D → ℕ → Image → Type 0) → AreSorted (with_archives given) store.session.names
       → (honest store.disk → first_large (contents (files store.disk)) store.session.names ≡ None)
       → (honest begun.disk → honest disk) → (honest begun.disk → IsReopened (files disk) (files begun.disk))
+      → store.waiting ≡ [] → (honest begun.disk → LeavesAlone files moment left_since (IsUnconcerned (contents (files disk) journal_name)) disk begun.disk)
       → {end : ServeEnd} {left left' written written' : Option (List ℕ)} (after : Kept D) (now : D) → now ≡ after.disk
       → (ran : Runs (RunsLine honest files moment left_since) (HasSettledOver honest files moment left_since) begun after end left left' written written')
       → (end ≡ Write → WritesSome ran.input ran.others ran.out after.session.acknowledged written written')
       → (honest now → Serves begun.session end after.session left left' written written')
       → ServesOver honest files moment left_since states group given disk now end left left' written written'
-  serves honest moment left_since sorted sized began reopened after now given_up run begins_replies told =
+  serves honest moment left_since sorted sized began reopened waits alone after now given_up run begins_replies told =
       let first : Past D = record { store = begun; texts = begun.session.files ∷ [] } in
       let past = lift_run honest files moment left_since first run in record {
         first = first;
@@ -76,6 +81,8 @@ module _ {D : Type 0} (files : D → List ℕ → FileState) (states : Keywords)
         begins = begun_so sorted;
         sizes = subst (λ (k : Kept D). honest k.disk → first_large (contents (files k.disk)) k.session.names ≡ None) (sym is) sized;
         texts = refl;
+        waits = ap (λ (k : Kept D). k.waiting) is ∙ waits;
+        alone = λ h. alone_fewer files moment left_since (IsForeign given (contents (files disk) journal_name)) (IsUnconcerned (contents (files disk) journal_name)) disk begun.disk (alone h) (λ name foreign. foreign.unconcerned);
         run = past.1;
         given_up = given_up;
         told = λ is. lift_wrote honest files moment left_since first run after.session.acknowledged (begins_replies is);
@@ -264,6 +271,7 @@ module _ {D : Type 0} (honest : D → Type 0) (files : D → List ℕ → FileSt
     (opens : store.session ≡ opened states store.session.names (texts_of (contents (files store.disk)) store.session.names)) where
   pub serves_lasting : AreSorted (with_archives given) store.session.names → (honest store.disk → first_large (contents (files store.disk)) store.session.names ≡ None)
       → (honest begun.disk → honest disk) → (honest begun.disk → IsReopened (files disk) (files begun.disk))
+      → store.waiting ≡ [] → (honest begun.disk → LeavesAlone files moment left_since (IsUnconcerned (contents (files disk) journal_name)) disk begun.disk)
       → {end : ServeEnd} {left left' written written' : Option (List ℕ)} (after : Kept D) (now : D) → now ≡ after.disk
       → (ran : Runs (RunsLine honest files moment left_since) (HasSettledOver honest files moment left_since) begun after end left left' written written')
       → (end ≡ Write → WritesSome ran.input ran.others ran.out after.session.acknowledged written written')
@@ -272,11 +280,13 @@ module _ {D : Type 0} (honest : D → Type 0) (files : D → List ℕ → FileSt
       → (failures : D → ℕ) → (IsTrue after.session.broken → HasRisen (failures disk) (failures now)) × (IsFalse after.session.broken → failures now ≡ failures disk)
       → (served : ServesOver honest files moment left_since states group given disk now end left left' written written')
       × BreaksByCount failures served
+      × LeavesForeign served
       × (IsRecoverable (files disk) → EachRecovers (files disk) → Lasts served)
   unfolding serves
-  serves_lasting sorted sized began reopened after now given_up run begins_replies told opening failures counts =
-      let served = serves files states group given disk store begun is opens honest moment left_since sorted sized began reopened after now given_up run begins_replies told in (
+  serves_lasting sorted sized began reopened waits alone after now given_up run begins_replies told opening failures counts =
+      let served = serves files states group given disk store begun is opens honest moment left_since sorted sized began reopened waits alone after now given_up run begins_replies told in (
         served,
         record { broken = counts.0; sound = counts.1 },
+        leaves_foreign served,
         λ fit each. lasts only_now counts_now served (λ honestly. (reopened honestly).rest fit each) (λ honestly. opening fit each honestly),
       )

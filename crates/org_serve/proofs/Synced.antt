@@ -11,11 +11,14 @@ use Rattle.org_fileset.specs.declared.open.OpenFault.{OpenFault}
 use Rattle.org_fileset.specs.declared.open.OpenFault.TheVariants as open_fault
 use Rattle.org_fileset.specs.Opening.{IsBroughtToAnEnd, IsReason}
 use Rattle.org_fileset.specs.Recovery.{EachRecovers, IsReopened, RecoversAsBefore, closed_journal}
+use Rattle.org_fileset.specs.Writes.{LeavesAlone}
 use Rattle.org_fileset.proofs.Recovering.{as_before}
+use Rattle.org_fileset.proofs.Writes.{alone_then}
 use Rattle.org_serve.specs.declared.end.ServeEnd.{ServeEnd}
 use Rattle.org_store.specs.History.{Past}
-use Rattle.org_serve.specs.Syncing.{AreSynced, OutsideStable, IsAsFound, IsSyncFault, stored}
-use Rattle.org_serve.specs.Whole.{ServesOver, BreaksByCount, IsOnTheWay, IsOnTheWayTo, Lasts, LastsFrom, GivesBack, GivesBackSynced}
+use Rattle.org_serve.specs.Syncing.{AreSynced, IsNotStored, OutsideStable, IsAsFound, IsSyncFault, stored}
+use Rattle.org_serve.specs.Whole.{ServesOver, BreaksByCount, IsForeign, IsOnTheWay, IsOnTheWayTo, Lasts, LastsFrom, GivesBack, GivesBackSynced}
+use Rattle.org_serve.proofs.Foreign.{synced_alone}
 use Rattle.org_serve.proofs.Honest.{past_runs, up_to}
 use Rattle.org_serve.proofs.Syncs.{all_images, each_image, some_or_none, still_recoverable, still_recovers, still_outside, as_at_first, as_read, now_recoverable, now_recovers, some_recovers}
 
@@ -59,12 +62,14 @@ reason_before given Honest before mid now same open_fault.OutOfMemory why = tt
 -- a sync that failed
 pub unsynced_gives_back : {D : Type 0} (files : D → List ℕ → FileState) (moment : D → ℕ) (left_since : D → ℕ → Image → Type 0) (given : List (List ℕ)) (disk now : D) {fault : OpenFault}
     → ((name : List ℕ) → IsImage (files now name) (files now name).content) → ((name bytes : List ℕ) → IsImage (files now name) bytes → IsImage (files disk name) bytes)
+    → ((name : List ℕ) → IsNotStored given name → files now name ≡ files disk name)
     → LeavesOver moment left_since disk now (AreImages (files disk)) → GivesBackSynced files moment left_since given disk now (Err fault)
-unsynced_gives_back files moment left_since given disk now own images time = record {
+unsynced_gives_back files moment left_since given disk now own images others time = record {
   gives_back = record {
     unopened = λ fit each. leaves_as time (as_before (files disk) each);
     unopened_bad = λ none. (refl, time);
     recoverable = λ fit each. (still_recoverable (files disk) (files now) own images fit, still_recovers (files disk) (files now) own images each);
+    alone = synced_alone files moment left_since given (contents (files disk) journal_name) disk now others time;
   };
   unopened_as_found = λ outside. leaves_as time (λ image left. inl left);
   recoverable_once_synced = λ outside. inr (refl, still_outside (files disk) (files now) own images given outside);
@@ -75,6 +80,7 @@ module _ {D : Type 0} (honest : D → Type 0) (files : D → List ℕ → FileSt
     (own : honest mid → (name : List ℕ) → IsImage (files mid name) (files mid name).content)
     (synced : honest mid → AreSynced (stored given) (files disk) (files mid))
     (images : honest mid → (name bytes : List ℕ) → IsImage (files mid name) bytes → IsImage (files disk name) bytes)
+    (others : honest mid → (name : List ℕ) → IsNotStored given name → files mid name ≡ files disk name)
     (time : honest mid → LeavesOver moment left_since disk mid (AreImages (files disk))) where
   reopened_from : (new : List ℕ → FileState) → honest mid → IsReopened (files mid) new → IsReopened (files disk) new
   reopened_from new h is = record {
@@ -83,6 +89,14 @@ module _ {D : Type 0} (honest : D → Type 0) (files : D → List ℕ → FileSt
     gate = is.gate;
     rest = λ fit each. is.rest (still_recoverable (files disk) (files mid) (own h) (images h) fit) (still_recovers (files disk) (files mid) (own h) (images h) each);
   }
+
+  -- the files that are none of the run's are left alone by the syncs, and by what leaves them alone then
+  alone_behind : (new : D) → honest mid → LeavesAlone files moment left_since (IsForeign given (contents (files mid) journal_name)) mid new
+      → LeavesAlone files moment left_since (IsForeign given (contents (files disk) journal_name)) disk new
+  alone_behind new h alone =
+      let journal = contents (files disk) journal_name in
+      alone_then files moment left_since (IsForeign given journal) disk mid new (synced_alone files moment left_since given journal disk mid (others h) (time h))
+      (subst (λ (f : Image). LeavesAlone files moment left_since (IsForeign given (f journal_name)) mid new) (synced h).same alone)
 
   module _ {states : Keywords} {group : ℕ} {now : D} {end : ServeEnd} {left left' written written' : Option (List ℕ)}
       (served : ServesOver honest files moment left_since states group given mid now end left left' written written') where
@@ -95,6 +109,8 @@ module _ {D : Type 0} (honest : D → Type 0) (files : D → List ℕ → FileSt
       begins = served.begins;
       sizes = served.sizes;
       texts = served.texts;
+      waits = served.waits;
+      alone = λ h. alone_behind served.first.store.disk (served.began h) (served.alone h);
       run = served.run;
       given_up = served.given_up;
       told = served.told;
@@ -161,8 +177,8 @@ module _ {D : Type 0} (honest : D → Type 0) (files : D → List ℕ → FileSt
         (λ h image before. let m = served.began h in inr (as_read (files disk) (files mid) (own m) (images m) given (synced m) outside image before))
 
   -- what is given back of a run behind the syncs
-  module _ {now : D} {end : Result ServeEnd OpenFault} (h : honest mid) (later : GivesBack files moment left_since mid now end) where
-    still_gives_back : GivesBack files moment left_since disk now end
+  module _ {now : D} {end : Result ServeEnd OpenFault} (h : honest mid) (later : GivesBack files moment left_since given mid now end) where
+    still_gives_back : GivesBack files moment left_since given disk now end
     still_gives_back = record {
       unopened = λ fit each. if_err end (λ fault left. leaves_behind (time h) left (as_before (files disk) each) (as_at_first (files disk) (files mid) (own h) (images h)))
           (later.unopened (still_recoverable (files disk) (files mid) (own h) (images h) fit) (still_recovers (files disk) (files mid) (own h) (images h) each));
@@ -170,6 +186,7 @@ module _ {D : Type 0} (honest : D → Type 0) (files : D → List ℕ → FileSt
           let bad = later.unopened_bad (ap recovered (synced h).same ∙ none) in
           (bad.0, leaves_behind (time h) bad.1 (λ image left. left) (all_images (images h)));
       recoverable = λ fit each. later.recoverable (still_recoverable (files disk) (files mid) (own h) (images h) fit) (still_recovers (files disk) (files mid) (own h) (images h) each);
+      alone = alone_behind now h later.alone;
     }
 
     pub synced_gives_back : ((name : List ℕ) → IsImage (files now name) (files now name).content)

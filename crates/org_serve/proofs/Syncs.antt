@@ -15,7 +15,7 @@ use Rattle.org_fileset.specs.Names.{AreSorted}
 use Rattle.org_fileset.specs.Recovery.{EachRecovers, RecoversAsBefore}
 use Rattle.org_fileset.proofs.Elements.{no_member, cons_cases, cons_here, cons_later}
 use Rattle.org_fileset.proofs.Recovering.{stable_from_only, with_bytes, one_image, here_is}
-use Rattle.org_serve.specs.Syncing.{AreSynced, OutsideStable, RecoversAsRead, stored}
+use Rattle.org_serve.specs.Syncing.{AreSynced, IsNotStored, OutsideStable, RecoversAsRead, stored}
 
 -- One sync after others
 
@@ -67,6 +67,10 @@ not_done P (Err fault) failed = tt
 -- the names of a store's files, in another order
 pub syncs_of : (given names : List (List ℕ)) (old new : List ℕ → FileState) → AreSorted (stored given) names → AreSynced names old new → AreSynced (stored given) old new
 syncs_of given names old new sorted synced = record { same = synced.same; stable = λ name there. synced.stable name ((sorted.members name).1 there) }
+
+pub others_of : (given names : List (List ℕ)) (old new : List ℕ → FileState) → AreSorted (stored given) names → ((name : List ℕ) → (Contains names name → ⊥) → new name ≡ old name)
+    → (name : List ℕ) → IsNotStored given name → new name ≡ old name
+others_of given names old new sorted others name none = others name (λ there. none ((sorted.members name).0 there))
 
 -- A disk of which a crash leaves nothing new
 

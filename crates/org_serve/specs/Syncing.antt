@@ -12,6 +12,10 @@ use Rattle.org_fileset.specs.declared.open.OpenFault.TheVariants.{TooManyFiles, 
 abbrev pub stored : List (List ℕ) → List (List ℕ)
 stored given = journal_name ∷ with_archives given
 
+-- the file of this name is neither the journal nor one of a store's with these names
+abbrev pub IsNotStored : List (List ℕ) → List ℕ → Type 0
+IsNotStored given name = Contains (stored given) name → ⊥
+
 -- All files read as before, and each of these is on the disk.
 pub record AreSynced (names : List (List ℕ)) (old new : List ℕ → FileState) : Type 0 where
   pub same : contents new ≡ contents old
@@ -22,6 +26,8 @@ pub record Syncs {A E : Type 0} (names : List (List ℕ)) (old new : List ℕ �
   pub done : OnOk result (AreSynced names old new)
   -- a crash leaves of a file what it might have left before
   pub images : (name bytes : List ℕ) → IsImage (new name) bytes → IsImage (old name) bytes
+  -- no other file is synced
+  pub others : (name : List ℕ) → (Contains names name → ⊥) → new name ≡ old name
 
 -- a sync of a store's files isn't done for this reason
 abbrev pub IsSyncFault : List (List ℕ) → OpenFault → Type 0
@@ -32,7 +38,7 @@ IsSyncFault given fault = ⊥
 
 -- every file but the store's is on the disk
 abbrev pub OutsideStable : List (List ℕ) → (List ℕ → FileState) → Type 0
-OutsideStable given files = (name : List ℕ) → (Contains (stored given) name → ⊥) → IsStable (files name)
+OutsideStable given files = (name : List ℕ) → IsNotStored given name → IsStable (files name)
 
 -- the image recovers to what the files recover to as they read
 abbrev pub RecoversAsRead : (List ℕ → FileState) → Image → Type 0

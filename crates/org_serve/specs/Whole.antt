@@ -3,12 +3,14 @@
 use Rattle.std.specs.Prelude.{◌≡◌, ◌⊎◌, ℕ, List, [], ◌∷◌, None, Option, IsTrue, IsFalse, Result, Ok, Err, IfErr, IsErr}
 use Rattle.org_disk.specs.Disk.{FileState, AreImages, HasRisen}
 use Rattle.org_disk.specs.Accounts.{LeavesOver}
+use Rattle.org_disk.specs.Names.{journal_name}
 use Rattle.org_outline.specs.States.{Keywords}
 use Rattle.org_journal.specs.Recovered.{Image, IsRecoverable, contents, recovered}
 use Rattle.org_fileset.specs.declared.open.OpenFault.{OpenFault}
 use Rattle.org_fileset.specs.declared.open.OpenFault.TheVariants as open_fault
 use Rattle.org_fileset.specs.Names.{with_archives, AreSorted, first_large}
 use Rattle.org_fileset.specs.Recovery.{EachRecovers, IsReopened, RecoversAsBefore}
+use Rattle.org_fileset.specs.Writes.{LeavesAlone, IsUnconcerned}
 use Rattle.org_store.specs.History.{Past, HoldsPrefix}
 use Rattle.org_store.specs.InOrder.{texts_of}
 use Rattle.org_store.specs.Opening.{opened}
@@ -19,7 +21,7 @@ use Rattle.org_serve.specs.History.{PastLine, HasSettledPast, LeadsBy}
 use Rattle.org_serve.specs.Parts.{WritesSome}
 use Rattle.org_serve.specs.Serving.{AnswersLine, Serves}
 use Rattle.org_serve.specs.Crashes.{Runs}
-use Rattle.org_serve.specs.Syncing.{OutsideStable, IsAsFound}
+use Rattle.org_serve.specs.Syncing.{IsNotStored, OutsideStable, IsAsFound}
 use Rattle.org_serve.specs.Transcript.{Answers}
 
 -- The session of a store that was just opened over these files, with these states, in groups of this size: it has the
@@ -27,6 +29,12 @@ use Rattle.org_serve.specs.Transcript.{Answers}
 pub record Begins (states : Keywords) (group : ℕ) (given : List (List ℕ)) (files : Image) (begin : Session) : Type 0 where
   pub names : AreSorted (with_archives given) begin.names
   pub session : begin ≡ record (opened states begin.names (texts_of files begin.names)) { group = group }
+
+-- The file of this name is none of a run's: it isn't one of a store's with these names, nor the journal, which has these
+-- bytes, and no record names it that stands behind an open gate.
+pub record IsForeign (given : List (List ℕ)) (journal name : List ℕ) : Type 0 where
+  pub outside : IsNotStored given name
+  pub unconcerned : IsUnconcerned journal name
 
 -- A store was opened over the disk `disk`, served to this end, and gave up the disk `now`. Between the two stands each store
 -- on the way, and the list has the texts of all files as they were opened and after each accepted command. What is said of
@@ -43,6 +51,10 @@ pub record ServesOver {D : Type 0} (honest : D → Type 0) (files : D → List �
   -- each of its files is within the limit then
   pub sizes : honest first.store.disk → first_large (contents (files first.store.disk)) first.store.session.names ≡ None
   pub texts : first.texts ≡ first.store.session.files ∷ []
+  -- no file waits for a commit then
+  pub waits : first.store.waiting ≡ []
+  -- files that are none of the run's were left alone
+  pub alone : honest first.store.disk → LeavesAlone files moment left_since (IsForeign given (contents (files disk) journal_name)) disk first.store.disk
   pub run : Runs (PastLine honest files moment left_since) (HasSettledPast honest files moment left_since) first last end left left' written written'
   pub given_up : now ≡ last.store.disk
   -- where a write or a flush failed, what was written begins the replies to the lines that were run, and what is written at
@@ -76,6 +88,14 @@ IsOnTheWayTo {honest = honest} {files = files} {moment = moment} {left_since = l
     × LeadsBy (PastLine honest files moment left_since) served.first way.answered way.written later here)
     ⊎ ((later ≡ served.last) × IsOnTheWay served here)
 
+-- Up to each store on the way over a disk that is honest there, files that are none of the run's were left alone.
+abbrev pub LeavesForeign : {D : Type 0} {honest : D → Type 0} {files : D → List ℕ → FileState} {moment : D → ℕ} {left_since : D → ℕ → Image → Type 0}
+    {states : Keywords} {group : ℕ} {given : List (List ℕ)} {disk now : D} {end : ServeEnd} {left left' written written' : Option (List ℕ)}
+    → ServesOver honest files moment left_since states group given disk now end left left' written written' → Type 0
+LeavesForeign {D = D} {honest = honest} {files = files} {moment = moment} {left_since = left_since} {given = given} {disk = disk} served =
+    (here : Past D) → IsOnTheWay served here → honest here.store.disk
+    → LeavesAlone files moment left_since (IsForeign given (contents (files disk) journal_name)) disk here.store.disk
+
 -- What a crash leaves of a run: up to each store on the way over a disk that is honest there, at the last to the end.
 -- `Before` is what it leaves of what was there when the run began.
 pub record LastsFrom {D : Type 0} {honest : D → Type 0} {files : D → List ℕ → FileState} {moment : D → ℕ} {left_since : D → ℕ → Image → Type 0}
@@ -107,7 +127,7 @@ pub record BreaksByCount {D : Type 0} {honest : D → Type 0} {files : D → Lis
 
 -- What a run makes of a disk that is honest at the end: `disk` is what it was given, and `now` what it gives back.
 pub record GivesBack {D : Type 0} (files : D → List ℕ → FileState) (moment : D → ℕ) (left_since : D → ℕ → Image → Type 0)
-    (disk now : D) (end : Result ServeEnd OpenFault) : Type 0 where
+    (given : List (List ℕ)) (disk now : D) (end : Result ServeEnd OpenFault) : Type 0 where
   -- where the opening is refused, on a recoverable disk of which each image recovers to files, a crash leaves what recovers
   -- to these
   pub unopened : IsRecoverable (files disk) → EachRecovers (files disk)
@@ -116,13 +136,15 @@ pub record GivesBack {D : Type 0} (files : D → List ℕ → FileState) (moment
   pub unopened_bad : recovered (contents (files disk)) ≡ None → IsErr end × LeavesOver moment left_since disk now (AreImages (files disk))
   -- the disk is as recoverable at the end, so that all this may be done again
   pub recoverable : IsRecoverable (files disk) → EachRecovers (files disk) → IsRecoverable (files now) × EachRecovers (files now)
+  -- files that are none of the run's are left alone, however it ends, and whatever is on the disk
+  pub alone : LeavesAlone files moment left_since (IsForeign given (contents (files disk) journal_name)) disk now
 
 -- The same of a run that syncs the store's files before it opens the store, and more where all other files are on the disk
 -- at first.
 pub record GivesBackSynced {D : Type 0} (files : D → List ℕ → FileState) (moment : D → ℕ) (left_since : D → ℕ → Image → Type 0)
     (given : List (List ℕ)) (disk now : D) (end : Result ServeEnd OpenFault) : Type 0 where
   -- whatever is on the disk at first
-  pub gives_back : GivesBack files moment left_since disk now end
+  pub gives_back : GivesBack files moment left_since given disk now end
   -- where the opening is refused, a crash leaves the files as they were found, or what recovers to what they read as
   pub unopened_as_found : OutsideStable given (files disk) → IfErr end (λ _. LeavesOver moment left_since disk now (IsAsFound (files disk)))
   -- the disk is recoverable at the end; or the store wasn't opened, and the other files are on the disk as before

@@ -8,7 +8,7 @@ ghost use Rattle.org_fileset.specs.Recovery.{EachRecovers};
 ghost use Rattle.org_serve.specs.Counts.{EndsForCause};
 ghost use Rattle.org_store.specs.Group.{IsGroup};
 ghost use Rattle.org_serve.specs.Syncing.{OutsideStable, IsAsFound};
-ghost use Rattle.org_serve.specs.Whole.{ServesOver, BreaksByCount, Lasts, LastsFrom, HasFailed, GivesBack, GivesBackSynced};
+ghost use Rattle.org_serve.specs.Whole.{ServesOver, BreaksByCount, LeavesForeign, Lasts, LastsFrom, HasFailed, GivesBack, GivesBackSynced};
 
 use crate::end::ServeEnd;
 use crate::pipes::{Sink, Source};
@@ -54,6 +54,10 @@ pub struct Served<D> {
 /// has the first a (`laws::safe_tells_acknowledged`). Where it ends with `End`, each image at the end recovers to the
 /// files after all of them. The disk is as recoverable at the end, so that all this may be done again.
 ///
+/// No file is written but the store's own, the journal and those that the record of an open journal names: up to a store
+/// on the way, and at the end, each other file is as it was, and a crash leaves of it what it might have left before,
+/// on any disk (`LeavesForeign`).
+///
 /// The faults are those of `Store::open`, and then nothing is read or written; the ends, when each comes, and what is
 /// written then, those of `serve`. The store at the end is broken where the disk counted a failure, and isn't where it
 /// counted none. Too many names leave the disk unused. Where the journal is bad, as it reads, a crash leaves what it might
@@ -74,9 +78,10 @@ pub fn serve_disk<D: Disk, R: Source, W: Sink>(
         disk result.disk end (R.left reader.old) (R.left reader.new) (W.written writer.old)
         (W.written writer.new))
         × BreaksByCount D.failures served
+        × LeavesForeign served
         × (IsRecoverable (D.files disk) → EachRecovers (D.files disk) → Lasts served)) }
     ensures disk { D.honest result.disk → GivesBack D.files D.moment D.left_since
-        disk result.disk result.end }
+        setup.names.items disk result.disk result.end }
     ensures refused { IfErr result.end (IsReason setup.names.items (D.honest result.disk)
         (contents (D.files disk)) (contents (D.files result.disk))) }
     ensures unused { result.end ≡ Err OpenFault.TooManyFiles → result.disk ≡ disk }
@@ -134,6 +139,7 @@ pub fn serve_synced<D: Disk, R: Source, W: Sink>(
         disk result.disk end (R.left reader.old) (R.left reader.new) (W.written writer.old)
         (W.written writer.new))
         × BreaksByCount D.failures served
+        × LeavesForeign served
         × (IsRecoverable (D.files disk) → EachRecovers (D.files disk) → Lasts served)
         × (OutsideStable setup.names.items (D.files disk)
         → LastsFrom (IsAsFound (D.files disk)) served)) }

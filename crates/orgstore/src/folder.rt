@@ -10,7 +10,7 @@ ghost use Rattle.org_folder.specs.FolderDisk.{record_of};
 ghost use Rattle.org_serve.specs.Counts.{EndsForCause};
 ghost use Rattle.org_store.specs.Group.{IsGroup};
 ghost use Rattle.org_serve.specs.Syncing.{OutsideStable, IsAsFound};
-ghost use Rattle.org_serve.specs.Whole.{ServesOver, BreaksByCount, Lasts, LastsFrom, HasFailed, GivesBackSynced};
+ghost use Rattle.org_serve.specs.Whole.{ServesOver, BreaksByCount, LeavesForeign, Lasts, LastsFrom, HasFailed, GivesBackSynced};
 ghost use Rattle.orgstore.specs.Folder.{is_right, files_of, moment_of, left_of, failures_of};
 
 use org_folder::{FolderDisk, Start};
@@ -36,6 +36,10 @@ const TURNS: u64 = 4_294_967_295;
 /// began up to a store on the way, recovers to what the folder recovered to, or to the files after one prefix of the
 /// commands accepted by then; since an earlier store on the way, for one that has all commands that were acknowledged
 /// there; and after an end with `End` for all of them. The folder is left as one of which all this can be said again.
+///
+/// No file is written but the store's own and those that the record of an open journal names: up to a store on the way,
+/// and at the end, each other file of the folder is as it was, and a crash leaves of it what it might have left before,
+/// whether it was on the device or not.
 ///
 /// The store's own files are synced before it is opened: its journal, the files of its names, and their archive files.
 /// So only the other files of the folder have to be on the device at first. Where they are, what another program had
@@ -65,6 +69,7 @@ where
         setup.names.items disk result.disk end (R.left reader.old) (R.left reader.new)
         (W.written writer.old) (W.written writer.new))
         × BreaksByCount failures_of served
+        × LeavesForeign served
         × (IsRecoverable (files_of S.world disk) → EachRecovers (files_of S.world disk)
         → Lasts served)
         × (OutsideStable setup.names.items (files_of S.world disk)

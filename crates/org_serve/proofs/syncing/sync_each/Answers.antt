@@ -1,4 +1,5 @@
-use Rattle.std.proofs.Common.{rules, ◌≤◌, Ok, IsErr, length, refl, ◌∙◌, arith}
+use Rattle.std.proofs.Common.{rules, ◌≤◌, Ok, IsErr, length, refl, sym, subst, ◌∙◌, arith}
+use Rattle.std.specs.List.{Contains}
 use Rattle.org_disk.specs.Disk.{AreImages}
 use Rattle.org_disk.proofs.Accounting.{accounts_none, accounts_then, accounts_call_ok}
 use Rattle.org_disk.proofs.Moments.{passes_none, passes_then, leaves_only}
@@ -13,6 +14,7 @@ loop-name-init g c = record {
   same = λ honest. refl;
   stable = λ honest name there. absurd (no_member name there);
   images = λ honest name bytes image. image;
+  others = λ honest name none. refl;
   time = λ honest. passes_none (g.D.Disk.moment c.args.disk.now) (g.D.Disk.left_since c.args.disk.now) (AreImages (g.D.Disk.files c.args.disk.now));
 }
 
@@ -31,6 +33,8 @@ loop-name-preserved g c =
       stable = λ ended. stable_more c.args.names.now c.loop-name.name-index name c.loop-name-test.true c.name-item.is mid new (c.in_ok-sync.ensures.effect ended) (sofar.stable (back ended));
       images = λ ended other bytes image. sofar.images (back ended) other bytes
           (sync_after name mid new (Ok tt) (own (back ended)) (c.in_ok-sync.ensures.effect ended) other bytes image);
+      others = λ ended other none.
+          (c.in_ok-sync.ensures.effect ended).others other (λ same. none (subst (Contains c.args.names.now) (sym same) (c.loop-name.name-index, c.loop-name-test.true, sym c.name-item.is))) ∙ sofar.others (back ended) other none;
       time = λ ended. passes_then (sofar.time (back ended)) (c.sync.ensures.time ended)
           (λ image left. all_images (sofar.images (back ended)) image (sync_left name mid image (own (back ended)) left));
     }
@@ -46,6 +50,8 @@ returns-in_err-sync-clause-syncs g c ended =
       done = not_done _ c.from_residual.result failed;
       images = λ other bytes image. sofar.images back other bytes
           (sync_after name (d.files c.loop-name.disk) (d.files c.sync.new.self) c.sync.result (g.met.D.Disk.content_is_image c.loop-name.disk name back) (c.sync.ensures.effect ended) other bytes image);
+      others = λ other none.
+          (c.sync.ensures.effect ended).others other (λ same. none (subst (Contains c.args.names.now) (sym same) (c.loop-name.name-index, c.loop-name-test.true, sym c.name-item.is))) ∙ sofar.others back other none;
     }
 
 pub returns-in_err-sync-clause-any_moment : goal.returns-in_err-sync-clause-any_moment
@@ -66,6 +72,7 @@ returns-clause-syncs g c ended =
     record {
       done = all_synced c.args.names.now c.loop-name.name-index (d.files c.args.disk.now) (d.files c.loop-name.disk) all (sofar.same ended) (sofar.stable ended);
       images = sofar.images ended;
+      others = sofar.others ended;
     }
 
 pub returns-clause-any_moment : goal.returns-clause-any_moment

@@ -2,8 +2,13 @@ use Rattle.std.proofs.Common.{Option, refl, subst}
 use Rattle.std.specs.Prelude.{IsSomeAnd}
 use Rattle.org_journal.specs.Recovered.{Image, SameFiles, contents}
 use Rattle.org_disk.specs.Accounts.{Accounts, LeavesOver}
+use Rattle.org_disk.specs.Names.{journal_name}
 use Rattle.org_fileset.specs.Replay.{IsAtRest}
 use Rattle.org_fileset.specs.Recovery.{IsReopened, RecoversAsBefore}
+use Rattle.org_fileset.specs.Writes.{LeavesAlone, IsUnconcerned}
+use Rattle.org_fileset.proofs.Writes.{alone_fewer}
+use Rattle.org_serve.specs.Whole.{IsForeign}
+use Rattle.org_serve.proofs.Foreign.{given_back_alone}
 use Rattle.org_serve.proofs.Breaking.{breaks_by_count, served_accounts}
 use Rattle.org_serve.proofs.Counting.{ended_unserved}
 use Rattle.org_serve.proofs.Opened.{of_disk, is_sound, serves_lasting, left_recovers, each_recovers}
@@ -22,6 +27,8 @@ returns-in-Ok-clause-served g c =
     serves_lasting d.honest d.files d.moment d.left_since laws.only_now laws.counts_now setup.states setup.group setup.names.items c.args.disk store begun c.set_group.ensures opens
     c.in-Ok.ensures.names.1 c.in-Ok.ensures.sizes (here (λ k. d.honest k → d.honest c.args.disk) c.in-Ok.ensures.accounts.was_honest)
     (here (λ k. d.honest k → IsReopened (d.files c.args.disk) (d.files k)) (λ honestly. (reopens honestly).done))
+    c.in-Ok.ensures.waits
+    (here (λ k. d.honest k → LeavesAlone d.files d.moment d.left_since (IsUnconcerned (contents (d.files c.args.disk) journal_name)) c.args.disk k) (λ honestly. (reopens honestly).alone))
     c.serve-end.new.store c.into_disk.result c.into_disk.ensures c.serve-end.ensures.calls.0 c.serve-end.ensures.calls.1
     (λ honest. c.serve-end.ensures.serves (rw (← c.into_disk.ensures) honest))
     (λ fit each. here (λ k. d.honest k → LeavesOver d.moment d.left_since c.args.disk k (RecoversAsBefore (d.files c.args.disk))) (λ honestly. (reopens honestly).any_moment fit each))
@@ -47,7 +54,8 @@ returns-in-Ok-clause-disk g c honest =
       unopened_bad = λ none. absurd (subst (λ (o : Option Image). IsSomeAnd o (SameFiles (contents (d.files store.disk)))) none reopened.recovered_then);
       recoverable = λ fit each.
           let rest = here (λ k. IsAtRest (d.files k)) (reopened.rest fit each) in
-          (rw c.into_disk.ensures ((c.serve-end.ensures.disk now).recoverable rest), left_recovers laws.only_now laws.counts_now served.0 honest (served.2 fit each));
+          (rw c.into_disk.ensures ((c.serve-end.ensures.disk now).recoverable rest), left_recovers laws.only_now laws.counts_now served.0 honest (served.3 fit each));
+      alone = given_back_alone served.0 honest;
     }
 
 pub returns-in-Ok-clause-accounts : goal.returns-in-Ok-clause-accounts
@@ -76,6 +84,8 @@ returns-in-Err-clause-disk g c honest =
             each_recovers d.files d.moment d.left_since disk now (RecoversAsBefore (d.files disk))
                 (λ image left. g.met.D.Disk.counts_now now (d.moment disk) image honest leaves.passes.later left) leaves (λ image left. (left.texts, left.recovers_now)),
           );
+      alone = alone_fewer d.files d.moment d.left_since (IsForeign c.args.setup.names.items (contents (d.files disk) journal_name)) (IsUnconcerned (contents (d.files disk) journal_name)) disk now reopens.alone
+          (λ name foreign. foreign.unconcerned);
     }
 
 pub returns-in-Err-clause-causes : goal.returns-in-Err-clause-causes

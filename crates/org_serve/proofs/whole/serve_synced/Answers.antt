@@ -1,4 +1,4 @@
-use Rattle.std.proofs.Common.{ℕ, List, Result, IfErr, subst}
+use Rattle.std.proofs.Common.{◌≡◌, ℕ, List, Result, IfErr, subst}
 use Rattle.std.proofs.lemmas.Result.{IfOk-weaker}
 use Rattle.org_journal.specs.Recovered.{contents}
 use Rattle.org_fileset.specs.Names.{AreFew, AreTooMany}
@@ -6,8 +6,9 @@ use Rattle.org_fileset.specs.Opening.{IsReason}
 use Rattle.org_fileset.specs.declared.open.OpenFault.{OpenFault}
 use Rattle.org_store.proofs.Sortings.{few_or_many}
 use Rattle.org_serve.specs.declared.end.ServeEnd.{ServeEnd}
-use Rattle.org_serve.specs.Syncing.{AreSynced, stored}
+use Rattle.org_serve.specs.Syncing.{AreSynced, IsNotStored, stored}
 use Rattle.org_serve.proofs.Counting.{ended_unserved}
+use Rattle.org_serve.proofs.Foreign.{leaves_foreign}
 use Rattle.org_serve.proofs.Synced.{if_err, reason_before, served_from, breaks_from, lasts_recoverable, lasts_found, synced_gives_back, unsynced_gives_back}
 use Rattle.org_serve.proofs.whole.serve_synced.Goals as goal
 
@@ -21,12 +22,14 @@ returns-in-Ok-clause-served g c =
     let own = λ (h : d.honest mid) (name : List ℕ). g.met.D.Disk.content_is_image mid name h in
     let synced = λ (h : d.honest mid). subst (λ (names : List (List ℕ)). AreSynced (stored names) (d.files disk) (d.files mid)) c.deref.ensures.value (c.in-Ok.ensures.syncs h).done in
     let images = λ (h : d.honest mid). (c.sync_files.ensures.syncs h).images in
+    let others = λ (h : d.honest mid). subst (λ (names : List (List ℕ)). (name : List ℕ) → IsNotStored names name → d.files mid name ≡ d.files disk name) c.deref.ensures.value (c.sync_files.ensures.syncs h).others in
     let time = c.sync_files.ensures.any_moment in
     IfOk-weaker c.serve_disk.result.end _ _ (λ end had. (
-      served_from d.honest d.files d.moment d.left_since given disk mid began own synced images time had.0,
-      breaks_from d.honest d.files d.moment d.left_since given disk mid began own synced images time had.0 d.failures (c.in-Ok.ensures.accounts.equal (λ failed. absurd (cc))) had.1,
-      lasts_recoverable d.honest d.files d.moment d.left_since given disk mid began own synced images time had.0 had.2,
-      lasts_found d.honest d.files d.moment d.left_since given disk mid began own synced images time had.0 had.2,
+      served_from d.honest d.files d.moment d.left_since given disk mid began own synced images others time had.0,
+      breaks_from d.honest d.files d.moment d.left_since given disk mid began own synced images others time had.0 d.failures (c.in-Ok.ensures.accounts.equal (λ failed. absurd (cc))) had.1,
+      leaves_foreign (served_from d.honest d.files d.moment d.left_since given disk mid began own synced images others time had.0),
+      lasts_recoverable d.honest d.files d.moment d.left_since given disk mid began own synced images others time had.0 had.3,
+      lasts_found d.honest d.files d.moment d.left_since given disk mid began own synced images others time had.0 had.3,
     )) c.serve_disk.ensures.served
 
 pub returns-in-Ok-clause-disk : goal.returns-in-Ok-clause-disk
@@ -40,7 +43,8 @@ returns-in-Ok-clause-disk g c honest =
     let own = λ (h : d.honest mid) (name : List ℕ). laws.content_is_image mid name h in
     let synced = λ (h : d.honest mid). subst (λ (names : List (List ℕ)). AreSynced (stored names) (d.files disk) (d.files mid)) c.deref.ensures.value (c.in-Ok.ensures.syncs h).done in
     let images = λ (h : d.honest mid). (c.sync_files.ensures.syncs h).images in
-    synced_gives_back d.honest d.files d.moment d.left_since given disk mid c.sync_files.ensures.accounts.was_honest own synced images c.sync_files.ensures.any_moment
+    let others = λ (h : d.honest mid). subst (λ (names : List (List ℕ)). (name : List ℕ) → IsNotStored names name → d.files mid name ≡ d.files disk name) c.deref.ensures.value (c.sync_files.ensures.syncs h).others in
+    synced_gives_back d.honest d.files d.moment d.left_since given disk mid c.sync_files.ensures.accounts.was_honest own synced images others c.sync_files.ensures.any_moment
     (c.serve_disk.ensures.accounts.was_honest honest) (c.serve_disk.ensures.disk honest)
     (λ name. laws.content_is_image last name honest) (λ t image within left. laws.counts_now last t image honest within left)
 
@@ -67,7 +71,8 @@ returns-in-Err-clause-disk g c honest =
     let d = g.D.Disk in
     let now = c.sync_files.new.disk in
     unsynced_gives_back d.files d.moment d.left_since c.args.setup.names.items c.args.disk now
-    (λ name. g.met.D.Disk.content_is_image now name honest) (c.sync_files.ensures.syncs honest).images (c.sync_files.ensures.any_moment honest)
+    (λ name. g.met.D.Disk.content_is_image now name honest) (c.sync_files.ensures.syncs honest).images
+    (subst (λ (names : List (List ℕ)). (name : List ℕ) → IsNotStored names name → d.files now name ≡ d.files c.args.disk name) c.deref.ensures.value (c.sync_files.ensures.syncs honest).others) (c.sync_files.ensures.any_moment honest)
 
 pub returns-in-Err-clause-causes : goal.returns-in-Err-clause-causes
 returns-in-Err-clause-causes g c = ended_unserved
