@@ -3,7 +3,7 @@ use Rattle.std.proofs.Common.{◌≡◌, ◌≢◌, ◌⊎◌, inl, inr, ⊎_eli
 use Rattle.std.specs.Prelude.{Bool, ◌&&◌, not, IsSomeAnd, is_some, nat_le, slice_index, ◌==◌, if◌then◌else◌}
 use Rattle.std.specs.List.{AllByRecursion}
 use Rattle.std.specs.Str.{bytes_eq}
-use Rattle.std.proofs.lemmas.Bool.{cases_Bool, cases_lt, cases_eq, and_from, le-leb, leb-true, eq-eqb, true≢false, false≢true}
+use Rattle.std.proofs.lemmas.Bool.{cases_Bool, cases_lt, cases_eq, and_from, and_parts, le-leb, leb-true, eq-eqb, true≢false, false≢true}
 use Rattle.std.proofs.lemmas.List.{get_or-set_same, get_or-set_other, get_or-take, get_or_append_left}
 use Rattle.org_disk.specs.Disk.{FileState, IsOutside, IsImage, IsStable, AreImages, AreLeftBy, MayLeave, Changes, sync, stable}
 use Rattle.org_disk.specs.Names.{journal_name}
@@ -21,7 +21,7 @@ use Rattle.org_journal.specs.Reading.{journal_at}
 use Rattle.org_journal.specs.declared.record.Version.TheVariants.{Two}
 use Rattle.org_journal.specs.Record.{is_named, IsEntry, IsWellFormed}
 use Rattle.org_journal.specs.Recovered.{Image, SameFiles, RecoversTo, IsArmed, IsRecoverable, OthersStable, recovered, all_fit, replayed, contents}
-use Rattle.org_fileset.specs.Recovery.{EachRecovers, RecoversAsBefore, closed_journal}
+use Rattle.org_fileset.specs.Recovery.{EachRecovers, RecoversAsBefore, is_closed, closed_journal}
 use Rattle.org_fileset.specs.Writes.{LeavesAlone, IsUnconcerned, IsUnwritten}
 use Rattle.org_fileset.proofs.Writes.{alone_fewer, alone_journal, alone_looks, alone_then}
 use Rattle.org_fileset.specs.Replay.{TakesTo, IsApplicable, AreApplicable, EachTakes, IsOpenOver, IsReplayable, IsAtRest}
@@ -295,7 +295,7 @@ closed_rest files gate only stable = record {
 }
 
 -- what an opening makes of the journal
-closed_when : (journal : List ℕ) (test : Bool) → (nat_le front_size (length journal) && not (is_open journal)) ≡ test → closed_journal journal ≡ (if test then journal else 0 ∷ drop 1 journal)
+closed_when : (journal : List ℕ) (test : Bool) → is_closed journal ≡ test → closed_journal journal ≡ (if test then journal else 0 ∷ drop 1 journal)
 closed_when journal test is = ap (λ (b : Bool). if b then journal else 0 ∷ drop 1 journal) is
 
 and_false : (b : Bool) → (b && false) ≡ false
@@ -316,6 +316,15 @@ closed_short journal short = closed_when journal false (ap (λ (b : Bool). b && 
 
 pub closed_shut : (journal : List ℕ) → is_open journal ≡ false → front_size ≤ length journal → closed_journal journal ≡ journal
 closed_shut journal shut long = closed_when journal true (ap (λ (b : Bool). nat_le front_size (length journal) && not b) shut ∙ ap (λ (b : Bool). b && true) (le-leb front_size (length journal) long))
+
+-- a whole journal with a closed gate is neither shorter than a header nor open
+pub not_short : {P : Type 0} (journal : List ℕ) → length journal < front_size → is_closed journal ≡ true → P
+not_short journal short closed =
+    let long = leb-true front_size (length journal) (and_parts (nat_le front_size (length journal)) (not (is_open journal)) closed).0 in absurd (omega (arith, long, short))
+
+pub not_open : {P : Type 0} (journal : List ℕ) → is_open journal ≡ true → is_closed journal ≡ true → P
+not_open journal opened closed =
+    absurd (false≢true (subst (λ (b : Bool). not b ≡ true) opened (and_parts (nat_le front_size (length journal)) (not (is_open journal)) closed).1))
 
 -- with a closed gate files recover to themselves
 pub recovered_closed : (files new : Image) → is_open (files journal_name) ≡ false → SameFiles new files → IsSomeAnd (recovered files) (SameFiles new)
@@ -371,6 +380,10 @@ alone_replayed files moment left_since entries old now new look over replays =
     (λ name is. record { apart = is.apart; unnamed = is.unnamed opened entries found }))
 
 -- a closed gate that was looked at, and looked at once more
+pub images_looked : {D : Type 0} (files : D → List ℕ → FileState) (moment : D → ℕ) (left_since : D → ℕ → Image → Type 0) (old now last : D) → IsLookedAt files moment left_since old now → Looks files moment left_since now last
+    → PassesOver moment left_since old last (AreImages (files old))
+images_looked files moment left_since old now last look looks = passes_then look.time looks.time look.is.images
+
 pub alone_looked : {D : Type 0} (files : D → List ℕ → FileState) (moment : D → ℕ) (left_since : D → ℕ → Image → Type 0) (old now last : D) → IsLookedAt files moment left_since old now → Looks files moment left_since now last
     → LeavesAlone files moment left_since (IsUnconcerned (contents (files old) journal_name)) old last
 alone_looked files moment left_since old now last look looks =

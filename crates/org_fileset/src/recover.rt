@@ -15,7 +15,8 @@ use std::alloc::Global;
 ///
 /// On a disk that is recoverable, of which each image recovers to files, every image at every moment since the call
 /// began recovers to what an image at the start recovered to, whatever is answered; so it may be stopped, and called
-/// again. Where the journal is bad, as it reads, a crash leaves what it might have left before, whatever is answered.
+/// again. Where the journal is bad, as it reads, or is whole and its gate is closed, a crash leaves what it might have
+/// left before, whatever is answered.
 pub fn recover<D: Disk>(alloc: Global, disk: &mut D, journal: &FileName) -> Result<(), FindFault>
     requires { journal.now ≡ journal_name }
     ensures reopens { D.honest disk.new → Reopens D.files D.moment D.left_since disk.old disk.new

@@ -53,7 +53,8 @@ impl<D: Disk> FileSet<D> {
     ///
     /// On a disk that is recoverable, of which each image recovers to files, every image at every moment since the call
     /// began recovers to what an image at the start recovered to, whatever is answered; so it may be stopped, and
-    /// called again. Where the journal is bad, as it reads, a crash leaves what it might have left before.
+    /// called again. Where the journal is bad, as it reads, or is whole and its gate is closed, a crash leaves what it
+    /// might have left before, whatever is answered.
     ///
     /// The faults come in the order of `OpenFault`; `Device` and `OutOfMemory` as they are met. A refused call hands the
     /// disk back.

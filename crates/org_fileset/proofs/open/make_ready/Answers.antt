@@ -16,7 +16,7 @@ pub returns-in_err-recover-clause-reopens : goal.returns-in_err-recover-clause-r
 returns-in_err-recover-clause-reopens g c ended =
     let made = c.recover.ensures.reopens ended in
     let failed : IsErr c.from_residual.result = search rules in
-    record { done = on_ok_never _ c.from_residual.result failed; any_moment = made.any_moment; recoverable = made.recoverable; bad = made.bad; alone = made.alone }
+    record { done = on_ok_never _ c.from_residual.result failed; any_moment = made.any_moment; recoverable = made.recoverable; bad = made.bad; idle = made.idle; alone = made.alone }
 
 pub returns-clause-reopens : goal.returns-clause-reopens
 returns-clause-reopens g c ended =
@@ -33,6 +33,10 @@ returns-clause-reopens g c ended =
           old (g.met.D.Disk.only_now c.args.disk.now) honest (as_before old each);
       recoverable = λ fit each. subst IsRecoverable (sym looks.same) (made.recoverable fit each);
       bad = λ none. absurd (subst (λ (o : Option Image). IsSomeAnd o (SameFiles (contents mid))) none made.done.recovered_then);
+      idle = λ closed.
+          let leaves = made.idle closed in
+          since_start (passes_then leaves.passes looks.time (λ image left. leaves.each image (g.met.D.Disk.counts_now c.recover.new.disk (g.D.Disk.moment c.args.disk.now) image h1 leaves.passes.later left)))
+          old (g.met.D.Disk.only_now c.args.disk.now) honest (λ image left. left);
       alone = alone_then g.D.Disk.files g.D.Disk.moment g.D.Disk.left_since (IsUnconcerned (contents old journal_name)) c.args.disk.now c.recover.new.disk c.check_sizes.new.disk made.alone
           (alone_looks g.D.Disk.files g.D.Disk.moment g.D.Disk.left_since (IsUnconcerned (contents old journal_name)) c.recover.new.disk c.check_sizes.new.disk looks);
     }

@@ -18,7 +18,7 @@ use Rattle.org_fileset.specs.Writes.{IsUnconcerned}
 use Rattle.org_fileset.proofs.Starting.{since_start}
 use Rattle.org_fileset.proofs.Writes.{alone_journal, alone_then}
 use Rattle.org_fileset.proofs.Armed.{closed_after, on_ok_never}
-use Rattle.org_fileset.proofs.Recovering.{as_before, sync_left, sync_recoverable, looked_at, armed_before, closed_before, formed_applicable, recoverable_replayable, closed_stable, closed_rest, found_good, shut_gate, closed_open, closed_short, closed_shut, recovered_closed, alone_looked, alone_replayed}
+use Rattle.org_fileset.proofs.Recovering.{as_before, sync_left, sync_recoverable, looked_at, armed_before, closed_before, formed_applicable, recoverable_replayable, closed_stable, closed_rest, found_good, shut_gate, closed_open, closed_short, closed_shut, recovered_closed, not_open, not_short, images_looked, alone_looked, alone_replayed}
 use Rattle.org_fileset.proofs.recover.recover.Goals as goal
 
 pub returns-in_err-sync-clause-reopens : goal.returns-in_err-sync-clause-reopens
@@ -28,15 +28,15 @@ returns-in_err-sync-clause-reopens g c ended =
     let mid = g.D.Disk.files c.sync.new.self in
     let own = g.met.D.Disk.content_is_image c.args.disk.now journal_name honest in
     let failed : IsErr c.from_residual.result = search rules in
+    let images = passes_as (c.sync.ensures.time ended) (λ image left. sync_left journal_name old image own (subst (λ (n : List ℕ). AreLeftBy sync n old image) c.requires left)) in
+    let same = since_start images old (g.met.D.Disk.only_now c.args.disk.now) honest (λ image left. left) in
     record {
       done = on_ok_never _ c.from_residual.result failed;
-      any_moment = λ fit each. since_start (passes_as (c.sync.ensures.time ended) (λ image left.
-          as_before old each image (sync_left journal_name old image own (subst (λ (n : List ℕ). AreLeftBy sync n old image) c.requires left))))
-          old (g.met.D.Disk.only_now c.args.disk.now) honest (as_before old each);
+      any_moment = λ fit each. since_start (passes_as images (as_before old each)) old (g.met.D.Disk.only_now c.args.disk.now) honest (as_before old each);
       recoverable = λ fit each. sync_recoverable old mid c.sync.result own (λ name. g.met.D.Disk.content_is_image c.sync.new.self name ended)
           (subst (λ (n : List ℕ). Changes sync n old mid c.sync.result) c.requires (c.sync.ensures.effect ended)) fit;
-      bad = λ none. since_start (passes_as (c.sync.ensures.time ended) (λ image left. sync_left journal_name old image own (subst (λ (n : List ℕ). AreLeftBy sync n old image) c.requires left)))
-          old (g.met.D.Disk.only_now c.args.disk.now) honest (λ image left. left);
+      bad = λ none. same;
+      idle = λ closed. same;
       alone = alone_journal g.D.Disk.files g.D.Disk.moment g.D.Disk.left_since c.args.journal.now (IsUnconcerned (contents old journal_name)) (AreLeftBy sync c.args.journal.now old) c.args.disk.now c.sync.new.self c.requires (λ name is. is.apart)
           (c.sync.ensures.effect ended).others (c.sync.ensures.time ended) (λ image left. left.others);
     }
@@ -67,11 +67,13 @@ returns-in_err-record-clause-reopens g c ended =
     (g.met.D.Disk.content_is_image c.args.disk.now journal_name honest) (λ name. g.met.D.Disk.content_is_image c.sync.new.self name h1)
     (c.in_ok-sync.ensures.effect h1) (c.sync.ensures.time h1) (c.find.ensures.looks ended) in
     let failed : IsErr c.from_residual-in_err-record.result = search rules in
+    let same = since_start look.time old (g.met.D.Disk.only_now c.args.disk.now) honest (λ image left. left) in
     record {
       done = on_ok_never _ c.from_residual-in_err-record.result failed;
       any_moment = λ fit each. since_start (look.since each) old (g.met.D.Disk.only_now c.args.disk.now) honest (as_before old each);
       recoverable = λ fit each. look.is.recoverable fit;
-      bad = λ none. since_start look.time old (g.met.D.Disk.only_now c.args.disk.now) honest (λ image left. left);
+      bad = λ none. same;
+      idle = λ closed. same;
       alone = look.alone;
     }
 
@@ -106,6 +108,7 @@ returns-in_err-replay-in-Armed-clause-reopens g c ended =
           old (g.met.D.Disk.only_now c.args.disk.now) honest (as_before old each);
       recoverable = λ fit each. replays.recoverable (can fit);
       bad = λ none. absurd (found_good (contents now) c.in_ok-record.field-0 whole (ap recovered look.is.same ∙ none));
+      idle = not_open (contents old journal_name) (ap (λ (f : Image). is_open (f journal_name)) (sym look.is.same) ∙ found.0);
       alone = alone_replayed g.D.Disk.files g.D.Disk.moment g.D.Disk.left_since entries c.args.disk.now c.find.new.disk c.replay.new.disk look over replays.alone;
     }
 
@@ -145,6 +148,7 @@ returns-in_ok-replay-in-Armed-clause-reopens g c ended =
           old (g.met.D.Disk.only_now c.args.disk.now) honest (as_before old each);
       recoverable = λ fit each. replays.recoverable (can fit);
       bad = λ none. absurd (found_good (contents now) c.in_ok-record.field-0 whole (ap recovered look.is.same ∙ none));
+      idle = not_open (contents old journal_name) (ap (λ (f : Image). is_open (f journal_name)) (sym look.is.same) ∙ found.0);
       alone = alone_replayed g.D.Disk.files g.D.Disk.moment g.D.Disk.left_since entries c.args.disk.now c.find.new.disk c.replay.new.disk look over replays.alone;
     }
 
@@ -161,13 +165,15 @@ returns-in_err-length-in-Closed-clause-reopens g c ended =
     (g.met.D.Disk.content_is_image c.args.disk.now journal_name honest) (λ name. g.met.D.Disk.content_is_image c.sync.new.self name h1)
     (c.in_ok-sync.ensures.effect h1) (c.sync.ensures.time h1) looks in
     let again = (c.length.ensures.looks ended).same in
+    let images = images_looked d.files d.moment d.left_since c.args.disk.now c.find.new.disk c.length.new.self look (c.length.ensures.looks ended) in
+    let same = since_start images old (g.met.D.Disk.only_now c.args.disk.now) honest (λ image left. left) in
     let failed : IsErr c.from_residual-in_err-length-in-Closed.result = search rules in
     record {
       done = on_ok_never _ c.from_residual-in_err-length-in-Closed.result failed;
-      any_moment = λ fit each. since_start (passes_then (look.since each) (c.length.ensures.looks ended).time (λ image left. as_before old each image (look.is.images image left)))
-          old (g.met.D.Disk.only_now c.args.disk.now) honest (as_before old each);
+      any_moment = λ fit each. since_start (passes_as images (as_before old each)) old (g.met.D.Disk.only_now c.args.disk.now) honest (as_before old each);
       recoverable = λ fit each. subst IsRecoverable (sym again) (look.is.recoverable fit);
-      bad = λ none. absurd (found_good (contents now) c.in_ok-record.field-0 (subst (λ (f : List ℕ → FileState). Finds (contents f) (Ok c.in_ok-record.field-0)) (sym looks.same) (c.in_ok-record.ensures.found h2)) (ap recovered look.is.same ∙ none));
+      bad = λ none. same;
+      idle = λ closed. same;
       alone = alone_looked g.D.Disk.files g.D.Disk.moment g.D.Disk.left_since c.args.disk.now c.find.new.disk c.length.new.self look (c.length.ensures.looks ended);
     }
 
@@ -184,6 +190,8 @@ returns-else-branch-lt-FRONT-clause-reopens g c ended =
     (g.met.D.Disk.content_is_image c.args.disk.now journal_name honest) (λ name. g.met.D.Disk.content_is_image c.sync.new.self name h1)
     (c.in_ok-sync.ensures.effect h1) (c.sync.ensures.time h1) looks in
     let again = (c.length.ensures.looks ended).same in
+    let images = images_looked d.files d.moment d.left_since c.args.disk.now c.find.new.disk c.length.new.self look (c.length.ensures.looks ended) in
+    let same = since_start images old (g.met.D.Disk.only_now c.args.disk.now) honest (λ image left. left) in
     let shut : is_open (contents now journal_name) ≡ false = subst (λ (x : Found). Finds (contents now) (Ok x)) c.in-Closed.is
     (subst (λ (f : List ℕ → FileState). Finds (contents f) (Ok c.in_ok-record.field-0)) (sym looks.same) (c.in_ok-record.ensures.found h2)) in
     let others = λ (fit : IsRecoverable old). closed_stable now shut (look.is.recoverable fit) in
@@ -201,10 +209,10 @@ returns-else-branch-lt-FRONT-clause-reopens g c ended =
         gate = subst (λ (f : List ℕ → FileState). HasClosedGate (f journal_name)) (sym again) gate;
         rest = λ fit each. subst IsAtRest (sym again) (closed_rest now gate look.is.stable (others fit));
       };
-      any_moment = λ fit each. since_start (passes_then (look.since each) (c.length.ensures.looks ended).time (λ image left. as_before old each image (look.is.images image left)))
-          old (g.met.D.Disk.only_now c.args.disk.now) honest (as_before old each);
+      any_moment = λ fit each. since_start (passes_as images (as_before old each)) old (g.met.D.Disk.only_now c.args.disk.now) honest (as_before old each);
       recoverable = λ fit each. subst IsRecoverable (sym again) (look.is.recoverable fit);
-      bad = λ none. absurd (found_good (contents now) c.in_ok-record.field-0 (subst (λ (f : List ℕ → FileState). Finds (contents f) (Ok c.in_ok-record.field-0)) (sym looks.same) (c.in_ok-record.ensures.found h2)) (ap recovered look.is.same ∙ none));
+      bad = λ none. same;
+      idle = λ closed. same;
       alone = alone_looked g.D.Disk.files g.D.Disk.moment g.D.Disk.left_since c.args.disk.now c.find.new.disk c.length.new.self look (c.length.ensures.looks ended);
     }
 
@@ -229,6 +237,9 @@ returns-in_err-prepare-in-Closed-clause-reopens g c ended =
     let last = d.files c.length.new.self in
     let new = d.files c.prepare.new.disk in
     let puts = subst (λ (n : List ℕ). Puts n (0 ∷ drop 1 (last n).content) last new c.prepare.result) c.requires (c.prepare.ensures.puts ended) in
+    let Q : List ℕ → Type 0 = λ n. length (now n).content < front_size in
+    let asked : length (d.files c.find.new.disk c.args.journal.now).content ≡ _ = sym (c.in_ok-length-in-Closed.ensures.value h3) in
+    let short : length (now journal_name).content < front_size = subst Q c.requires (omega (arith, asked, c.if-branch-lt-FRONT.true)) in
     let failed : IsErr c.from_residual-in_err-prepare-in-Closed.result = search rules in
     record {
       done = on_ok_never _ c.from_residual-in_err-prepare-in-Closed.result failed;
@@ -238,6 +249,7 @@ returns-in_err-prepare-in-Closed-clause-reopens g c ended =
           old (g.met.D.Disk.only_now c.args.disk.now) honest (as_before old each);
       recoverable = λ fit each. inl (λ name not. subst IsStable (sym (puts.others name not ∙ ap (λ (f : List ℕ → FileState). f name) again)) (others fit name not));
       bad = λ none. absurd (found_good (contents now) c.in_ok-record.field-0 (subst (λ (f : List ℕ → FileState). Finds (contents f) (Ok c.in_ok-record.field-0)) (sym looks.same) (c.in_ok-record.ensures.found h2)) (ap recovered look.is.same ∙ none));
+      idle = not_short (contents old journal_name) (subst (λ (f : Image). length (f journal_name) < front_size) look.is.same short);
       alone = alone_then g.D.Disk.files g.D.Disk.moment g.D.Disk.left_since (IsUnconcerned (contents old journal_name)) c.args.disk.now c.length.new.self c.prepare.new.disk
           (alone_looked g.D.Disk.files g.D.Disk.moment g.D.Disk.left_since c.args.disk.now c.find.new.disk c.length.new.self look (c.length.ensures.looks h3))
           (alone_journal g.D.Disk.files g.D.Disk.moment g.D.Disk.left_since c.args.journal.now (IsUnconcerned (contents old journal_name)) (LeavesClosed c.args.journal.now last) c.length.new.self c.prepare.new.disk c.requires (λ name is. is.apart)
@@ -286,6 +298,7 @@ returns-in_ok-prepare-in-Closed-clause-reopens g c ended =
           old (g.met.D.Disk.only_now c.args.disk.now) honest (as_before old each);
       recoverable = λ fit each. inl (λ name not. subst IsStable (sym (puts.others name not ∙ ap (λ (f : List ℕ → FileState). f name) again)) (others fit name not));
       bad = λ none. absurd (found_good (contents now) c.in_ok-record.field-0 (subst (λ (f : List ℕ → FileState). Finds (contents f) (Ok c.in_ok-record.field-0)) (sym looks.same) (c.in_ok-record.ensures.found h2)) (ap recovered look.is.same ∙ none));
+      idle = not_short (contents old journal_name) (subst (λ (f : Image). length (f journal_name) < front_size) look.is.same short);
       alone = alone_then g.D.Disk.files g.D.Disk.moment g.D.Disk.left_since (IsUnconcerned (contents old journal_name)) c.args.disk.now c.length.new.self c.prepare.new.disk
           (alone_looked g.D.Disk.files g.D.Disk.moment g.D.Disk.left_since c.args.disk.now c.find.new.disk c.length.new.self look (c.length.ensures.looks h3))
           (alone_journal g.D.Disk.files g.D.Disk.moment g.D.Disk.left_since c.args.journal.now (IsUnconcerned (contents old journal_name)) (LeavesClosed c.args.journal.now last) c.length.new.self c.prepare.new.disk c.requires (λ name is. is.apart)

@@ -12,22 +12,23 @@ use Rattle.org_fileset.proofs.set.FileSet.open.Goals as goal
 pub returns-in-Err-clause-reopens : goal.returns-in-Err-clause-reopens
 returns-in-Err-clause-reopens g c honest =
     let old = g.D.Disk.files c.args.disk in
+    let same = since_start (passes_none (g.D.Disk.moment c.args.disk) (g.D.Disk.left_since c.args.disk) (AreImages old)) old (g.met.D.Disk.only_now c.args.disk) honest (λ image left. left) in
     record {
       done = tt;
       any_moment = λ fit each. since_start (passes_none (g.D.Disk.moment c.args.disk) (g.D.Disk.left_since c.args.disk) (RecoversAsBefore old))
           old (g.met.D.Disk.only_now c.args.disk) honest (as_before old each);
       recoverable = λ fit each. fit;
-      bad = λ none. since_start (passes_none (g.D.Disk.moment c.args.disk) (g.D.Disk.left_since c.args.disk) (AreImages old))
-          old (g.met.D.Disk.only_now c.args.disk) honest (λ image left. left);
+      bad = λ none. same;
+      idle = λ closed. same;
       alone = alone_none g.D.Disk.files g.D.Disk.moment g.D.Disk.left_since (IsUnconcerned (contents old journal_name)) c.args.disk;
     }
 
 pub returns-in-Ok-make_ready-clause-reopens : goal.returns-in-Ok-make_ready-clause-reopens
 returns-in-Ok-make_ready-clause-reopens g c ended =
     let made = c.in-Ok-make_ready.ensures.reopens ended in
-    record { done = made.done; any_moment = made.any_moment; recoverable = made.recoverable; bad = made.bad; alone = made.alone }
+    record { done = made.done; any_moment = made.any_moment; recoverable = made.recoverable; bad = made.bad; idle = made.idle; alone = made.alone }
 
 pub returns-in-Err-make_ready-clause-reopens : goal.returns-in-Err-make_ready-clause-reopens
 returns-in-Err-make_ready-clause-reopens g c ended =
     let made = c.in-Err-make_ready.ensures.reopens ended in
-    record { done = tt; any_moment = made.any_moment; recoverable = made.recoverable; bad = made.bad; alone = made.alone }
+    record { done = tt; any_moment = made.any_moment; recoverable = made.recoverable; bad = made.bad; idle = made.idle; alone = made.alone }
