@@ -1,6 +1,5 @@
 -- A run writes no file but its own.
 use Rattle.std.proofs.Common.{◌≡◌, ◌⊎◌, inl, inr, ⊎_elim, ℕ, List, [], ◌∷◌, Option, Result, Ok, Err, refl, sym, ap, subst}
-use Rattle.std.specs.Prelude.{IsFalse}
 use Rattle.std.proofs.lemmas.Bool.{cases_Bool}
 use Rattle.org_disk.specs.Accounts.{LeavesOver}
 use Rattle.org_disk.specs.Disk.{FileState, AreImages}
@@ -24,7 +23,7 @@ use Rattle.org_serve.specs.Crashes.{Runs}
 use Rattle.org_serve.specs.Serving.{AnswersReadBy}
 use Rattle.org_serve.specs.Syncing.{IsNotStored}
 use Rattle.org_serve.specs.Transcript.{Answers}
-use Rattle.org_serve.specs.Whole.{IsForeign, IsOnTheWay, LeavesForeign, ServesOver}
+use Rattle.org_serve.specs.Whole.{IsForeign, LeavesForeign, ServesOver}
 use Rattle.org_serve.proofs.Honest.{HasSettledPast, PastLine, RunsPast, past_runs, up_to}
 
 module _ {D : Type 0} (honest : D → Type 0) (files : D → List ℕ → FileState) (moment : D → ℕ) (left_since : D → ℕ → Image → Type 0) where

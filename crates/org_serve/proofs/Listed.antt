@@ -189,5 +189,5 @@ module _ {D : Type 0} {honest : D → Type 0} {files : D → List ℕ → FileSt
   here_small = each_on_the_way first.names (AreSmall first.names) Any (λ s line command texts same any read. keeps_small first.names s command texts same) served (any_line served.run.ran)
       (λ began. record { same_names = refl; lists = first_lists; all = first_each (AreSmall first.names) (first_small began) }) here way honestly
 
-  pub served_opens : AreFew given → HoldsServed served here least image → IsOpenable given image
-  served_opens few = prefix_opens given first others here.texts least image few served.begins.names here_small
+  pub served_opens : HoldsServed served here least image → IsOpenable given image
+  served_opens = prefix_opens given first others here.texts least image served.begins.few served.begins.names here_small

@@ -6,7 +6,7 @@ use Rattle.org_disk.specs.Names.{journal_name}
 use Rattle.org_disk.proofs.Moments.{Image, passes_as, passes_then, leaves_only}
 use Rattle.org_outline.specs.States.{Keywords}
 use Rattle.org_journal.specs.Recovered.{SameFiles, RecoversTo, IsRecoverable, recovered, contents}
-use Rattle.org_fileset.specs.Names.{with_archives, AreSorted, first_large}
+use Rattle.org_fileset.specs.Names.{with_archives, AreFew, AreSorted, first_large}
 use Rattle.org_fileset.specs.Recovery.{EachRecovers, IsReopened, RecoversAsBefore}
 use Rattle.org_fileset.specs.Replay.{IsAtRest}
 use Rattle.org_fileset.specs.Writes.{LeavesAlone, IsUnconcerned}
@@ -39,9 +39,9 @@ leaves_then {m} first second =
     (λ image left. inl (first.each image (first.passes.keeps m image (omega arith) left)))
 
 begins : (states : Keywords) (group : ℕ) (given : List (List ℕ)) (files : Image) (store begun : Session) → begun ≡ record store { group = group }
-    → store ≡ opened states store.names (texts_of files store.names) → AreSorted (with_archives given) store.names → Begins states group given files begun
-begins states group given files store begun is opens sorted =
-    subst (λ (s : Session). Begins states group given files s) (sym is) (record { names = sorted; session = ap (λ (s : Session). record s { group = group }) opens })
+    → store ≡ opened states store.names (texts_of files store.names) → AreFew given → AreSorted (with_archives given) store.names → Begins states group given files begun
+begins states group given files store begun is opens few sorted =
+    subst (λ (s : Session). Begins states group given files s) (sym is) (record { few = few; names = sorted; session = ap (λ (s : Session). record s { group = group }) opens })
 
 -- a store that was opened, and in which the group was set
 module _ {D : Type 0} (files : D → List ℕ → FileState) (states : Keywords) (group : ℕ) (given : List (List ℕ)) (disk : D) (store begun : Kept D)
@@ -58,11 +58,11 @@ module _ {D : Type 0} (files : D → List ℕ → FileState) (states : Keywords)
   is_sound = ap (λ (k : Kept D). k.session.broken) is ∙ ap (λ (s : Session). s.broken) opens
 
   -- the session that it begins with
-  begun_so : AreSorted (with_archives given) store.session.names → Begins states group given (contents (files begun.disk)) begun.session
-  begun_so sorted = of_disk (λ d. Begins states group given (contents (files d)) begun.session)
-      (begins states group given (contents (files store.disk)) store.session begun.session (ap (λ (k : Kept D). k.session) is) opens sorted)
+  begun_so : AreFew given → AreSorted (with_archives given) store.session.names → Begins states group given (contents (files begun.disk)) begun.session
+  begun_so few sorted = of_disk (λ d. Begins states group given (contents (files d)) begun.session)
+      (begins states group given (contents (files store.disk)) store.session begun.session (ap (λ (k : Kept D). k.session) is) opens few sorted)
 
-  pub serves : (honest : D → Type 0) (moment : D → ℕ) (left_since : D → ℕ → Image → Type 0) → AreSorted (with_archives given) store.session.names
+  pub serves : (honest : D → Type 0) (moment : D → ℕ) (left_since : D → ℕ → Image → Type 0) → AreFew given → AreSorted (with_archives given) store.session.names
       → (honest store.disk → first_large (contents (files store.disk)) store.session.names ≡ None)
       → (honest begun.disk → honest disk) → (honest begun.disk → IsReopened (files disk) (files begun.disk))
       → store.waiting ≡ [] → (honest begun.disk → LeavesAlone files moment left_since (IsUnconcerned (contents (files disk) journal_name)) disk begun.disk)
@@ -71,14 +71,14 @@ module _ {D : Type 0} (files : D → List ℕ → FileState) (states : Keywords)
       → (end ≡ Write → WritesSome ran.input ran.others ran.out after.session.acknowledged written written')
       → (honest now → Serves begun.session end after.session left left' written written')
       → ServesOver honest files moment left_since states group given disk now end left left' written written'
-  serves honest moment left_since sorted sized began reopened waits alone after now given_up run begins_replies told =
+  serves honest moment left_since few sorted sized began reopened waits alone after now given_up run begins_replies told =
       let first : Past D = record { store = begun; texts = begun.session.files ∷ [] } in
       let past = lift_run honest files moment left_since first run in record {
         first = first;
         last = record { store = after; texts = past.0 };
         began = began;
         reopened = reopened;
-        begins = begun_so sorted;
+        begins = begun_so few sorted;
         sizes = subst (λ (k : Kept D). honest k.disk → first_large (contents (files k.disk)) k.session.names ≡ None) (sym is) sized;
         texts = refl;
         waits = ap (λ (k : Kept D). k.waiting) is ∙ waits;
@@ -269,7 +269,7 @@ module _ {D : Type 0} (honest : D → Type 0) (files : D → List ℕ → FileSt
     (states : Keywords) (group : ℕ) (given : List (List ℕ)) (disk : D) (store begun : Kept D)
     (is : begun ≡ record store { session = record store.session { group = group } })
     (opens : store.session ≡ opened states store.session.names (texts_of (contents (files store.disk)) store.session.names)) where
-  pub serves_lasting : AreSorted (with_archives given) store.session.names → (honest store.disk → first_large (contents (files store.disk)) store.session.names ≡ None)
+  pub serves_lasting : AreFew given → AreSorted (with_archives given) store.session.names → (honest store.disk → first_large (contents (files store.disk)) store.session.names ≡ None)
       → (honest begun.disk → honest disk) → (honest begun.disk → IsReopened (files disk) (files begun.disk))
       → store.waiting ≡ [] → (honest begun.disk → LeavesAlone files moment left_since (IsUnconcerned (contents (files disk) journal_name)) disk begun.disk)
       → {end : ServeEnd} {left left' written written' : Option (List ℕ)} (after : Kept D) (now : D) → now ≡ after.disk
@@ -283,8 +283,8 @@ module _ {D : Type 0} (honest : D → Type 0) (files : D → List ℕ → FileSt
       × LeavesForeign served
       × (IsRecoverable (files disk) → EachRecovers (files disk) → Lasts served)
   unfolding serves
-  serves_lasting sorted sized began reopened waits alone after now given_up run begins_replies told opening failures counts =
-      let served = serves files states group given disk store begun is opens honest moment left_since sorted sized began reopened waits alone after now given_up run begins_replies told in (
+  serves_lasting few sorted sized began reopened waits alone after now given_up run begins_replies told opening failures counts =
+      let served = serves files states group given disk store begun is opens honest moment left_since few sorted sized began reopened waits alone after now given_up run begins_replies told in (
         served,
         record { broken = counts.0; sound = counts.1 },
         leaves_foreign served,

@@ -1,5 +1,5 @@
 -- A run over a disk whose files were synced first.
-use Rattle.std.proofs.Common.{◌≡◌, ◌≤◌, inl, inr, ⊎_elim, ℕ, List, Option, None, Result, Ok, Err, IfErr, refl, ◌∙◌, ap, subst, arith}
+use Rattle.std.proofs.Common.{◌≡◌, ◌≤◌, inl, inr, ⊎_elim, ℕ, List, Option, None, Result, Ok, Err, IfErr, refl, sym, ◌∙◌, ap, subst, arith}
 use Rattle.std.specs.Prelude.{IsSomeAnd, IsTrue, is_some}
 use Rattle.org_disk.specs.Accounts.{LeavesOver}
 use Rattle.org_disk.specs.Disk.{FileState, IsImage, AreImages, HasRisen, LeavesOnly}
@@ -10,7 +10,7 @@ use Rattle.org_journal.specs.Recovered.{SameFiles, IsRecoverable, recovered, con
 use Rattle.org_fileset.specs.declared.open.OpenFault.{OpenFault}
 use Rattle.org_fileset.specs.declared.open.OpenFault.TheVariants as open_fault
 use Rattle.org_fileset.specs.Opening.{IsBroughtToAnEnd, IsReason}
-use Rattle.org_fileset.specs.Recovery.{EachRecovers, IsReopened, RecoversAsBefore, closed_journal}
+use Rattle.org_fileset.specs.Recovery.{EachRecovers, IsReopened, RecoversAsBefore, closed_journal, is_closed}
 use Rattle.org_fileset.specs.Writes.{LeavesAlone}
 use Rattle.org_fileset.proofs.Recovering.{as_before}
 use Rattle.org_fileset.proofs.Writes.{alone_then}
@@ -68,6 +68,7 @@ unsynced_gives_back files moment left_since given disk now own images others tim
   gives_back = record {
     unopened = λ fit each. leaves_as time (as_before (files disk) each);
     unopened_bad = λ none. (refl, time);
+    unopened_closed = λ closed. time;
     recoverable = λ fit each. (still_recoverable (files disk) (files now) own images fit, still_recovers (files disk) (files now) own images each);
     alone = synced_alone files moment left_since given (contents (files disk) journal_name) disk now others time;
   };
@@ -185,6 +186,8 @@ module _ {D : Type 0} (honest : D → Type 0) (files : D → List ℕ → FileSt
       unopened_bad = λ none.
           let bad = later.unopened_bad (ap recovered (synced h).same ∙ none) in
           (bad.0, leaves_behind (time h) bad.1 (λ image left. left) (all_images (images h)));
+      unopened_closed = λ closed. if_err end (λ fault left. leaves_behind (time h) left (λ image left. left) (all_images (images h)))
+          (later.unopened_closed (subst (λ (f : Image). IsTrue (is_closed (f journal_name))) (sym (synced h).same) closed));
       recoverable = λ fit each. later.recoverable (still_recoverable (files disk) (files mid) (own h) (images h) fit) (still_recovers (files disk) (files mid) (own h) (images h) each);
       alone = alone_behind now h later.alone;
     }

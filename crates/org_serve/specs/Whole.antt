@@ -8,8 +8,8 @@ use Rattle.org_outline.specs.States.{Keywords}
 use Rattle.org_journal.specs.Recovered.{Image, IsRecoverable, contents, recovered}
 use Rattle.org_fileset.specs.declared.open.OpenFault.{OpenFault}
 use Rattle.org_fileset.specs.declared.open.OpenFault.TheVariants as open_fault
-use Rattle.org_fileset.specs.Names.{with_archives, AreSorted, first_large}
-use Rattle.org_fileset.specs.Recovery.{EachRecovers, IsReopened, RecoversAsBefore}
+use Rattle.org_fileset.specs.Names.{with_archives, AreFew, AreSorted, first_large}
+use Rattle.org_fileset.specs.Recovery.{EachRecovers, IsReopened, RecoversAsBefore, is_closed}
 use Rattle.org_fileset.specs.Writes.{LeavesAlone, IsUnconcerned}
 use Rattle.org_store.specs.History.{Past, HoldsPrefix}
 use Rattle.org_store.specs.InOrder.{texts_of}
@@ -25,8 +25,9 @@ use Rattle.org_serve.specs.Syncing.{IsNotStored, OutsideStable, IsAsFound}
 use Rattle.org_serve.specs.Transcript.{Answers}
 
 -- The session of a store that was just opened over these files, with these states, in groups of this size: it has the
--- given names and those of their archive files.
+-- given names, which are few, and those of their archive files.
 pub record Begins (states : Keywords) (group : ℕ) (given : List (List ℕ)) (files : Image) (begin : Session) : Type 0 where
+  pub few : AreFew given
   pub names : AreSorted (with_archives given) begin.names
   pub session : begin ≡ record (opened states begin.names (texts_of files begin.names)) { group = group }
 
@@ -134,6 +135,8 @@ pub record GivesBack {D : Type 0} (files : D → List ℕ → FileState) (moment
       → IfErr end (λ _. LeavesOver moment left_since disk now (RecoversAsBefore (files disk)))
   -- a journal that is bad, as it reads, is refused, and a crash leaves what it might have left before
   pub unopened_bad : recovered (contents (files disk)) ≡ None → IsErr end × LeavesOver moment left_since disk now (AreImages (files disk))
+  -- over a whole journal with a closed gate, too, an opening that is refused leaves what might have been left before
+  pub unopened_closed : IsTrue (is_closed (contents (files disk) journal_name)) → IfErr end (λ _. LeavesOver moment left_since disk now (AreImages (files disk)))
   -- the disk is as recoverable at the end, so that all this may be done again
   pub recoverable : IsRecoverable (files disk) → EachRecovers (files disk) → IsRecoverable (files now) × EachRecovers (files now)
   -- files that are none of the run's are left alone, however it ends, and whatever is on the disk

@@ -104,7 +104,7 @@ pub fn every_image_opens<D: Disk>()
         (end : ServeEnd) (left left' written written' : Option (List ℕ))
         (served : ServesOver D.honest D.files D.moment D.left_since states group given disk now
         end left left' written written') (here : Past D) (least : ℕ) (image : Image)
-        → AreFew given → IsOnTheWay served here → D.honest here.store.disk
+        → IsOnTheWay served here → D.honest here.store.disk
         → HoldsServed served here least image → IsOpenable given image }
 {}
 

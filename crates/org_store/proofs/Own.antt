@@ -1,6 +1,5 @@
 -- Calls of a store write no file but its own.
-use Rattle.std.proofs.Common.{◌≡◌, inl, inr, ℕ, List, [], ◌∷◌, ◌++◌, true, false, Result, Ok, Err, refl, sym, ap, ◌∙◌, subst, IsTrue}
-use Rattle.std.specs.Prelude.{IsFalse}
+use Rattle.std.proofs.Common.{◌≡◌, inl, inr, ℕ, List, [], ◌∷◌, ◌++◌, true, Result, Ok, Err, refl, sym, ap, ◌∙◌, subst}
 use Rattle.std.proofs.lemmas.Bool.{cases_Bool, false≢true}
 use Rattle.std.specs.List.{list_any}
 use Rattle.std.specs.Str.{bytes_eq}
@@ -14,11 +13,11 @@ use Rattle.org_store.specs.declared.command.Reply.{Reply}
 use Rattle.org_store.specs.declared.command.Reply.TheVariants.{Done, Safe, Text, Time}
 use Rattle.org_store.specs.declared.command.RunFault.{RunFault}
 use Rattle.org_store.specs.declared.command.RunFault.TheVariants.{Refused, OutOfMemory, Device, Broken}
-use Rattle.org_store.specs.Calls.{Call, CallPast, CallsPast, grouped}
+use Rattle.org_store.specs.Calls.{Call, CallPast, CallsPast}
 use Rattle.org_store.specs.Calls.Call.{Ran, Settled, Grouped}
 use Rattle.org_store.specs.History.{Past}
 use Rattle.org_store.specs.InOrder.{AreNames, is_name}
-use Rattle.org_store.specs.Left.{IsApart, IsSpared}
+use Rattle.org_store.specs.Left.{IsApart, IsLeftAlone, IsSpared}
 use Rattle.org_store.specs.Outcome.{Outcome, Accepts, AsksToSettle, Refuses, Shows, Tells, written, outcome}
 use Rattle.org_store.specs.Runs.{RunsOver, SettlesOver}
 use Rattle.org_store.specs.Session.{Session, Kept}
@@ -116,7 +115,7 @@ module _ {D : Type 0} (files : D → List ℕ → FileState) (moment : D → ℕ
       let gives = written_named old.session command in record {
         names = (step_setting old.session new.session command answer ran.step).1;
         waits = waits_on old new does answer named gives ran.waits;
-        alone = alone_fewer files moment left_since (IsApart old.session.names) _ old.disk new.disk ran.disk.alone
+        alone = alone_fewer files moment left_since (IsApart old.session.names) (IsLeftAlone old.session old.waiting does answer new.session.accepted) old.disk new.disk ran.disk.alone
             (λ name apart wrote. spared old.session old.waiting does new.session.accepted name named gives apart);
       }
 
@@ -124,7 +123,7 @@ module _ {D : Type 0} (files : D → List ℕ → FileState) (moment : D → ℕ
   own_settling old new answer named ran = record {
     names = settles_names old.session new.session answer ran.step;
     waits = waits_settled_on old new answer named ran.waits;
-    alone = alone_fewer files moment left_since (IsApart old.session.names) _ old.disk new.disk ran.disk.alone
+    alone = alone_fewer files moment left_since (IsApart old.session.names) (IsLeftAlone old.session old.waiting AsksToSettle answer new.session.accepted) old.disk new.disk ran.disk.alone
         (λ name apart wrote. spared old.session old.waiting AsksToSettle new.session.accepted name named tt apart);
   }
 

@@ -71,8 +71,8 @@ impl<D: Disk> Store<D> {
     ///
     /// On a disk that is recoverable, and honest after the call, of which each image recovers to files, every image at
     /// every moment since the call began recovers to what an image at the start recovered to, whatever is answered; so
-    /// it may be crashed, and called again. Where the journal is bad, as it reads, a crash leaves what it might have
-    /// left before.
+    /// it may be crashed, and called again. Where the journal is bad, as it reads, or is whole and its gate is closed, a
+    /// crash leaves what it might have left before.
     ///
     /// The faults come in the order of `OpenFault`; `Device` and `OutOfMemory` as they are met, and they alone on a
     /// disk that recovers to files of these names, none past the limit. A refused call hands the disk back.

@@ -25,7 +25,7 @@ returns-in-Ok-clause-served g c =
     let here = of_disk d.files setup.states setup.group setup.names.items c.args.disk store begun c.set_group.ensures opens in
     let reopens = c.in-Ok.ensures.reopens in
     serves_lasting d.honest d.files d.moment d.left_since laws.only_now laws.counts_now setup.states setup.group setup.names.items c.args.disk store begun c.set_group.ensures opens
-    c.in-Ok.ensures.names.1 c.in-Ok.ensures.sizes (here (λ k. d.honest k → d.honest c.args.disk) c.in-Ok.ensures.accounts.was_honest)
+    c.in-Ok.ensures.names.0 c.in-Ok.ensures.names.1 c.in-Ok.ensures.sizes (here (λ k. d.honest k → d.honest c.args.disk) c.in-Ok.ensures.accounts.was_honest)
     (here (λ k. d.honest k → IsReopened (d.files c.args.disk) (d.files k)) (λ honestly. (reopens honestly).done))
     c.in-Ok.ensures.waits
     (here (λ k. d.honest k → LeavesAlone d.files d.moment d.left_since (IsUnconcerned (contents (d.files c.args.disk) journal_name)) c.args.disk k) (λ honestly. (reopens honestly).alone))
@@ -52,6 +52,7 @@ returns-in-Ok-clause-disk g c honest =
     record {
       unopened = λ fit each. tt;
       unopened_bad = λ none. absurd (subst (λ (o : Option Image). IsSomeAnd o (SameFiles (contents (d.files store.disk)))) none reopened.recovered_then);
+      unopened_closed = λ closed. tt;
       recoverable = λ fit each.
           let rest = here (λ k. IsAtRest (d.files k)) (reopened.rest fit each) in
           (rw c.into_disk.ensures ((c.serve-end.ensures.disk now).recoverable rest), left_recovers laws.only_now laws.counts_now served.0 honest (served.3 fit each));
@@ -78,6 +79,7 @@ returns-in-Err-clause-disk g c honest =
     record {
       unopened = reopens.any_moment;
       unopened_bad = λ none. (refl, reopens.bad none);
+      unopened_closed = reopens.idle;
       recoverable = λ fit each.
           let leaves = reopens.any_moment fit each in (
             reopens.recoverable fit each,

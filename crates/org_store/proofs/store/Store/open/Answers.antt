@@ -11,9 +11,9 @@ returns-in-Err-clause-again g c = λ honest can.
 pub returns-in-Ok-clause-reopens : goal.returns-in-Ok-clause-reopens
 returns-in-Ok-clause-reopens g c ended =
     let made = c.in-Ok.ensures.reopens ended in
-    record { done = made.done; any_moment = made.any_moment; recoverable = made.recoverable; bad = made.bad; alone = made.alone }
+    record { done = made.done; any_moment = made.any_moment; recoverable = made.recoverable; bad = made.bad; idle = made.idle; alone = made.alone }
 
 pub returns-in-Err-clause-reopens : goal.returns-in-Err-clause-reopens
 returns-in-Err-clause-reopens g c ended =
     let made = c.in-Err.ensures.reopens ended in
-    record { done = tt; any_moment = made.any_moment; recoverable = made.recoverable; bad = made.bad; alone = made.alone }
+    record { done = tt; any_moment = made.any_moment; recoverable = made.recoverable; bad = made.bad; idle = made.idle; alone = made.alone }
