@@ -7,4 +7,5 @@ pub mod Patched
 pub mod Spelled
 pub mod Journal
 pub mod Fitting
+pub mod Accounted
 mod Vectors

@@ -4,7 +4,7 @@ ghost use Rattle.org_journal.specs.Reading.{patches_at, entry_at, entries_at, jo
 ghost use Rattle.org_disk.specs.Names.{is_file_name};
 ghost use Rattle.org_journal.specs.Decoding.{Gives};
 ghost use Rattle.org_journal.specs.Record.{BeginsWith, IsWellFormed};
-ghost use Rattle.org_journal.specs.declared.record.Version.TheVariants.{Two};
+ghost use Rattle.org_journal.specs.declared.record.Version.TheVariants.{One, Two};
 ghost use Rattle.org_journal.specs.declared.record.Entry.{Entry};
 
 use crate::fault::RecordFault;
@@ -55,45 +55,56 @@ fn name_of(alloc: Global, text: &str) -> Result<FileName, RecordFault>
     }
 }
 
-// An entry, and the bytes behind it.
+// An entry of version 1, and the bytes behind it.
 #[tactic(auto, unfolding(crate::specs::Reading::entry_at))]
+fn old_entry_of(alloc: Global, bytes: &[u8]) -> Result<(Entry, &[u8]), RecordFault>
+    ensures { Gives (λ x. (x.0, x.1.now)) result (entry_at One bytes.now) }
+{
+    let (entry, rest) = old_entry_at(bytes).ok_or(RecordFault::Malformed)?;
+    let name = name_of(alloc, entry.name)?;
+    let bytes = Bytes::new(Vec::from_slice(alloc, entry.patch.bytes)?);
+    let mut patches = Vec::new(alloc);
+    patches.push(Patch {
+        from: entry.patch.from,
+        bytes,
+    })?;
+    let patches = Patches::new(patches);
+    Ok((
+        Entry {
+            name,
+            length: entry.length,
+            patches,
+        },
+        rest,
+    ))
+}
+
+// An entry of version 2, and the bytes behind it.
+#[tactic(auto, unfolding(crate::specs::Reading::entry_at))]
+fn new_entry_of(alloc: Global, bytes: &[u8]) -> Result<(Entry, &[u8]), RecordFault>
+    ensures { Gives (λ x. (x.0, x.1.now)) result (entry_at Two bytes.now) }
+{
+    let (head, rest) = head_at(bytes).ok_or(RecordFault::Malformed)?;
+    let name = name_of(alloc, head.name)?;
+    let (patches, rest) = patches_of(alloc, head.length, head.count, rest)?;
+    let patches = Patches::new(patches);
+    Ok((
+        Entry {
+            name,
+            length: head.length,
+            patches,
+        },
+        rest,
+    ))
+}
+
+// An entry, and the bytes behind it.
 fn entry_of(alloc: Global, version: Version, bytes: &[u8]) -> Result<(Entry, &[u8]), RecordFault>
     ensures { Gives (λ x. (x.0, x.1.now)) result (entry_at version bytes.now) }
 {
     match version {
-        Version::One => {
-            let (entry, rest) = old_entry_at(bytes).ok_or(RecordFault::Malformed)?;
-            let name = name_of(alloc, entry.name)?;
-            let bytes = Bytes::new(Vec::from_slice(alloc, entry.patch.bytes)?);
-            let mut patches = Vec::new(alloc);
-            patches.push(Patch {
-                from: entry.patch.from,
-                bytes,
-            })?;
-            let patches = Patches::new(patches);
-            Ok((
-                Entry {
-                    name,
-                    length: entry.length,
-                    patches,
-                },
-                rest,
-            ))
-        }
-        Version::Two => {
-            let (head, rest) = head_at(bytes).ok_or(RecordFault::Malformed)?;
-            let name = name_of(alloc, head.name)?;
-            let (patches, rest) = patches_of(alloc, head.length, head.count, rest)?;
-            let patches = Patches::new(patches);
-            Ok((
-                Entry {
-                    name,
-                    length: head.length,
-                    patches,
-                },
-                rest,
-            ))
-        }
+        Version::One => old_entry_of(alloc, bytes),
+        Version::Two => new_entry_of(alloc, bytes),
     }
 }
 

@@ -83,7 +83,6 @@ pub(crate) fn counted_at(bytes: &[u8]) -> Option<(&[u8], &[u8])>
 }
 
 /// The name of a file, behind its length.
-#[tactic(auto, using(crate::proofs::Texts::utf8_passes, crate::proofs::Texts::other_fails), unfolding(crate::specs::Reading::name_at))]
 fn name_at(bytes: &[u8]) -> Option<(&str, &[u8])>
     ensures reads { Reads (λ x. (x.0.now, x.1.now)) result (name_at bytes.now) }
     ensures accepted { IfSome result (λ x. IsTrue (is_file_name x.0.now)) }

@@ -1,7 +1,8 @@
 use Rattle.std.proofs.Common.{◌≡◌, Bool, List, ℕ, ap, sym, ◌∙◌, ◌+◌, length, drop, true}
 use Rattle.std.specs.Prelude.{◌&&◌}
 use Rattle.org_disk.specs.Disk.{FileState}
-use Rattle.org_disk.proofs.Accounting.{accounts_call_ok, accounts_then, looks_then}
+use Rattle.org_disk.proofs.Accounting.{accounts_call, accounts_call_ok, accounts_then, looks_then}
+use Rattle.org_journal.proofs.Accounted.{accounts_failed, accounts_fine_test}
 use Rattle.org_splice.specs.declared.patch.Patch.{Patch}
 use Rattle.org_splice.specs.Texts.{pairs_of}
 use Rattle.org_journal.specs.Recovered.{contents, fits, all_fit}
@@ -26,3 +27,22 @@ loop-entry-preserved g c =
           ap (fits (pairs_of entry.patches) entry.length) (sym size) ∙ ap (λ (p : List Patch). fits (pairs_of p) entry.length c.in_ok-size.size) (sym c.as_slice.ensures) ∙ sym c.fits.ensures ∙ c.if-not-fits.false in
           sym (all_first entries i entry image c.loop-entry-test.true c.entry-item.is ∙ ap (λ (b : Bool). b && all_fit (drop (i + 1) entries) image) test) ∙ so_far.fit (call.accounts.was_honest ended);
     }
+
+pub returns-in_err-size-clause-looks : goal.returns-in_err-size-clause-looks
+returns-in_err-size-clause-looks g c ended =
+    looks_then (c.loop-entry.invariant.looks (c.length.ensures.accounts.was_honest ended)) (c.length.ensures.looks ended)
+
+pub returns-in_err-size-clause-accounts : goal.returns-in_err-size-clause-accounts
+returns-in_err-size-clause-accounts g c =
+    accounts_then c.loop-entry.invariant.accounts (accounts_failed c.from_residual.ensures.0 (accounts_call _ c.in_err-size.ensures.accounts))
+
+pub returns-then-not-fits-clause-looks : goal.returns-then-not-fits-clause-looks
+returns-then-not-fits-clause-looks g c ended =
+    looks_then (c.loop-entry.invariant.looks (c.length.ensures.accounts.was_honest ended)) (c.length.ensures.looks ended)
+
+pub returns-then-not-fits-clause-accounts : goal.returns-then-not-fits-clause-accounts
+returns-then-not-fits-clause-accounts g c =
+    accounts_fine_test (accounts_then c.loop-entry.invariant.accounts (accounts_call_ok c.in_ok-size.ensures.accounts))
+
+pub returns-clause-accounts : goal.returns-clause-accounts
+returns-clause-accounts g c = accounts_fine_test c.loop-entry.invariant.accounts

@@ -3,6 +3,8 @@ use Rattle.std.specs.Prelude.{Err}
 use Rattle.std.proofs.lemmas.Result.{err_from_is_err_and}
 use Rattle.org_journal.specs.Recovered.{contents}
 use Rattle.org_journal.specs.Finding.{FindsSize}
+use Rattle.org_disk.proofs.Accounting.{accounts_none, accounts_ok, looks_then}
+use Rattle.org_journal.proofs.Accounted.{accounts_after, accounts_passed, accounts_answered, accounts_bad, accounts_told}
 use Rattle.org_journal.proofs.Fitting.{bad_size}
 use Rattle.org_journal.proofs.finding.find.Goals as goal
 
@@ -11,3 +13,45 @@ returns-in_err-size-clause-found g c ended =
     let p = err_from_is_err_and c.from_residual.result c.from_residual.ensures.1 in
     let files = g.D.Disk.files c.args.disk.now in
     rw (p.1, p.2) (bad_size (contents files) c.in_err-size.field-0.0 (subst (λ (name : List ℕ). FindsSize (files name).content (Err c.in_err-size.field-0.0)) c.requires (c.in_err-size.ensures.found ended)))
+
+pub returns-in_err-size-clause-accounts : goal.returns-in_err-size-clause-accounts
+returns-in_err-size-clause-accounts g c =
+    accounts_passed c.from_residual.ensures.1 c.in_err-size.ensures.accounts
+
+pub returns-in_default-clause-accounts : goal.returns-in_default-clause-accounts
+returns-in_default-clause-accounts g c = accounts_after c.in_ok-size.ensures.accounts (accounts_answered (accounts_none _ _ _ _))
+
+pub returns-in_err-record-clause-looks : goal.returns-in_err-record-clause-looks
+returns-in_err-record-clause-looks g c ended =
+    looks_then (c.size_of.ensures.looks (c.record_of.ensures.accounts.was_honest ended)) (c.record_of.ensures.looks ended)
+
+pub returns-in_err-record-clause-accounts : goal.returns-in_err-record-clause-accounts
+returns-in_err-record-clause-accounts g c =
+    accounts_after c.in_ok-size.ensures.accounts (accounts_passed c.from_residual-in_err-record.ensures.1 c.in_err-record.ensures.accounts)
+
+pub returns-in_err-all_fit-clause-looks : goal.returns-in_err-all_fit-clause-looks
+returns-in_err-all_fit-clause-looks g c ended =
+    let before = c.all_fit.ensures.accounts.was_honest ended in
+    looks_then (c.size_of.ensures.looks (c.record_of.ensures.accounts.was_honest before)) (looks_then (c.record_of.ensures.looks before) (c.all_fit.ensures.looks ended))
+
+pub returns-in_err-all_fit-clause-accounts : goal.returns-in_err-all_fit-clause-accounts
+returns-in_err-all_fit-clause-accounts g c =
+    accounts_after c.in_ok-size.ensures.accounts (accounts_after c.in_ok-record.ensures.accounts (accounts_told c.from_residual-in_err-all_fit.ensures.1 c.in_err-all_fit.ensures.accounts))
+
+pub returns-then-not-branch-clause-looks : goal.returns-then-not-branch-clause-looks
+returns-then-not-branch-clause-looks g c ended =
+    let before = c.all_fit.ensures.accounts.was_honest ended in
+    looks_then (c.size_of.ensures.looks (c.record_of.ensures.accounts.was_honest before)) (looks_then (c.record_of.ensures.looks before) (c.all_fit.ensures.looks ended))
+
+pub returns-then-not-branch-clause-accounts : goal.returns-then-not-branch-clause-accounts
+returns-then-not-branch-clause-accounts g c =
+    accounts_after c.in_ok-size.ensures.accounts (accounts_after c.in_ok-record.ensures.accounts (accounts_bad (accounts_ok c.in_ok-all_fit.ensures.accounts)))
+
+pub returns-clause-looks : goal.returns-clause-looks
+returns-clause-looks g c ended =
+    let before = c.all_fit.ensures.accounts.was_honest ended in
+    looks_then (c.size_of.ensures.looks (c.record_of.ensures.accounts.was_honest before)) (looks_then (c.record_of.ensures.looks before) (c.all_fit.ensures.looks ended))
+
+pub returns-clause-accounts : goal.returns-clause-accounts
+returns-clause-accounts g c =
+    accounts_after c.in_ok-size.ensures.accounts (accounts_after c.in_ok-record.ensures.accounts (accounts_answered (accounts_ok c.in_ok-all_fit.ensures.accounts)))
