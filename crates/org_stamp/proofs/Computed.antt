@@ -1,5 +1,5 @@
 -- The next repetition, computed.
-use Rattle.std.proofs.Common.{◌≡◌, ℕ, zero, suc, ◌+◌, ◌*◌, ◌^◌, ◌<◌, ◌≤◌, ◌==◌, Bool, true, false, not, ◌&&◌, inl, inr, ◌⊎◌, nat_lt, Option, None, Some, List, ℤ, pos, neg_ℤ, ◌+ℤ◌, ◌*ℤ◌, ◌<ℤ◌, ◌≤ℤ◌, refl, sym, ap, ◌∙◌, subst, if◌then◌else◌, arith, mul-le-mul_left}
+use Rattle.std.proofs.Common.{◌≡◌, ℕ, zero, suc, ◌+◌, ◌*◌, ◌<◌, ◌≤◌, ◌==◌, Bool, true, false, not, ◌&&◌, inl, inr, nat_lt, Option, None, Some, ℤ, pos, neg_ℤ, ◌<ℤ◌, ◌≤ℤ◌, refl, sym, ap, ◌∙◌, if◌then◌else◌, arith, mul-le-mul_left}
 use Rattle.std.specs.Prelude.{MatchBool, Result, Ok, Err, int_lt}
 use Rattle.std.proofs.lemmas.Bool.{cases_lt}
 use Rattle.std.proofs.lemmas.Bool.Decides.{nat_tests}
@@ -14,7 +14,7 @@ use Rattle.org_stamp.specs.declared.kind.Repeater.{Repeater}
 use Rattle.org_stamp.specs.declared.fault.RepeatFault.{RepeatFault}
 use Rattle.org_stamp.specs.declared.fault.RepeatFault.TheVariants.{BadRepeat}
 use Rattle.org_stamp.specs.Calendar.{CivilDay, CivilMinute, IsDay, day_number, minutes_of, days_after, months_after, month_number}
-use Rattle.org_stamp.specs.Stamp.{StampValue, Part, IsStamp, IsTime, has_one_time, first_repeater, start_of}
+use Rattle.org_stamp.specs.Stamp.{StampValue, IsStamp, has_one_time, first_repeater, start_of}
 use Rattle.org_stamp.specs.Repeat.{is_hour, shifted, moved, in_range, IsLater, IsLaterBy, is_later, is_later_by, first_from, most_times, target_of, RepeatsBy, RepeatsAs, IsNext, repeated_by, repeated_as, repeated}
 use Rattle.org_stamp.proofs.Later.{after_number, civil_of, last_number, reach, IsTarget}
 use Rattle.org_stamp.proofs.Ahead.{hour_minutes, later_day}

@@ -193,3 +193,8 @@ pub inside_said : (active : Bool) (inside : List ℕ) → (date_of (take 10 insi
 inside_said active inside =
     bind_same (date_of (take 10 inside)) (λ day. tail_of (drop 10 inside) >>= λ g. Some (value_of active day g)) (λ day. parts_of_tail (drop 10 inside) >>= λ ps. said_by active day ps)
     (λ day. tail_said active day (drop 10 inside))
+
+pub inside_read : (active : Bool) (inside : List ℕ) (day : Option CivilDay) (found : Option Gathered) → day ≡ date_of (take 10 inside) → found ≡ tail_of (drop 10 inside) →
+    (day >>= λ d. found >>= λ g. Some (value_of active d g)) ≡ inside_of active inside
+inside_read active inside day found dated tail =
+    ap (λ o. o >>= λ d. found >>= λ g. Some (value_of active d g)) dated ∙ ap (λ o. date_of (take 10 inside) >>= λ d. o >>= λ g. Some (value_of active d g)) tail ∙ inside_said active inside
