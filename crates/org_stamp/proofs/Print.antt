@@ -221,3 +221,10 @@ print_is s h =
       has_parts = (32 ∷ [], behind, refl, one_space, name_part w, has_time_parts s.time s.cookies h.behind.time h.behind.cookies);
       says = said s h;
     }
+
+-- what is pushed in turn is the text
+pub pushed : (o c : ℕ) (date name time cookies v0 v1 v2 v3 v4 v5 v6 v7 : List ℕ) → v0 ≡ [] → v1 ≡ v0 ++ (o ∷ []) → v2 ≡ v1 ++ date → v3 ≡ v2 ++ (32 ∷ []) → v4 ≡ v3 ++ name → v5 ≡ v4 ++ time → v6 ≡ v5 ++ cookies → v7 ≡ v6 ++ (c ∷ []) →
+    v7 ≡ o ∷ (date ++ (32 ∷ name) ++ time ++ cookies ++ c ∷ [])
+pushed o c date name time cookies v0 v1 v2 v3 v4 v5 v6 v7 e0 e1 e2 e3 e4 e5 e6 e7 =
+    let all : v7 ≡ (((((([] ++ (o ∷ [])) ++ date) ++ (32 ∷ [])) ++ name) ++ time) ++ cookies) ++ (c ∷ []) = cc in
+    all ∙ simp append_assoc
