@@ -1,0 +1,11 @@
+-- What a call promises of `Ok` alone, or of `Err` alone, where it failed.
+use Rattle.std.proofs.Common.{Result, Ok, Err}
+use Rattle.std.specs.Result.{IsErr, OnOk, OnErr}
+
+pub not_ok : {T E : Type 0} (r : Result T E) (P : Type 0) → IsErr r → OnOk r P
+not_ok (Ok v) P h = absurd (cc)
+not_ok (Err e) P h = tt
+
+pub at_err : {T E : Type 0} (r : Result T E) (P : Type 0) → P → OnErr r P
+at_err (Ok v) P h = tt
+at_err (Err e) P h = h
