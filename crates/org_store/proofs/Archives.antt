@@ -168,25 +168,25 @@ module _ (s : Session) (file : List ℕ) (path : List (List ℕ)) (moment : Civi
   place_found text seen to at shut found = told_at text seen at shut ∙ ap (archive_at s file path moment text) found
 
   -- its file is none of the store's
-  pub no_place : (text : List ℕ) (to : Destination) → told ≡ told_to text to → text_at s.names s.files to.file ≡ None → told ≡ Refuses NoSuchFile
-  no_place text to is none = is ∙ ap (archive_to s file path moment text to) none
+  pub no_place : (text : List ℕ) (to : Destination) → text_at s.names s.files to.file ≡ None → told_to text to ≡ Refuses NoSuchFile
+  no_place text to none = ap (archive_to s file path moment text to) none
 
   -- it is the file itself
-  pub within_is : (text seen : List ℕ) (to : Destination) → told ≡ told_to text to → text_at s.names s.files file ≡ Some text → seen ≡ terminated text → file ≡ to.file
-      → told ≡ with_moved s (text_within file) (archive_within s.states file path moment to (tree seen))
-  within_is text seen to is at shut own =
+  pub within_is : (text seen : List ℕ) (to : Destination) → text_at s.names s.files file ≡ Some text → seen ≡ terminated text → file ≡ to.file
+      → told_to text to ≡ with_moved s (text_within file) (archive_within s.states file path moment to (tree seen))
+  within_is text seen to at shut own =
       let there : text_at s.names s.files to.file ≡ Some text = subst (λ (n : List ℕ). text_at s.names s.files n ≡ Some text) own at in
       let t : bytes_eq file to.file ≡ true = (bytes_eq-Decides file to.file).1 own in
       let here : archive_to s file path moment text to (Some text) ≡ with_moved s (text_within file) (archive_within s.states file path moment to (tree text)) = rw t refl in
-      is ∙ ap (archive_to s file path moment text to) there ∙ here
+      ap (archive_to s file path moment text to) there ∙ here
       ∙ ap (λ (d : Document). with_moved s (text_within file) (archive_within s.states file path moment to d)) (sym (ap tree shut ∙ tree-terminated text))
 
   -- it is another one
-  pub across_is : (text seen target found : List ℕ) (to : Destination) → told ≡ told_to text to → text_at s.names s.files to.file ≡ Some target → seen ≡ terminated text → found ≡ terminated target → file ≢ to.file
-      → told ≡ with_moved s (texts_across file to.file) (archive_across s.states file path moment (tree seen) s.states to (tree found))
-  across_is text seen target found to is there shut closes apart =
+  pub across_is : (text seen target found : List ℕ) (to : Destination) → text_at s.names s.files to.file ≡ Some target → seen ≡ terminated text → found ≡ terminated target → file ≢ to.file
+      → told_to text to ≡ with_moved s (texts_across file to.file) (archive_across s.states file path moment (tree seen) s.states to (tree found))
+  across_is text seen target found to there shut closes apart =
       let f : bytes_eq file to.file ≡ false = not_equal file to.file apart in
       let other : archive_to s file path moment text to (Some target) ≡ with_moved s (texts_across file to.file) (archive_across s.states file path moment (tree text) s.states to (tree target)) = rw f refl in
-      is ∙ ap (archive_to s file path moment text to) there ∙ other
+      ap (archive_to s file path moment text to) there ∙ other
       ∙ ap (λ (d : Document). with_moved s (texts_across file to.file) (archive_across s.states file path moment d s.states to (tree target))) (sym (ap tree shut ∙ tree-terminated text))
       ∙ ap (λ (d : Document). with_moved s (texts_across file to.file) (archive_across s.states file path moment (tree seen) s.states to d)) (sym (ap tree closes ∙ tree-terminated target))

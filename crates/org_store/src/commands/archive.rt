@@ -1,15 +1,15 @@
 //! Subtrees moved to their archives.
-ghost use Rattle.std.specs.Prelude.{◌≡◌, [], IfOk};
+ghost use Rattle.std.specs.Prelude.{◌≡◌, [], ◌∷◌, List, ℕ, Some, IfOk, false, true};
 ghost use Rattle.org_outline.specs.Tree.{tree};
 ghost use Rattle.org_texts.specs.Texts.{bytes_or, text_of};
 ghost use Rattle.org_move.specs.Answers.{Gives, GivesPlace};
 ghost use Rattle.org_move.specs.Archive.{archive_across, archive_within};
 ghost use Rattle.org_move.specs.Location.{location};
 ghost use Rattle.org_store.specs.declared.tally.Tally.{Tally};
-ghost use Rattle.org_store.specs.Files.{AreBetweenCommands, IsPlanFor, IsReady};
-ghost use Rattle.org_store.specs.InOrder.{text_at};
+ghost use Rattle.org_store.specs.Files.{AreBetweenCommands, AreReady, IsPlanFor, IsReady};
+ghost use Rattle.org_store.specs.InOrder.{is_name, text_at};
 ghost use Rattle.org_store.specs.Keeping.{Plans};
-ghost use Rattle.org_store.specs.Outcome.{archive as outcome};
+ghost use Rattle.org_store.specs.Outcome.{archive as outcome, archive_to as outcome_to};
 ghost use Rattle.org_store.specs.Reading.{OnlyReads};
 ghost use Rattle.org_store.specs.Refile.{MakesDocument, MakesDocuments};
 ghost use Rattle.org_store.specs.Session.{kept_over};
@@ -92,6 +92,44 @@ fn plan_across(
     })
 }
 
+/// What an archiving to this location is to change, from a file that is ready. It is refused for the location's file first,
+/// then for the heading there.
+fn plan_archive_to<D: Disk>(
+    files: &mut Files<D>,
+    states: &States,
+    file: &FileName,
+    path: &Titles,
+    moment: Moment,
+    to: &Location,
+) -> Result<Plan, RunFault>
+    requires unbroken { files.old.broken ≡ false }
+    requires name { is_name files.old.names file.now ≡ true }
+    requires ready { AreReady (file.now ∷ []) files.old.held }
+    ensures plan { IfOk result (λ plan. IsPlanFor files.new.names files.new.held plan) }
+    ensures plans { (tally : Tally) (text : List ℕ) → D.honest files.new.disk
+        → let session = (kept_over D.files states.now files.old tally).session in
+        text_at session.names session.files file.now ≡ Some text
+        → Plans session (outcome_to session file.now path.now moment text to.now
+        (text_at session.names session.files to.now.file)) result
+        files.new.held (kept_over D.files states.now files.new tally).session }
+    ensures disk { OnlyReads D.steady D.honest D.failures D.files D.moment D.left_since
+        files.old files.new result }
+{
+    let alloc = files.alloc();
+    let to_file = to.file();
+    if file == to_file {
+        let outline = outline_in(files, states, file);
+        return Ok(plan_within(alloc, &outline, file, path, moment, to)?);
+    }
+    if !files.has(to_file) {
+        return Err(RunFault::Refused(Refusal::NoSuchFile));
+    }
+    files.ready(to_file)?;
+    let source = outline_in(files, states, file);
+    let target = outline_in(files, states, to_file);
+    Ok(plan_across(alloc, &source, &target, file, path, moment, to)?)
+}
+
 /// What an archiving is to change. It is refused for its file first, then for its path, then where the file is an archive
 /// file, then for its location, then for the location's file and the heading there.
 pub(crate) fn plan_archive<D: Disk>(
@@ -117,16 +155,5 @@ pub(crate) fn plan_archive<D: Disk>(
     files.ready(file)?;
     let alloc = files.alloc();
     let to = find_location(alloc, &outline_in(files, states, file), file, path)?;
-    let to_file = to.file();
-    if file == to_file {
-        let outline = outline_in(files, states, file);
-        return Ok(plan_within(alloc, &outline, file, path, moment, &to)?);
-    }
-    if !files.has(to_file) {
-        return Err(RunFault::Refused(Refusal::NoSuchFile));
-    }
-    files.ready(to_file)?;
-    let source = outline_in(files, states, file);
-    let target = outline_in(files, states, to_file);
-    Ok(plan_across(alloc, &source, &target, file, path, moment, &to)?)
+    plan_archive_to(files, states, file, path, moment, &to)
 }

@@ -92,3 +92,27 @@ returns-in-Err-clause-disk g c honest =
 
 pub returns-in-Err-clause-causes : goal.returns-in-Err-clause-causes
 returns-in-Err-clause-causes g c = ended_unserved
+
+pub returns-in-Ok-clause-refused : goal.returns-in-Ok-clause-refused
+returns-in-Ok-clause-refused g c = tt
+
+pub returns-in-Ok-clause-unserved : goal.returns-in-Ok-clause-unserved
+returns-in-Ok-clause-unserved g c = tt
+
+pub returns-in-Ok-clause-causes : goal.returns-in-Ok-clause-causes
+returns-in-Ok-clause-causes g c = c.serve-end.ensures.causes
+
+pub returns-in-Err-clause-served : goal.returns-in-Err-clause-served
+returns-in-Err-clause-served g c = tt
+
+pub returns-in-Err-clause-refused : goal.returns-in-Err-clause-refused
+returns-in-Err-clause-refused g c = c.in-Err.ensures.refused
+
+pub returns-in-Err-clause-unused : goal.returns-in-Err-clause-unused
+returns-in-Err-clause-unused g c = λ is. c.in-Err.ensures.unused (cc)
+
+pub returns-in-Err-clause-unserved : goal.returns-in-Err-clause-unserved
+returns-in-Err-clause-unserved g c = (refl, refl)
+
+pub returns-in-Err-clause-accounts : goal.returns-in-Err-clause-accounts
+returns-in-Err-clause-accounts g c = c.in-Err.ensures.accounts

@@ -76,3 +76,12 @@ returns-in-Err-clause-disk g c honest =
 
 pub returns-in-Err-clause-causes : goal.returns-in-Err-clause-causes
 returns-in-Err-clause-causes g c = ended_unserved
+
+pub returns-in-Ok-clause-unserved : goal.returns-in-Ok-clause-unserved
+returns-in-Ok-clause-unserved g c = c.serve_disk.ensures.unserved
+
+pub returns-in-Ok-clause-causes : goal.returns-in-Ok-clause-causes
+returns-in-Ok-clause-causes g c = c.serve_disk.ensures.causes
+
+pub returns-in-Err-clause-served : goal.returns-in-Err-clause-served
+returns-in-Err-clause-served g c = tt
