@@ -1,6 +1,6 @@
 -- Whether patches fit a file, found patch by patch; and what a journal's front tells of its record.
 use Rattle.std.proofs.Common.{◌≡◌, ℕ, suc, ◌+◌, ◌<◌, ◌≤◌, Bool, true, false, cond, ltb, leb, List, [], ◌∷◌, ◌++◌, length, take, drop, get_or, Option, Some, None, refl, sym, ap, subst, ◌∙◌, arith, add-one, drop-cons}
-use Rattle.std.specs.Prelude.{◌&&◌, ◌==◌, nat_eq, nat_le, max, slice_index, codes, is_some, Err}
+use Rattle.std.specs.Prelude.{◌&&◌, ◌==◌, nat_eq, nat_le, max, slice_index, codes, is_some, Ok, Err}
 use Rattle.std.specs.List.{AllByRecursion, starts_with}
 use Rattle.std.proofs.lemmas.Bool.{false≢true, leb-true, le-leb, le-ltb, lt-leb, lt-ltb, ltb-false}
 use Rattle.std.proofs.lemmas.List.{drop_all, drop-drop, length-append, length-drop, length-take, take-append-drop, take-append-le, drop-append-le, get_or_append_left}
@@ -13,11 +13,13 @@ use Rattle.org_splice.specs.declared.patch.Patch.{Patch}
 use Rattle.org_journal.specs.declared.record.Version.{Version}
 use Rattle.org_journal.specs.Record.{IsEntry, BeginsWith}
 use Rattle.org_journal.specs.Reading.{◌>>=◌, number_at, bytes_at, counted_at, version_at, record_at, header_at, journal_at}
+use Rattle.org_disk.specs.Disk.{FileState}
 use Rattle.org_disk.specs.Names.{journal_name}
+use Rattle.org_journal.specs.declared.finding.Found.TheVariants.{Armed}
 use Rattle.org_journal.specs.declared.fault.FindFault.{FindFault}
 use Rattle.org_journal.specs.declared.fault.FindFault.TheVariants.{BadJournal, Device, OutOfMemory}
 use Rattle.org_journal.specs.Gate.{front_size, is_open}
-use Rattle.org_journal.specs.Recovered.{Image, begins_within, fits, all_fit, recovered}
+use Rattle.org_journal.specs.Recovered.{Image, begins_within, contents, fits, all_fit, recovered}
 use Rattle.org_journal.specs.Finding.{Finds, FindsSize, HaveWellFormedPatches, HoldsRecord, record_size}
 
 -- the test of the patches that are left, from this place on, is that of all
@@ -183,6 +185,27 @@ pub bad_size : (image : Image) (e : FindFault) → FindsSize (image journal_name
 bad_size image BadJournal found = (found.0, no_record image found.0 (size_passes (image journal_name) found.1))
 bad_size image Device found = tt
 bad_size image OutOfMemory found = absurd found
+
+-- what the calls of a look at an armed journal answered, one after another, the files being the same at each
+module _ (files mid new : List ℕ → FileState) (journal : List ℕ) (size : ℕ) (entries : List Entry) (named : journal ≡ journal_name)
+    (sized : FindsSize (files journal).content (Ok (Some size))) (still : mid ≡ files) (same : new ≡ mid)
+    (read : journal_at (drop 1 (mid journal).content) ≡ Some entries) where
+  opened_here : is_open (contents files journal_name) ≡ true
+  opened_here = subst (λ (name : List ℕ). is_open (files name).content ≡ true) named sized.0
+
+  read_here : journal_at (drop 1 (contents files journal_name)) ≡ Some entries
+  read_here = subst (λ (name : List ℕ). journal_at (drop 1 (files name).content) ≡ Some entries) named (subst (λ (f : List ℕ → FileState). journal_at (drop 1 (f journal).content) ≡ Some entries) still read)
+
+  fit_here : (b : Bool) → b ≡ all_fit entries (contents new) → b ≡ all_fit entries (contents files)
+  fit_here b is = subst (λ (f : List ℕ → FileState). b ≡ all_fit entries (contents f)) (same ∙ still) is
+
+  pub found_armed : (b : Bool) → b ≡ all_fit entries (contents new) → b ≡ true → Finds (contents files) (Ok (Armed entries))
+  found_armed b is fits_all = (opened_here, read_here, sym (fit_here b is) ∙ fits_all)
+
+  pub found_bad : (b : Bool) → b ≡ all_fit entries (contents new) → b ≡ false → Finds (contents files) (Err BadJournal)
+  found_bad b is unfits =
+      let unfit : all_fit entries (contents files) ≡ false = sym (fit_here b is) ∙ unfits in
+      (opened_here, rw (opened_here, read_here, unfit) refl)
 
 -- ---- an open gate
 

@@ -5,7 +5,7 @@ use Rattle.org_journal.specs.Recovered.{contents}
 use Rattle.org_journal.specs.Finding.{FindsSize}
 use Rattle.org_disk.proofs.Accounting.{accounts_none, accounts_ok, looks_then}
 use Rattle.org_journal.proofs.Accounted.{accounts_after, accounts_passed, accounts_answered, accounts_bad, accounts_told}
-use Rattle.org_journal.proofs.Fitting.{bad_size}
+use Rattle.org_journal.proofs.Fitting.{bad_size, found_armed, found_bad}
 use Rattle.org_journal.proofs.finding.find.Goals as goal
 
 pub returns-in_err-size-clause-found : goal.returns-in_err-size-clause-found
@@ -55,3 +55,21 @@ returns-clause-looks g c ended =
 pub returns-clause-accounts : goal.returns-clause-accounts
 returns-clause-accounts g c =
     accounts_after c.in_ok-size.ensures.accounts (accounts_after c.in_ok-record.ensures.accounts (accounts_answered (accounts_ok c.in_ok-all_fit.ensures.accounts)))
+
+pub returns-then-not-branch-clause-found : goal.returns-then-not-branch-clause-found
+returns-then-not-branch-clause-found g c ended =
+    let before = c.all_fit.ensures.accounts.was_honest ended in
+    let start = c.record_of.ensures.accounts.was_honest before in
+    let files = g.D.Disk.files c.args.disk.now in
+    found_bad files (g.D.Disk.files c.size_of.new.disk) (g.D.Disk.files c.record_of.new.disk) c.args.journal.now c.in-Some.size c.in_ok-record.record c.requires
+    (rw c.in-Some.is at (c.in_ok-size.ensures.found start)) (c.size_of.ensures.looks start).same (c.record_of.ensures.looks before).same (c.in_ok-record.ensures.found before)
+    c.in_ok-all_fit.field-0 (rw c.entries.ensures at (c.in_ok-all_fit.ensures.fit ended)) c.if-not-branch.true
+
+pub returns-clause-found : goal.returns-clause-found
+returns-clause-found g c ended =
+    let before = c.all_fit.ensures.accounts.was_honest ended in
+    let start = c.record_of.ensures.accounts.was_honest before in
+    let files = g.D.Disk.files c.args.disk.now in
+    found_armed files (g.D.Disk.files c.size_of.new.disk) (g.D.Disk.files c.record_of.new.disk) c.args.journal.now c.in-Some.size c.in_ok-record.record c.requires
+    (rw c.in-Some.is at (c.in_ok-size.ensures.found start)) (c.size_of.ensures.looks start).same (c.record_of.ensures.looks before).same (c.in_ok-record.ensures.found before)
+    c.in_ok-all_fit.field-0 (rw c.entries.ensures at (c.in_ok-all_fit.ensures.fit ended)) c.if-not-branch.false
