@@ -1,14 +1,28 @@
 //! Entries put below a heading of level 1 that is made.
-ghost use Rattle.std.specs.Prelude.{◌≡◌, IfOk};
+ghost use Rattle.std.specs.Prelude.{◌≡◌, ◌&&◌, ◌==◌, not, IfOk};
+ghost use Rattle.std.specs.List.{list_any};
+ghost use Rattle.org_outline.specs.Parts.{AreParts, Parts};
 ghost use Rattle.org_outline.specs.Tree.{Node as NodeOf, tree};
 ghost use Rattle.org_capture.specs.Entry.{IsEntry};
-ghost use Rattle.org_capture.specs.Capture.{below_made, can_be_title};
+ghost use Rattle.org_capture.specs.Capture.{below_made, can_be_title, is_only_title};
 ghost use Rattle.org_capture.specs.Answers.{Makes};
 
 use crate::inserting::push_heading;
 use org_outline::{HeadParts, Outline, Place, States, shift};
 use org_splice::{Bytes, Edit};
 use std::alloc::{AllocError, Global};
+
+// Whether a heading line of these parts has this title, on one line, and no keyword, no priority and no tags.
+fn has_only_title(title: &[u8], parts: &HeadParts<'_>) -> bool
+    ensures { (said : Parts) → AreParts parts.now said
+        → result ≡ (is_only_title title.now said && not (list_any (λ b. b == 10) title.now)) }
+{
+    parts.title == title
+        && parts.keyword.is_empty()
+        && parts.priority.is_empty()
+        && parts.tags.is_empty()
+        && !title.contains(&b'\n')
+}
 
 /// Whether a heading made with this title has it, and no keyword, no priority and no tags.
 pub(crate) fn can_be_title(alloc: Global, title: &[u8], states: &States) -> Result<bool, AllocError>
@@ -18,13 +32,7 @@ pub(crate) fn can_be_title(alloc: Global, title: &[u8], states: &States) -> Resu
     rest.push(b' ')?;
     rest.extend_from_slice(title)?;
     let parts = HeadParts::of(states, rest.as_slice());
-    Ok(
-        parts.title == title
-            && parts.keyword.is_empty()
-            && parts.priority.is_empty()
-            && parts.tags.is_empty()
-            && !title.contains(&b'\n'),
-    )
+    Ok(has_only_title(title, &parts))
 }
 
 /// The edit that makes a heading of level 1 at the end, with an entry below it.
