@@ -1,9 +1,9 @@
 //! The command line. Nothing else of the program knows how its words are read.
-ghost use Rattle.std.specs.Prelude.{◌≡◌, ◌⊎◌, ℕ, List, map, string_bytes, IfOk, IfErr, SomeIff};
+ghost use Rattle.std.specs.Prelude.{◌≡◌, ◌⊎◌, ℕ, List, [], ◌∷◌, Some, false, map, string_bytes, IfOk, IfErr, SomeIff};
 ghost use Rattle.std.specs.Str.Parse.{digits_value};
-ghost use Rattle.clap.specs.Words.{kind_of, app_of};
+ghost use Rattle.clap.specs.Words.{kind_of, app_of, new_rule, rule_of};
 ghost use Rattle.org_store.specs.Group.{IsGroup};
-ghost use Rattle.orgstore.specs.Words.{command_line, AreTaken, Tells, IsGroupText, IsFaultBy, IsFaultOfWords};
+ghost use Rattle.orgstore.specs.Words.{command_line, folder_argument as folder_rule, new_argument as new_name_rule, AreTaken, Tells, IsGroupText, IsFaultBy, IsFaultOfWords};
 
 use crate::fault::Fault;
 use clap::error::ErrorKind;
@@ -72,39 +72,60 @@ fn parse(alloc: Global, words: &[String]) -> Result<Arguments, Error>
     })
 }
 
+// The folder, which has to be there.
+fn folder_argument<'a>(alloc: Global) -> Arg<'a>
+    ensures rule { rule_of result ≡ folder_rule }
+    ensures own { result.global ≡ false }
+{
+    Arg::new(alloc, "DIR")
+        .required(true)
+        .help("The folder of Org files")
+}
+
+// Any number of names.
+fn new_argument<'a>(alloc: Global) -> Arg<'a>
+    ensures rule { rule_of result ≡ new_name_rule }
+    ensures own { result.global ≡ false }
+{
+    Arg::new(alloc, "new")
+        .long("new")
+        .value_name("NAME")
+        .help("An Org file that the folder may lack")
+        .action(ArgAction::Append)
+}
+
+// An option with one value, which is this one where it isn't there.
+fn option<'a>(
+    alloc: Global,
+    name: &'a str,
+    value: &'a str,
+    help: &'a str,
+    default: &'a str,
+) -> Arg<'a>
+    ensures rule { rule_of result ≡ record (new_rule name.now)
+        { long = Some name.now; value_names = 1; defaults = default.now ∷ [] } }
+    ensures own { result.global ≡ false }
+{
+    Arg::new(alloc, name)
+        .long(name)
+        .value_name(value)
+        .help(help)
+        .default_value(default)
+}
+
 // The command line, for clap.
 fn command<'a>(alloc: Global) -> Result<Command<'a>, AllocError>
     ensures { IfOk result (λ command. app_of command ≡ command_line) }
 {
-    let folder = Arg::new(alloc, "DIR")
-        .required(true)
-        .help("The folder of Org files");
-    let new = Arg::new(alloc, "new")
-        .long("new")
-        .value_name("NAME")
-        .help("An Org file that the folder may lack")
-        .action(ArgAction::Append);
-    let todo = Arg::new(alloc, "todo")
-        .long("todo")
-        .value_name("LIST")
-        .help("The active states, with commas between them")
-        .default_value("TODO");
-    let done = Arg::new(alloc, "done")
-        .long("done")
-        .value_name("LIST")
-        .help("The done states, with commas between them")
-        .default_value("DONE");
-    let group = Arg::new(alloc, "group")
-        .long("group")
-        .value_name("K")
-        .help("How many commands are settled together, from 1 to 1000")
-        .default_value("1");
+    let active = "The active states, with commas between them";
+    let done = "The done states, with commas between them";
+    let group = "How many commands are settled together, from 1 to 1000";
     Command::new(alloc, "orgstore")
-        .arg(folder)?
-        .arg(new)?
-        .arg(todo)?
-        .arg(done)?
-        .arg(group)
+        .arg(folder_argument(alloc))?
+        .arg(new_argument(alloc))?
+        .arg(option(alloc, "todo", "LIST", active, "TODO"))?
+        .arg(option(alloc, "done", "LIST", done, "DONE"))?
+        .arg(option(alloc, "group", "K", group, "1"))
 }
 
 fn owned(alloc: Global, words: &[&str]) -> Result<Vec<String>, AllocError>
