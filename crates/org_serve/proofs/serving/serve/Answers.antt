@@ -138,3 +138,27 @@ loop-preserved g c = (
   read_more c.loop.counter (g.R.Source.left c.args.reader.now) (g.R.Source.left c.loop.reader) (g.R.Source.left c.read.new.self) (take c.in-Ok.n c.read.new.into) c.loop.invariant.7
       c.in-Ok.ensures.bytes.0 (omega (arith, c.in-Ok.ensures.bound.1)),
 )
+
+pub returns-in-Err-clause-untouched : goal.returns-in-Err-clause-untouched
+returns-in-Err-clause-untouched g c = c.loop.invariant.1
+
+pub returns-in-Err-clause-accounts : goal.returns-in-Err-clause-accounts
+returns-in-Err-clause-accounts g c = c.loop.invariant.2
+
+pub returns-clause-untouched : goal.returns-clause-untouched
+returns-clause-untouched g c = c.loop.invariant.1
+
+pub returns-clause-accounts : goal.returns-clause-accounts
+returns-clause-accounts g c = c.loop.invariant.2
+
+pub returns-in-Err-feed-clause-untouched : goal.returns-in-Err-feed-clause-untouched
+returns-in-Err-feed-clause-untouched g c = untouched_then c.loop.invariant.1 c.in-Err-feed.ensures.untouched
+
+pub returns-in-Err-feed-clause-accounts : goal.returns-in-Err-feed-clause-accounts
+returns-in-Err-feed-clause-accounts g c = breaks_then c.loop.invariant.1 c.in-Err-feed.ensures.untouched c.loop.invariant.2 c.in-Err-feed.ensures.accounts
+
+pub returns-in-Ok-eq0-clause-untouched : goal.returns-in-Ok-eq0-clause-untouched
+returns-in-Ok-eq0-clause-untouched g c = untouched_then c.loop.invariant.1 c.finish.ensures.untouched
+
+pub returns-in-Ok-eq0-clause-accounts : goal.returns-in-Ok-eq0-clause-accounts
+returns-in-Ok-eq0-clause-accounts g c = breaks_then c.loop.invariant.1 c.finish.ensures.untouched c.loop.invariant.2 c.finish.ensures.accounts
