@@ -25,3 +25,15 @@ loop-line-preserved g c = (
 pub returns-clause-fed : goal.returns-clause-fed
 returns-clause-fed g c = λ part free stands.
     Fed-end (c.loop-line.invariant.0 part free stands) c.in_default.ensures.free c.add.new.self c.add.ensures
+
+pub returns-in_err-answer-clause-untouched : goal.returns-in_err-answer-clause-untouched
+returns-in_err-answer-clause-untouched g c = untouched_then c.loop-line.invariant.1 c.in_err-answer.ensures.untouched
+
+pub returns-in_err-answer-clause-accounts : goal.returns-in_err-answer-clause-accounts
+returns-in_err-answer-clause-accounts g c = breaks_then c.loop-line.invariant.1 c.in_err-answer.ensures.untouched c.loop-line.invariant.2 c.in_err-answer.ensures.accounts
+
+pub returns-clause-untouched : goal.returns-clause-untouched
+returns-clause-untouched g c = c.loop-line.invariant.1
+
+pub returns-clause-accounts : goal.returns-clause-accounts
+returns-clause-accounts g c = c.loop-line.invariant.2
