@@ -185,3 +185,36 @@ returns-in-Show-clause-waits g c =
     let waits : Waits old (outcome old.session (Show c.in-Show.file)) c.show.result new = c.show.ensures.waits inside.states inside.tally in
     let told = subst (λ (command : Command). Waits old (outcome old.session command) c.show.result new) (sym c.in-Show.is) waits in
     rw (← c.self.view_is) (λ honest. told)
+
+pub returns-in-Capture-clause-step : goal.returns-in-Capture-clause-step
+returns-in-Capture-clause-step g c = rw (← c.self.view_is) c.change.ensures.acts.does
+
+pub returns-in-Capture-clause-counts : goal.returns-in-Capture-clause-counts
+returns-in-Capture-clause-counts g c = rw (← c.self.view_is) c.change.ensures.acts.counts
+
+pub returns-in-Capture-clause-waits : goal.returns-in-Capture-clause-waits
+returns-in-Capture-clause-waits g c = rw (← c.self.view_is) c.change.ensures.waits
+
+pub returns-in-Capture-clause-untouched : goal.returns-in-Capture-clause-untouched
+returns-in-Capture-clause-untouched g c broken = absurd (c.change.ensures.acts.works broken)
+
+pub returns-in-Capture-clause-accounts : goal.returns-in-Capture-clause-accounts
+returns-in-Capture-clause-accounts g c = rw (← c.self.view_is) c.change.ensures.accounts
+
+pub returns-in-Time-clause-accounts : goal.returns-in-Time-clause-accounts
+returns-in-Time-clause-accounts g c = rw (← c.self.view_is) c.time.ensures.accounts
+
+pub returns-in-Show-clause-accounts : goal.returns-in-Show-clause-accounts
+returns-in-Show-clause-accounts g c = rw (← c.self.view_is) c.show.ensures.accounts
+
+pub returns-in-Capture-clause-broken : goal.returns-in-Capture-clause-broken
+returns-in-Capture-clause-broken g c =
+    let acts = c.change.ensures.acts in
+    let whole : c.self.inside.files.broken ≡ false = search rules in
+    rw (← c.self.view_is) (λ broken. absurd (acts.works broken), λ was. absurd (false≢true (sym whole ∙ was)))
+
+pub returns-in-Capture-clause-breaks : goal.returns-in-Capture-clause-breaks
+returns-in-Capture-clause-breaks g c =
+    let acts = c.change.ensures.acts in
+    let whole : c.self.inside.files.broken ≡ false = search rules in
+    rw (← c.self.view_is) (λ fell. inr (acts.breaks.1 fell), λ either. ⊎_elim (λ was. absurd (false≢true (sym whole ∙ was))) acts.breaks.0 either)
