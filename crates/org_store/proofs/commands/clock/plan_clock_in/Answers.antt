@@ -191,3 +191,22 @@ returns-clause-plans g c tally honest =
 
 pub returns-clause-disk : goal.returns-clause-disk
 returns-clause-disk g c = only_reads_then c.in_ok-look_up_in.ensures.disk (only_reads_then c.in_ok-clock.ensures.disk (only_reads_fine (λ no. cc) (λ no. cc) c.in_ok-plan.ensures.disk))
+
+pub returns-in_err-look_up_in-clause-disk : goal.returns-in_err-look_up_in-clause-disk
+returns-in_err-look_up_in-clause-disk g c =
+    let given : c.from_residual.result ≡ Err c.in_err-look_up_in.field-0.0 = search rules in
+    only_reads_fault given c.in_err-look_up_in.ensures.disk
+
+pub returns-in_err-clock-clause-disk : goal.returns-in_err-clock-clause-disk
+returns-in_err-clock-clause-disk g c =
+    let given : c.from_residual-in_err-clock.result ≡ Err c.in_err-clock.field-0.0 = search rules in
+    only_reads_then c.in_ok-look_up_in.ensures.disk (only_reads_fault given c.in_err-clock.ensures.disk)
+
+pub returns-in_default-clause-disk : goal.returns-in_default-clause-disk
+returns-in_default-clause-disk g c = only_reads_then c.in_ok-look_up_in.ensures.disk (only_reads_then c.in_ok-clock.ensures.disk c.start_in_one.ensures.disk)
+
+pub returns-in_default-clause-plan : goal.returns-in_default-clause-plan
+returns-in_default-clause-plan g c = c.start_in_one.ensures.plan
+
+pub returns-then-eq-clause-plan : goal.returns-then-eq-clause-plan
+returns-then-eq-clause-plan g c = c.start_in_one-then-eq.ensures.plan
