@@ -47,8 +47,8 @@ pub record Reopens {D A E : Type 0} (files : D → List ℕ → FileState) (mome
       → LeavesOver moment left_since old new (RecoversAsBefore (files old))
   pub recoverable : IsRecoverable (files old) → EachRecovers (files old) → IsRecoverable (files new)
   pub bad : recovered (contents (files old)) ≡ None → LeavesOver moment left_since old new (AreImages (files old))
-  -- A whole journal with a closed gate leaves nothing to bring to an end, so it is only synced and looked at: whatever
-  -- is answered, a crash leaves what it might have left before.
+  -- A whole journal with a closed gate leaves nothing to bring to an end: whatever is answered, a crash leaves what it
+  -- might have left before.
   pub idle : IsTrue (is_closed (contents (files old) journal_name))
       → LeavesOver moment left_since old new (AreImages (files old))
   pub alone : LeavesAlone files moment left_since (IsUnconcerned (contents (files old) journal_name)) old new
