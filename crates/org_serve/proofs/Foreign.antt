@@ -55,7 +55,7 @@ module _ {D : Type 0} (honest : D → Type 0) (files : D → List ℕ → FileSt
       (λ settled. own_settling files moment left_since mid.store last.store settled.0 ready settled.1.0.0)
       ends
 
-  own_runs : {first last : Past D} {end : ServeEnd} {left left' written written' : Option (List ℕ)} → Runs Line (HasSettledPast honest files moment left_since) first last end left left' written written' → Ready first → Own first last
+  pub own_runs : {first last : Past D} {end : ServeEnd} {left left' written written' : Option (List ℕ)} → Runs Line (HasSettledPast honest files moment left_since) first last end left left' written written' → Ready first → Own first last
   own_runs {first} {last} run ready =
       own_then files moment left_since first.store run.mid.store last.store (own_lines first run.mid run.ran run.out run.answered ready) (λ ready. own_end run.mid last run.ends ready)
 

@@ -5,11 +5,14 @@ ghost use Rattle.org_disk.specs.Accounts.{LeavesOver};
 ghost use Rattle.org_journal.specs.Recovered.{Image, contents};
 ghost use Rattle.org_fileset.specs.Replay.{IsAtRest};
 ghost use Rattle.org_fileset.specs.Names.{AreFew};
+ghost use Rattle.org_fileset.specs.Writes.{LeavesAlone};
 ghost use Rattle.org_outline.specs.States.{Keywords};
 ghost use Rattle.org_store.specs.declared.command.Command.{Command};
 ghost use Rattle.org_store.specs.declared.command.Reply.{Reply};
 ghost use Rattle.org_store.specs.declared.command.RunFault.{RunFault};
 ghost use Rattle.org_store.specs.History.{Past, Lists, HoldsPrefix};
+ghost use Rattle.org_store.specs.InOrder.{AreNames};
+ghost use Rattle.org_store.specs.Left.{IsApart};
 ghost use Rattle.org_store.specs.OnePlace.{HaveSameNodes, HasNodesOf, HasNodesOfPrefix, IsSessionOf};
 ghost use Rattle.org_store.specs.Opening.{opened};
 ghost use Rattle.org_store.specs.Reopening.{IsOpenable, AreSmall};
@@ -106,6 +109,29 @@ pub fn every_image_opens<D: Disk>()
         end left left' written written') (here : Past D) (least : ℕ) (image : Image)
         → IsOnTheWay served here → D.honest here.store.disk
         → HoldsServed served here least image → IsOpenable given image }
+{}
+
+/// No file is written but the store's own and the journal while lines are served (`crashes_leave_a_prefix`), however
+/// that ends: where the disk is honest at the end, each other file is as it was, and a crash meanwhile leaves of it what
+/// it might have left before. The files that wait at first are to be the store's own: where it was just opened, none does.
+pub fn only_own_files_are_written<D: Disk>()
+    ensures alone { (first last : Past D) (end : ServeEnd)
+        (left left' written written' : Option (List ℕ))
+        → AreNames first.store.session.names first.store.waiting → D.honest last.store.disk
+        → Runs (PastLine D.honest D.files D.moment D.left_since)
+        (HasSettledPast D.honest D.files D.moment D.left_since)
+        first last end left left' written written'
+        → LeavesAlone D.files D.moment D.left_since (IsApart first.store.session.names)
+        first.store.disk last.store.disk }
+    // so it goes on
+    ensures waits { (first last : Past D) (end : ServeEnd)
+        (left left' written written' : Option (List ℕ))
+        → AreNames first.store.session.names first.store.waiting → D.honest last.store.disk
+        → Runs (PastLine D.honest D.files D.moment D.left_since)
+        (HasSettledPast D.honest D.files D.moment D.left_since)
+        first last end left left' written written'
+        → (last.store.session.names ≡ first.store.session.names)
+        × AreNames last.store.session.names last.store.waiting }
 {}
 
 /// Each node in one place, in what a crash leaves while lines are served (`crashes_leave_a_prefix`): each node is there
