@@ -5,6 +5,7 @@ pub mod Drawers
 pub mod Puts
 pub mod Walks
 pub mod Logs
+pub mod ClockLines
 pub mod Closing
 pub mod Flat
 pub mod ClosedClocks

@@ -75,14 +75,22 @@ fn each_once(entries: &[Entry]) -> bool
         && is_once(Word::Scheduled, entries)
 }
 
+/// The entry's text with these bytes for those of its stamp.
+fn push_with_stamp(out: &mut Vec<u8>, entry: &Entry, stamp: &[u8]) -> Result<(), AllocError>
+    ensures { OnOk result (out.new.items ≡ out.old.items
+        ++ entry_text (record entry.now { text = stamp.now })) }
+{
+    out.extend_from_slice(word_text(entry.word))?;
+    out.extend_from_slice(entry.gap)?;
+    out.extend_from_slice(stamp)?;
+    out.extend_from_slice(entry.after)
+}
+
 /// The entry's text.
 fn push_entry(out: &mut Vec<u8>, entry: &Entry) -> Result<(), AllocError>
     ensures { OnOk result (out.new.items ≡ out.old.items ++ entry_text entry.now) }
 {
-    out.extend_from_slice(word_text(entry.word))?;
-    out.extend_from_slice(entry.gap)?;
-    out.extend_from_slice(entry.text)?;
-    out.extend_from_slice(entry.after)
+    push_with_stamp(out, entry, entry.text)
 }
 
 /// The texts of all entries but CLOSED.
@@ -160,10 +168,7 @@ fn push_repeated(out: &mut Vec<u8>, entry: &Entry, now: Moment) -> Result<(), Pl
     }
     let stamp = entry.stamp.repeat(now)?;
     let text = stamp.print(*out.allocator())?;
-    out.extend_from_slice(word_text(entry.word))?;
-    out.extend_from_slice(entry.gap)?;
-    out.extend_from_slice(&text)?;
-    out.extend_from_slice(entry.after)?;
+    push_with_stamp(out, entry, &text)?;
     Ok(())
 }
 

@@ -169,13 +169,6 @@ two_made t i e e2 k new r edits shut lt at gives rest is =
     (λ none. absurd (let no : e2 ∷ k ∷ [] ≡ [] = sym is ∙ none in cc), subst (λ (es : List Edit). AreEdits es t (print (with_own_lines i r new (tree t)))) (sym all) made)
 
 -- edits that were pushed, one after another
-pub pushed_two : (e0 e1 e2 : List Edit) (a b : Edit) → e0 ≡ [] → e1 ≡ e0 ++ a ∷ [] → e2 ≡ e1 ++ b ∷ [] → e2 ≡ a ∷ b ∷ []
-pushed_two e0 e1 e2 a b p0 p1 p2 = p2 ∙ ap (λ (es : List Edit). es ++ b ∷ []) (p1 ∙ ap (λ (es : List Edit). es ++ a ∷ []) p0)
-
-pub pushed_four : (e0 e1 e2 e3 e4 : List Edit) (a b c d : Edit) → e0 ≡ [] → e1 ≡ e0 ++ a ∷ [] → e2 ≡ e1 ++ b ∷ [] → e3 ≡ e2 ++ c ∷ [] → e4 ≡ e3 ++ d ∷ [] → e4 ≡ a ∷ b ∷ c ∷ d ∷ []
-pushed_four e0 e1 e2 e3 e4 a b c d p0 p1 p2 p3 p4 =
-    p4 ∙ ap (λ (es : List Edit). es ++ d ∷ []) (p3 ∙ ap (λ (es : List Edit). es ++ c ∷ []) (pushed_two e0 e1 e2 a b p0 p1 p2))
-
 -- ---- a repeated section
 
 -- a note, a property and a planning line put into a section, each edit made for the section as it was

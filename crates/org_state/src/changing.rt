@@ -1,10 +1,11 @@
 //! A heading put into another state.
-ghost use Rattle.std.specs.Prelude.{◌≡◌, ◌<◌, ◌≤◌, ◌+◌, ℕ, List, length, Some, Ok, IfOk};
-ghost use Rattle.org_splice.specs.Lines.{print_lines};
-ghost use Rattle.org_meta.specs.Edits.{Gives};
+ghost use Rattle.std.specs.Prelude.{◌≡◌, ◌<◌, ◌≤◌, ◌+◌, ℕ, List, length, codes, Some, Ok, IfOk};
+ghost use Rattle.org_splice.specs.Lines.{print_lines, terminated};
+ghost use Rattle.org_meta.specs.Edits.{Gives, GivesParts};
+ghost use Rattle.org_meta.specs.Moments.{moment_text};
 ghost use Rattle.org_meta.specs.Planning.{clear_closed};
 ghost use Rattle.org_meta.specs.Replans.{GivesRepeated};
-ghost use Rattle.org_meta.specs.Sections.{split, parts_of};
+ghost use Rattle.org_meta.specs.Sections.{split, parts_of, put};
 ghost use Rattle.org_outline.specs.Tree.{node_at, node_count, tree};
 ghost use Rattle.org_outline.specs.Paths.{titles_of};
 ghost use Rattle.org_state.specs.Answers.{AnswersOwn, AnswersTodo, Makes};
@@ -37,10 +38,8 @@ fn with_section(
         (with_lines outline.now.states word.now (own_at d node) new)))
         outline.now.text edits.items) }
 {
-    let mut edits = Vec::new(alloc);
-    edits.push(in_section(outline, node, edit))?;
-    edits.push(keyword_edit(alloc, outline, node, word)?)?;
-    Ok(edits)
+    let keyword = keyword_edit(alloc, outline, node, word)?;
+    Ok(vec![in alloc; in_section(outline, node, edit), keyword]?)
 }
 
 /// The edits of an entry that turns back: its CLOSED entry goes.
@@ -57,6 +56,16 @@ fn turn_back(
 {
     let edit = clear_closed(alloc, section_of(outline, node))?;
     Ok(with_section(alloc, outline, node, edit, state)?)
+}
+
+/// The edit that puts the property LAST_REPEAT into a section.
+fn last_repeat(alloc: Global, section: &[u8], now: Moment) -> Result<Edit, AllocError>
+    requires { terminated section.now ≡ section.now }
+    ensures { IfOk result (λ edit. GivesParts edit section.now
+        (put (codes "LAST_REPEAT") (moment_text now) (parts_of section.now))) }
+{
+    let stamp = Stamp::at(now, false, true).print(alloc)?;
+    put_property(alloc, section, b"LAST_REPEAT", &stamp)
 }
 
 /// The edits of a repeated task that turns done, where `planning` repeats its planning line.
@@ -82,16 +91,17 @@ fn repeat(
     let section = section_of(outline, node);
     let old = outline.parts(node).keyword;
     let note = add_note(alloc, section, state, old, now)?;
-    let stamp = Stamp::at(now, false, true).print(alloc)?;
-    let property = put_property(alloc, above_rest(section), b"LAST_REPEAT", &stamp)?;
+    let property = last_repeat(alloc, above_rest(section), now)?;
     let active = outline.states().first_active().as_bytes();
+    let keyword = keyword_edit(alloc, outline, node, active)?;
     // The last first, so that each stands where it does in the text as it was.
-    let mut edits = Vec::new(alloc);
-    edits.push(in_section(outline, node, note))?;
-    edits.push(in_section(outline, node, property))?;
-    edits.push(in_section(outline, node, planning))?;
-    edits.push(keyword_edit(alloc, outline, node, active)?)?;
-    Ok(edits)
+    let edits = [
+        in_section(outline, node, note),
+        in_section(outline, node, property),
+        in_section(outline, node, planning),
+        keyword,
+    ];
+    Ok(Vec::from_array(alloc, edits)?)
 }
 
 /// The edits of an entry that turns done: its planning is repeated, or else it gets a CLOSED entry.
@@ -137,9 +147,8 @@ fn change(
     if is_done && !was_done {
         return turn_done(alloc, outline, node, state, now);
     }
-    let mut edits = Vec::new(alloc);
-    edits.push(keyword_edit(alloc, outline, node, state)?)?;
-    Ok(edits)
+    let keyword = keyword_edit(alloc, outline, node, state)?;
+    Ok(vec![in alloc; keyword]?)
 }
 
 /// The edits, to be made in this order, that put the heading at `path` into another state, or into

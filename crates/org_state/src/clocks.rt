@@ -1,5 +1,5 @@
 //! Clocks of a text: which one runs, clocking in and out, and the time clocked.
-ghost use Rattle.std.specs.Prelude.{◌≡◌, ◌≢◌, ◌<◌, ◌≤◌, ◌∷◌, [], length, Some, Ok, IfOk};
+ghost use Rattle.std.specs.Prelude.{◌≡◌, ◌≢◌, ◌<◌, ◌≤◌, length, Some, Ok, IfOk};
 ghost use Rattle.org_splice.specs.Lines.{terminated, print_lines};
 ghost use Rattle.org_outline.specs.Paths.{find_path, titles_of};
 ghost use Rattle.org_outline.specs.Tree.{node_at, node_count, tree};
@@ -120,16 +120,6 @@ pub fn clock_out(
     closing(alloc, text, running, now)
 }
 
-/// Two edits in their order.
-fn in_order(alloc: Global, first: Edit, second: Edit) -> Result<Vec<Edit>, AllocError>
-    ensures { IfOk result (λ edits. edits.items ≡ first ∷ second ∷ []) }
-{
-    let mut edits = Vec::new(alloc);
-    edits.push(first)?;
-    edits.push(second)?;
-    Ok(edits)
-}
-
 /// The edits that close the clock that runs in the text, and open one at another heading.
 fn switch(
     alloc: Global,
@@ -146,10 +136,12 @@ fn switch(
     let stop = closing(alloc, outline.text(), running, now)?;
     let start = opening(alloc, outline, node, now)?;
     // The later first, so that each stands where it does in the text as it was.
-    if running.heading.number() < node.number() {
-        return Ok(in_order(alloc, start, stop)?);
-    }
-    Ok(in_order(alloc, stop, start)?)
+    let edits = if running.heading.number() < node.number() {
+        [start, stop]
+    } else {
+        [stop, start]
+    };
+    Ok(Vec::from_array(alloc, edits)?)
 }
 
 /// The edits, to be made in this order, that clock in at the heading at `path` of a text in which a

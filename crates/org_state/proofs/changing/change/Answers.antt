@@ -1,4 +1,4 @@
-use Rattle.std.proofs.Common.{◌≡◌, ℕ, List, Bool, true≢false, [], ◌∷◌, ◌++◌, sym, ap, ◌∙◌, true, false}
+use Rattle.std.proofs.Common.{◌≡◌, ℕ, List, Bool, true≢false, sym, ap, ◌∙◌, true, false}
 use Rattle.org_splice.specs.declared.edit.Edit.{Edit}
 use Rattle.org_outline.specs.States.{Keywords}
 use Rattle.org_outline.specs.Tree.{tree}
@@ -14,16 +14,16 @@ pub returns-then-not-is_done : goal.returns-then-not-is_done
 returns-then-not-is_done c =
     let states : Keywords = c.args.outline.now.states in
     let own : Own = own_at (tree c.args.outline.now.text) c.args.node in
-    let was : is_done states (keyword_in states own.rest) ≡ true = cc in
-    let is : is_done states c.args.state.now ≡ false = cc in
+    let was : is_done states (keyword_in states own.rest) ≡ true = ap (is_done states) (sym c.parts.ensures.keyword) ∙ ap (λ (k : Keywords). is_done k c.parts.result.keyword.now) (sym c.states-states.ensures.value) ∙ sym c.is_done-was_done.ensures.value ∙ c.if-was_done.true in
+    let is : is_done states c.args.state.now ≡ false = ap (λ (k : Keywords). is_done k c.args.state.now) (sym c.states-states.ensures.value) ∙ sym c.is_done-is_done.ensures.value ∙ c.if-not-is_done.true in
     turned true false states c.args.state.now c.args.now own c.args.outline.now.text c.args.node _ was is c.turn_back.ensures
 
 pub returns-then-not-was_done : goal.returns-then-not-was_done
 returns-then-not-was_done c =
     let states : Keywords = c.args.outline.now.states in
     let own : Own = own_at (tree c.args.outline.now.text) c.args.node in
-    let was : is_done states (keyword_in states own.rest) ≡ false = cc in
-    let is : is_done states c.args.state.now ≡ true = cc in
+    let was : is_done states (keyword_in states own.rest) ≡ false = ap (is_done states) (sym c.parts.ensures.keyword) ∙ ap (λ (k : Keywords). is_done k c.parts.result.keyword.now) (sym c.states-states.ensures.value) ∙ sym c.is_done-was_done.ensures.value ∙ c.if-not-was_done.true in
+    let is : is_done states c.args.state.now ≡ true = ap (λ (k : Keywords). is_done k c.args.state.now) (sym c.states-states.ensures.value) ∙ sym c.is_done-is_done.ensures.value ∙ c.if-is_done.true in
     turned false true states c.args.state.now c.args.now own c.args.outline.now.text c.args.node _ was is c.turn_done.ensures
 
 pub returns : goal.returns
@@ -44,9 +44,9 @@ returns c =
     ] in
     let was_is : was ≡ is_done states (keyword_in states own.rest) = c.is_done-was_done.ensures.value ∙ ap (λ (k : Keywords). is_done k c.parts.result.keyword.now) c.states-states.ensures.value ∙ ap (is_done states) c.parts.ensures.keyword in
     let is_is : is ≡ is_done states state = c.is_done-is_done.ensures.value ∙ ap (λ (k : Keywords). is_done k state) c.states-states.ensures.value in
-    let k : Edit = c.in_ok-keyword_edit.field-0 in (
+    let k : Edit = c.in_ok-keyword.keyword in (
       with_lines states state own own.section,
       keyword_alone (is_done states (keyword_in states own.rest)) (is_done states state) states state c.args.now own (sym was_is ∙ same ∙ is_is),
-      one_made c.args.outline.now.text c.args.node k _ c.push.new.self.items c.keyword_edit.ensures.terminated c.requires c.in_ok-keyword_edit.ensures.edits
-          (c.in_ok-push.ensures.items ∙ ap (λ (es : List Edit). es ++ k ∷ []) c.new-edits.ensures.items),
+      one_made c.args.outline.now.text c.args.node k _ _ c.keyword_edit.ensures.terminated c.requires c.in_ok-keyword.ensures.edits
+          c.in_ok-vec.ensures.items,
     )
