@@ -4,9 +4,11 @@ mod files;
 mod listing;
 mod refusals;
 
+use crate::disk::must;
 use org_disk::{Disk, DiskFault, FileName};
 use org_folder::{FolderDisk, Unknown, lock_folder};
 use std::os::unix::fs::symlink;
+use std::process::Abort;
 use std::test::Fail;
 use std::{fs, io};
 
@@ -40,17 +42,17 @@ fn link(rt: &HostRuntime, target: &str, path: &str) -> io::Result<()> {
     symlink(rt, target, path)
 }
 
-// What the system answers is made a failure of the test where nothing else is owned, which keeps the proofs short.
-fn done(answer: io::Result<()>) -> Result<(), Fail> {
+// What the system answers has to be a success; where it isn't the test stops here and lets go of nothing.
+fn done(rt: &impl Abort, answer: io::Result<()>) {
+    must(rt, failed(answer));
+}
+
+fn failed(answer: io::Result<()>) -> Result<(), Fail> {
     Ok(answer?)
 }
 
-fn empty(rt: &HostRuntime, folder: &str) -> Result<(), Fail> {
-    done(make_empty(rt, folder))
-}
-
-fn remove(rt: &HostRuntime, folder: &str) -> Result<(), Fail> {
-    done(fs::remove_dir_all(rt, folder))
+fn remove(rt: &HostRuntime, folder: &str) -> io::Result<()> {
+    fs::remove_dir_all(rt, folder)
 }
 
 fn text(rt: &HostRuntime, path: &str) -> Result<Vec<u8>, Fail> {
@@ -72,23 +74,39 @@ fn name(rt: &impl AllocGlobal, text: &str) -> Result<FileName, Fail> {
     Ok(FileName::new(rt.alloc(), text)?)
 }
 
-// Calls of a disk that have no clause: where nothing is said of them, the proofs of the tests have less to carry on.
-fn length(disk: &mut Folder, name: &FileName) -> Result<u64, DiskFault> {
-    disk.length(name)
+// Calls of a disk that have no clause: where nothing is said of them, the proofs of the tests have less to carry on. Each
+// makes the name of its file, so that what calls them owns none.
+fn length(
+    rt: &(impl Abort + AllocGlobal),
+    disk: &mut Folder,
+    file: &str,
+) -> Result<u64, DiskFault> {
+    disk.length(&must(rt, name(rt, file)))
 }
 
-fn write(disk: &mut Folder, name: &FileName, bytes: &[u8]) -> Result<(), DiskFault> {
-    disk.write_at(name, 0, bytes)
+fn write(
+    rt: &(impl Abort + AllocGlobal),
+    disk: &mut Folder,
+    file: &str,
+    bytes: &[u8],
+) -> Result<(), DiskFault> {
+    disk.write_at(&must(rt, name(rt, file)), 0, bytes)
 }
 
 // Writes past the four bytes of a file.
-fn append(disk: &mut Folder, name: &FileName, bytes: &[u8]) -> Result<(), DiskFault> {
-    if disk.length(name)? != 4 {
+fn append(
+    rt: &(impl Abort + AllocGlobal),
+    disk: &mut Folder,
+    file: &str,
+    bytes: &[u8],
+) -> Result<(), DiskFault> {
+    let file = must(rt, name(rt, file));
+    if disk.length(&file)? != 4 {
         return Err(DiskFault);
     }
-    disk.write_at(name, 4, bytes)
+    disk.write_at(&file, 4, bytes)
 }
 
-fn sync(disk: &mut Folder, name: &FileName) -> Result<(), DiskFault> {
-    disk.sync(name)
+fn sync(rt: &(impl Abort + AllocGlobal), disk: &mut Folder, file: &str) -> Result<(), DiskFault> {
+    disk.sync(&must(rt, name(rt, file)))
 }

@@ -6,27 +6,51 @@ use org_fixtures::TEXT;
 use org_journal::Record;
 use std::alloc::{AllocError, Global};
 
-// An entry of version 2, with a patch of one byte at each of two places.
-const TWO: [u8; 76] = [
-    0x4f, 0x52, 0x47, 0x4a, 0x02, 0, 0, 0, 0, 0, 0, 0, 0, 0, 0x3d, // header
+// A journal of version 2 with its gate open: an entry with a patch of one byte at each of two places.
+const TWO: [u8; 77] = [
+    0x01, 0x4f, 0x52, 0x47, 0x4a, 0x02, 0, 0, 0, 0, 0, 0, 0, 0, 0, 0x3d, // gate, header
     0, 0, 0, 1, 0, 9, 0x69, 0x6e, 0x62, 0x6f, 0x78, 0x2e, 0x6f, 0x72, 0x67, // inbox.org
     0, 0, 0, 0, 0, 0, 0, 8, 0, 0, 0, 2, // final length, number of patches
     0, 0, 0, 0, 0, 0, 0, 2, 0, 0, 0, 0, 0, 0, 0, 1, 0x43, // C at 2
     0, 0, 0, 0, 0, 0, 0, 6, 0, 0, 0, 0, 0, 0, 0, 1, 0x44, // D at 6
 ];
 
-// The bytes with others in place of those from `at` on.
-fn with(alloc: Global, bytes: &[u8], at: usize, others: &[u8]) -> Result<Vec<u8>, AllocError> {
-    let mut changed = Vec::new(alloc);
-    for (i, byte) in bytes.iter().enumerate() {
-        let byte = if i < at {
-            *byte
-        } else {
-            others.get(i - at).copied().unwrap_or(*byte)
-        };
-        changed.push(byte)?;
+// Others in place of bytes, at most to their end.
+fn put(bytes: &mut [u8], at: usize, others: &[u8]) {
+    for (i, other) in others.iter().enumerate() {
+        if let Some(byte) = bytes.get_mut(at.saturating_add(i)) {
+            *byte = *other;
+        }
     }
-    Ok(changed)
+}
+
+// What stands behind the gate of a journal: how many of a worked one's bytes, places with others, and what is added.
+type Body = (
+    &'static [u8],
+    usize,
+    &'static [(usize, &'static [u8])],
+    &'static [u8],
+);
+
+const ALL: usize = usize::MAX;
+
+// The worked journals, without their gates.
+fn behind_gate(journal: &[u8]) -> &[u8] {
+    match journal {
+        [_, body @ ..] => body,
+        [] => journal,
+    }
+}
+
+fn body_of(alloc: Global, body: &Body) -> Result<Vec<u8>, AllocError> {
+    let (journal, count, changes, added) = body;
+    let worked = behind_gate(journal);
+    let mut bytes = Vec::from_slice(alloc, &worked[..worked.len().min(*count)])?;
+    for (at, others) in *changes {
+        put(&mut bytes, *at, others);
+    }
+    bytes.extend_from_slice(added)?;
+    Ok(bytes)
 }
 
 fn joined(alloc: Global, front: &[u8], back: &[u8]) -> Result<Vec<u8>, AllocError> {

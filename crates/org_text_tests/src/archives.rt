@@ -1,9 +1,8 @@
 // Locations of archives through the public call: rows worked by hand from the rules of archiving.
 use crate::edits::titles;
-use org_disk::{FileName, NameFault};
+use org_disk::FileName;
 use org_move::{Location, MoveFault, location};
 use org_outline::{Outline, States, is_terminated};
-use std::alloc::Global;
 use std::process::Abort;
 
 /// The name of a file, its text, the path of a heading, and where that goes: the file, and the level and the title of
@@ -15,15 +14,6 @@ type Row = (
     Result<(&'static str, usize, &'static str), MoveFault>,
 );
 
-/// The name of a file.
-fn named(alloc: Global, text: &str) -> Result<FileName, MoveFault> {
-    match FileName::new(alloc, text) {
-        Ok(name) => Ok(name),
-        Err(NameFault::BadName) => Err(MoveFault::NoSuchFile),
-        Err(NameFault::OutOfMemory) => Err(MoveFault::OutOfMemory),
-    }
-}
-
 /// Where the heading of a text goes.
 fn found(
     rt: &(impl Abort + AllocGlobal),
@@ -34,7 +24,7 @@ fn found(
 ) -> Result<Location, MoveFault> {
     assert!(rt; is_terminated(text));
     let alloc = rt.alloc();
-    let name = named(alloc, name)?;
+    let name = FileName::new(alloc, name).expect(rt, "a name");
     let path = titles(alloc, path)?;
     let outline = Outline::read(alloc, text, states)?;
     location(alloc, &outline, &name, path.as_slice())
@@ -54,22 +44,20 @@ fn is(
     }
 }
 
-/// Asserts where each row's heading goes, or why it goes nowhere.
-fn assert_found(rt: &(impl Abort + AllocGlobal), rows: &[Row]) {
-    let states = States::new(rt.alloc(), &["TODO"], &["DONE"]).expect(rt, "states");
-    for (name, text, path, expected) in rows {
-        let answer = found(rt, &states, name, text.as_bytes(), path);
-        assert!(rt; is(&answer, expected), "{text}");
-    }
-}
-
 const NESTED: &str =
     "#+ARCHIVE: y.org::\n* P\n:PROPERTIES:\n:ARCHIVE: done.org::** Old\n:END:\n** A\n* Q\n";
 
 const EMPTY: &str =
     "* P\n:PROPERTIES:\n:archive: b.org::\n:END:\n** A\n:PROPERTIES:\n:ARCHIVE:\n:END:\n";
 
-const NEAREST: &[Row] = &[
+const TWO_B: &str = "#+ARCHIVE: nowhere\n* A\n* B\n* B\n";
+
+const BAD: Result<(&str, usize, &str), MoveFault> = Err(MoveFault::BadLocation);
+
+const NO_FILE: Result<(&str, usize, &str), MoveFault> = Err(MoveFault::NoSuchFile);
+
+const ROWS: &[Row] = &[
+    // The nearest location counts.
     ("x.org", "* A\n", &["A"], Ok(("x.org_archive", 0, ""))),
     (
         "x.org",
@@ -81,14 +69,7 @@ const NEAREST: &[Row] = &[
     ("x.org", NESTED, &["Q"], Ok(("y.org", 0, ""))),
     // An empty property says nothing.
     ("x.org", EMPTY, &["P", "A"], Ok(("b.org", 0, ""))),
-];
-
-#[test]
-fn the_nearest_location_counts(rt: HostRuntime) {
-    assert_found(&rt, NEAREST);
-}
-
-const FIRST_LINES: &[Row] = &[
+    // The first line counts.
     // In a section, behind blanks, in any case.
     (
         "x.org",
@@ -109,14 +90,7 @@ const FIRST_LINES: &[Row] = &[
         &["A"],
         Ok(("x.org_archive", 0, "")),
     ),
-];
-
-#[test]
-fn the_first_line_counts(rt: HostRuntime) {
-    assert_found(&rt, FIRST_LINES);
-}
-
-const VALUES: &[Row] = &[
+    // A value is a file and a heading.
     (
         "x.org",
         "#+ARCHIVE: %s%s::\n* A\n",
@@ -136,18 +110,7 @@ const VALUES: &[Row] = &[
         &["A"],
         Ok(("x.org", 1, "A::b")),
     ),
-];
-
-#[test]
-fn a_value_is_a_file_and_a_heading(rt: HostRuntime) {
-    assert_found(&rt, VALUES);
-}
-
-const BAD: Result<(&str, usize, &str), MoveFault> = Err(MoveFault::BadLocation);
-
-const NO_FILE: Result<(&str, usize, &str), MoveFault> = Err(MoveFault::NoSuchFile);
-
-const NO_PLACES: &[Row] = &[
+    // These values name no place.
     ("x.org", "#+ARCHIVE: nowhere\n* A\n", &["A"], BAD),
     ("x.org", "#+ARCHIVE: :: * A\n* A\n", &["A"], BAD),
     ("x.org", "#+ARCHIVE: ::* TODO A\n* A\n", &["A"], BAD),
@@ -157,16 +120,7 @@ const NO_PLACES: &[Row] = &[
     ("x.org", "#+ARCHIVE: a.org ::* X\n* A\n", &["A"], NO_FILE),
     // The value is asked before the file.
     ("x.org", "#+ARCHIVE: a/b.org::x\n* A\n", &["A"], BAD),
-];
-
-#[test]
-fn values_that_name_no_place(rt: HostRuntime) {
-    assert_found(&rt, NO_PLACES);
-}
-
-const TWO_B: &str = "#+ARCHIVE: nowhere\n* A\n* B\n* B\n";
-
-const IN_ORDER: &[Row] = &[
+    // The path comes first, and then the file.
     (
         "x.org_archive",
         TWO_B,
@@ -179,6 +133,10 @@ const IN_ORDER: &[Row] = &[
 ];
 
 #[test]
-fn the_path_comes_first_and_then_the_file(rt: HostRuntime) {
-    assert_found(&rt, IN_ORDER);
+fn locations(rt: HostRuntime) {
+    let states = States::new(rt.alloc(), &["TODO"], &["DONE"]).expect(&rt, "states");
+    for (name, text, path, expected) in ROWS {
+        let answer = found(&rt, &states, name, text.as_bytes(), path);
+        assert!(rt; is(&answer, expected), "{name}: {text}");
+    }
 }

@@ -9,10 +9,6 @@ use std::process::Abort;
 /// A text, and what it is with a clock opened at its heading A.
 type In = (&'static str, Result<&'static str, StateFault>);
 
-fn states(rt: &(impl Abort + AllocGlobal)) -> States {
-    States::new(rt.alloc(), &["TODO"], &["DONE"]).expect(rt, "states")
-}
-
 /// Whether an answer is what a row has.
 fn is(answer: &Result<Vec<u8>, StateFault>, expected: &Result<&str, StateFault>) -> bool {
     match (answer, expected) {
@@ -76,7 +72,7 @@ const OPENED: &[In] = &[
 
 #[test]
 fn clocks_in(rt: HostRuntime) {
-    let states = states(&rt);
+    let states = States::new(rt.alloc(), &["TODO"], &["DONE"]).expect(&rt, "states");
     for (text, expected) in OPENED {
         let answer = opened(&rt, &states, text.as_bytes());
         assert!(rt; is(&answer, expected), "{text}");

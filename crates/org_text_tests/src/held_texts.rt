@@ -3,9 +3,10 @@ ghost use Rattle.std.specs.Prelude.{◌≡◌, true, IfOk, [], ◌∷◌};
 ghost use Rattle.org_splice.specs.Edits.{AreEdits, CanApply};
 ghost use Rattle.org_texts.specs.Plan.{CanEdit, IsPlan};
 
+use crate::edits::{Splice, edits_of};
 use org_disk::FileName;
 use org_outline::{Outline, States, is_terminated};
-use org_splice::{Bytes, Changes, Edit, Editing, Span};
+use org_splice::{Changes, Edit, Editing, Span};
 use org_texts::{FileEdits, Plan, Texts};
 use std::alloc::{AllocError, Global};
 use std::process::Abort;
@@ -49,17 +50,12 @@ fn can_apply(alloc: Global, text: &[u8], edits: &[Edit]) -> Result<bool, AllocEr
     Ok(true)
 }
 
-// Edits of a held text, each of a place, how many bytes are removed there, and the bytes that take their place.
-fn edits_of(
-    alloc: Global,
-    texts: &Texts,
-    name: &str,
-    rows: &[(usize, usize, &[u8])],
-) -> Result<FileEdits, Fail>
+// Edits of a held text.
+fn file_edits(alloc: Global, texts: &Texts, name: &str, rows: &[Splice]) -> Result<FileEdits, Fail>
     ensures { IfOk result (λ change. CanEdit change texts.now.now) }
 {
     let file = FileName::new(alloc, name)?;
-    let edits = listed(alloc, rows)?;
+    let edits = edits_of(alloc, rows)?;
     let Some(held) = texts.get(&file) else {
         return Err(Fail::from("not held"));
     };
@@ -67,19 +63,6 @@ fn edits_of(
         return Err(Fail::from("no edits of the text"));
     }
     Ok(FileEdits { file, edits })
-}
-
-fn listed(alloc: Global, rows: &[(usize, usize, &[u8])]) -> Result<Vec<Edit>, AllocError> {
-    let mut edits = Vec::new(alloc);
-    for (at, removed, bytes) in rows {
-        let bytes = Bytes::new(Vec::from_slice(alloc, bytes)?);
-        edits.push(Edit {
-            at: *at,
-            removed: *removed,
-            bytes,
-        })?;
-    }
-    Ok(edits)
 }
 
 // A plan of two files.
@@ -98,13 +81,27 @@ fn plan_of(texts: &Texts, first: FileEdits, second: FileEdits) -> Result<Plan, F
     })
 }
 
-// Holds a text, and makes it ready.
+// Holds a text as the disk has it.
 fn hold(alloc: Global, texts: &mut Texts, name: &str, text: &[u8]) -> Result<(), Fail> {
     let file = FileName::new(alloc, name)?;
     if texts.get(&file).is_some() {
         return Err(Fail::from("held"));
     }
-    texts.hold(file.clone()?, Vec::from_slice(alloc, text)?)?;
+    texts.hold(file, Vec::from_slice(alloc, text)?)?;
+    Ok(())
+}
+
+// Holds texts as the disk has them.
+fn hold_each(rt: &impl Abort, alloc: Global, rows: &[(&str, &[u8])]) -> Texts {
+    let mut texts = Texts::new(alloc);
+    for (name, text) in rows {
+        must(rt, hold(alloc, &mut texts, name, text));
+    }
+    texts
+}
+
+fn make_ready(alloc: Global, texts: &mut Texts, name: &str) -> Result<(), Fail> {
+    let file = FileName::new(alloc, name)?;
     if texts.get(&file).is_none() {
         return Err(Fail::from("not held"));
     }
@@ -112,10 +109,19 @@ fn hold(alloc: Global, texts: &mut Texts, name: &str, text: &[u8]) -> Result<(),
     Ok(())
 }
 
+// Holds texts as the disk has them, and makes them ready in this order.
+fn ready_each(rt: &impl Abort, alloc: Global, rows: &[(&str, &[u8])]) -> Texts {
+    let mut texts = hold_each(rt, alloc, rows);
+    for (name, _) in rows {
+        must(rt, make_ready(alloc, &mut texts, name));
+    }
+    texts
+}
+
 // Moves the second heading of one file below the first of the other.
 fn refile(alloc: Global, texts: &mut Texts) -> Result<(), Fail> {
-    let first = edits_of(alloc, texts, "a.org", &[(4, 4, b""), (2, 1, b"X")])?;
-    let second = edits_of(alloc, texts, "b.org", &[(4, 0, b"** B\n")])?;
+    let first = file_edits(alloc, texts, "a.org", &[(4, 4, b""), (2, 1, b"X")])?;
+    let second = file_edits(alloc, texts, "b.org", &[(4, 0, b"** B\n")])?;
     let plan = plan_of(texts, first, second)?;
     texts.apply(&plan)?;
     Ok(())
@@ -141,39 +147,26 @@ fn assert_text(
     text: &[u8],
     count: usize,
 ) {
-    let states = must(rt, states(rt.alloc()));
-    let file = must(rt, named(rt.alloc(), name));
+    let states = States::new(rt.alloc(), &["TODO"], &["DONE"]).expect(rt, "states");
+    let file = FileName::new(rt.alloc(), name).expect(rt, "a name");
     assert!(rt; is_held(texts, &file, &states, text, count), "{name}");
 }
 
-fn states(alloc: Global) -> Result<States, Fail> {
-    Ok(States::new(alloc, &["TODO"], &["DONE"])?)
-}
-
-fn named(alloc: Global, name: &str) -> Result<FileName, Fail> {
-    Ok(FileName::new(alloc, name)?)
-}
-
-// How many patches a text has.
-fn patches_of(text: &Editing) -> Result<usize, Fail> {
-    Ok(text.patches()?.len())
-}
-
-// Asserts that these names wait, in this order, each with so many patches.
-fn assert_waiting(rt: &impl Abort, texts: &Texts, expected: &[(&str, usize)]) {
+// Asserts that these texts wait, in this order, each with one patch.
+fn assert_waiting(rt: &impl Abort, texts: &Texts, expected: &[(&str, &[u8])]) {
     assert!(rt; texts.len() == expected.len());
-    for (i, (name, count)) in expected.iter().enumerate() {
-        let (file, text) = texts.pair(i);
-        let patches = must(rt, patches_of(text));
-        assert!(rt; file.as_str() == *name && patches == *count, "{name}");
+    for (i, (name, text)) in expected.iter().enumerate() {
+        let (file, now) = texts.pair(i);
+        let patches = now.patches().expect(rt, "memory").len();
+        assert!(rt;
+            file.as_str() == *name && now.bytes() == *text && patches == 1,
+            "{name}"
+        );
     }
 }
 
 fn two_files(rt: &impl Abort, alloc: Global) -> Texts {
-    let mut texts = Texts::new(alloc);
-    must(rt, hold(alloc, &mut texts, "a.org", b"* A\n* B"));
-    must(rt, hold(alloc, &mut texts, "b.org", b"* C\n"));
-    texts
+    ready_each(rt, alloc, &[("a.org", b"* A\n* B"), ("b.org", b"* C\n")])
 }
 
 // Asserts that the command was made, and changed both files.
@@ -185,7 +178,7 @@ fn assert_made(rt: &(impl Abort + AllocGlobal), texts: &Texts) {
 fn take_back(rt: &(impl Abort + AllocGlobal), texts: &mut Texts) {
     must(rt, refile(rt.alloc(), texts));
     assert_made(rt, texts);
-    assert_waiting(rt, texts, &[("a.org", 1), ("b.org", 1)]);
+    assert_waiting(rt, texts, &[("a.org", b"* X\n"), ("b.org", b"* C\n** B\n")]);
     texts.undo();
     assert_text(rt, texts, "a.org", b"* A\n* B", 0);
     assert_text(rt, texts, "b.org", b"* C\n", 0);
@@ -203,7 +196,7 @@ fn keep_and_take_back(rt: &(impl Abort + AllocGlobal), texts: &mut Texts) {
     must(rt, refile(rt.alloc(), texts));
     texts.undo();
     assert_text(rt, texts, "a.org", b"* A\n* B\n", 0);
-    assert_waiting(rt, texts, &[("a.org", 1), ("b.org", 1)]);
+    assert_waiting(rt, texts, &[("a.org", b"* A\n* B\n"), ("b.org", b"* C\n")]);
 }
 
 #[test]
@@ -227,13 +220,8 @@ fn a_commit_settles(rt: HostRuntime) {
 }
 
 // Makes edits of one file.
-fn edit(
-    alloc: Global,
-    texts: &mut Texts,
-    name: &str,
-    rows: &[(usize, usize, &[u8])],
-) -> Result<(), Fail> {
-    let first = edits_of(alloc, texts, name, rows)?;
+fn edit(alloc: Global, texts: &mut Texts, name: &str, rows: &[Splice]) -> Result<(), Fail> {
+    let first = file_edits(alloc, texts, name, rows)?;
     let plan = Plan {
         first,
         second: None,
@@ -244,7 +232,7 @@ fn edit(
 
 // Where the subtree of the second heading of a.org lies.
 fn second_subtree(alloc: Global, texts: &Texts) -> Result<Span, Fail> {
-    let states = states(alloc)?;
+    let states = States::new(alloc, &["TODO"], &["DONE"])?;
     let held = texts
         .get(&FileName::new(alloc, "a.org")?)
         .ok_or("not held")?;
@@ -256,63 +244,36 @@ fn second_subtree(alloc: Global, texts: &Texts) -> Result<Span, Fail> {
     Ok(outline.subtree(outline.node(1)))
 }
 
-#[test]
-fn a_text_is_terminated_and_its_headings_follow(rt: HostRuntime) {
-    let mut texts = Texts::new(rt.alloc());
-    must(
-        &rt,
-        hold(rt.alloc(), &mut texts, "a.org", b"* A\ntext\n** B"),
-    );
-    assert_text(&rt, &texts, "a.org", b"* A\ntext\n** B\n", 2);
-    must(
-        &rt,
-        edit(rt.alloc(), &mut texts, "a.org", &[(4, 5, b"* C\n")]),
-    );
-    assert_text(&rt, &texts, "a.org", b"* A\n* C\n** B\n", 3);
-    let subtree = must(&rt, second_subtree(rt.alloc(), &texts));
+fn replace_subtree(rt: &(impl Abort + AllocGlobal), texts: &mut Texts) {
+    assert_text(rt, texts, "a.org", b"* A\ntext\n** B\n", 2);
+    must(rt, edit(rt.alloc(), texts, "a.org", &[(4, 5, b"* C\n")]));
+    assert_text(rt, texts, "a.org", b"* A\n* C\n** B\n", 3);
+    let subtree = must(rt, second_subtree(rt.alloc(), texts));
     assert!(rt; subtree == Span { start: 4, end: 13 });
 }
 
-// Holds a text as the disk has it.
-fn hold_as_it_is(alloc: Global, texts: &mut Texts, name: &str, text: &[u8]) -> Result<(), Fail> {
-    let file = FileName::new(alloc, name)?;
-    if texts.get(&file).is_some() {
-        return Err(Fail::from("held"));
-    }
-    texts.hold(file, Vec::from_slice(alloc, text)?)?;
-    Ok(())
+#[test]
+fn a_text_is_terminated_and_its_headings_follow(rt: HostRuntime) {
+    let mut texts = ready_each(&rt, rt.alloc(), &[("a.org", b"* A\ntext\n** B")]);
+    replace_subtree(&rt, &mut texts);
 }
 
-// Holds texts as the disk has them.
-fn hold_each(rt: &impl Abort, alloc: Global, rows: &[(&str, &[u8])]) -> Texts {
-    let mut texts = Texts::new(alloc);
-    for (name, text) in rows {
-        must(rt, hold_as_it_is(alloc, &mut texts, name, text));
-    }
-    texts
-}
-
-// Asserts that these texts wait, in this order.
-fn assert_changes(rt: &impl Abort, texts: &Texts, expected: &[(&str, &[u8])]) {
-    assert!(rt; texts.len() == expected.len());
-    for (i, (name, text)) in expected.iter().enumerate() {
-        let (file, now) = texts.pair(i);
-        assert!(rt; file.as_str() == *name && now.bytes() == *text, "{name}");
-    }
+fn edit_and_keep(rt: &(impl Abort + AllocGlobal), texts: &mut Texts) {
+    let alloc = rt.alloc();
+    must(rt, edit(alloc, texts, "a.org", &[(0, 0, b"")]));
+    must(rt, edit(alloc, texts, "b.org", &[(0, 0, b"")]));
+    assert_waiting(rt, texts, &[("a.org", b"* A\n"), ("b.org", b"* B\n")]);
+    texts.keep();
+    must(rt, edit(alloc, texts, "a.org", &[(2, 1, b"C")]));
+    assert_waiting(rt, texts, &[("a.org", b"* C\n"), ("b.org", b"* B\n")]);
+    assert_text(rt, texts, "b.org", b"* B\n", 0);
+    assert!(rt; !must(rt, holds(alloc, texts, "c.org")));
 }
 
 #[test]
 fn a_text_keeps_its_place(rt: HostRuntime) {
-    let alloc = rt.alloc();
-    let mut texts = hold_each(&rt, alloc, &[("a.org", b"* A\n"), ("b.org", b"* B\n")]);
-    must(&rt, edit(alloc, &mut texts, "a.org", &[(0, 0, b"")]));
-    must(&rt, edit(alloc, &mut texts, "b.org", &[(0, 0, b"")]));
-    assert_changes(&rt, &texts, &[("a.org", b"* A\n"), ("b.org", b"* B\n")]);
-    texts.keep();
-    must(&rt, edit(alloc, &mut texts, "a.org", &[(2, 1, b"C")]));
-    assert_changes(&rt, &texts, &[("a.org", b"* C\n"), ("b.org", b"* B\n")]);
-    assert_text(&rt, &texts, "b.org", b"* B\n", 0);
-    assert!(rt; !must(&rt, holds(alloc, &texts, "c.org")));
+    let mut texts = hold_each(&rt, rt.alloc(), &[("a.org", b"* A\n"), ("b.org", b"* B\n")]);
+    edit_and_keep(&rt, &mut texts);
 }
 
 // Whether there is a text of this name.
@@ -323,46 +284,48 @@ fn holds(alloc: Global, texts: &Texts, name: &str) -> Result<bool, Fail> {
 // The first is terminated as it is, and waits before the second, which gets a newline.
 #[test]
 fn texts_wait_in_the_order_they_are_ready(rt: HostRuntime) {
-    let mut texts = Texts::new(rt.alloc());
-    must(&rt, hold(rt.alloc(), &mut texts, "b.org", b"* B\n"));
-    must(&rt, hold(rt.alloc(), &mut texts, "a.org", b"* A"));
-    assert_changes(&rt, &texts, &[("b.org", b"* B\n"), ("a.org", b"* A\n")]);
+    let mut texts = ready_each(&rt, rt.alloc(), &[("b.org", b"* B\n"), ("a.org", b"* A")]);
+    assert_waiting(&rt, &texts, &[("b.org", b"* B\n"), ("a.org", b"* A\n")]);
     texts.undo();
-    assert_changes(&rt, &texts, &[]);
+    assert_waiting(&rt, &texts, &[]);
 }
 
 // Changes b.org, which waits, and c.org, which is new.
 fn change_two(alloc: Global, texts: &mut Texts) -> Result<(), Fail> {
-    let first = edits_of(alloc, texts, "c.org", &[(0, 0, b"* C\n")])?;
-    let second = edits_of(alloc, texts, "b.org", &[(2, 1, b"D")])?;
+    let first = file_edits(alloc, texts, "c.org", &[(0, 0, b"* C\n")])?;
+    let second = file_edits(alloc, texts, "b.org", &[(2, 1, b"D")])?;
     let plan = plan_of(texts, first, second)?;
     texts.apply(&plan)?;
     Ok(())
 }
 
-const FOUR: [(&str, &[u8]); 4] = [
+const FOUR: &[(&str, &[u8])] = &[
     ("a.org", b"* A"),
     ("c.org", b""),
     ("b.org", b"* B"),
     ("d.org", b"* E"),
 ];
 
-const THREE_WAIT: [(&str, &[u8]); 3] = [
+const THREE_WAIT: &[(&str, &[u8])] = &[
     ("b.org", b"* D\n"),
     ("a.org", b"* A\n"),
     ("c.org", b"* C\n"),
 ];
 
+fn edit_twice(rt: &(impl Abort + AllocGlobal), texts: &mut Texts) {
+    let alloc = rt.alloc();
+    must(rt, edit(alloc, texts, "b.org", &[(3, 0, b"\n")]));
+    must(rt, edit(alloc, texts, "a.org", &[(3, 0, b"\n")]));
+    texts.keep();
+    assert_waiting(rt, texts, &[("b.org", b"* B\n"), ("a.org", b"* A\n")]);
+    must(rt, change_two(alloc, texts));
+    assert_waiting(rt, texts, THREE_WAIT);
+}
+
 #[test]
 fn changes_are_the_texts_that_wait(rt: HostRuntime) {
-    let alloc = rt.alloc();
-    let mut texts = hold_each(&rt, alloc, &FOUR);
-    must(&rt, edit(alloc, &mut texts, "b.org", &[(3, 0, b"\n")]));
-    must(&rt, edit(alloc, &mut texts, "a.org", &[(3, 0, b"\n")]));
-    texts.keep();
-    assert_changes(&rt, &texts, &[("b.org", b"* B\n"), ("a.org", b"* A\n")]);
-    must(&rt, change_two(alloc, &mut texts));
-    assert_changes(&rt, &texts, &THREE_WAIT);
+    let mut texts = hold_each(&rt, rt.alloc(), FOUR);
+    edit_twice(&rt, &mut texts);
 }
 
 // Whether a text has one patch, of no bytes.
@@ -372,16 +335,20 @@ fn is_settled(alloc: Global, texts: &Texts, name: &str) -> Result<bool, Fail> {
     Ok(matches!(patches.as_slice(), [patch] if patch.bytes.as_slice().is_empty()))
 }
 
+fn edit_and_settle(rt: &(impl Abort + AllocGlobal), texts: &mut Texts) {
+    let alloc = rt.alloc();
+    must(rt, edit(alloc, texts, "a.org", &[(4, 0, b"* B\n")]));
+    assert!(rt; !must(rt, is_settled(alloc, texts, "a.org")));
+    texts.settle();
+    assert_waiting(rt, texts, &[]);
+    assert_text(rt, texts, "a.org", b"* A\n* B\n", 0);
+    assert_text(rt, texts, "c.org", b"* C", 0);
+    assert!(rt; must(rt, is_settled(alloc, texts, "a.org")), "a.org");
+    assert!(rt; must(rt, is_settled(alloc, texts, "c.org")), "c.org");
+}
+
 #[test]
 fn settled_texts_have_no_changes(rt: HostRuntime) {
-    let alloc = rt.alloc();
-    let mut texts = hold_each(&rt, alloc, &[("a.org", b"* A\n"), ("c.org", b"* C")]);
-    must(&rt, edit(alloc, &mut texts, "a.org", &[(4, 0, b"* B\n")]));
-    assert!(rt; !must(&rt, is_settled(alloc, &texts, "a.org")));
-    texts.settle();
-    assert_changes(&rt, &texts, &[]);
-    assert_text(&rt, &texts, "a.org", b"* A\n* B\n", 0);
-    assert_text(&rt, &texts, "c.org", b"* C", 0);
-    assert!(rt; must(&rt, is_settled(alloc, &texts, "a.org")), "a.org");
-    assert!(rt; must(&rt, is_settled(alloc, &texts, "c.org")), "c.org");
+    let mut texts = hold_each(&rt, rt.alloc(), &[("a.org", b"* A\n"), ("c.org", b"* C")]);
+    edit_and_settle(&rt, &mut texts);
 }

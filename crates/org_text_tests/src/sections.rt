@@ -30,9 +30,6 @@ enum Change {
     ClockClosed(Time),
 }
 
-/// A section, and what becomes of it.
-type Row = (&'static [u8], &'static [u8]);
-
 fn moment(time: Time) -> Option<Moment> {
     let (year, month, day, hour, minute) = time;
     Moment::new(year, month, day, hour, minute)
@@ -55,31 +52,23 @@ fn edit_of(alloc: Global, section: &[u8], change: Change) -> Option<Edit>
     }
 }
 
-/// The section after its edit, if there is one.
-fn after(rt: &impl Abort, alloc: Global, section: &[u8], change: Change) -> Option<Vec<u8>> {
+/// Whether a section has an edit, and is this text after it.
+fn becomes(
+    rt: &impl Abort,
+    alloc: Global,
+    section: &[u8],
+    change: Change,
+    expected: &[u8],
+) -> bool {
     assert!(rt; is_terminated(section));
-    let edit = edit_of(alloc, section, change)?;
-    Some(edited(rt, alloc, section, &edit))
-}
-
-/// Whether there is a text, of these bytes.
-fn is(text: &Option<Vec<u8>>, expected: &[u8]) -> bool {
-    match text {
-        Some(text) => text.as_slice() == expected,
+    match edit_of(alloc, section, change) {
+        Some(edit) => edited(rt, alloc, section, &edit).as_slice() == expected,
         None => false,
     }
 }
 
-/// Asserts what becomes of each row's section.
-fn assert_edited(rt: &(impl Abort + AllocGlobal), change: Change, rows: &[Row]) {
-    for (i, (section, expected)) in rows.iter().enumerate() {
-        let text = after(rt, rt.alloc(), section, change);
-        assert!(rt; is(&text, expected), "row {i}");
-    }
-}
-
 // Sections, and their planning, drawer and rest.
-const PARTS: [(&[u8], &[u8], &[u8], &[u8]); 4] = [
+const PARTS: &[(&[u8], &[u8], &[u8], &[u8])] = &[
     (b"", b"", b"", b""),
     (
         b" DEADLINE: soon\n:properties:\n:a:\n:END:\nx\n",
@@ -121,176 +110,159 @@ fn properties_read(rt: HostRuntime) {
     assert!(rt; property(section, b"x").is_none());
 }
 
-// Sections, a name, a value, and the section with the property put.
-const PUTS: [(&[u8], &[u8], &[u8], &[u8]); 5] = [
-    (b"", b"A", b"v", b":PROPERTIES:\n:A: v\n:END:\n"),
+const NOW: Time = (2026, 7, 1, 10, 0);
+
+const DONE: Change = Change::Done(NOW);
+
+const REPEATED: Change = Change::Repeated((2026, 7, 1, 23, 30));
+
+const OPENED: Change = Change::ClockOpened(NOW);
+
+const CLOSED: Change = Change::ClockClosed((2026, 7, 1, 11, 30));
+
+// What is done to sections, these, and what becomes of them.
+const CHANGES: &[(Change, &[u8], &[u8])] = &[
+    // a property is put
     (
-        b"SCHEDULED: x\ntext\n",
-        b"A",
+        Change::Put(b"A", b"v"),
         b"",
+        b":PROPERTIES:\n:A: v\n:END:\n",
+    ),
+    (
+        Change::Put(b"A", b""),
+        b"SCHEDULED: x\ntext\n",
         b"SCHEDULED: x\n:PROPERTIES:\n:A:\n:END:\ntext\n",
     ),
     (
+        Change::Put(b"A", b"v"),
         b" :properties:\n :a: 1\n :b: 2\n :end:\n",
-        b"A",
-        b"v",
         b" :properties:\n:A: v\n :b: 2\n :end:\n",
     ),
     (
+        Change::Put(b"A", b"v"),
         b":PROPERTIES:\n:b:\n:END:\nx\n",
-        b"A",
-        b"v",
         b":PROPERTIES:\n:b:\n:A: v\n:END:\nx\n",
     ),
     (
+        Change::Put(b"A", b"v"),
         b":PROPERTIES:\n\n:END:\n",
-        b"A",
-        b"v",
         b":PROPERTIES:\n:A: v\n:END:\n:PROPERTIES:\n\n:END:\n",
     ),
-];
-
-#[test]
-fn properties_put(rt: HostRuntime) {
-    for (i, (section, name, value, expected)) in PUTS.iter().enumerate() {
-        let text = after(&rt, rt.alloc(), section, Change::Put(name, value));
-        assert!(rt; is(&text, expected), "row {i}");
-    }
-}
-
-// Sections, and what they are once the entry is done on 2026-07-01 at 10:00.
-const DONE: [Row; 4] = [
-    (b"", b"CLOSED: [2026-07-01 Wed 10:00]\n"),
-    (b"text\n", b"CLOSED: [2026-07-01 Wed 10:00]\ntext\n"),
+    // the entry is done
+    (DONE, b"", b"CLOSED: [2026-07-01 Wed 10:00]\n"),
+    (DONE, b"text\n", b"CLOSED: [2026-07-01 Wed 10:00]\ntext\n"),
     (
+        DONE,
         b"  SCHEDULED: <2026-07-02>\r\n",
         b"  CLOSED: [2026-07-01 Wed 10:00] SCHEDULED: <2026-07-02>\r\n",
     ),
     (
+        DONE,
         b"DEADLINE: <2026-07-02> CLOSED: [2026-01-01]\n",
         b"CLOSED: [2026-07-01 Wed 10:00] DEADLINE: <2026-07-02> \n",
     ),
-];
-
-#[test]
-fn entries_closed(rt: HostRuntime) {
-    assert_edited(&rt, Change::Done((2026, 7, 1, 10, 0)), &DONE);
-}
-
-#[test]
-fn odd_planning_is_not_closed(rt: HostRuntime) {
-    let now = moment((2026, 7, 1, 10, 0)).expect(&rt, "a moment");
-    let odd: &[u8] = b"DEADLINE: soon\n";
-    assert!(rt; is_terminated(odd));
-    let fault = set_closed(rt.alloc(), odd, now).err();
-    assert!(rt; fault == Some(PlanningFault::OddPlanning));
-}
-
-// Sections, and what they are once the entry isn't done any more.
-const REOPENED: [Row; 4] = [
-    (b"text\n", b"text\n"),
-    (b"CLOSED: [2026-07-01 Wed 10:00]\n", b""),
+    // the entry isn't done any more
+    (Change::Reopened, b"text\n", b"text\n"),
+    (Change::Reopened, b"CLOSED: [2026-07-01 Wed 10:00]\n", b""),
     (
+        Change::Reopened,
         b" CLOSED: [2026-07-01] \tSCHEDULED:<2026-07-02>\nx\n",
         b" SCHEDULED:<2026-07-02>\nx\n",
     ),
     (
+        Change::Reopened,
         b"SCHEDULED: <2026-07-02> CLOSED: [2026-07-01]\n",
         b"SCHEDULED: <2026-07-02> \n",
     ),
-];
-
-#[test]
-fn entries_reopened(rt: HostRuntime) {
-    assert_edited(&rt, Change::Reopened, &REOPENED);
-}
-
-// Planning lines, and what they are once they are repeated on 2026-07-01 at 23:30.
-const REPEATED: [Row; 3] = [
+    // the planning line is repeated
     (
+        REPEATED,
         b"SCHEDULED: <2026-01-05 Mon .+1w>\n",
         b"SCHEDULED: <2026-07-08 Wed .+1w>\n",
     ),
     (
+        REPEATED,
         b"SCHEDULED: <2019-04-05 08:00 Fri .+1h>\n",
         b"SCHEDULED: <2026-07-02 Thu 00:30 .+1h>\n",
     ),
     (
+        REPEATED,
         b"CLOSED: [2026-01-01] DEADLINE: <2005-10-01 Sat +1m> SCHEDULED: <2026-07-01>\n",
         b"DEADLINE: <2005-11-01 Tue +1m> SCHEDULED: <2026-07-01>\n",
     ),
+    // a note is added
+    (
+        Change::Noted(b"DONE", b"TODO", (2005, 10, 3, 9, 5)),
+        b":PROPERTIES:\n:END:\ntext\n",
+        b":PROPERTIES:\n:END:\n- State \"DONE\"       from \"TODO\"       [2005-10-03 Mon 09:05]\ntext\n",
+    ),
+    // a clock is opened
+    (
+        OPENED,
+        b"",
+        b":LOGBOOK:\nCLOCK: [2026-07-01 Wed 10:00]\n:END:\n",
+    ),
+    (
+        OPENED,
+        b"text\n:logbook:\n- note\n:end:\n",
+        b"text\n:logbook:\nCLOCK: [2026-07-01 Wed 10:00]\n- note\n:end:\n",
+    ),
+    (
+        OPENED,
+        b"DEADLINE: soon\n:LOGBOOK:\n",
+        b"DEADLINE: soon\n:LOGBOOK:\nCLOCK: [2026-07-01 Wed 10:00]\n:END:\n:LOGBOOK:\n",
+    ),
+    // the open clock is closed
+    (
+        CLOSED,
+        IN_DRAWER,
+        b":LOGBOOK:\nCLOCK: [2026-07-01 Wed 10:00]--[2026-07-01 Wed 11:30] =>  1:30\n:END:\n",
+    ),
+    (
+        CLOSED,
+        IN_TEXT,
+        b"x\n  CLOCK: [2026-07-01 11:30]--[2026-07-01 Wed 11:30] =>  0:00\n",
+    ),
 ];
 
+// Sections with an open clock line.
+const IN_DRAWER: &[u8] = b":LOGBOOK:\nCLOCK: [2026-07-01 Wed 10:00]\n:END:\n";
+
+const IN_TEXT: &[u8] = b"x\n  CLOCK: [2026-07-01 11:30] \r\n";
+
 #[test]
-fn plans_repeated(rt: HostRuntime) {
-    assert_edited(&rt, Change::Repeated((2026, 7, 1, 23, 30)), &REPEATED);
+fn changes_of_sections(rt: HostRuntime) {
+    for (i, (change, section, expected)) in CHANGES.iter().enumerate() {
+        assert!(rt;
+            becomes(&rt, rt.alloc(), section, *change, expected),
+            "row {i}"
+        );
+    }
 }
 
 // Planning lines that can't be repeated, and why.
-const UNREPEATABLE: [(&[u8], PlanningFault); 3] = [
+const UNREPEATABLE: &[(&[u8], PlanningFault)] = &[
     (b"DEADLINE: <9999-06-01 +1y>\n", PlanningFault::DateRange),
     (
         b"DEADLINE: <2026-01-05 Mon +1h> SCHEDULED: <9999-06-01 +1y>\n",
         PlanningFault::BadRepeat,
     ),
-    (b"DEADLINE: soon\n", PlanningFault::OddPlanning),
+    (ODD, PlanningFault::OddPlanning),
 ];
+
+// It can't be closed either.
+const ODD: &[u8] = b"DEADLINE: soon\n";
 
 #[test]
 fn plans_refused(rt: HostRuntime) {
-    let now = moment((2026, 7, 1, 10, 0)).expect(&rt, "a moment");
+    let now = moment(NOW).expect(&rt, "a moment");
     for (i, (section, expected)) in UNREPEATABLE.iter().enumerate() {
         assert!(rt; is_terminated(section));
         let fault = repeat_planning(rt.alloc(), section, now).err();
         assert!(rt; fault == Some(*expected), "row {i}");
     }
-}
-
-// A section, and what it is with a note of 2005-10-03 at 09:05.
-const NOTED: [Row; 1] = [(
-    b":PROPERTIES:\n:END:\ntext\n",
-    b":PROPERTIES:\n:END:\n- State \"DONE\"       from \"TODO\"       [2005-10-03 Mon 09:05]\ntext\n",
-)];
-
-#[test]
-fn notes_added(rt: HostRuntime) {
-    let change = Change::Noted(b"DONE", b"TODO", (2005, 10, 3, 9, 5));
-    assert_edited(&rt, change, &NOTED);
-}
-
-// Sections, and what they are once a clock was opened on 2026-07-01 at 10:00.
-const OPENED: [Row; 3] = [
-    (b"", b":LOGBOOK:\nCLOCK: [2026-07-01 Wed 10:00]\n:END:\n"),
-    (
-        b"text\n:logbook:\n- note\n:end:\n",
-        b"text\n:logbook:\nCLOCK: [2026-07-01 Wed 10:00]\n- note\n:end:\n",
-    ),
-    (
-        b"DEADLINE: soon\n:LOGBOOK:\n",
-        b"DEADLINE: soon\n:LOGBOOK:\nCLOCK: [2026-07-01 Wed 10:00]\n:END:\n:LOGBOOK:\n",
-    ),
-];
-
-#[test]
-fn clocks_opened(rt: HostRuntime) {
-    assert_edited(&rt, Change::ClockOpened((2026, 7, 1, 10, 0)), &OPENED);
-}
-
-// Sections with an open clock line, and what they are once it was closed on 2026-07-01 at 11:30.
-const CLOSED: [Row; 2] = [
-    (
-        b":LOGBOOK:\nCLOCK: [2026-07-01 Wed 10:00]\n:END:\n",
-        b":LOGBOOK:\nCLOCK: [2026-07-01 Wed 10:00]--[2026-07-01 Wed 11:30] =>  1:30\n:END:\n",
-    ),
-    (
-        b"x\n  CLOCK: [2026-07-01 11:30] \r\n",
-        b"x\n  CLOCK: [2026-07-01 11:30]--[2026-07-01 Wed 11:30] =>  0:00\n",
-    ),
-];
-
-#[test]
-fn clocks_closed(rt: HostRuntime) {
-    assert_edited(&rt, Change::ClockClosed((2026, 7, 1, 11, 30)), &CLOSED);
+    assert!(rt; is_terminated(ODD));
+    assert!(rt; set_closed(rt.alloc(), ODD, now).err() == Some(PlanningFault::OddPlanning));
 }
 
 /// Why the open clock isn't closed at this moment.
@@ -303,16 +275,16 @@ fn closing_fault(alloc: Global, section: &[u8], now: Moment) -> Option<ClockFaul
 #[test]
 fn clocks_not_closed_before_their_start(rt: HostRuntime) {
     let early = moment((2026, 7, 1, 9, 59)).expect(&rt, "a moment");
-    for (i, (section, _)) in CLOSED.iter().enumerate() {
+    for section in [IN_DRAWER, IN_TEXT] {
         assert!(rt; is_terminated(section));
         let fault = closing_fault(rt.alloc(), section, early);
-        assert!(rt; fault == Some(ClockFault::ClockBackwards), "row {i}");
+        assert!(rt; fault == Some(ClockFault::ClockBackwards));
     }
 }
 
 // Sections and the minutes of their closed clock lines: a written duration isn't read, hours go past 99, and what runs
 // backwards, or isn't written `CLOCK:`, is text.
-const TOTALS: [(&[u8], u64); 4] = [
+const TOTALS: &[(&[u8], u64)] = &[
     (b"CLOCK: [2026-07-01 10:00]\n", 0),
     (
         b"CLOCK: [2026-07-01 10:00]--[2026-07-01 11:30] => 7:99\n CLOCK: [2026-07-01 10:00]--[2026-07-01 10:01] =>  0:01 \r\n",

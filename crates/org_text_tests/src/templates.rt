@@ -13,10 +13,6 @@ fn now(rt: &impl Abort) -> Moment {
     Moment::new(2026, 7, 1, 10, 0).expect(rt, "a moment")
 }
 
-fn states(rt: &(impl Abort + AllocGlobal)) -> States {
-    States::new(rt.alloc(), &["TODO"], &["DONE"]).expect(rt, "states")
-}
-
 /// Whether a template makes these bytes, as many as are told of it.
 fn fills(
     alloc: Global,
@@ -30,22 +26,8 @@ fn fills(
     Ok(size == wanted.len() && text.as_slice() == wanted)
 }
 
-/// Asserts what templates stand for.
-fn assert_filled(rt: &(impl Abort + AllocGlobal), rows: &[Filled]) {
-    let now = now(rt);
-    for (template, initial, wanted) in rows {
-        let answer = fills(
-            rt.alloc(),
-            template.as_bytes(),
-            initial.as_bytes(),
-            wanted.as_bytes(),
-            now,
-        );
-        assert!(rt; answer == Ok(true), "{template}");
-    }
-}
-
-const ESCAPES: &[Filled] = &[
+const FILLED: &[Filled] = &[
+    // Escapes stand for their texts.
     ("* 50% off %t%?", "", "* 50% off <2026-07-01 Wed>"),
     (
         "%T %u %U",
@@ -61,14 +43,7 @@ const ESCAPES: &[Filled] = &[
     ("%9%0%~%\t%i", "x", "%9%0%~%\tx"),
     ("%%i", "x", "%x"),
     ("%é%]%)%>", "", "%é%]%)%>"),
-];
-
-#[test]
-fn escapes_stand_for_their_texts(rt: HostRuntime) {
-    assert_filled(&rt, ESCAPES);
-}
-
-const INITIAL_TEXTS: &[Filled] = &[
+    // What stands before the initial text is put before each of its lines.
     ("* N\n> %i", "a\nb", "* N\n> a\n> b"),
     ("> %i|%i", "a\nb\n", "> a\n> b\n> |a\n> |b\n> |"),
     ("%t %i", "a\nb", "<2026-07-01 Wed> a\n<2026-07-01 Wed> b"),
@@ -89,8 +64,18 @@ const INITIAL_TEXTS: &[Filled] = &[
 ];
 
 #[test]
-fn initial_text_keeps_its_prefix(rt: HostRuntime) {
-    assert_filled(&rt, INITIAL_TEXTS);
+fn templates_filled(rt: HostRuntime) {
+    let now = now(&rt);
+    for (template, initial, wanted) in FILLED {
+        let answer = fills(
+            rt.alloc(),
+            template.as_bytes(),
+            initial.as_bytes(),
+            wanted.as_bytes(),
+            now,
+        );
+        assert!(rt; answer == Ok(true), "{template}");
+    }
 }
 
 const BAD_TEMPLATES: &[&str] = &[
@@ -99,8 +84,9 @@ const BAD_TEMPLATES: &[&str] = &[
 
 #[test]
 fn other_escapes_are_refused(rt: HostRuntime) {
+    let now = now(&rt);
     for template in BAD_TEMPLATES {
-        let fault = expand(rt.alloc(), template.as_bytes(), now(&rt), b"").err();
+        let fault = expand(rt.alloc(), template.as_bytes(), now, b"").err();
         assert!(rt; fault == Some(CaptureFault::BadTemplate), "{template}");
     }
 }
@@ -127,7 +113,7 @@ fn is_entry(answer: &Result<Vec<u8>, CaptureFault>, wanted: Option<&str>) -> boo
 
 #[test]
 fn entries_are_one_heading(rt: HostRuntime) {
-    let states = states(&rt);
+    let states = States::new(rt.alloc(), &["TODO"], &["DONE"]).expect(&rt, "states");
     for (bytes, wanted) in ENTRIES {
         let answer = entry(rt.alloc(), bytes.as_bytes(), &states);
         assert!(rt; is_entry(&answer, *wanted), "{bytes}");

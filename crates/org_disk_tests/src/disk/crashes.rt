@@ -4,50 +4,15 @@ ghost use Rattle.org_disk.specs.Disk.{stable};
 
 use super::{a_org, leaves, must, sync_write_cut};
 use org_disk::{Disk, DiskFault, FileName, MemoryDisk, Outcome};
-use std::alloc::Global;
+use std::alloc::{AllocError, Global};
 use std::test::Fail;
 
-// From `abcdef`: `abXYef`, `abXYe`, `abXYPQRS`.
-fn write_cut_write<D: Disk>(disk: &mut D, name: &FileName) -> Result<(), DiskFault>
-    requires { D.honest disk.old → D.files disk.old name.now ≡ stable (codes "abcdef") }
-{
-    disk.write_at(name, 2, b"XY")?;
-    disk.cut(name, 5)?;
-    disk.write_at(name, 4, b"PQRS")
-}
-
-// Whether a crash at the third call leaves this text.
-fn crashes_write(
-    alloc: Global,
-    name: &FileName,
-    outcome: Outcome,
-    left: &str,
-) -> Result<bool, Fail> {
-    let mut disk = MemoryDisk::new(alloc);
-    disk.crash_at(3, outcome);
-    disk.set(name, b"abcdef")?;
-    let made = write_cut_write(&mut disk, name);
-    Ok(made.is_err() && leaves(&disk, alloc, name, left)?)
-}
-
-#[test]
-fn crashed_write(rt: HostRuntime) {
-    let alloc = rt.alloc();
-    let a = a_org(&rt, alloc);
-    for (outcome, left) in [
-        (Outcome::All, "abXYPQRS"),
-        (Outcome::None, "abcdef"),
-        (Outcome::Front(0), "abXYe"),
-        (Outcome::Front(1), "abXYP"),
-        (Outcome::Front(2), "abXYPQ"),
-        (Outcome::Front(9), "abXYPQRS"),
-        (Outcome::Fill(b'-'), "ab------"),
-    ] {
-        assert!(rt;
-            must(&rt, crashes_write(alloc, &a, outcome, left)),
-            "{left}"
-        );
-    }
+// What is done to a file.
+#[derive(Clone, Copy)]
+enum Calls {
+    WriteCut,
+    WriteCutWrite,
+    SyncWriteCut,
 }
 
 // From `abcdef`: `XYcdef`, `XYc`.
@@ -58,58 +23,86 @@ fn write_cut<D: Disk>(disk: &mut D, name: &FileName) -> Result<(), DiskFault>
     disk.cut(name, 3)
 }
 
-// Whether a crash at the second call leaves this text.
-fn crashes_cut(alloc: Global, name: &FileName, outcome: Outcome, left: &str) -> Result<bool, Fail> {
-    let mut disk = MemoryDisk::new(alloc);
-    disk.crash_at(2, outcome);
-    disk.set(name, b"abcdef")?;
-    let made = write_cut(&mut disk, name);
-    Ok(made.is_err() && leaves(&disk, alloc, name, left)?)
+// From `abcdef`: `abXYef`, `abXYe`, `abXYPQRS`.
+fn write_cut_write<D: Disk>(disk: &mut D, name: &FileName) -> Result<(), DiskFault>
+    requires { D.honest disk.old → D.files disk.old name.now ≡ stable (codes "abcdef") }
+{
+    disk.write_at(name, 2, b"XY")?;
+    disk.cut(name, 5)?;
+    disk.write_at(name, 4, b"PQRS")
 }
 
-#[test]
-fn crashed_cut(rt: HostRuntime) {
-    let alloc = rt.alloc();
-    let a = a_org(&rt, alloc);
-    for (outcome, left) in [
-        (Outcome::All, "XYc"),
-        (Outcome::None, "abcdef"),
-        (Outcome::Front(1), "XYcdef"),
-        (Outcome::Fill(b'-'), "--c---"),
-    ] {
-        assert!(rt; must(&rt, crashes_cut(alloc, &a, outcome, left)), "{left}");
-    }
+// Calls, which of them crashes the disk, how, and what that leaves.
+const CRASHES: &[(Calls, u64, Outcome, &str)] = &[
+    // the last write
+    (Calls::WriteCutWrite, 3, Outcome::All, "abXYPQRS"),
+    (Calls::WriteCutWrite, 3, Outcome::None, "abcdef"),
+    (Calls::WriteCutWrite, 3, Outcome::Front(0), "abXYe"),
+    (Calls::WriteCutWrite, 3, Outcome::Front(1), "abXYP"),
+    (Calls::WriteCutWrite, 3, Outcome::Front(2), "abXYPQ"),
+    (Calls::WriteCutWrite, 3, Outcome::Front(9), "abXYPQRS"),
+    (Calls::WriteCutWrite, 3, Outcome::Fill(b'-'), "ab------"),
+    // a cut
+    (Calls::WriteCut, 2, Outcome::All, "XYc"),
+    (Calls::WriteCut, 2, Outcome::None, "abcdef"),
+    (Calls::WriteCut, 2, Outcome::Front(1), "XYcdef"),
+    (Calls::WriteCut, 2, Outcome::Fill(b'-'), "--c---"),
+    // a write with a cut behind it
+    (Calls::WriteCut, 1, Outcome::All, "XYcdef"),
+    (Calls::WriteCut, 1, Outcome::None, "abcdef"),
+    (Calls::WriteCut, 1, Outcome::Front(1), "Xbcdef"),
+    // the first sync and the second
+    (Calls::SyncWriteCut, 3, Outcome::All, "abc"),
+    (Calls::SyncWriteCut, 3, Outcome::None, ""),
+    (Calls::SyncWriteCut, 3, Outcome::Front(0), "abc"),
+    (Calls::SyncWriteCut, 3, Outcome::Fill(b'-'), "---"),
+    (Calls::SyncWriteCut, 6, Outcome::All, "aX"),
+    (Calls::SyncWriteCut, 6, Outcome::None, "abc"),
+    (Calls::SyncWriteCut, 6, Outcome::Front(0), "aX"),
+    (Calls::SyncWriteCut, 6, Outcome::Fill(b'-'), "a--"),
+];
+
+// Whether the calls fail.
+fn fail(disk: &mut MemoryDisk, name: &FileName, calls: Calls) -> Result<bool, AllocError> {
+    let made = match calls {
+        Calls::SyncWriteCut => sync_write_cut(disk, name),
+        Calls::WriteCut => {
+            disk.set(name, b"abcdef")?;
+            write_cut(disk, name)
+        }
+        Calls::WriteCutWrite => {
+            disk.set(name, b"abcdef")?;
+            write_cut_write(disk, name)
+        }
+    };
+    Ok(made.is_err())
 }
 
-// Whether the six calls fail, and what is left has this text.
-fn crashes_at(
+// Whether a write, a cut and a sync fail.
+fn is_crashed(disk: &mut MemoryDisk, name: &FileName) -> bool {
+    disk.write_at(name, 0, b"Q").is_err() && disk.cut(name, 0).is_err() && disk.sync(name).is_err()
+}
+
+// Whether the calls fail and leave this text, and nothing counts that follows.
+fn crashes(
     disk: &mut MemoryDisk,
     alloc: Global,
     name: &FileName,
+    calls: Calls,
     left: &str,
 ) -> Result<bool, Fail> {
-    let made = sync_write_cut(disk, name);
-    Ok(made.is_err() && leaves(disk, alloc, name, left)?)
+    Ok(fail(disk, name, calls)? && is_crashed(disk, name) && leaves(disk, alloc, name, left)?)
 }
 
 #[test]
-fn crashed_sync(rt: HostRuntime) {
+fn crashed_calls(rt: HostRuntime) {
     let alloc = rt.alloc();
     let a = a_org(&rt, alloc);
-    for (k, outcome, left) in [
-        (3, Outcome::All, "abc"),
-        (3, Outcome::None, ""),
-        (3, Outcome::Front(0), "abc"),
-        (3, Outcome::Fill(b'-'), "---"),
-        (6, Outcome::All, "aX"),
-        (6, Outcome::None, "abc"),
-        (6, Outcome::Front(0), "aX"),
-        (6, Outcome::Fill(b'-'), "a--"),
-    ] {
+    for (calls, k, outcome, left) in CRASHES {
         let mut disk = MemoryDisk::new(alloc);
-        disk.crash_at(k, outcome);
-        let crashes = must(&rt, crashes_at(&mut disk, alloc, &a, left));
-        assert!(rt; crashes, "{left}");
+        disk.crash_at(*k, *outcome);
+        let crashes = must(&rt, crashes(&mut disk, alloc, &a, *calls, left));
+        assert!(rt; crashes, "crashed at call {k}, {left} is left");
     }
 }
 
@@ -127,42 +120,18 @@ fn goes_on(
     Ok(disk.length(name) == length && leaves(disk, alloc, name, "aX")?)
 }
 
+// Which call crashes, if any, and the length that the seventh answers.
+const SEVENTH: &[(u64, Result<u64, DiskFault>)] = &[(0, Ok(2)), (7, Err(DiskFault))];
+
 #[test]
 fn no_crash(rt: HostRuntime) {
     let alloc = rt.alloc();
     let a = a_org(&rt, alloc);
-    for (k, length) in [(0, Ok(2)), (7, Err(DiskFault))] {
+    for (k, length) in SEVENTH {
         let mut disk = MemoryDisk::new(alloc);
         disk.crash_at(1, Outcome::None);
-        disk.crash_at(k, Outcome::None);
-        let goes_on = must(&rt, goes_on(&mut disk, alloc, &a, length));
+        disk.crash_at(*k, Outcome::None);
+        let goes_on = must(&rt, goes_on(&mut disk, alloc, &a, *length));
         assert!(rt; goes_on, "to crash at {k}");
-    }
-}
-
-// Whether a write, a cut and a sync fail.
-fn is_crashed(disk: &mut MemoryDisk, name: &FileName) -> bool {
-    disk.write_at(name, 0, b"Q").is_err() && disk.cut(name, 0).is_err() && disk.sync(name).is_err()
-}
-
-// Whether a crash at the first call leaves this text, whatever calls follow.
-fn crashes_all(alloc: Global, name: &FileName, outcome: Outcome, left: &str) -> Result<bool, Fail> {
-    let mut disk = MemoryDisk::new(alloc);
-    disk.crash_at(1, outcome);
-    disk.set(name, b"abcdef")?;
-    let made = write_cut(&mut disk, name);
-    Ok(made.is_err() && is_crashed(&mut disk, name) && leaves(&disk, alloc, name, left)?)
-}
-
-#[test]
-fn nothing_counts_after_a_crash(rt: HostRuntime) {
-    let alloc = rt.alloc();
-    let a = a_org(&rt, alloc);
-    for (outcome, left) in [
-        (Outcome::All, "XYcdef"),
-        (Outcome::None, "abcdef"),
-        (Outcome::Front(1), "Xbcdef"),
-    ] {
-        assert!(rt; must(&rt, crashes_all(alloc, &a, outcome, left)), "{left}");
     }
 }

@@ -8,59 +8,48 @@ use std::alloc::Global;
 use std::process::Abort;
 use std::test::Fail;
 
-// Which of the six calls fails, and what the file then holds.
-const FAILED: [(u64, &str); 6] = [
+// Which of the six calls fails, if any, and what the file then holds.
+const FAILED: &[(u64, &str)] = &[
+    (0, "aX"),
     (1, ""),
     (2, ""),
     (3, "abc"),
     (4, "abc"),
     (5, "aXY"),
     (6, "aX"),
+    (7, "aX"),
 ];
 
-// Whether the k-th of the six calls fails, and leaves this text.
-fn fails(
+// Whether the k-th of the six calls fails without effect, and that one alone; where there is none, they are made.
+fn fails_once(
     disk: &mut MemoryDisk,
     alloc: Global,
     name: &FileName,
     k: u64,
     left: &str,
 ) -> Result<bool, Fail> {
-    disk.fail_at(k);
-    let made = sync_write_cut(disk, name);
-    Ok(made.is_err() && holds(disk, alloc, name, left)?)
-}
-
-#[test]
-fn failed_calls_have_no_effect(rt: HostRuntime) {
-    let alloc = rt.alloc();
-    let a = a_org(&rt, alloc);
-    for (k, left) in FAILED {
-        let mut disk = MemoryDisk::new(alloc);
-        let fails = must(&rt, fails(&mut disk, alloc, &a, k, left));
-        assert!(rt; fails, "call {k}");
-    }
-}
-
-// Whether the k-th of the six calls fails, and that one alone; where there is none, they are made.
-fn fails_once(disk: &mut MemoryDisk, alloc: Global, name: &FileName, k: u64) -> Result<bool, Fail> {
     let fails = k > 0 && k < 7;
     let made = sync_write_cut(disk, name);
     if made.is_err() != fails || disk.calls() != (if fails { k } else { 6 }) {
         return Ok(false);
     }
-    Ok(!fails || sync_write_cut(disk, name).is_ok() && holds(disk, alloc, name, "aX")?)
+    Ok(
+        !fails
+            || holds(disk, alloc, name, left)?
+                && sync_write_cut(disk, name).is_ok()
+                && holds(disk, alloc, name, "aX")?,
+    )
 }
 
 #[test]
 fn failed_calls(rt: HostRuntime) {
     let alloc = rt.alloc();
     let a = a_org(&rt, alloc);
-    for k in 0..8u64 {
+    for (k, left) in FAILED {
         let mut disk = MemoryDisk::new(alloc);
         disk.fail_at(1);
-        disk.fail_at(k);
-        let fails_once = must(&rt, fails_once(&mut disk, alloc, &a, k));
+        disk.fail_at(*k);
+        let fails_once = must(&rt, fails_once(&mut disk, alloc, &a, *k, left));
         assert!(rt; fails_once, "call {k}");
     }
 }
@@ -76,12 +65,15 @@ fn blows(rt: &impl Abort, alloc: Global, name: &FileName, k: u64, held: &str) ->
     made.is_ok() == (k == 6) && after.is_err() && calls == k && is_held
 }
 
+// After how many calls a fuse blows, and what the file then holds.
+const BLOWN: &[(u64, &str)] = &[(0, ""), (3, "abc"), (4, "aXY"), (6, "aX")];
+
 #[test]
 fn blown_fuse(rt: HostRuntime) {
     let alloc = rt.alloc();
     let a = a_org(&rt, alloc);
-    for (k, held) in [(0, ""), (3, "abc"), (4, "aXY"), (6, "aX")] {
-        assert!(rt; blows(&rt, alloc, &a, k, held), "after {k} calls");
+    for (k, held) in BLOWN {
+        assert!(rt; blows(&rt, alloc, &a, *k, held), "after {k} calls");
     }
 }
 

@@ -1,71 +1,83 @@
 // The names of files.
-use org_disk::FileName;
-use std::alloc::Global;
-use std::test::Fail;
+use org_disk::{FileName, NameFault};
+use std::alloc::{AllocError, Global};
 
-fn is_accepted(alloc: Global, text: &str) -> Result<bool, Fail> {
+fn is_accepted(alloc: Global, text: &str) -> Result<bool, NameFault> {
     Ok(FileName::accepts(text) && FileName::new(alloc, text)?.as_str() == text)
 }
 
+// Texts, and whether each is the name of a file.
+const NAMES: &[(&str, bool)] = &[
+    ("a.org", true),
+    ("Zettel über.org", true),
+    ("x.org_archive.org", true),
+    ("~.org", true),
+    ("a.org_archive", true),
+    ("", false),
+    ("a.txt", false),
+    (".org", false),
+    (".org_archive", false),
+    ("a/b.org", false),
+    ("a\x1F.org", false),
+    ("a\x7F.org", false),
+    ("a.ORG", false),
+    ("a.org_archive_archive", false),
+    ("orgstore.journal", false),
+];
+
 #[test]
-fn accepted_names(rt: HostRuntime) -> Result<(), Fail> {
-    let alloc = rt.alloc();
-    for text in [
-        "a.org",
-        "Zettel über.org",
-        "x.org_archive.org",
-        "~.org",
-        "a.org_archive",
-    ] {
-        assert!(rt; is_accepted(alloc, text)?, "{text}");
+fn accepted_names(rt: HostRuntime) {
+    for (text, accepted) in NAMES {
+        assert!(rt; is_accepted(rt.alloc(), text) == Ok(*accepted), "{text}");
     }
-    for text in [
-        "",
-        "a.txt",
-        ".org",
-        ".org_archive",
-        "a/b.org",
-        "a\x1F.org",
-        "a\x7F.org",
-        "a.ORG",
-        "a.org_archive_archive",
-        "orgstore.journal",
-    ] {
-        assert!(rt; !FileName::accepts(text), "{text}");
+}
+
+// A name of so many letters in front of its `.org`, with the end of an archive file's or without.
+fn long_name(alloc: Global, letters: usize, end: &str) -> Result<String, AllocError> {
+    let mut text = String::new(alloc);
+    for _ in 0..letters {
+        text.push('a')?;
     }
-    Ok(())
+    text.push_str(".org")?;
+    text.push_str(end)?;
+    Ok(text)
+}
+
+const LONG_NAMES: &[(usize, &str, bool)] = &[
+    (196, "", true),
+    (196, "_archive", true),
+    (197, "", false),
+    (197, "_archive", false),
+];
+
+#[test]
+fn long_names(rt: HostRuntime) {
+    for (letters, end, accepted) in LONG_NAMES {
+        let text = long_name(rt.alloc(), *letters, end).expect(&rt, "memory");
+        assert!(rt;
+            FileName::accepts(text.as_str()) == *accepted,
+            "{letters}{end}"
+        );
+    }
+}
+
+// Whether the archive file of a file comes behind it, and neither is the other.
+fn are_apart(inbox: &FileName, archive: &FileName) -> bool {
+    archive.is_archive() && !inbox.is_archive() && inbox < archive && archive != inbox
 }
 
 #[test]
-fn long_names(rt: HostRuntime) -> Result<(), Fail> {
-    let alloc = rt.alloc();
-    for (letters, accepted) in [(196, true), (197, false)] {
-        let mut text = String::new(alloc);
-        for _ in 0..letters {
-            text.push('a')?;
-        }
-        text.push_str(".org")?;
-        assert!(rt; FileName::accepts(text.as_str()) == accepted);
-        text.push_str("_archive")?;
-        assert!(rt; FileName::accepts(text.as_str()) == accepted);
-    }
-    Ok(())
-}
-
-#[test]
-fn archives(rt: HostRuntime) -> Result<(), Fail> {
-    let alloc = rt.alloc();
-    let inbox = FileName::new(alloc, "inbox.org")?;
-    let archive = inbox.archive()?;
+fn archives(rt: HostRuntime) {
+    let inbox = FileName::new(rt.alloc(), "inbox.org").expect(&rt, "a name");
+    let archive = inbox.archive().expect(&rt, "memory");
     assert!(rt; archive.as_str() == "inbox.org_archive");
-    assert!(rt; archive.is_archive() && !inbox.is_archive());
-    assert!(rt; inbox < archive && archive != inbox && inbox.clone()? == inbox);
-    Ok(())
+    assert!(rt; are_apart(&inbox, &archive));
+    let copy = inbox.clone().expect(&rt, "memory");
+    assert!(rt; copy == inbox);
 }
 
 #[test]
-fn name_of_the_journal(rt: HostRuntime) -> Result<(), Fail> {
-    let journal = FileName::journal_name(rt.alloc())?;
+fn name_of_the_journal(rt: HostRuntime) {
+    let journal = FileName::journal_name(rt.alloc()).expect(&rt, "memory");
     assert!(rt; journal.as_str() == "orgstore.journal" && !journal.is_archive());
-    Ok(())
 }

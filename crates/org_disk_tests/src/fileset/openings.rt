@@ -5,7 +5,7 @@ use super::{
 };
 use crate::disk::must;
 use org_disk::{Disk, FileName, MemoryDisk, Outcome};
-use org_fileset::{FileSet, LIMIT, OpenFault, SetFault};
+use org_fileset::{FileSet, LIMIT, OpenFault, OpenRefused, SetFault};
 use org_fixtures::{NEW, OLD, OUTCOMES, TEXT, bytes_of, numbered_names};
 use std::alloc::Global;
 use std::process::Abort;
@@ -22,15 +22,23 @@ fn opening_ends_a_record(rt: HostRuntime) {
     assert!(rt; has_texts(&held, b"* A\n", &TEXT));
 }
 
+fn are_in_order(names: &[FileName]) -> bool {
+    match names {
+        [a, b, c, d] => {
+            a.as_str() == "a.org"
+                && b.as_str() == "a.org_archive"
+                && c.as_str() == "inbox.org"
+                && d.as_str() == "inbox.org_archive"
+        }
+        _ => false,
+    }
+}
+
 #[test]
 fn names_are_in_byte_order(rt: HostRuntime) {
     let alloc = rt.alloc();
     let set = open(&rt, alloc, MemoryDisk::new(alloc));
-    let texts = match set.names() {
-        [a, b, c, d] => [a.as_str(), b.as_str(), c.as_str(), d.as_str()],
-        _ => [""; 4],
-    };
-    assert!(rt; texts == ["a.org", "a.org_archive", "inbox.org", "inbox.org_archive"]);
+    assert!(rt; are_in_order(set.names()));
 }
 
 // The disk once a set over a.org alone was opened.
@@ -139,21 +147,26 @@ fn a_bad_journal_is_refused(rt: HostRuntime) {
     refuse(&rt, alloc, &with_one(&rt, alloc, &NEW, 1, 0x4b));
 }
 
-// How many names a set over so many files has, if they aren't too many; those are refused before any call.
-fn names_taken(alloc: Global, count: u32) -> Result<Option<usize>, Fail> {
-    match FileSet::open(alloc, MemoryDisk::new(alloc), numbered_names(alloc, count)?) {
-        Ok(set) => Ok(Some(set.names().len())),
-        Err(refused) => match (refused.fault, refused.disk.calls()) {
-            (OpenFault::TooManyFiles, 0) => Ok(None),
-            _ => Err(Fail::from("another fault, or a call")),
-        },
-    }
+// Opens a set over so many files.
+fn opened_many(
+    alloc: Global,
+    count: u32,
+) -> Result<Result<FileSet<MemoryDisk>, OpenRefused<MemoryDisk>>, Fail> {
+    let names = numbered_names(alloc, count)?;
+    Ok(FileSet::open(alloc, MemoryDisk::new(alloc), names))
+}
+
+// Whether a set was refused since its names are too many, before any call.
+fn are_too_many(refused: &OpenRefused<MemoryDisk>) -> bool {
+    matches!(refused.fault, OpenFault::TooManyFiles) && refused.disk.calls() == 0
 }
 
 #[test]
 fn too_many_names_are_refused(rt: HostRuntime) {
-    assert!(rt; must(&rt, names_taken(rt.alloc(), 256)) == Some(512));
-    assert!(rt; must(&rt, names_taken(rt.alloc(), 257)) == None);
+    let set = must(&rt, opened_many(rt.alloc(), 256));
+    assert!(rt; matches!(&set, Ok(set) if set.names().len() == 512));
+    let refused = must(&rt, opened_many(rt.alloc(), 257));
+    assert!(rt; matches!(&refused, Err(refused) if are_too_many(refused)));
 }
 
 // Makes a.org this long.

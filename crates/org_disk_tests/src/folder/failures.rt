@@ -1,5 +1,6 @@
 // Calls of the system of which one fails.
-use super::{empty, holds, name, remove};
+use super::{done, holds, make_empty, name, remove};
+use crate::disk::must;
 use org_disk::{Disk, DiskFault, FileName};
 use org_folder::{FolderDisk, Unknown, lock_folder};
 use std::alloc::{Alloc, Allocator, Global};
@@ -171,33 +172,32 @@ fn work<D: Disk>(disk: &mut D, name: &FileName) -> Result<(), DiskFault> {
     Ok(())
 }
 
-// How many failures a disk counts over the work, of which the call of the system with this number fails, and over the
-// work once more.
-fn failed_work(rt: &HostRuntime, a: &FileName, fails_in: u64) -> Result<[u64; 2], Fail> {
+// A folder's disk, of which the call of the system with this number fails.
+fn failing_disk(rt: &HostRuntime, fails_in: u64) -> Result<FolderDisk<Failing, Unknown>, Fail> {
     let failing = Failing {
         rt: rt.clone()?,
         fails_in: Rc::new(rt.alloc(), Cell::new(fails_in))?,
     };
     let folder = lock_folder(rt, "one_fails")?;
-    let mut disk: FolderDisk<Failing, Unknown> = FolderDisk::new(failing, rt.alloc(), &folder)?;
-    if work(&mut disk, a).is_ok() {
-        return Err("no call fails")?;
-    }
-    let failures = disk.failures();
-    work(&mut disk, a)?;
-    Ok([failures, disk.failures()])
+    Ok(FolderDisk::new(failing, rt.alloc(), &folder)?)
+}
+
+// Whether the disk counts one failure over the work, in which a call of the system fails, and over the work once more.
+fn fails_once(disk: &mut FolderDisk<Failing, Unknown>, a: &FileName) -> bool {
+    work(disk, a).is_err() && disk.failures() == 1 && work(disk, a).is_ok() && disk.failures() == 1
 }
 
 // The work makes 12 calls of the system: the file is made, seen to be empty and written; its folder is looked for, opened and
 // synced, and the file synced; it is cut, written, synced, read and measured.
 #[test]
-fn each_call_of_the_system_fails_once(rt: HostRuntime) -> Result<(), Fail> {
-    let a = name(&rt, "a.org")?;
+fn each_call_of_the_system_fails_once(rt: HostRuntime) {
+    let a = must(&rt, name(&rt, "a.org"));
     for fails_in in 1..13u64 {
-        empty(&rt, "one_fails")?;
-        let failures = failed_work(&rt, &a, fails_in)?;
-        let held = holds(&rt, "one_fails/a.org", b"* A\n* C\n")?;
-        assert!(rt; failures == [1, 1] && held, "call {fails_in}");
+        done(&rt, make_empty(&rt, "one_fails"));
+        let mut disk = must(&rt, failing_disk(&rt, fails_in));
+        assert!(rt; fails_once(&mut disk, &a), "call {fails_in}");
+        let held = must(&rt, holds(&rt, "one_fails/a.org", b"* A\n* C\n"));
+        assert!(rt; held, "call {fails_in}");
     }
-    remove(&rt, "one_fails")
+    done(&rt, remove(&rt, "one_fails"));
 }

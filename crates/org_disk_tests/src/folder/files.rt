@@ -3,9 +3,10 @@ ghost use Rattle.std.specs.Prelude.{◌≡◌, [], IfOk};
 ghost use Rattle.org_folder.specs.FolderDisk.{record_of};
 
 use super::{
-    Folder, append, disk, done, empty, holds, is_there, length, link, make, make_empty, name, put,
+    Folder, append, disk, done, failed, holds, is_there, length, link, make, make_empty, name, put,
     remove, sync, take, write,
 };
+use crate::disk::must;
 use org_disk::{Disk, DiskFault, FileName};
 use org_folder::{FolderDisk, Start, lock_folder};
 use std::io;
@@ -24,12 +25,13 @@ fn do_nothing(disk: &mut impl Disk, name: &FileName) -> Result<u64, DiskFault> {
 
 // What a disk does to no file makes none.
 #[test]
-fn absent_and_empty_are_the_same(rt: HostRuntime) -> Result<(), Fail> {
-    empty(&rt, "absent")?;
-    let mut disk = disk(&rt, "absent")?;
-    assert!(rt; do_nothing(&mut disk, &name(&rt, "a.org")?)? == 0);
+fn absent_and_empty_are_the_same(rt: HostRuntime) {
+    done(&rt, make_empty(&rt, "absent"));
+    let a = must(&rt, name(&rt, "a.org"));
+    let mut disk = must(&rt, disk(&rt, "absent"));
+    assert!(rt; do_nothing(&mut disk, &a) == Ok(0));
     assert!(rt; !is_there(&rt, "absent/a.org"));
-    remove(&rt, "absent")
+    done(&rt, remove(&rt, "absent"));
 }
 
 // Each file is supposed to hold one byte at first.
@@ -60,13 +62,13 @@ fn read_fails(rt: &HostRuntime, name: &FileName) -> Result<bool, Fail> {
 
 // A call that goes past the end of a file fails: the file isn't what it was supposed to be.
 #[test]
-fn absent_where_a_byte_is_supposed(rt: HostRuntime) -> Result<(), Fail> {
-    empty(&rt, "supposed")?;
-    let a = name(&rt, "a.org")?;
-    assert!(rt; cut_fails(&rt, &a)?);
-    assert!(rt; read_fails(&rt, &a)?);
+fn absent_where_a_byte_is_supposed(rt: HostRuntime) {
+    done(&rt, make_empty(&rt, "supposed"));
+    let a = must(&rt, name(&rt, "a.org"));
+    assert!(rt; must(&rt, cut_fails(&rt, &a)));
+    assert!(rt; must(&rt, read_fails(&rt, &a)));
     assert!(rt; !is_there(&rt, "supposed/a.org"));
-    remove(&rt, "supposed")
+    done(&rt, remove(&rt, "supposed"));
 }
 
 // The length after two writes, and three bytes of what a cut leaves.
@@ -85,25 +87,19 @@ fn write_and_cut(disk: &mut impl Disk, name: &FileName) -> Result<(u64, [u8; 3])
 // Whether a read fails where another program makes the file shorter.
 fn fails_shortened(rt: &HostRuntime, disk: &mut Folder, name: &FileName) -> Result<bool, Fail> {
     disk.write_at(name, 0, b"* A\n* C")?;
-    done(put(rt, "written/a.org", b"* A\n* "))?;
+    failed(put(rt, "written/a.org", b"* A\n* "))?;
     Ok(disk.read_at(name, 4, &mut [0; 3]).is_err())
 }
 
-fn assert_written(rt: &impl Abort, disk: &mut Folder, a: &FileName) -> Result<(), DiskFault> {
-    let (length, bytes) = write_and_cut(disk, a)?;
-    assert!(rt; length == 9 && bytes.as_slice() == b"* C".as_slice());
-    Ok(())
-}
-
 #[test]
-fn writes_cuts_and_reads(rt: HostRuntime) -> Result<(), Fail> {
-    empty(&rt, "written")?;
-    let mut disk = disk(&rt, "written")?;
-    let a = name(&rt, "a.org")?;
-    assert_written(&rt, &mut disk, &a)?;
-    assert!(rt; holds(&rt, "written/a.org", b"* A\n* C")?);
-    assert!(rt; fails_shortened(&rt, &mut disk, &a)?);
-    remove(&rt, "written")
+fn writes_cuts_and_reads(rt: HostRuntime) {
+    done(&rt, make_empty(&rt, "written"));
+    let a = must(&rt, name(&rt, "a.org"));
+    let mut disk = must(&rt, disk(&rt, "written"));
+    assert!(rt; write_and_cut(&mut disk, &a) == Ok((9, *b"* C")));
+    assert!(rt; must(&rt, holds(&rt, "written/a.org", b"* A\n* C")));
+    assert!(rt; must(&rt, fails_shortened(&rt, &mut disk, &a)));
+    done(&rt, remove(&rt, "written"));
 }
 
 fn make_linked(rt: &HostRuntime) -> io::Result<()> {
@@ -112,67 +108,48 @@ fn make_linked(rt: &HostRuntime) -> io::Result<()> {
     link(rt, "folder.org/target", "linked/link.org")
 }
 
-fn assert_follows(rt: &(impl Abort + AllocGlobal), disk: &mut Folder) -> Result<(), Fail> {
-    assert!(rt; length(disk, &name(rt, "folder.org")?).is_err());
-    let link = name(rt, "link.org")?;
-    assert!(rt; length(disk, &link)? == 0);
-    write(disk, &link, b"* A\n")?;
-    sync(disk, &link)?;
-    Ok(())
+fn assert_follows(rt: &(impl Abort + AllocGlobal), disk: &mut Folder) {
+    assert!(rt; length(rt, disk, "folder.org").is_err());
+    assert!(rt; length(rt, disk, "link.org").expect(rt, "a call") == 0);
+    write(rt, disk, "link.org", b"* A\n").expect(rt, "a call");
+    sync(rt, disk, "link.org").expect(rt, "a call");
 }
 
 #[test]
-fn links_and_folders(rt: HostRuntime) -> Result<(), Fail> {
-    done(make_linked(&rt))?;
-    let mut disk = disk(&rt, "linked")?;
-    assert_follows(&rt, &mut disk)?;
-    assert!(rt; holds(&rt, "linked/folder.org/target", b"* A\n")?);
-    remove(&rt, "linked")
+fn links_and_folders(rt: HostRuntime) {
+    done(&rt, make_linked(&rt));
+    let mut disk = must(&rt, disk(&rt, "linked"));
+    assert_follows(&rt, &mut disk);
+    assert!(rt; must(&rt, holds(&rt, "linked/folder.org/target", b"* A\n")));
+    done(&rt, remove(&rt, "linked"));
 }
 
 // Writes two files, and syncs the second. Both are taken out of the folder then.
-fn write_and_take(
-    rt: &HostRuntime,
-    disk: &mut Folder,
-    a: &FileName,
-    b: &FileName,
-) -> Result<(), Fail> {
-    write(disk, a, b"* A\n")?;
-    write(disk, b, b"* B\n")?;
-    sync(disk, b)?;
-    done(take(rt, "entered/a.org"))?;
-    done(take(rt, "entered/b.org"))
+fn write_and_take(rt: &(impl Abort + AllocGlobal), system: &HostRuntime, disk: &mut Folder) {
+    write(rt, disk, "a.org", b"* A\n").expect(rt, "a call");
+    write(rt, disk, "b.org", b"* B\n").expect(rt, "a call");
+    sync(rt, disk, "b.org").expect(rt, "a call");
+    done(rt, take(system, "entered/a.org"));
+    done(rt, take(system, "entered/b.org"));
 }
 
 // Syncs the file that was synced before, and then the other.
-fn assert_syncs(
-    rt: &impl Abort,
-    disk: &mut Folder,
-    a: &FileName,
-    b: &FileName,
-) -> Result<(), DiskFault> {
-    append(disk, b, b"* C\n")?;
-    sync(disk, b)?;
+fn assert_syncs(rt: &(impl Abort + AllocGlobal), disk: &mut Folder) {
+    append(rt, disk, "b.org", b"* C\n").expect(rt, "a call");
+    sync(rt, disk, "b.org").expect(rt, "a call");
     assert!(rt; disk.failures() == 0);
-    assert!(rt; sync(disk, a).is_err());
+    assert!(rt; sync(rt, disk, "a.org").is_err());
     assert!(rt; disk.failures() == 1);
-    Ok(())
-}
-
-fn assert_entered(rt: &impl Abort, system: &HostRuntime, disk: &mut Folder) -> Result<(), Fail> {
-    let a = name(system, "a.org")?;
-    let b = name(system, "b.org")?;
-    write_and_take(system, disk, &a, &b)?;
-    Ok(assert_syncs(rt, disk, &a, &b)?)
 }
 
 // The first sync of a file that was made looks for its folder, which it syncs, and a later one doesn't.
 #[test]
-fn first_sync_takes_the_folder(rt: HostRuntime) -> Result<(), Fail> {
-    empty(&rt, "entered")?;
-    let mut disk = disk(&rt, "entered")?;
-    assert_entered(&rt, &rt, &mut disk)?;
-    remove(&rt, "entered")
+fn first_sync_takes_the_folder(rt: HostRuntime) {
+    done(&rt, make_empty(&rt, "entered"));
+    let mut disk = must(&rt, disk(&rt, "entered"));
+    write_and_take(&rt, &rt, &mut disk);
+    assert_syncs(&rt, &mut disk);
+    done(&rt, remove(&rt, "entered"));
 }
 
 fn make_found(rt: &HostRuntime) -> io::Result<()> {
@@ -183,29 +160,28 @@ fn make_found(rt: &HostRuntime) -> io::Result<()> {
 }
 
 // Syncs one file. Two others are opened, and taken out of the folder then.
-fn sync_and_take(rt: &HostRuntime, disk: &mut Folder) -> Result<(), Fail> {
-    sync(disk, &name(rt, "a.org")?)?;
-    length(disk, &name(rt, "b.org")?)?;
-    length(disk, &name(rt, "c.org")?)?;
-    done(take(rt, "found/b.org"))?;
-    done(take(rt, "found/c.org"))
+fn sync_and_take(rt: &(impl Abort + AllocGlobal), system: &HostRuntime, disk: &mut Folder) {
+    sync(rt, disk, "a.org").expect(rt, "a call");
+    length(rt, disk, "b.org").expect(rt, "a call");
+    length(rt, disk, "c.org").expect(rt, "a call");
+    done(rt, take(system, "found/b.org"));
+    done(rt, take(system, "found/c.org"));
 }
 
 // The first of these is synced without a look for its folder; the second isn't, since a file was made.
-fn assert_found(rt: &(impl Abort + AllocGlobal), disk: &mut Folder) -> Result<(), Fail> {
-    sync(disk, &name(rt, "b.org")?)?;
-    write(disk, &name(rt, "d.org")?, b"* D\n")?;
-    assert!(rt; sync(disk, &name(rt, "c.org")?).is_err());
+fn assert_found(rt: &(impl Abort + AllocGlobal), disk: &mut Folder) {
+    sync(rt, disk, "b.org").expect(rt, "a call");
+    write(rt, disk, "d.org", b"* D\n").expect(rt, "a call");
+    assert!(rt; sync(rt, disk, "c.org").is_err());
     assert!(rt; disk.failures() == 1);
-    Ok(())
 }
 
 // Of files that were found the first sync takes the folder, for all of them, until a file is made.
 #[test]
-fn one_sync_takes_the_folder(rt: HostRuntime) -> Result<(), Fail> {
-    done(make_found(&rt))?;
-    let mut disk = disk(&rt, "found")?;
-    sync_and_take(&rt, &mut disk)?;
-    assert_found(&rt, &mut disk)?;
-    remove(&rt, "found")
+fn one_sync_takes_the_folder(rt: HostRuntime) {
+    done(&rt, make_found(&rt));
+    let mut disk = must(&rt, disk(&rt, "found"));
+    sync_and_take(&rt, &rt, &mut disk);
+    assert_found(&rt, &mut disk);
+    done(&rt, remove(&rt, "found"));
 }

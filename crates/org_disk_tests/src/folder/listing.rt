@@ -1,17 +1,17 @@
 // The Org files of a folder.
 use super::{done, link, make, make_empty, put, remove};
+use crate::disk::must;
 use org_disk::{FileName, NameFault};
 use org_folder::{lock_folder, org_file, org_files};
 use std::io;
 use std::test::Fail;
 
 #[test]
-fn names_of_org_files(rt: HostRuntime) -> Result<(), Fail> {
-    let bad = Some(NameFault::BadName);
+fn names_of_org_files(rt: HostRuntime) {
     assert!(rt; org_file(rt.alloc(), "a.org").is_ok());
-    assert!(rt; org_file(rt.alloc(), "a.txt").err() == bad);
-    assert!(rt; org_file(rt.alloc(), "a.org_archive").err() == bad);
-    Ok(())
+    for text in ["a.txt", "a.org_archive"] {
+        assert!(rt; org_file(rt.alloc(), text).err() == Some(NameFault::BadName));
+    }
 }
 
 // Two Org files, of which one is a link that leads nowhere, and what is none.
@@ -33,14 +33,21 @@ fn are_listed(names: &[FileName]) -> bool {
     }
 }
 
-#[test]
-fn files_of_a_folder(rt: HostRuntime) -> Result<(), Fail> {
-    done(make_listed(&rt))?;
-    let listed = lock_folder(&rt, "listed")?;
-    let mut names = org_files(&rt, &listed)?;
+// The Org files of a folder, in order.
+fn listed(rt: &HostRuntime, folder: &str) -> Result<Vec<FileName>, Fail> {
+    let mut names = org_files(rt, &lock_folder(rt, folder)?)?;
     names.sort()?;
-    assert!(rt; are_listed(names.as_slice()));
-    let nowhere = lock_folder(&rt, "listed/nowhere")?;
-    assert!(rt; org_files(&rt, &nowhere).is_err());
-    remove(&rt, "listed")
+    Ok(names)
+}
+
+fn fails_listed(rt: &HostRuntime, folder: &str) -> Result<bool, Fail> {
+    Ok(org_files(rt, &lock_folder(rt, folder)?).is_err())
+}
+
+#[test]
+fn files_of_a_folder(rt: HostRuntime) {
+    done(&rt, make_listed(&rt));
+    assert!(rt; are_listed(must(&rt, listed(&rt, "listed")).as_slice()));
+    assert!(rt; must(&rt, fails_listed(&rt, "listed/nowhere")));
+    done(&rt, remove(&rt, "listed"));
 }

@@ -1,8 +1,9 @@
 // Which bytes are a record, and how a record is written.
-use super::{TWO, is_capture, joined, with};
+use super::{ALL, Body, TWO, body_of, is_capture, joined, put};
+use crate::disk::must;
 use org_fixtures::{NEW, OLD};
 use org_journal::{RecordFault, decode, well_formed};
-use std::alloc::{AllocError, Global};
+use std::alloc::Global;
 use std::process::Abort;
 use std::test::Fail;
 
@@ -15,104 +16,89 @@ fn is_read(alloc: Global, bytes: &[u8]) -> bool {
 }
 
 // The bytes are no record's, and neither are they with one more behind them.
-fn refuse(rt: &impl Abort, alloc: Global, bytes: &[u8]) -> Result<(), AllocError> {
-    assert!(rt; is_refused(alloc, bytes));
-    let longer = joined(alloc, bytes, &[0x2a])?;
-    assert!(rt; is_refused(alloc, &longer));
-    Ok(())
+fn refuse(rt: &impl Abort, alloc: Global, bytes: &[u8]) {
+    let longer = joined(alloc, bytes, &[0x2a]).expect(rt, "memory");
+    assert!(rt; is_refused(alloc, bytes) && is_refused(alloc, &longer));
 }
 
 // The bytes are the capture's, and so are they with others behind them.
-fn accept(rt: &impl Abort, alloc: Global, bytes: &[u8]) -> Result<(), AllocError> {
-    assert!(rt; is_read(alloc, bytes));
-    let longer = joined(alloc, bytes, &OLD[1..])?;
-    assert!(rt; is_read(alloc, &longer));
-    Ok(())
+fn accept(rt: &impl Abort, alloc: Global, bytes: &[u8]) {
+    let longer = joined(alloc, bytes, &OLD[1..]).expect(rt, "memory");
+    assert!(rt; is_read(alloc, bytes) && is_read(alloc, &longer));
 }
 
 #[test]
-fn both_versions_are_read(rt: HostRuntime) -> Result<(), Fail> {
-    let alloc = rt.alloc();
-    accept(&rt, alloc, &OLD[1..])?;
-    accept(&rt, alloc, &NEW[1..])?;
-    Ok(())
+fn both_versions_are_read(rt: HostRuntime) {
+    accept(&rt, rt.alloc(), &OLD[1..]);
+    accept(&rt, rt.alloc(), &NEW[1..]);
 }
 
+const MALFORMED: &[Body] = &[
+    // version 1
+    (&OLD, ALL, &[(3, &[0x4b])], b""), // a wrong letter
+    (&OLD, ALL, &[(4, &[3])], b""), // version 3
+    (&OLD, ALL, &[(6, &[1])], b""), // a byte that is to be 0
+    (&OLD, ALL, &[(7, &[0xff; 8])], b""), // a size past the end
+    (&OLD, ALL, &[(14, &[56])], b""),
+    (&OLD, ALL, &[(14, &[54])], b""),
+    (&OLD, ALL, &[(15, &[0, 0, 2, 1])], b""), // 513 entries
+    (&OLD, ALL, &[(15, &[0xff; 4])], b""),
+    (&OLD, ALL, &[(27, b"txt")], b""), // inbox.txt
+    (&OLD, ALL, &[(30, &[0xff; 8])], b""), // a patch that ends past the final length
+    (&OLD, ALL, &[(38, &[0, 0, 0, 0, 1, 0, 0, 1])], b""), // a file of 16,777,217 bytes
+    (&OLD, ALL, &[(14, &[4, 0, 0, 0, 0])], b""), // no entry
+    // version 2
+    (&TWO, ALL, &[(66, &[2])], b""), // the second patch begins within the first
+    (&TWO, ALL, &[(66, &[8])], b""), // the second patch ends past the final length
+    (&TWO, ALL, &[(38, &[0, 0, 0, 0])], b""), // no patch
+    (&TWO, ALL, &[(38, &[0, 0, 0, 1])], b""), // one patch, and bytes left over
+    (&TWO, ALL, &[(38, &[0, 0, 3, 0xe9])], b""), // 1,001 patches
+    (&TWO, ALL, &[(30, &[0, 0, 0, 0, 4, 0, 0, 1])], b""), // a file of 67,108,865 bytes
+    (&TWO, ALL, &[(50, &[0xff; 8])], b""), // a patch of 2^64 - 1 bytes
+    (&TWO, ALL, &[(42, &[0xff; 8])], b""), // a patch at 2^64 - 1
+    (&TWO, 75, &[(14, &[0x3c]), (74, &[0])], b""), // of two patches one has no bytes
+];
+
 #[test]
-fn malformed_old_journals(rt: HostRuntime) -> Result<(), Fail> {
-    let alloc = rt.alloc();
-    let cases: [(usize, &[u8]); 11] = [
-        (3, &[0x4b]), // a wrong letter
-        (4, &[3]), // version 3
-        (6, &[1]), // a byte that is to be 0
-        (7, &[0xff; 8]), // a size past the end
-        (14, &[56]),
-        (14, &[54]),
-        (15, &[0, 0, 2, 1]), // 513 entries
-        (15, &[0xff; 4]),
-        (27, b"txt"), // inbox.txt
-        (30, &[0xff; 8]), // a patch that ends past the final length
-        (38, &[0, 0, 0, 0, 1, 0, 0, 1]), // a file of 16,777,217 bytes
-    ];
-    for (at, others) in cases {
-        let bytes = with(alloc, &OLD[1..], at, others)?;
-        refuse(&rt, alloc, &bytes)?;
+fn malformed_journals(rt: HostRuntime) {
+    for body in MALFORMED {
+        refuse(
+            &rt,
+            rt.alloc(),
+            &body_of(rt.alloc(), body).expect(&rt, "memory"),
+        );
     }
-    let none = with(alloc, &OLD[1..], 14, &[4, 0, 0, 0, 0])?;
-    refuse(&rt, alloc, &none)?;
-    assert!(rt; !well_formed(&OLD[1..70]));
-    assert!(rt; !well_formed(&OLD[1..16]));
-    Ok(())
 }
 
-#[test]
-fn well_formed_new_journals(rt: HostRuntime) -> Result<(), Fail> {
-    let alloc = rt.alloc();
-    assert!(rt; well_formed(&TWO));
-    let touching = with(alloc, &TWO, 66, &[3])?;
-    assert!(rt; well_formed(&touching));
+// Journals, and whether they are well formed.
+const FORMED: &[(Body, bool)] = &[
+    ((&TWO, ALL, &[], b""), true),
+    ((&TWO, ALL, &[(66, &[3])], b""), true), // the patches touch
     // A patch that stands alone may have no bytes.
-    let alone = with(alloc, &TWO[..58], 14, &[0x2b])?;
-    let alone = with(alloc, &alone, 41, &[1])?;
-    let alone = with(alloc, &alone, 57, &[0])?;
-    assert!(rt; well_formed(&alone));
-    Ok(())
-}
+    (
+        (&TWO, 58, &[(14, &[0x2b]), (41, &[1]), (57, &[0])], b""),
+        true,
+    ),
+    ((&OLD, 69, &[], b""), false),
+    ((&OLD, 15, &[], b""), false),
+];
 
 #[test]
-fn malformed_new_journals(rt: HostRuntime) -> Result<(), Fail> {
-    let alloc = rt.alloc();
-    let cases: [(usize, &[u8]); 8] = [
-        (66, &[2]), // the second patch begins within the first
-        (66, &[8]), // the second patch ends past the final length
-        (38, &[0, 0, 0, 0]), // no patch
-        (38, &[0, 0, 0, 1]), // one patch, and bytes left over
-        (38, &[0, 0, 3, 0xe9]), // 1,001 patches
-        (30, &[0, 0, 0, 0, 4, 0, 0, 1]), // a file of 67,108,865 bytes
-        (50, &[0xff; 8]), // a patch of 2^64 - 1 bytes
-        (42, &[0xff; 8]), // a patch at 2^64 - 1
-    ];
-    for (at, others) in cases {
-        let bytes = with(alloc, &TWO, at, others)?;
-        refuse(&rt, alloc, &bytes)?;
+fn well_formed_journals(rt: HostRuntime) {
+    for (i, (body, expected)) in FORMED.iter().enumerate() {
+        let bytes = body_of(rt.alloc(), body).expect(&rt, "memory");
+        assert!(rt; well_formed(&bytes) == *expected, "row {i}");
     }
-    // Of two patches one has no bytes.
-    let empty = with(alloc, &TWO[..75], 14, &[0x3c])?;
-    let empty = with(alloc, &empty, 74, &[0])?;
-    refuse(&rt, alloc, &empty)?;
-    Ok(())
 }
 
 #[test]
-fn two_equal_names(rt: HostRuntime) -> Result<(), Fail> {
-    let alloc = rt.alloc();
-    let twice = joined(alloc, &OLD[1..], &OLD[20..])?;
-    let twice = with(alloc, &twice, 14, &[106, 0, 0, 0, 2])?;
-    refuse(&rt, alloc, &twice)?;
+fn two_equal_names(rt: HostRuntime) {
+    let mut twice = joined(rt.alloc(), &OLD[1..], &OLD[20..]).expect(&rt, "memory");
+    put(&mut twice, 14, &[106, 0, 0, 0, 2]);
+    refuse(&rt, rt.alloc(), &twice);
     // Another name.
-    let apart = with(alloc, &twice, 72, b"j")?;
-    assert!(rt; well_formed(&apart));
-    Ok(())
+    put(&mut twice, 72, b"j");
+    assert!(rt; well_formed(&twice));
 }
 
 // Whether the record of these bytes is written as those.
@@ -123,8 +109,7 @@ fn is_written(alloc: Global, bytes: &[u8], expected: &[u8]) -> Result<bool, Fail
 }
 
 #[test]
-fn version_2_is_written(rt: HostRuntime) -> Result<(), Fail> {
-    assert!(rt; is_written(rt.alloc(), &OLD[1..], &NEW[1..])?);
-    assert!(rt; is_written(rt.alloc(), &TWO, &TWO)?);
-    Ok(())
+fn version_2_is_written(rt: HostRuntime) {
+    assert!(rt; must(&rt, is_written(rt.alloc(), &OLD[1..], &NEW[1..])));
+    assert!(rt; must(&rt, is_written(rt.alloc(), &TWO[1..], &TWO[1..])));
 }

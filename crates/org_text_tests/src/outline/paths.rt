@@ -1,10 +1,10 @@
 // Paths of titles, and headings by their title.
-use org_outline::{Node, Outline, PathFault, States, Titles};
+use crate::edits::titles;
+use org_outline::{Node, Outline, PathFault, States};
 use std::alloc::{AllocError, Global};
-use std::process::Abort;
 
 /// Paths, and the number of the node at each.
-const PATHS: [(&[&str], Result<usize, PathFault>); 5] = [
+const PATHS: &[(&[&str], Result<usize, PathFault>)] = &[
     (&["A"], Err(PathFault::NotUnique)),
     (&["C", "D"], Err(PathFault::NotUnique)),
     (&["C", "B"], Ok(6)),
@@ -12,62 +12,66 @@ const PATHS: [(&[&str], Result<usize, PathFault>); 5] = [
     (&[], Err(PathFault::NotFound)),
 ];
 
-/// Titles, and the number of the one node that has each.
-const HEADED: [(&str, Result<Option<usize>, PathFault>); 3] = [
+/// Titles, and the number of the one node that has each, or of none.
+const HEADED: &[(&str, Result<Option<usize>, PathFault>)] = &[
     ("C", Ok(Some(3))),
     ("B", Err(PathFault::NotUnique)),
     ("Q", Ok(None)),
 ];
 
-#[test]
-fn paths(rt: HostRuntime) {
-    let states = States::new(rt.alloc(), &["TODO"], &["DONE"]).expect(&rt, "memory");
-    let text = b"* TODO A :x:\n** B\n* A\n* C\n*** D\n** D\n** B\n";
-    assert_paths(
-        &rt,
-        &Outline::read(rt.alloc(), text, &states).expect(&rt, "memory"),
-    );
-}
-
-fn assert_paths(rt: &(impl Abort + AllocGlobal), outline: &Outline<'_>) {
-    assert!(rt; outline.count() == 7);
-    for (path, node) in PATHS {
-        assert!(rt; number_at(rt.alloc(), outline, path).expect(rt, "memory") == node);
-    }
-    for (title, node) in HEADED {
-        assert!(rt;
-            number_if_any(outline.headed(title.as_bytes())) == node,
-            "{title}"
-        );
+/// Whether an answer is the node of this number.
+fn is(found: Result<Node, PathFault>, expected: &Result<usize, PathFault>) -> bool {
+    match (found, expected) {
+        (Ok(node), Ok(number)) => node.number() == *number,
+        (Err(fault), Err(expected)) => fault == *expected,
+        _ => false,
     }
 }
 
-fn number_at(
+/// Whether the node at a path is that of this number.
+fn is_at(
     alloc: Global,
     outline: &Outline<'_>,
     path: &[&str],
-) -> Result<Result<usize, PathFault>, AllocError> {
+    expected: &Result<usize, PathFault>,
+) -> Result<bool, AllocError> {
     let path = titles(alloc, path)?.clone()?;
-    Ok(number(outline.find(path.as_slice())))
+    Ok(is(outline.find(path.as_slice()), expected))
 }
 
-fn number(found: Result<Node, PathFault>) -> Result<usize, PathFault> {
-    Ok(found?.number())
-}
+const TEXT: &[u8] = b"* TODO A :x:\n** B\n* A\n* C\n*** D\n** D\n** B\n";
 
-fn number_if_any(found: Result<Option<Node>, PathFault>) -> Result<Option<usize>, PathFault> {
-    match found? {
-        Some(node) => Ok(Some(node.number())),
-        None => Ok(None),
+#[test]
+fn paths(rt: HostRuntime) {
+    let states = States::new(rt.alloc(), &["TODO"], &["DONE"]).expect(&rt, "memory");
+    let outline = Outline::read(rt.alloc(), TEXT, &states).expect(&rt, "memory");
+    assert!(rt; outline.count() == 7);
+    for (path, expected) in PATHS {
+        assert!(rt; is_at(rt.alloc(), &outline, path, expected) == Ok(true));
     }
 }
 
-fn titles(alloc: Global, words: &[&str]) -> Result<Titles, AllocError> {
-    let mut titles = Vec::new(alloc);
-    for word in words {
-        titles.push(Vec::from_slice(alloc, word.as_bytes())?)?;
+/// Whether the one node of this title, if there is one, is that of this number.
+fn is_headed(
+    outline: &Outline<'_>,
+    title: &str,
+    expected: &Result<Option<usize>, PathFault>,
+) -> bool {
+    match (outline.headed(title.as_bytes()), expected) {
+        (Ok(Some(node)), Ok(Some(number))) => node.number() == *number,
+        (Ok(None), Ok(None)) => true,
+        (Err(fault), Err(expected)) => fault == *expected,
+        _ => false,
     }
-    Ok(Titles::new(titles))
+}
+
+#[test]
+fn titles_of_one_heading(rt: HostRuntime) {
+    let states = States::new(rt.alloc(), &["TODO"], &["DONE"]).expect(&rt, "memory");
+    let outline = Outline::read(rt.alloc(), TEXT, &states).expect(&rt, "memory");
+    for (title, expected) in HEADED {
+        assert!(rt; is_headed(&outline, title, expected), "{title}");
+    }
 }
 
 #[test]

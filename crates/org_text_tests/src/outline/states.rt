@@ -1,7 +1,6 @@
 // Which states are accepted.
 use org_outline::{States, StatesFault};
 use std::alloc::Global;
-use std::process::Abort;
 
 const SIXTEEN: &[&str] = &[
     "a", "b", "c", "d", "e", "f", "g", "h", "i", "j", "k", "l", "m", "n", "o", "p",
@@ -15,36 +14,32 @@ const SEVENTEEN_DONE: &[&str] = &[
     "A", "B", "C", "D", "E", "F", "G", "H", "I", "J", "K", "L", "M", "N", "O", "P", "Q",
 ];
 
-fn are_accepted(alloc: Global, active: &[&str], done: &[&str]) -> bool {
-    States::new(alloc, active, done).is_ok()
+/// Active states, done states, and whether they are accepted.
+const ROWS: &[(&[&str], &[&str], bool)] = &[
+    (&["abcdefghijklmnopqrstuvwx"], &["D-1", "_"], true),
+    (SIXTEEN, SIXTEEN_DONE, true),
+    (SIXTEEN, SEVENTEEN_DONE, false),
+    (&["abcdefghijklmnopqrstuvwxy"], &["DONE"], false),
+    (&[], &["DONE"], false),
+    (&["TODO"], &[], false),
+    (&["TODO"], &["TODO"], false),
+    (&["A", "B", "A"], &["D"], false),
+    (&[""], &["D"], false),
+    (&["A B"], &["D"], false),
+];
+
+/// Whether states are accepted, or refused as bad ones.
+fn is_right(alloc: Global, active: &[&str], done: &[&str], accepted: bool) -> bool {
+    match States::new(alloc, active, done) {
+        Ok(_) => accepted,
+        Err(StatesFault::BadStates) => !accepted,
+        Err(StatesFault::OutOfMemory) => false,
+    }
 }
 
 #[test]
 fn accepted_states(rt: HostRuntime) {
-    let longest = "abcdefghijklmnopqrstuvwx";
-    assert!(rt; are_accepted(rt.alloc(), &[longest], &["D-1", "_"]));
-    assert!(rt; are_accepted(rt.alloc(), SIXTEEN, SIXTEEN_DONE));
-    assert_refused(&rt, rt.alloc(), SIXTEEN, SEVENTEEN_DONE);
-}
-
-fn assert_refused(rt: &impl Abort, alloc: Global, active: &[&str], done: &[&str]) {
-    assert!(rt;
-        matches!(
-            States::new(alloc, active, done),
-            Err(StatesFault::BadStates)
-        )
-    );
-}
-
-#[test]
-fn refused_states(rt: HostRuntime) {
-    let alloc = rt.alloc();
-    let too_long = "abcdefghijklmnopqrstuvwxy";
-    assert_refused(&rt, alloc, &[too_long], &["DONE"]);
-    assert_refused(&rt, alloc, &[], &["DONE"]);
-    assert_refused(&rt, alloc, &["TODO"], &[]);
-    assert_refused(&rt, alloc, &["TODO"], &["TODO"]);
-    assert_refused(&rt, alloc, &["A", "B", "A"], &["D"]);
-    assert_refused(&rt, alloc, &[""], &["D"]);
-    assert_refused(&rt, alloc, &["A B"], &["D"]);
+    for (i, (active, done, accepted)) in ROWS.iter().enumerate() {
+        assert!(rt; is_right(rt.alloc(), active, done, *accepted), "row {i}");
+    }
 }

@@ -52,40 +52,39 @@ fn splice_somewhere(text: &mut Editing, state: &mut u64) -> Result<(), AllocErro
     text.splice(at, removed, &letters[first..first + added.min(8)])
 }
 
-/// Splices a text at random, settles it after the first of them, and asserts that its patches give the text.
-fn assert_patches(
-    rt: &impl Abort,
+/// Splices a text at random, settles it, and splices it so often again: whether its patches then give it.
+fn give_text(
     alloc: Global,
-    bytes: Vec<u8>,
+    text: &mut Editing,
     splices: usize,
     state: &mut u64,
-) -> Result<(), AllocError> {
-    let mut text = Editing::new(bytes);
-    let mut old = Vec::new(alloc);
-    for step in 0..splices {
-        splice_somewhere(&mut text, state)?;
-        if step == 0 {
-            text.settle();
-            old = Vec::from_slice(alloc, text.bytes())?;
-        }
+) -> Result<bool, AllocError> {
+    splice_somewhere(text, state)?;
+    text.settle();
+    let old = Vec::from_slice(alloc, text.bytes())?;
+    for _ in 0..splices {
+        splice_somewhere(text, state)?;
     }
     let now = written(alloc, &old, &text.patches()?, text.bytes().len())?;
-    assert!(rt;
-        now.as_slice() == text.bytes(),
-        "from a text of {}",
-        old.len()
-    );
-    Ok(())
+    Ok(now.as_slice() == text.bytes())
+}
+
+/// Splices a text at random, at least once and so often at most, and asserts that its patches give it.
+fn assert_patches(rt: &impl Abort, alloc: Global, bytes: Vec<u8>, most: usize, state: &mut u64)
+    requires { 0 < most }
+{
+    let mut text = Editing::new(bytes);
+    let splices = below(state, most);
+    let give = give_text(alloc, &mut text, splices, state).expect(rt, "memory");
+    assert!(rt; give, "after {splices} splices more");
 }
 
 #[test]
-fn patches_of_random_splices(rt: HostRuntime) -> Result<(), AllocError> {
+fn patches_of_random_splices(rt: HostRuntime) {
     let mut state = 1;
     for _ in 0..4_000u32 {
-        let splices = 1 + below(&mut state, 6);
-        assert_patches(&rt, rt.alloc(), Vec::new(rt.alloc()), splices, &mut state)?;
+        assert_patches(&rt, rt.alloc(), Vec::new(rt.alloc()), 6, &mut state);
     }
-    Ok(())
 }
 
 /// Some hundred lines.
@@ -100,12 +99,10 @@ fn long_text(alloc: Global, state: &mut u64) -> Result<Vec<u8>, AllocError> {
 }
 
 #[test]
-fn patches_of_long_texts(rt: HostRuntime) -> Result<(), AllocError> {
+fn patches_of_long_texts(rt: HostRuntime) {
     let mut state = 1;
     for _ in 0..200u32 {
-        let text = long_text(rt.alloc(), &mut state)?;
-        let splices = 1 + below(&mut state, 60);
-        assert_patches(&rt, rt.alloc(), text, splices, &mut state)?;
+        let text = long_text(rt.alloc(), &mut state).expect(&rt, "memory");
+        assert_patches(&rt, rt.alloc(), text, 60, &mut state);
     }
-    Ok(())
 }

@@ -1,15 +1,14 @@
 // Splices of small texts, and what their patches are.
+use crate::edits::{Splice, edited};
 use org_splice::{Bytes, Edit, Editing, Patch};
 use std::alloc::AllocError;
 use std::process::Abort;
 
-/// A text after splices, each of a place, how many bytes are removed there, and the bytes that take their place.
-fn edited<R: AllocGlobal + Abort>(
-    rt: &R,
-    old: &[u8],
-    splices: &[(usize, usize, &[u8])],
-) -> Result<Editing, AllocError> {
-    let mut text = Editing::new(Vec::from_slice(rt.alloc(), old)?);
+/// Where a patch begins, and its bytes.
+pub type Patched = (u64, &'static [u8]);
+
+/// Makes splices of a text.
+pub fn splice(rt: &impl Abort, text: &mut Editing, splices: &[Splice]) -> Result<(), AllocError> {
     for (at, removed, bytes) in splices {
         let size = text.bytes().len();
         assert!(rt;
@@ -18,25 +17,25 @@ fn edited<R: AllocGlobal + Abort>(
         );
         text.splice(*at, *removed, bytes)?;
     }
-    Ok(text)
+    Ok(())
 }
 
-/// Whether these are the patches, each of a place and its bytes.
-pub(crate) fn are(patches: &[Patch], expected: &[(u64, &[u8])]) -> bool {
+/// Whether these are the patches.
+fn are(patches: &[Patch], expected: &[Patched]) -> bool {
     patches.len() == expected.len()
         && patches.iter().zip(expected).all(|(patch, (from, bytes))| patch.from == *from
             && patch.bytes.as_slice() == *bytes)
 }
 
 /// Whether a text has these bytes and these patches.
-fn has(text: &Editing, bytes: &[u8], patches: &[(u64, &[u8])]) -> Result<bool, AllocError> {
+pub fn has(text: &Editing, bytes: &[u8], patches: &[Patched]) -> Result<bool, AllocError> {
     Ok(text.bytes() == bytes && are(&text.patches()?, patches))
 }
 
 const HEADINGS: &[u8] = b"* A\n* B\n";
 
 /// Texts, their splices, the new text, and its patches.
-const SPLICES: [(&[u8], &[(usize, usize, &[u8])], &[u8], &[(u64, &[u8])]); 10] = [
+const SPLICES: &[(&[u8], &[Splice], &[u8], &[Patched])] = &[
     (HEADINGS, &[], b"* A\n* B\n", &[(0, b"")]),
     (HEADINGS, &[(2, 1, b"C")], b"* C\n* B\n", &[(2, b"C")]),
     (
@@ -77,13 +76,29 @@ const SPLICES: [(&[u8], &[(usize, usize, &[u8])], &[u8], &[(u64, &[u8])]); 10] =
         &[(8, b"* N\n")],
     ),
     (HEADINGS, &[(3, 0, b"")], b"* A\n* B\n", &[(0, b"")]),
+    (b"* A\n", &[(2, 1, b"B")], b"* B\n", &[(2, b"B")]),
 ];
+
+/// Whether a text has these bytes and these patches after its splices, and none of them once it is settled.
+fn is_spliced(
+    rt: &impl Abort,
+    text: &mut Editing,
+    splices: &[Splice],
+    bytes: &[u8],
+    patches: &[Patched],
+) -> Result<bool, AllocError> {
+    splice(rt, text, splices)?;
+    let is_spliced = has(text, bytes, patches)?;
+    text.settle();
+    Ok(is_spliced && has(text, bytes, &[(0, b"")])?)
+}
 
 #[test]
 fn splices_of_worked_texts(rt: HostRuntime) {
-    for (i, (old, splices, new, expected)) in SPLICES.iter().enumerate() {
-        let text = edited(&rt, old, splices).expect(&rt, "memory");
-        assert!(rt; has(&text, new, expected).expect(&rt, "memory"), "row {i}");
+    for (i, (old, splices, new, patches)) in SPLICES.iter().enumerate() {
+        let mut text = Editing::new(Vec::from_slice(rt.alloc(), old).expect(&rt, "memory"));
+        let is_spliced = is_spliced(&rt, &mut text, splices, new, patches).expect(&rt, "memory");
+        assert!(rt; is_spliced, "row {i}");
     }
 }
 
@@ -115,38 +130,30 @@ fn more_than_a_thousand_ranges(rt: HostRuntime) {
     assert_every_other(&rt, &text.patches().expect(&rt, "memory"));
 }
 
+/// Texts, what they are with a newline at their end, and their patches then.
+const TERMINATED: &[(&[u8], &[u8], &[Patched])] = &[
+    (b"", b"", &[(0, b"")]),
+    (b"* A\n", b"* A\n", &[(0, b"")]),
+    (b"* A", b"* A\n", &[(3, b"\n")]),
+    (b"\n\n", b"\n\n", &[(0, b"")]),
+];
+
 #[test]
 fn texts_with_a_newline_at_their_end(rt: HostRuntime) {
-    let rows: [(&[u8], &[u8], &[(u64, &[u8])]); 4] = [
-        (b"", b"", &[(0, b"")]),
-        (b"* A\n", b"* A\n", &[(0, b"")]),
-        (b"* A", b"* A\n", &[(3, b"\n")]),
-        (b"\n\n", b"\n\n", &[(0, b"")]),
-    ];
-    for (i, (old, new, expected)) in rows.iter().enumerate() {
-        let mut text = edited(&rt, old, &[]).expect(&rt, "memory");
+    for (i, (old, new, patches)) in TERMINATED.iter().enumerate() {
+        let mut text = Editing::new(Vec::from_slice(rt.alloc(), old).expect(&rt, "memory"));
         text.terminate().expect(&rt, "memory");
-        assert!(rt; has(&text, new, expected).expect(&rt, "memory"), "row {i}");
+        assert!(rt; has(&text, new, patches).expect(&rt, "memory"), "row {i}");
     }
 }
 
 #[test]
-fn settled_texts(rt: HostRuntime) {
-    let mut text = edited(&rt, b"* A\n", &[(2, 1, b"B")]).expect(&rt, "memory");
-    assert!(rt; has(&text, b"* B\n", &[(2, b"B")]).expect(&rt, "memory"));
-    text.settle();
-    assert!(rt; has(&text, b"* B\n", &[(0, b"")]).expect(&rt, "memory"));
-}
-
-#[test]
 fn edit_of_a_heading(rt: HostRuntime) {
-    let mut text = Editing::new(Vec::from_slice(rt.alloc(), b"* A\n").expect(&rt, "memory"));
     let bytes = Bytes::new(Vec::from_slice(rt.alloc(), b"BC").expect(&rt, "memory"));
-    text.apply(&Edit {
+    let edit = Edit {
         at: 2,
         removed: 1,
         bytes,
-    })
-    .expect(&rt, "memory");
-    assert!(rt; text.bytes() == b"* BC\n".as_slice());
+    };
+    assert!(rt; edited(&rt, rt.alloc(), b"* A\n", &edit).as_slice() == b"* BC\n".as_slice());
 }

@@ -2,38 +2,29 @@
 use super::{moment, prints};
 use org_stamp::{Moment, Stamp};
 
-// Moments, and the minutes from 1970-01-01 00:00 to each.
-const MINUTES: &[(u16, u8, u8, u8, u8, i64)] = &[
-    (1970, 1, 1, 0, 0, 0),
-    (1969, 12, 31, 23, 59, -1),
-    (2000, 1, 1, 0, 1, 10957 * 1440 + 1),
-    (1, 1, 1, 0, 0, -719162 * 1440),
-    (9999, 12, 31, 23, 59, 2932896 * 1440 + 1439),
-];
-
-// Days, and how many days after Monday each is.
-const WEEKDAYS: &[(u16, u8, u8, u8)] = &[
-    (2026, 7, 1, 2),
-    (2005, 10, 3, 0),
-    (2024, 2, 29, 3),
-    (9999, 12, 31, 4),
+// Moments, the minutes from 1970-01-01 00:00 to each, and how many days after Monday its day is.
+const MOMENTS: &[(u16, u8, u8, u8, u8, i64, u8)] = &[
+    (1970, 1, 1, 0, 0, 0, 3),
+    (1969, 12, 31, 23, 59, -1, 2),
+    (2000, 1, 1, 0, 1, 10957 * 1440 + 1, 5),
+    (1, 1, 1, 0, 0, -719162 * 1440, 0),
+    (9999, 12, 31, 23, 59, 2932896 * 1440 + 1439, 4),
+    (2026, 7, 1, 9, 5, 20635 * 1440 + 545, 2),
+    (2005, 10, 3, 9, 5, 13059 * 1440 + 545, 0),
+    (2024, 2, 29, 9, 5, 19782 * 1440 + 545, 3),
+    (9999, 12, 31, 9, 5, 2932896 * 1440 + 545, 4),
 ];
 
 #[test]
 fn moments_of_the_calendar(rt: HostRuntime) {
-    for (year, month, day, hour, minute, minutes) in MINUTES {
+    for (year, month, day, hour, minute, minutes, weekday) in MOMENTS {
         let moment = moment(&rt, *year, *month, *day, *hour, *minute);
-        assert!(rt; moment.minutes() == *minutes, "{minutes}");
-    }
-    let wednesday = moment(&rt, 2026, 7, 1, 10, 0);
-    assert!(rt; (wednesday.year(), wednesday.month(), wednesday.day()) == (2026, 7, 1));
-}
-
-#[test]
-fn weekdays(rt: HostRuntime) {
-    for (year, month, day, weekday) in WEEKDAYS {
-        let moment = moment(&rt, *year, *month, *day, 9, 5);
-        assert!(rt; moment.weekday() == *weekday, "{weekday}");
+        let date = (moment.year(), moment.month(), moment.day());
+        assert!(rt; date == (*year, *month, *day), "{minutes}");
+        assert!(rt;
+            (moment.minutes(), moment.weekday()) == (*minutes, *weekday),
+            "{minutes}"
+        );
     }
 }
 

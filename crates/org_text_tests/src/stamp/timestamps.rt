@@ -4,68 +4,16 @@ use org_stamp::Stamp;
 use std::alloc::Global;
 use std::process::Abort;
 
-// Timestamps, and how they are printed.
-const PRINTED: &[(&str, &str)] = &[
-    ("<2026-07-01>", "<2026-07-01 Wed>"),
-    ("[2026-07-01 mer. 9:05]", "[2026-07-01 Wed 09:05]"),
-    (
-        "<2026-07-01 +1w/2w --3d Mon 10:00-09:00>",
-        "<2026-07-01 Wed 10:00-09:00 +1w/2w --3d>",
-    ),
-    (
-        "<2026-07-01 \t -2d  .+0001m>",
-        "<2026-07-01 Wed -2d .+0001m>",
-    ),
-    ("<2026-07-01 /x[<:\r>", "<2026-07-01 Wed>"),
-    ("<2024-02-29 \u{e9} 23:59>", "<2024-02-29 Thu 23:59>"),
-    ("<0001-01-01 0:00>", "<0001-01-01 Mon 00:00>"),
-    ("[9999-12-31]", "[9999-12-31 Fri]"),
-];
-
-#[test]
-fn timestamps(rt: HostRuntime) {
-    for (text, printed) in PRINTED {
-        assert_prints(&rt, rt.alloc(), text, printed);
-    }
-}
-
-fn assert_prints(rt: &impl Abort, alloc: Global, text: &str, printed: &str) {
-    let stamp = stamp(rt, text.as_bytes());
-    assert!(rt;
-        prints(alloc, &stamp, printed.as_bytes()) == Ok(true),
-        "{text}"
-    );
-}
-
-#[test]
-fn front_of_a_range(rt: HostRuntime) {
-    let range: &[u8] = b"[2026-07-01 Wed 10:00]--[2026-07-01 Wed 11:30]";
-    let (front, length) = Stamp::read(range).expect(&rt, "a timestamp");
-    let start = moment(&rt, 2026, 7, 1, 10, 0);
-    assert!(rt; (length, front.moment().minutes()) == (22, start.minutes()));
-    let has = (front.is_active(), front.has_time(), front.has_cookies());
-    assert!(rt; has == (false, true, false));
-}
-
-// Timestamps, and whether each has a time, has cookies, and repeats.
-const HAVING: &[(&str, bool, bool, bool)] = &[
-    ("<2026-07-01 -3d>", false, true, false),
-    ("<2026-07-01 ++0y>", false, true, false),
-    ("<2026-07-01 -3d ++1y>", false, true, true),
-    ("<2026-07-01 10:00-11:00>", false, false, false),
-];
-
-#[test]
-fn what_timestamps_have(rt: HostRuntime) {
-    for (text, time, cookies, repeats) in HAVING {
-        let stamp = stamp(&rt, text.as_bytes());
-        let has = (stamp.has_time(), stamp.has_cookies(), stamp.repeats());
-        assert!(rt; has == (*time, *cookies, *repeats), "{text}");
-    }
-}
-
-// Timestamps with their parts in every order, and how they are printed.
-const EVERY_ORDER: &str = "\
+// Timestamps, and how they are printed; the last of them have their parts in every order.
+const PRINTED: &str = "\
+<2026-07-01>: <2026-07-01 Wed>
+[2026-07-01 mer. 9:05]: [2026-07-01 Wed 09:05]
+<2026-07-01 +1w/2w --3d Mon 10:00-09:00>: <2026-07-01 Wed 10:00-09:00 +1w/2w --3d>
+<2026-07-01 \t -2d  .+0001m>: <2026-07-01 Wed -2d .+0001m>
+<2026-07-01 /x[<:\r>: <2026-07-01 Wed>
+<2024-02-29 \u{e9} 23:59>: <2024-02-29 Thu 23:59>
+<0001-01-01 0:00>: <0001-01-01 Mon 00:00>
+[9999-12-31]: [9999-12-31 Fri]
 <2026-07-01 Wed 10:00 +1w -2d>: <2026-07-01 Wed 10:00 +1w -2d>
 <2026-07-01 Wed 10:00 -2d +1w>: <2026-07-01 Wed 10:00 -2d +1w>
 <2026-07-01 Wed +1w 10:00 -2d>: <2026-07-01 Wed 10:00 +1w -2d>
@@ -92,11 +40,46 @@ const EVERY_ORDER: &str = "\
 <2026-07-01 -2d +1w 10:00 Wed>: <2026-07-01 Wed 10:00 -2d +1w>
 ";
 
+fn assert_prints(rt: &impl Abort, alloc: Global, row: &str) {
+    let (text, printed) = row.split_once(": ").expect(rt, "a row");
+    let stamp = stamp(rt, text.as_bytes());
+    assert!(rt;
+        prints(alloc, &stamp, printed.as_bytes()) == Ok(true),
+        "{row}"
+    );
+}
+
 #[test]
-fn parts_in_every_order(rt: HostRuntime) {
-    for line in EVERY_ORDER.lines() {
-        let (text, printed) = line.split_once(": ").expect(&rt, "a row");
-        assert_prints(&rt, rt.alloc(), text, printed);
+fn timestamps(rt: HostRuntime) {
+    for row in PRINTED.lines() {
+        assert_prints(&rt, rt.alloc(), row);
+    }
+}
+
+#[test]
+fn front_of_a_range(rt: HostRuntime) {
+    let range: &[u8] = b"[2026-07-01 Wed 10:00]--[2026-07-01 Wed 11:30]";
+    let (front, length) = Stamp::read(range).expect(&rt, "a timestamp");
+    let start = moment(&rt, 2026, 7, 1, 10, 0);
+    assert!(rt; (length, front.moment().minutes()) == (22, start.minutes()));
+    let has = (front.is_active(), front.has_time(), front.has_cookies());
+    assert!(rt; has == (false, true, false));
+}
+
+// Timestamps, and whether each has a time, has cookies, and repeats.
+const HAVING: &[(&str, bool, bool, bool)] = &[
+    ("<2026-07-01 -3d>", false, true, false),
+    ("<2026-07-01 ++0y>", false, true, false),
+    ("<2026-07-01 -3d ++1y>", false, true, true),
+    ("<2026-07-01 10:00-11:00>", false, false, false),
+];
+
+#[test]
+fn what_timestamps_have(rt: HostRuntime) {
+    for (text, time, cookies, repeats) in HAVING {
+        let stamp = stamp(&rt, text.as_bytes());
+        let has = (stamp.has_time(), stamp.has_cookies(), stamp.repeats());
+        assert!(rt; has == (*time, *cookies, *repeats), "{text}");
     }
 }
 
