@@ -1,7 +1,9 @@
 -- A clock line read part by part.
 use Rattle.std.proofs.Common.{◌≡◌, ℕ, ◌+◌, ◌-◌, ◌≤◌, Option, Some, None, List, length, drop, codes, ap, ◌∙◌, arith, rules}
 use Rattle.std.specs.Prelude.{IfSome}
-use Rattle.org_splice.specs.Blanks.{is_blank, behind, trimmed_end}
+use Rattle.std.specs.List.{prefix_len, suffix_len}
+use Rattle.std.proofs.lemmas.List.{length-take, length-drop}
+use Rattle.org_splice.specs.Blanks.{is_blank, is_trailing, behind, trimmed_end}
 use Rattle.org_stamp.specs.Calendar.{CivilMinute}
 use Rattle.org_stamp.specs.Parts.{◌>>=◌}
 use Rattle.org_meta.specs.declared.clock.Clock.{Clock}
@@ -48,3 +50,10 @@ clock_read line body front after text behind_it start size found body_is front_i
 pub head_within : (found : Option Clock) (m n : ℕ) → m ≤ n → IfSome found (λ clock. head_of clock ≤ m) → IfSome found (λ clock. head_of clock ≤ n)
 head_within None m n le within = search rules
 head_within (Some clock) m n le within = omega (arith, within)
+
+-- the text behind the mark and blanks is a part of the line, and so is its stamp
+pub text_within : (body front : List ℕ) (after text : ℕ) → front ≡ behind is_blank body → after ≤ length front → text ≤ after → text ≤ length body
+text_within body front after text front_is a b = omega (arith, ap length front_is, length-drop (prefix_len is_blank body) body)
+
+pub head_fits : (line body : List ℕ) (text size : ℕ) → body ≡ trimmed_end line → text ≤ length body → size ≤ text → length body - text + size ≤ length line
+head_fits line body text size body_is a b = omega (arith, ap length body_is, length-take (length line - suffix_len is_trailing line) line)

@@ -1,6 +1,6 @@
 -- The edits of a subtree archived in its own text make the document that is defined.
-use Rattle.std.proofs.Common.{◌≡◌, ℕ, ◌<◌, List, [], ◌∷◌, Option, Some, None, Ok, Err, refl, sym, ap, subst, ◌∙◌}
-use Rattle.std.specs.Prelude.{Result}
+use Rattle.std.proofs.Common.{◌≡◌, ℕ, ◌<◌, List, [], ◌∷◌, Option, Some, None, Ok, Err, rules, refl, sym, ap, subst, ◌∙◌}
+use Rattle.std.specs.Prelude.{Result, IsOk}
 use Rattle.org_splice.specs.Edits.{AreEdits}
 use Rattle.org_splice.specs.Lines.{terminated}
 use Rattle.org_splice.specs.declared.edit.Edit.{Edit}
@@ -13,6 +13,7 @@ use Rattle.org_outline.specs.Numbers.{parent_without, size_of}
 use Rattle.org_outline.specs.Paths.{find_path}
 use Rattle.org_outline.proofs.TwoEdits.{two_edits}
 use Rattle.org_move.specs.declared.fault.MoveFault.{MoveFault}
+use Rattle.org_move.specs.declared.fault.MoveFault.TheVariants.{OutOfMemory}
 use Rattle.org_move.specs.Answers.{Gives}
 use Rattle.org_move.specs.Archive.{archive_within, archived, filled, if_apart, put_last, target_heading}
 use Rattle.org_move.specs.Edits.{insertion, removal}
@@ -40,6 +41,20 @@ pub not_apart : {C : Type 0} (states : Keywords) (name : List ℕ) (path : List 
 not_apart {C} states name path now to d Fits r s i up fault r_is found s_is found_up fails =
     apart_fails {C = C} d i up up (left_with states name now to d i up) (archive_within states name path now to d) Fits fault
     (found_both states name path now to d r s i up r_is found s_is found_up) fails
+
+some_ok : (r : Result Document MoveFault) (d : Document) → r ≡ Ok d → IsOk r
+some_ok (Ok new) d is = search rules
+some_ok (Err fault) d is = absurd cc
+
+-- memory is wanted only where a document is defined
+pub starved : {C : Type 0} (states : Keywords) (name : List ℕ) (path : List (List ℕ)) (now : CivilMinute) (to : Destination) (d : Document) (Fits : Document → C → Type 0) (r : Result ℕ PathFault) (s : Result (Option ℕ) PathFault)
+    (i : ℕ) (asked up : Option ℕ) (fault : MoveFault)
+    → r ≡ find_path states d path → r ≡ Ok i → s ≡ target_heading states to d → s ≡ Ok asked → Ok up ≡ if_apart d i asked asked → fault ≡ OutOfMemory
+    → Gives {A = C} (archive_within states name path now to d) Fits (Err fault)
+starved {C} states name path now to d Fits r s i asked up fault r_is found s_is found_up is memory =
+    let defined : archive_within states name path now to d ≡ Ok (left_with states name now to d i asked) =
+    found_both states name path now to d r s i asked r_is found s_is found_up ∙ apart_too d i asked asked up (left_with states name now to d i asked) is in
+    subst (λ (f : MoveFault). Gives {A = C} (archive_within states name path now to d) Fits (Err f)) (sym memory) (some_ok (archive_within states name path now to d) (left_with states name now to d i asked) defined)
 
 pub archived_within : (states : Keywords) (name : List ℕ) (path : List (List ℕ)) (now : CivilMinute) (t : List ℕ) (to : Destination) (r : Result ℕ PathFault) (s : Result (Option ℕ) PathFault)
     (i : ℕ) (asked up : Option ℕ) (at : ℕ) (bytes : List ℕ) (out goes_in : Edit)

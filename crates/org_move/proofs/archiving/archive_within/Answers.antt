@@ -8,7 +8,7 @@ use Rattle.org_outline.specs.Tree.{Document, Node, node_at, print, print_node, t
 use Rattle.org_move.specs.declared.fault.MoveFault.{MoveFault}
 use Rattle.org_move.specs.Answers.{Gives}
 use Rattle.org_move.specs.Archive.{archive_within, archived, filled}
-use Rattle.org_move.proofs.Within.{archived_within, not_apart}
+use Rattle.org_move.proofs.Within.{archived_within, not_apart, starved}
 use Rattle.org_move.proofs.Putting.{level_at}
 use Rattle.org_move.proofs.archiving.archive_within.Goals as goal
 
@@ -23,6 +23,30 @@ returns-in_err-up c =
     subst G (sym (told.1 ∙ ap (λ (fault : MoveFault). Err fault) told.2))
     (not_apart outline.states c.args.name.now path c.args.now c.args.to.now d Fits _ _ _ c.in_ok-target_heading.field-0 c.in_err-up.field-0.0
     c.find.ensures.value c.in_ok-node.was c.target_heading.ensures.value c.in_ok-target_heading.was c.in_err-up.ensures.value)
+
+pub returns-in_err-subtree : goal.returns-in_err-subtree
+returns-in_err-subtree c =
+    let outline = c.args.outline.now in
+    let path = titles_of c.args.path.now in
+    let d : Document = tree outline.text in
+    let Fits : Document → List Edit → Type 0 = λ new edits. AreEdits edits outline.text (print new) in
+    let G : Result (List Edit) MoveFault → Type 0 = λ r. Gives (archive_within outline.states c.args.name.now path c.args.now c.args.to.now d) Fits r in
+    let told = err_from_is_err_and c.from_residual-in_err-subtree.result c.from_residual-in_err-subtree.ensures.1 in
+    subst G (sym told.1)
+    (starved outline.states c.args.name.now path c.args.now c.args.to.now d Fits _ _ _ c.in_ok-target_heading.field-0 c.in_ok-up.up told.0
+    c.find.ensures.value c.in_ok-node.was c.target_heading.ensures.value c.in_ok-target_heading.was c.in_ok-up.ensures.value told.2)
+
+pub returns-in_err-lines : goal.returns-in_err-lines
+returns-in_err-lines c =
+    let outline = c.args.outline.now in
+    let path = titles_of c.args.path.now in
+    let d : Document = tree outline.text in
+    let Fits : Document → List Edit → Type 0 = λ new edits. AreEdits edits outline.text (print new) in
+    let G : Result (List Edit) MoveFault → Type 0 = λ r. Gives (archive_within outline.states c.args.name.now path c.args.now c.args.to.now d) Fits r in
+    let told = err_from_is_err_and c.from_residual-in_err-lines.result c.from_residual-in_err-lines.ensures.1 in
+    subst G (sym told.1)
+    (starved outline.states c.args.name.now path c.args.now c.args.to.now d Fits _ _ _ c.in_ok-target_heading.field-0 c.in_ok-up.up told.0
+    c.find.ensures.value c.in_ok-node.was c.target_heading.ensures.value c.in_ok-target_heading.was c.in_ok-up.ensures.value told.2)
 
 pub returns : goal.returns
 returns c =
