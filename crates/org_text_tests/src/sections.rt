@@ -230,6 +230,8 @@ const IN_DRAWER: &[u8] = b":LOGBOOK:\nCLOCK: [2026-07-01 Wed 10:00]\n:END:\n";
 
 const IN_TEXT: &[u8] = b"x\n  CLOCK: [2026-07-01 11:30] \r\n";
 
+const OPEN: &[&[u8]] = &[IN_DRAWER, IN_TEXT];
+
 #[test]
 fn changes_of_sections(rt: HostRuntime) {
     for (i, (change, section, expected)) in CHANGES.iter().enumerate() {
@@ -275,10 +277,10 @@ fn closing_fault(alloc: Global, section: &[u8], now: Moment) -> Option<ClockFaul
 #[test]
 fn clocks_not_closed_before_their_start(rt: HostRuntime) {
     let early = moment((2026, 7, 1, 9, 59)).expect(&rt, "a moment");
-    for section in [IN_DRAWER, IN_TEXT] {
+    for (i, section) in OPEN.iter().enumerate() {
         assert!(rt; is_terminated(section));
         let fault = closing_fault(rt.alloc(), section, early);
-        assert!(rt; fault == Some(ClockFault::ClockBackwards));
+        assert!(rt; fault == Some(ClockFault::ClockBackwards), "row {i}");
     }
 }
 

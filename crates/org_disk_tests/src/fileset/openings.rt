@@ -156,17 +156,29 @@ fn opened_many(
     Ok(FileSet::open(alloc, MemoryDisk::new(alloc), names))
 }
 
-// Whether a set was refused since its names are too many, before any call.
-fn are_too_many(refused: &OpenRefused<MemoryDisk>) -> bool {
-    matches!(refused.fault, OpenFault::TooManyFiles) && refused.disk.calls() == 0
+// Whether a set has so many names; where there is none, they are too many, and refused before any call.
+fn is_taken(
+    opened: &Result<FileSet<MemoryDisk>, OpenRefused<MemoryDisk>>,
+    names: Option<usize>,
+) -> bool {
+    match opened {
+        Ok(set) => names == Some(set.names().len()),
+        Err(refused) => {
+            names.is_none()
+                && matches!(refused.fault, OpenFault::TooManyFiles)
+                && refused.disk.calls() == 0
+        }
+    }
 }
+
+const MANY: &[(u32, Option<usize>)] = &[(256, Some(512)), (257, None)];
 
 #[test]
 fn too_many_names_are_refused(rt: HostRuntime) {
-    let set = must(&rt, opened_many(rt.alloc(), 256));
-    assert!(rt; matches!(&set, Ok(set) if set.names().len() == 512));
-    let refused = must(&rt, opened_many(rt.alloc(), 257));
-    assert!(rt; matches!(&refused, Err(refused) if are_too_many(refused)));
+    for (count, names) in MANY {
+        let opened = must(&rt, opened_many(rt.alloc(), *count));
+        assert!(rt; is_taken(&opened, *names), "{count}");
+    }
 }
 
 // Makes a.org this long.

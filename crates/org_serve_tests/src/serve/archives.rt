@@ -1,7 +1,7 @@
 // Archives over a disk that crashes or fails: both files are as before, or both after.
 use super::crashes::{calls, crashed};
 use super::journals::gate_opened;
-use super::moves::{BOTH, Step, crash_at_every_call, disk_of, fail_at_every_call, is_done};
+use super::moves::{BOTH, Step, crash_each, disk_of, fail_each, is_done};
 use super::must;
 use org_disk::{MemoryDisk, Outcome};
 use std::alloc::Global;
@@ -55,22 +55,19 @@ const TWO: Step = Step {
         \n",
 };
 
-#[test]
-fn an_archive_crashed(rt: HostRuntime) -> Result<(), Fail> {
-    crash_at_every_call(&rt, 1, &TO_THE_ARCHIVE)?;
-    crash_at_every_call(&rt, 1, &TO_ANOTHER_FILE)
-}
+// Steps, and in groups of which size their lines are settled.
+const CRASHED: &[(u32, Step)] = &[
+    (1, TO_THE_ARCHIVE),
+    (1, TO_ANOTHER_FILE),
+    (1, WITHIN),
+    // settled as a group, and at the end of the input
+    (2, TWO),
+    (3, TO_THE_ARCHIVE),
+];
 
 #[test]
-fn an_archive_within_a_file_crashed(rt: HostRuntime) -> Result<(), Fail> {
-    crash_at_every_call(&rt, 1, &WITHIN)
-}
-
-// Settled as a group, and at the end of the input.
-#[test]
-fn archives_in_a_group_crashed(rt: HostRuntime) -> Result<(), Fail> {
-    crash_at_every_call(&rt, 2, &TWO)?;
-    crash_at_every_call(&rt, 3, &TO_THE_ARCHIVE)
+fn archives_crashed(rt: HostRuntime) {
+    crash_each(&rt, CRASHED);
 }
 
 // Both files are asked for their length and read, though the archive file isn't there; the record is written and synced,
@@ -102,7 +99,7 @@ fn gate_left(alloc: Global) -> Result<u8, Fail> {
 }
 
 // A call, what of it goes out, and whether the archive is done then.
-const AT_THE_GATE: [(u64, Outcome, bool); 6] = [
+const AT_THE_GATE: &[(u64, Outcome, bool)] = &[
     (GATE, Outcome::Fill(1), true),
     (GATE, Outcome::Fill(0x55), false),
     (GATE, Outcome::None, false),
@@ -114,22 +111,17 @@ const AT_THE_GATE: [(u64, Outcome, bool); 6] = [
 #[test]
 fn the_gate_decides(rt: HostRuntime) {
     for (call, outcome, wanted) in AT_THE_GATE {
-        let done = must(&rt, is_done_crashed(rt.alloc(), call, outcome));
-        assert!(rt; done == wanted, "crashed at {call}");
+        let done = must(&rt, is_done_crashed(rt.alloc(), *call, *outcome));
+        assert!(rt; done == *wanted, "crashed at {call}");
     }
-}
-
-#[test]
-fn another_byte_at_the_gate_is_left_alone(rt: HostRuntime) {
+    // Another byte at the gate is left alone.
     assert!(rt; must(&rt, gate_left(rt.alloc())) == 0x55);
 }
 
-#[test]
-fn each_call_of_an_archive_fails(rt: HostRuntime) -> Result<(), Fail> {
-    fail_at_every_call(&rt, &TO_THE_ARCHIVE, 17)
-}
+// Steps, and how many calls each makes behind the opening.
+const FAILED: &[(Step, u64)] = &[(TO_THE_ARCHIVE, 17), (WITHIN, 11)];
 
 #[test]
-fn each_call_of_an_archive_within_a_file_fails(rt: HostRuntime) -> Result<(), Fail> {
-    fail_at_every_call(&rt, &WITHIN, 11)
+fn each_call_of_an_archive_fails(rt: HostRuntime) {
+    fail_each(&rt, FAILED);
 }

@@ -1,6 +1,5 @@
 // A clock that starts, stops or goes from one file to another over a disk that stops or fails.
-use super::moves::{BOTH, Step, crash_at_every_call, fail_at_every_call};
-use std::test::Fail;
+use super::moves::{BOTH, Step, crash_each, fail_each};
 
 // The clock that is closed stands in the file that comes later by its name, and neither file ends in a newline.
 const ELSEWHERE: Step = Step {
@@ -34,25 +33,19 @@ const IN_AND_OUT: Step = Step {
         CLOCK: [2026-07-01 Wed 10:00]--[2026-07-01 Wed 10:30] =>  0:30\n:END:\n\n",
 };
 
-#[test]
-fn a_clock_that_goes_to_another_file_crashed(rt: HostRuntime) -> Result<(), Fail> {
-    crash_at_every_call(&rt, 1, &ELSEWHERE)
-}
+// Steps, and in groups of which size their lines are settled.
+const CRASHED: &[(u32, Step)] = &[(1, ELSEWHERE), (2, IN_AND_OUT), (3, ELSEWHERE), (1, OUT)];
 
 #[test]
-fn clocks_in_a_group_crashed(rt: HostRuntime) -> Result<(), Fail> {
-    crash_at_every_call(&rt, 2, &IN_AND_OUT)?;
-    crash_at_every_call(&rt, 3, &ELSEWHERE)
-}
-
-#[test]
-fn a_clock_that_stops_crashed(rt: HostRuntime) -> Result<(), Fail> {
-    crash_at_every_call(&rt, 1, &OUT)
+fn clocks_crashed(rt: HostRuntime) {
+    crash_each(&rt, CRASHED);
 }
 
 // The files up to that of the clock that runs, three, are asked for their length and read. Of the two that change each is
 // written in one place, and none is cut.
+const FAILED: &[(Step, u64)] = &[(ELSEWHERE, 18)];
+
 #[test]
-fn each_call_of_a_clock_that_goes_to_another_file_fails(rt: HostRuntime) -> Result<(), Fail> {
-    fail_at_every_call(&rt, &ELSEWHERE, 18)
+fn each_call_of_a_clock_that_goes_to_another_file_fails(rt: HostRuntime) {
+    fail_each(&rt, FAILED);
 }

@@ -34,17 +34,25 @@ fn opened(rt: &HostRuntime, passes: u64) -> Result<Result<Store<Folder>, OpenFau
     Ok(Store::open(alloc, disk, names, states).map_err(|refused| refused.fault))
 }
 
+// Whether the store is opened, where no call fails.
+fn opens(rt: &HostRuntime) -> Result<bool, Fail> {
+    Ok(opened(rt, u64::MAX)?.is_ok())
+}
+
 // How serving these lines in groups of two ends, and how many commands are acknowledged and accepted then.
+fn serve_lines(rt: &HostRuntime, store: &mut Store<Folder>, lines: &[u8]) -> (ServeEnd, u64, u64) {
+    store.set_group(2);
+    let mut reader = Counted::new(lines);
+    let mut writer = Counted::new(Vec::new(rt.alloc()));
+    let end = serve(rt.alloc(), store, &mut reader, &mut writer, 100);
+    (end, store.acknowledged(), store.accepted())
+}
+
+// The same over the folder, whose calls fail after so many.
 fn served(rt: &HostRuntime, lines: &[u8], passes: u64) -> Result<(ServeEnd, u64, u64), Fail> {
     match opened(rt, passes)? {
         Err(_) => Ok((ServeEnd::Device, 0, 0)),
-        Ok(mut store) => {
-            store.set_group(2);
-            let mut reader = Counted::new(lines);
-            let mut writer = Counted::new(Vec::new(rt.alloc()));
-            let end = serve(rt.alloc(), &mut store, &mut reader, &mut writer, 100);
-            Ok((end, store.acknowledged(), store.accepted()))
-        }
+        Ok(mut store) => Ok(serve_lines(rt, &mut store, lines)),
     }
 }
 
@@ -66,7 +74,7 @@ fn prefix_read(rt: &HostRuntime) -> io::Result<Option<u64>> {
 
 // How many of the two captures are in the files, once the folder is opened again.
 fn prefix_in(rt: &HostRuntime) -> Result<u64, Fail> {
-    if opened(rt, u64::MAX)?.is_err() {
+    if !opens(rt)? {
         return Err("not opened")?;
     }
     match prefix_read(rt)? {
@@ -107,21 +115,30 @@ fn archive_read(rt: &HostRuntime) -> io::Result<Vec<u8>> {
     fs::read(rt, "fused/b.org_archive")
 }
 
-// Whether the heading is in the archive file, and not in b.org, once the folder is opened again; none where it is in both
-// or in neither, or not as it should be.
-fn is_archived(rt: &HostRuntime) -> Result<Option<bool>, Fail> {
-    if opened(rt, u64::MAX)?.is_err() {
-        return Err("not opened")?;
+// Whether the heading is in the archive file, and not in b.org; none where it is in both or in neither, or not as it
+// should be.
+fn is_archived_in(b: &[u8], archive: &[u8]) -> Option<bool> {
+    if b == b"* Z".as_slice() && archive.is_empty() {
+        Some(false)
+    } else if b.is_empty() && archive == ARCHIVED {
+        Some(true)
+    } else {
+        None
     }
+}
+
+fn archived_read(rt: &HostRuntime) -> io::Result<Option<bool>> {
     let b = fs::read(rt, "fused/b.org")?;
     let archive = archive_read(rt)?;
-    if b.as_slice() == b"* Z".as_slice() && archive.is_empty() {
-        return Ok(Some(false));
+    Ok(is_archived_in(b.as_slice(), archive.as_slice()))
+}
+
+// The same once the folder is opened again.
+fn is_archived(rt: &HostRuntime) -> Result<Option<bool>, Fail> {
+    if !opens(rt)? {
+        return Err("not opened")?;
     }
-    if b.is_empty() && archive.as_slice() == ARCHIVED {
-        return Ok(Some(true));
-    }
-    Ok(None)
+    Ok(archived_read(rt)?)
 }
 
 #[test]

@@ -2,8 +2,8 @@
 // after.
 ghost use Rattle.org_serve.specs.Group.{IsGroup};
 
-use super::crashes::{calls, crashed, crashed_opening, image};
-use super::{Ended, run, served};
+use super::crashes::{calls, calls_of_opening, crashed, crashed_opening, image};
+use super::{Ended, must, run, served};
 use org_disk::{MemoryDisk, Outcome};
 use org_fixtures::{OUTCOMES, two_files};
 use org_serve::ServeEnd;
@@ -107,6 +107,23 @@ pub fn is_done(alloc: Global, disk: MemoryDisk, step: &Step) -> Result<bool, Fai
     Ok(is_after(&shown, step).ok_or("neither before nor after")?)
 }
 
+// The same of what a disk left.
+fn is_done_in(alloc: Global, disk: &MemoryDisk, step: &Step) -> Result<bool, Fail> {
+    is_done(alloc, image(alloc, disk)?, step)
+}
+
+// The same where a call of the next opening is stopped.
+fn is_done_stopped(
+    alloc: Global,
+    disk: &MemoryDisk,
+    call: u64,
+    outcome: Outcome,
+    step: &Step,
+) -> Result<bool, Fail> {
+    let left = crashed_opening(alloc, image(alloc, disk)?, call, outcome)?;
+    is_done(alloc, left, step)
+}
+
 // A crash at any call of an opening leaves what the disk recovered to.
 fn crash_opening(
     rt: &(impl Abort + AllocGlobal),
@@ -114,26 +131,18 @@ fn crash_opening(
     call: u64,
     step: &Step,
     done: bool,
-) -> Result<(), Fail> {
-    let alloc = rt.alloc();
+) {
     for outcome in OUTCOMES {
-        let left = crashed_opening(alloc, image(alloc, disk)?, call, outcome)?;
-        assert_eq!(rt; is_done(alloc, left, step)?, done);
+        let again = must(rt, is_done_stopped(rt.alloc(), disk, call, outcome, step));
+        assert!(rt; again == done, "opening stopped at {call}");
     }
-    Ok(())
 }
 
-fn crash_each_opening(
-    rt: &(impl Abort + AllocGlobal),
-    disk: &MemoryDisk,
-    step: &Step,
-    done: bool,
-) -> Result<(), Fail> {
-    let opening = calls(rt.alloc(), image(rt.alloc(), disk)?, 1, b"")?;
+fn crash_each_opening(rt: &(impl Abort + AllocGlobal), disk: &MemoryDisk, step: &Step, done: bool) {
+    let opening = must(rt, calls_of_opening(rt.alloc(), disk));
     for call in 0..opening {
-        crash_opening(rt, disk, call + 1, step, done)?;
+        crash_opening(rt, disk, call + 1, step, done);
     }
-    Ok(())
 }
 
 // Whether all lines were told to be safe.
@@ -142,35 +151,23 @@ fn is_told_safe(written: &[u8]) -> bool {
 }
 
 // A crash at this call leaves both files as before or both as after, and opening them again may be stopped in turn.
-fn crash_at(
-    rt: &(impl Abort + AllocGlobal),
-    group: u32,
-    step: &Step,
-    call: u64,
-    outcome: Outcome,
-) -> Result<(), Fail>
+fn crash_at(rt: &(impl Abort + AllocGlobal), group: u32, step: &Step, call: u64, outcome: Outcome)
     requires { IsGroup group }
 {
     let alloc = rt.alloc();
-    let disk = disk_of(alloc, step)?;
-    let (written, left) = crashed(alloc, disk, group, step.lines, call, outcome)?;
-    let done = is_done(alloc, image(alloc, &left)?, step)?;
+    let disk = must(rt, disk_of(alloc, step));
+    let (written, left) = must(rt, crashed(alloc, disk, group, step.lines, call, outcome));
+    let done = must(rt, is_done_in(alloc, &left, step));
     assert!(rt; done || !is_told_safe(&written), "after {call}");
-    crash_each_opening(rt, &left, step, done)
+    crash_each_opening(rt, &left, step, done);
 }
 
-fn crash_in_each_way(
-    rt: &(impl Abort + AllocGlobal),
-    group: u32,
-    step: &Step,
-    call: u64,
-) -> Result<(), Fail>
+fn crash_in_each_way(rt: &(impl Abort + AllocGlobal), group: u32, step: &Step, call: u64)
     requires { IsGroup group }
 {
     for outcome in OUTCOMES {
-        crash_at(rt, group, step, call, outcome)?;
+        crash_at(rt, group, step, call, outcome);
     }
-    Ok(())
 }
 
 // Whether the step is done where no call is stopped.
@@ -181,47 +178,46 @@ fn is_done_at_last(alloc: Global, group: u32, step: &Step) -> Result<bool, Fail>
     is_done(alloc, disk, step)
 }
 
-pub fn crash_at_every_call(
-    rt: &(impl Abort + AllocGlobal),
-    group: u32,
-    step: &Step,
-) -> Result<(), Fail>
+// How many calls of the disk it takes to serve these lines over the files before the step.
+fn calls_over(alloc: Global, group: u32, step: &Step, lines: &[u8]) -> Result<u64, Fail>
     requires { IsGroup group }
 {
-    let all = calls(rt.alloc(), disk_of(rt.alloc(), step)?, group, step.lines)?;
+    calls(alloc, disk_of(alloc, step)?, group, lines)
+}
+
+fn crash_at_every_call(rt: &(impl Abort + AllocGlobal), group: u32, step: &Step)
+    requires { IsGroup group }
+{
+    let all = must(rt, calls_over(rt.alloc(), group, step, step.lines));
     for call in 0..all {
-        crash_in_each_way(rt, group, step, call + 1)?;
+        crash_in_each_way(rt, group, step, call + 1);
     }
-    assert!(rt; is_done_at_last(rt.alloc(), group, step)?);
-    Ok(())
+    assert!(rt; must(rt, is_done_at_last(rt.alloc(), group, step)));
 }
 
-#[test]
-fn a_refile_across_files_crashed(rt: HostRuntime) -> Result<(), Fail> {
-    crash_at_every_call(&rt, 1, &ACROSS)?;
-    crash_at_every_call(&rt, 1, &BACK)
+// Each step crashes at every call, its lines settled in groups of this size.
+pub fn crash_each(rt: &(impl Abort + AllocGlobal), rows: &[(u32, Step)]) {
+    for (group, step) in rows {
+        assert!(rt; *group > 0 && *group <= 1_000);
+        crash_at_every_call(rt, *group, step);
+    }
 }
 
-#[test]
-fn a_refile_within_a_file_crashed(rt: HostRuntime) -> Result<(), Fail> {
-    crash_at_every_call(&rt, 1, &WITHIN)
-}
-
-// Settled as a group, and at the end of the input.
-#[test]
-fn refiles_in_a_group_crashed(rt: HostRuntime) -> Result<(), Fail> {
-    crash_at_every_call(&rt, 2, &THERE_AND_BACK)?;
-    crash_at_every_call(&rt, 3, &ACROSS)
-}
-
-#[test]
-fn a_capture_below_a_new_head_crashed(rt: HostRuntime) -> Result<(), Fail> {
-    crash_at_every_call(&rt, 1, &TO_A_HEAD)
-}
+// Steps, and in groups of which size their lines are settled.
+const CRASHED: &[(u32, Step)] = &[
+    (1, ACROSS),
+    (1, BACK),
+    (1, WITHIN),
+    // settled as a group, and at the end of the input
+    (2, THERE_AND_BACK),
+    (3, ACROSS),
+    (1, TO_A_HEAD),
+    (1, TO_A_DAY),
+];
 
 #[test]
-fn a_capture_to_a_new_day_crashed(rt: HostRuntime) -> Result<(), Fail> {
-    crash_at_every_call(&rt, 1, &TO_A_DAY)
+fn moves_crashed(rt: HostRuntime) {
+    crash_each(&rt, CRASHED);
 }
 
 // How serving ended where a call of the disk failed, what was written, and whether the step is done.
@@ -259,57 +255,49 @@ fn is_broken(failed: &Failed) -> bool {
         && failed.written.as_slice() == b"fault Device\nfault Broken\n".as_slice()
 }
 
-fn fail_at(
-    rt: &(impl Abort + AllocGlobal),
-    step: &Step,
-    opening: u64,
-    call: u64,
-) -> Result<(), Fail> {
-    let failed = serve_failing(rt.alloc(), step, call)?;
+fn fail_at(rt: &(impl Abort + AllocGlobal), step: &Step, opening: u64, call: u64) {
+    let failed = must(rt, serve_failing(rt.alloc(), step, call));
     let is_right = if call <= opening {
         is_refused(&failed)
     } else {
         is_broken(&failed)
     };
     assert!(rt; is_right, "after {call}");
-    Ok(())
 }
 
 // Each call fails in turn; so many are made behind the opening.
-pub fn fail_at_every_call(
-    rt: &(impl Abort + AllocGlobal),
-    step: &Step,
-    wanted: u64,
-) -> Result<(), Fail> {
-    let opening = calls(rt.alloc(), disk_of(rt.alloc(), step)?, 1, b"")?;
-    let all = calls(rt.alloc(), disk_of(rt.alloc(), step)?, 1, step.lines)?;
-    assert_eq!(rt; all.saturating_sub(opening), wanted);
+fn fail_at_every_call(rt: &(impl Abort + AllocGlobal), step: &Step, wanted: u64) {
+    let opening = must(rt, calls_over(rt.alloc(), 1, step, b""));
+    let all = must(rt, calls_over(rt.alloc(), 1, step, step.lines));
+    assert!(rt;
+        all.saturating_sub(opening) == wanted,
+        "{all} behind {opening}"
+    );
     for call in 0..all {
-        fail_at(rt, step, opening, call + 1)?;
+        fail_at(rt, step, opening, call + 1);
     }
-    Ok(())
 }
 
-// Each file is asked for its length and read; the record and the open gate are written with a sync each; each file's
-// patch is written, of which the source's has no bytes, and it is asked for its length; the source is cut; both are
-// synced, and the gate is closed with a sync.
-#[test]
-fn each_call_of_a_refile_across_files_fails(rt: HostRuntime) -> Result<(), Fail> {
-    fail_at_every_call(&rt, &ACROSS, 17)
+// Each step fails at every call; so many of them are made behind the opening.
+pub fn fail_each(rt: &(impl Abort + AllocGlobal), rows: &[(Step, u64)]) {
+    for (step, wanted) in rows {
+        fail_at_every_call(rt, step, *wanted);
+    }
 }
 
-#[test]
-fn each_call_of_a_refile_within_a_file_fails(rt: HostRuntime) -> Result<(), Fail> {
-    fail_at_every_call(&rt, &WITHIN, 11)
-}
+// Steps, and how many calls each makes behind the opening.
+const FAILED: &[(Step, u64)] = &[
+    // Each file is asked for its length and read; the record and the open gate are written with a sync each;
+    // each file's patch is written, of which the source's has no bytes, and it is asked for its length; the
+    // source is cut; both are synced, and the gate is closed with a sync.
+    (ACROSS, 17),
+    (WITHIN, 11),
+    // The made headings and the entry are one insertion.
+    (TO_A_HEAD, 11),
+    (TO_A_DAY, 11),
+];
 
-// The made headings and the entry are one insertion.
 #[test]
-fn each_call_of_a_capture_below_a_new_head_fails(rt: HostRuntime) -> Result<(), Fail> {
-    fail_at_every_call(&rt, &TO_A_HEAD, 11)
-}
-
-#[test]
-fn each_call_of_a_capture_to_a_new_day_fails(rt: HostRuntime) -> Result<(), Fail> {
-    fail_at_every_call(&rt, &TO_A_DAY, 11)
+fn each_call_of_a_move_fails(rt: HostRuntime) {
+    fail_each(&rt, FAILED);
 }

@@ -1,6 +1,5 @@
 // TODO changes over a disk that crashes or fails: the file is as before, or as after.
-use super::moves::{BOTH, Step, crash_at_every_call, fail_at_every_call};
-use std::test::Fail;
+use super::moves::{BOTH, Step, crash_each, fail_each};
 
 const REPEATED: Step = Step {
     a: b"* TODO A\nSCHEDULED: <2026-06-30 Tue ++1d>\n* B",
@@ -13,14 +12,19 @@ const REPEATED: Step = Step {
         - State \"DONE\"       from \"TODO\"       [2026-07-01 Wed 10:00]\n* B\n\ntext 3\n* Z\n",
 };
 
+// Settled in groups of one.
+const CRASHED: &[(u32, Step)] = &[(1, REPEATED)];
+
 #[test]
-fn a_repetition_crashed(rt: HostRuntime) -> Result<(), Fail> {
-    crash_at_every_call(&rt, 1, &REPEATED)
+fn a_repetition_crashed(rt: HostRuntime) {
+    crash_each(&rt, CRASHED);
 }
 
 // The file is written in two places, at its keyword and from its planning line on: one write more than a refile within it
 // takes.
+const FAILED: &[(Step, u64)] = &[(REPEATED, 12)];
+
 #[test]
-fn each_call_of_a_repetition_fails(rt: HostRuntime) -> Result<(), Fail> {
-    fail_at_every_call(&rt, &REPEATED, 12)
+fn each_call_of_a_repetition_fails(rt: HostRuntime) {
+    fail_each(&rt, FAILED);
 }

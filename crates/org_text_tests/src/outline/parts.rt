@@ -1,6 +1,5 @@
 // The parts of headings.
 use org_outline::{HeadParts, Outline, States, heading_level, is_terminated};
-use std::process::Abort;
 
 /// Texts of one heading, and its gap, keyword, priority, title and tags.
 const PARTS: &[(&str, [&str; 5])] = &[
@@ -38,8 +37,12 @@ const PARTS: &[(&str, [&str; 5])] = &[
     ("*   \t\n", ["   \t", "", "", "", ""]),
 ];
 
-/// Whether these are the parts.
-fn are(parts: &HeadParts<'_>, [gap, keyword, priority, title, tags]: &[&str; 5]) -> bool {
+/// Whether these are the parts of a text's one heading.
+fn has_parts(outline: &Outline<'_>, [gap, keyword, priority, title, tags]: &[&str; 5]) -> bool {
+    if outline.count() != 1 {
+        return false;
+    }
+    let parts = outline.parts(outline.node(0));
     parts.gap == gap.as_bytes()
         && parts.keyword == keyword.as_bytes()
         && parts.priority == priority.as_bytes()
@@ -47,24 +50,13 @@ fn are(parts: &HeadParts<'_>, [gap, keyword, priority, title, tags]: &[&str; 5])
         && parts.tags == tags.as_bytes()
 }
 
-/// Asserts the parts of a text's one heading.
-fn assert_parts(
-    rt: &(impl Abort + AllocGlobal),
-    states: &States,
-    text: &str,
-    expected: &[&str; 5],
-) {
-    assert!(rt; is_terminated(text.as_bytes()), "{text}");
-    let outline = Outline::read(rt.alloc(), text.as_bytes(), states).expect(rt, "memory");
-    assert!(rt; outline.count() == 1, "{text}");
-    assert!(rt; are(&outline.parts(outline.node(0)), expected), "{text}");
-}
-
 #[test]
 fn parts_of_headings(rt: HostRuntime) {
     let states = States::new(rt.alloc(), &["TODO"], &["DONE"]).expect(&rt, "memory");
     for (text, expected) in PARTS {
-        assert_parts(&rt, &states, text, expected);
+        assert!(rt; is_terminated(text.as_bytes()), "{text}");
+        let outline = Outline::read(rt.alloc(), text.as_bytes(), &states).expect(&rt, "memory");
+        assert!(rt; has_parts(&outline, expected), "{text}");
     }
     assert!(rt; HeadParts::of(&states, b" TODO a :x:").title == b"a".as_slice());
     assert!(rt; heading_level(b"** a") == Some(2));

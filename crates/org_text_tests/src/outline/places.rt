@@ -1,5 +1,8 @@
 // Where headings, their subtrees and their sections lie, and where subtrees go in.
-use org_outline::{Heads, Outline, Place, States, shift};
+ghost use Rattle.std.specs.Prelude.{◌<◌};
+ghost use Rattle.org_outline.specs.Tree.{node_count, tree};
+
+use org_outline::{Heads, Node, Outline, Place, States, shift};
 use org_splice::Span;
 use std::process::Abort;
 
@@ -35,17 +38,30 @@ fn numbers_of_headings(rt: HostRuntime) {
 
 fn assert_numbers(rt: &impl Abort, outline: &Outline<'_>) {
     assert!(rt; outline.count() == 5);
-    let (a, b, e) = (outline.node(0), outline.node(1), outline.node(4));
-    assert!(rt; (b.number(), outline.size(b)) == (1, 2) && outline.rest(b) == b" b".as_slice());
+    let b = outline.node(1);
+    assert!(rt; b.number() == 1);
+    assert!(rt; outline.rest(b) == b" b".as_slice());
+    assert!(rt; outline.size(b) == 2);
     assert!(rt; outline.lies_in(outline.node(2), b));
-    assert!(rt; !outline.lies_in(a, b) && !outline.lies_in(e, b));
-    // where b goes in once it is taken out
-    let places = [
-        outline.place_without(b, Some(a), Place::First),
-        outline.place_without(b, Some(a), Place::Last),
-        outline.place_without(b, Some(e), Place::Last),
-    ];
-    assert!(rt; places == [4, 9, 13]);
+    assert_goes_without(rt, outline, b, outline.node(0), Place::First, 4);
+    assert_goes_without(rt, outline, b, outline.node(0), Place::Last, 9);
+    assert_goes_without(rt, outline, b, outline.node(4), Place::Last, 13);
+}
+
+/// Asserts where a subtree goes in below a heading once another one is taken out.
+fn assert_goes_without(
+    rt: &impl Abort,
+    outline: &Outline<'_>,
+    taken: Node,
+    parent: Node,
+    place: Place,
+    at: usize,
+)
+    requires taken { taken < node_count (tree outline.now.text) }
+    requires parent { parent < node_count (tree outline.now.text) }
+{
+    assert!(rt; !outline.lies_in(parent, taken));
+    assert!(rt; outline.place_without(taken, Some(parent), place) == at);
 }
 
 #[test]
@@ -60,18 +76,20 @@ const DEEPER: &[(&str, usize, usize, usize)] = &[
     ("* A\n*** X\n", 2, 10, 10),
 ];
 
+/// Asserts how many nodes there are, and the places below the first.
+fn assert_places(rt: &impl Abort, outline: &Outline<'_>, count: usize, first: usize, last: usize) {
+    assert!(rt; outline.count() == count && count > 0);
+    let a = outline.node(0);
+    assert!(rt; outline.place(Some(a), Place::First) == first);
+    assert!(rt; outline.place(Some(a), Place::Last) == last);
+}
+
 #[test]
 fn first_among_deeper_children(rt: HostRuntime) {
     let states = States::new(rt.alloc(), &["TODO"], &["DONE"]).expect(&rt, "memory");
     for (text, count, first, last) in DEEPER {
         let outline = Outline::read(rt.alloc(), text.as_bytes(), &states).expect(&rt, "memory");
-        assert!(rt; outline.count() == *count && *count > 0, "{text}");
-        let a = Some(outline.node(0));
-        let places = (
-            outline.place(a, Place::First),
-            outline.place(a, Place::Last),
-        );
-        assert!(rt; places == (*first, *last), "{text}");
+        assert_places(&rt, &outline, *count, *first, *last);
     }
 }
 
