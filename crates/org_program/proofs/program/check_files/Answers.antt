@@ -1,0 +1,10 @@
+use Rattle.org_folder.specs.Apart.{MayTell}
+use Rattle.std.proofs.Common.{IfErr}
+use Rattle.org_program.proofs.Files.{may_share}
+use Rattle.org_program.proofs.program.check_files.Goals as goal
+
+pub returns-in-Some : goal.returns-in-Some
+returns-in-Some c =
+    let found = rw c.in-Some.is at c.in_ok-files.ensures.few in
+    let told : IfErr c.check_apart.result (MayTell c.in-Some.files.items) = rw c.deref.ensures.value at c.check_apart.ensures in
+    may_share c.args.names.now c.in-Some.files.items found.0 found.1 c.check_apart.result told

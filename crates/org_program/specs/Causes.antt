@@ -1,0 +1,100 @@
+-- Where each fault of the program comes from.
+use Rattle.std.specs.Prelude.{◌≡◌, ℕ, List, ◌∷◌, ◌++◌, drop, Option, Some, None, Result, Ok, Err, IsTrue, IsFalse, find, not, string_bytes}
+use Rattle.std.specs.List.{All, Contains}
+use Rattle.org_disk.specs.Names.{journal_name, IsOrgFile}
+use Rattle.org_fileset.specs.declared.open.OpenFault.{OpenFault}
+use Rattle.org_fileset.specs.declared.open.OpenFault.TheVariants as refused
+use Rattle.org_fileset.specs.Names.{with_archives, AreSorted, AreFew}
+use Rattle.org_folder.specs.OrgFiles.{is_org_file}
+use Rattle.org_folder.specs.declared.apart.ApartFault.{ApartFault}
+use Rattle.org_folder.specs.declared.apart.ApartFault.TheVariants as apart
+use Rattle.org_folder.specs.declared.list.ListFault.{ListFault}
+use Rattle.org_folder.specs.declared.list.ListFault.TheVariants as list
+use Rattle.org_folder.specs.declared.lock.LockFault.{LockFault}
+use Rattle.org_folder.specs.declared.lock.LockFault.TheVariants as lock
+use Rattle.org_outline.specs.States.{Keywords, are_states}
+use Rattle.org_outline.specs.declared.states.StatesFault.{StatesFault}
+use Rattle.org_outline.specs.declared.states.StatesFault.TheVariants as states
+use Rattle.org_serve.specs.declared.end.ServeEnd.{ServeEnd}
+use Rattle.org_serve.specs.declared.end.ServeEnd.TheVariants.{End, Unsettled, Device, Read, Write}
+use Rattle.org_program.specs.declared.fault.Fault.{Fault}
+use Rattle.org_program.specs.declared.fault.Fault.TheVariants.{Usage, BadName, BadStates, Locked, SameFile, Open, Ended}
+
+-- what the program tells of how serving ended: nothing only where the input was served to its end, and all is settled
+abbrev pub told : Result ServeEnd OpenFault → Result (Unit {0}) Fault
+told (Ok End) = Ok tt
+told (Ok Unsettled) = Err (Ended Unsettled)
+told (Ok Device) = Err (Ended Device)
+told (Ok Read) = Err (Ended Read)
+told (Ok Write) = Err (Ended Write)
+told (Err fault) = Err (Open fault)
+
+-- why a folder's files couldn't be told
+abbrev pub listing : ListFault → Fault
+listing list.Device = Open refused.Device
+listing list.OutOfMemory = Open refused.OutOfMemory
+
+-- why a folder couldn't be locked
+abbrev pub locking : LockFault → Fault
+locking lock.Locked = Locked
+locking lock.OutOfMemory = Open refused.OutOfMemory
+
+-- why names couldn't be told to lead to files of their own
+abbrev pub sharing : ApartFault → Fault
+sharing (apart.SameFile name) = SameFile name
+sharing apart.Device = Open refused.Device
+sharing apart.OutOfMemory = Open refused.OutOfMemory
+
+-- why the states couldn't be had
+abbrev pub stating : StatesFault → Fault
+stating states.BadStates = BadStates
+stating states.OutOfMemory = Open refused.OutOfMemory
+
+-- the first of the names that is no Org file's
+abbrev pub first_bad : List (List ℕ) → Option (List ℕ)
+first_bad names = find (λ name. not (is_org_file name)) names
+
+-- why new names aren't a store's: the first bad one, or else want of memory
+abbrev pub IsCauseOfNames : List (List ℕ) → Fault → Type 0
+IsCauseOfNames new (BadName name) = first_bad new ≡ Some (string_bytes name)
+IsCauseOfNames new (Open refused.OutOfMemory) = Unit {0}
+IsCauseOfNames new (Open refused.Device) = ⊥
+IsCauseOfNames new (Open refused.TooManyFiles) = ⊥
+IsCauseOfNames new (Open refused.BadJournal) = ⊥
+IsCauseOfNames new (Open (refused.TooLarge name)) = ⊥
+IsCauseOfNames new (Usage told) = ⊥
+IsCauseOfNames new BadStates = ⊥
+IsCauseOfNames new Locked = ⊥
+IsCauseOfNames new (SameFile name) = ⊥
+IsCauseOfNames new (Ended end) = ⊥
+
+-- A name that may be told to share a file in a store with these names, which are few: behind the first one, in byte order,
+-- of theirs, their archive files' and the journal's.
+pub record MayBeShared (names : List (List ℕ)) (name : List ℕ) : Type 0 where
+  pub few : AreFew names
+  pub files : List (List ℕ)
+  pub sorted : AreSorted (journal_name ∷ with_archives names) files
+  pub behind : Contains (drop 1 files) name
+
+-- what may be told of where the names of a store lead; of too many names nothing is
+abbrev pub MayShare : List (List ℕ) → ApartFault → Type 0
+MayShare names (apart.SameFile name) = MayBeShared names name
+MayShare names apart.Device = AreFew names
+MayShare names apart.OutOfMemory = Unit {0}
+
+-- Why new names and states aren't a store's, or its folder can't be had beside them. What comes first in this order is told:
+-- the first bad name, bad states, a folder on which another store is open, the rest of the folder. Want of memory may
+-- take the place of each.
+abbrev pub IsCause : List (List ℕ) → Keywords → Fault → Type 0
+IsCause new states (BadName name) = first_bad new ≡ Some (string_bytes name)
+IsCause new states BadStates = (first_bad new ≡ None) × IsFalse (are_states states)
+IsCause new states Locked = (first_bad new ≡ None) × IsTrue (are_states states)
+IsCause new states (Open refused.Device) = (first_bad new ≡ None) × IsTrue (are_states states)
+IsCause new states (SameFile name) = (first_bad new ≡ None) × IsTrue (are_states states)
+    × ((listed : List (List ℕ)) × All IsOrgFile listed × MayBeShared (new ++ listed) name)
+IsCause new states (Open refused.OutOfMemory) = Unit {0}
+IsCause new states (Open refused.TooManyFiles) = ⊥
+IsCause new states (Open refused.BadJournal) = ⊥
+IsCause new states (Open (refused.TooLarge name)) = ⊥
+IsCause new states (Usage told) = ⊥
+IsCause new states (Ended end) = ⊥

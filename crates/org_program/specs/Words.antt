@@ -1,0 +1,88 @@
+-- What the words of the command line tell the program to do, and why they aren't taken.
+use Rattle.std.specs.Prelude.{◌≡◌, ℕ, List, [], ◌∷◌, Some, true, map, string_bytes, codes, unwrap_or}
+use Rattle.std.specs.Str.Parse.{IsNumeral, digits_value}
+use Rattle.clap.specs.Words.{App, Rule, Row, new_app, new_rule, with_rule, matches_of, first_of, all_of, fault_of}
+use Rattle.clap.specs.declared.builder.action.ArgAction.TheVariants.{Append}
+use Rattle.org_fileset.specs.declared.open.OpenFault.TheVariants.{OutOfMemory, Device, TooManyFiles, BadJournal, TooLarge}
+use Rattle.org_store.specs.Group.{IsGroup}
+use Rattle.org_program.specs.declared.arguments.Arguments.{Arguments}
+use Rattle.org_program.specs.declared.fault.Fault.{Fault}
+use Rattle.org_program.specs.declared.fault.Fault.TheVariants.{Usage, BadName, BadStates, Locked, SameFile, Open, Ended}
+
+-- The command line, as clap has it: a folder, which has to be there; any number of `--new NAME`; and, at most once each,
+-- `--todo LIST`, `--done LIST` and `--group K`, which are TODO, DONE and 1 where they aren't there.
+
+abbrev pub folder_argument : Rule
+folder_argument = record (new_rule (codes "DIR")) { required = true }
+
+abbrev pub new_argument : Rule
+new_argument = record (new_rule (codes "new")) { long = Some (codes "new"); value_names = 1; action = Some Append }
+
+abbrev pub todo_argument : Rule
+todo_argument = record (new_rule (codes "todo")) { long = Some (codes "todo"); value_names = 1; defaults = codes "TODO" ∷ [] }
+
+abbrev pub done_argument : Rule
+done_argument = record (new_rule (codes "done")) { long = Some (codes "done"); value_names = 1; defaults = codes "DONE" ∷ [] }
+
+abbrev pub group_argument : Rule
+group_argument = record (new_rule (codes "group")) { long = Some (codes "group"); value_names = 1; defaults = codes "1" ∷ [] }
+
+abbrev pub command_line : App
+command_line =
+    with_rule (with_rule (with_rule (with_rule (with_rule (new_app (codes "orgstore")) folder_argument) new_argument)
+    todo_argument) done_argument) group_argument
+
+-- What the words give, of which the first is the program's name.
+
+abbrev pub given : List (List ℕ) → List Row
+given words = matches_of command_line words
+
+abbrev pub folder_in : List (List ℕ) → List ℕ
+folder_in words = unwrap_or (first_of (codes "DIR") (given words)) []
+
+abbrev pub new_in : List (List ℕ) → List (List ℕ)
+new_in words = unwrap_or (all_of (codes "new") (given words)) []
+
+abbrev pub todo_in : List (List ℕ) → List ℕ
+todo_in words = unwrap_or (first_of (codes "todo") (given words)) (codes "TODO")
+
+abbrev pub done_in : List (List ℕ) → List ℕ
+done_in words = unwrap_or (first_of (codes "done") (given words)) (codes "DONE")
+
+abbrev pub group_in : List (List ℕ) → List ℕ
+group_in words = unwrap_or (first_of (codes "group") (given words)) (codes "1")
+
+-- decimal digits, without a sign, that write a group
+abbrev pub IsGroupText : List ℕ → Type 0
+IsGroupText text = IsNumeral 10 text × IsGroup (digits_value 10 text)
+
+-- clap refuses nothing of the words, and their group is one
+abbrev pub AreTaken : List (List ℕ) → Type 0
+AreTaken words = (fault_of command_line words ≡ []) × IsGroupText (group_in words)
+
+-- words that are taken, and what they tell the program to do
+pub record Tells (words : List (List ℕ)) (arguments : Arguments) : Type 0 where
+  pub taken : AreTaken words
+  pub folder : string_bytes arguments.folder ≡ folder_in words
+  pub new : map string_bytes arguments.new.items ≡ new_in words
+  pub todo : string_bytes arguments.todo ≡ todo_in words
+  pub done : string_bytes arguments.done ≡ done_in words
+  pub group : arguments.group ≡ digits_value 10 (group_in words)
+
+-- there was no memory for the words, or else they are refused, for this reason
+abbrev pub IsFaultBy : Type 0 → Fault → Type 0
+IsFaultBy Reason (Usage text) = Reason
+IsFaultBy Reason (Open OutOfMemory) = Unit {0}
+IsFaultBy Reason (Open Device) = ⊥
+IsFaultBy Reason (Open TooManyFiles) = ⊥
+IsFaultBy Reason (Open BadJournal) = ⊥
+IsFaultBy Reason (Open (TooLarge name)) = ⊥
+IsFaultBy Reason (BadName name) = ⊥
+IsFaultBy Reason BadStates = ⊥
+IsFaultBy Reason Locked = ⊥
+IsFaultBy Reason (SameFile name) = ⊥
+IsFaultBy Reason (Ended end) = ⊥
+
+-- the words aren't what the program takes, or can't be read at all, or there was no memory for them
+abbrev pub IsFaultOfWords : Fault → Type 0
+IsFaultOfWords = IsFaultBy (Unit {0})

@@ -1,0 +1,194 @@
+//! The command line. Nothing else of the program knows how its words are read.
+ghost use Rattle.std.specs.Prelude.{◌≡◌, ◌⊎◌, ℕ, List, [], ◌∷◌, Some, false, map, string_bytes, IfOk, IfErr, SomeIff};
+ghost use Rattle.std.specs.Str.Parse.{digits_value};
+ghost use Rattle.clap.specs.Words.{kind_of, app_of, fault_of, found_of, new_rule, rows_of, rule_of};
+ghost use Rattle.org_store.specs.Group.{IsGroup};
+ghost use Rattle.org_program.specs.Words.{command_line, folder_argument as folder_rule, given, new_argument as new_name_rule, AreTaken, Tells, IsGroupText, IsFaultBy, IsFaultOfWords};
+
+use crate::fault::Fault;
+use clap::error::ErrorKind;
+use clap::{Arg, ArgAction, ArgMatches, Command, Error};
+use org_store::OpenFault;
+use std::alloc::{AllocError, Global};
+use std::{env, io};
+
+const NO_GROUP: &str = "the value of '--group <K>' is a number from 1 to 1000";
+
+/// What the program is told to do.
+#[derive(Drop)]
+pub struct Arguments {
+    /// The folder of the store's files.
+    pub folder: String,
+    /// Names of files that the folder may lack.
+    pub new: Vec<String>,
+    /// The active states, with a comma between each two.
+    pub todo: String,
+    /// The done states, likewise.
+    pub done: String,
+    /// How many commands are accepted before they are settled.
+    pub group: u32,
+}
+
+/// The arguments of this run. Help is a fault too: standard output holds replies alone.
+pub fn read(rt: &HostRuntime) -> Result<Arguments, Fault>
+    ensures told { IfOk result (λ arguments. (words : List (List ℕ)) × Tells words arguments) }
+    ensures group { IfOk result (λ arguments. IsGroup arguments.group) }
+    ensures fault { IfErr result IsFaultOfWords }
+{
+    let words: Vec<String> = match env::args(rt) {
+        Ok(words) => words.collect(rt.alloc())?,
+        Err(error) => return Err(unreadable(rt.alloc(), &error)),
+    };
+    read_words(rt.alloc(), words.as_slice())
+}
+
+/// The arguments that these words are, the first being the program's name. `Usage` comes only where they aren't taken.
+pub fn read_words(alloc: Global, words: &[String]) -> Result<Arguments, Fault>
+    ensures told { IfOk result (Tells (map string_bytes words.now)) }
+    ensures fault { IfErr result (IsFaultBy (AreTaken (map string_bytes words.now) → ⊥)) }
+{
+    match parse(alloc, words) {
+        Ok(arguments) => Ok(arguments),
+        Err(error) => Err(usage(alloc, &error)),
+    }
+}
+
+fn parse(alloc: Global, words: &[String]) -> Result<Arguments, Error>
+    ensures told { IfOk result (Tells (map string_bytes words.now)) }
+    ensures fault { IfErr result (λ error. (kind_of error ≡ ErrorKind.OutOfMemory)
+        ⊎ (AreTaken (map string_bytes words.now) → ⊥)) }
+{
+    let mut command = command(alloc)?;
+    let matches = command.try_get_matches_from_mut(words)?;
+    arguments_of(alloc, &mut command, &matches)
+}
+
+// What the words are that clap took, where their group is one.
+fn arguments_of(
+    alloc: Global,
+    command: &mut Command<'_>,
+    matches: &ArgMatches<'_>,
+) -> Result<Arguments, Error>
+    ensures told { IfOk result (λ arguments. (words : List (List ℕ))
+        → rows_of (found_of matches.now) ≡ given words → fault_of command_line words ≡ []
+        → Tells words arguments) }
+    ensures fault { IfErr result (λ error. (kind_of error ≡ ErrorKind.OutOfMemory)
+        ⊎ ((words : List (List ℕ)) → rows_of (found_of matches.now) ≡ given words
+        → AreTaken words → ⊥)) }
+{
+    let Some(group) = group_of(matches.get_str("group").unwrap_or("1")) else {
+        return Err(command.error(ErrorKind::ValueValidation, NO_GROUP)?);
+    };
+    Ok(Arguments {
+        folder: String::from_str(alloc, matches.get_str("DIR").unwrap_or(""))?,
+        new: owned(alloc, matches.get_strs("new").unwrap_or(&[]))?,
+        todo: String::from_str(alloc, matches.get_str("todo").unwrap_or("TODO"))?,
+        done: String::from_str(alloc, matches.get_str("done").unwrap_or("DONE"))?,
+        group,
+    })
+}
+
+// The folder, which has to be there.
+fn folder_argument<'a>(alloc: Global) -> Arg<'a>
+    ensures rule { rule_of result ≡ folder_rule }
+    ensures own { result.global ≡ false }
+{
+    Arg::new(alloc, "DIR")
+        .required(true)
+        .help("The folder of Org files")
+}
+
+// Any number of names.
+fn new_argument<'a>(alloc: Global) -> Arg<'a>
+    ensures rule { rule_of result ≡ new_name_rule }
+    ensures own { result.global ≡ false }
+{
+    Arg::new(alloc, "new")
+        .long("new")
+        .value_name("NAME")
+        .help("An Org file that the folder may lack")
+        .action(ArgAction::Append)
+}
+
+// An option with one value, which is this one where it isn't there.
+fn option<'a>(
+    alloc: Global,
+    name: &'a str,
+    value: &'a str,
+    help: &'a str,
+    default: &'a str,
+) -> Arg<'a>
+    ensures rule { rule_of result ≡ record (new_rule name.now)
+        { long = Some name.now; value_names = 1; defaults = default.now ∷ [] } }
+    ensures own { result.global ≡ false }
+{
+    Arg::new(alloc, name)
+        .long(name)
+        .value_name(value)
+        .help(help)
+        .default_value(default)
+}
+
+// The command line, for clap.
+fn command<'a>(alloc: Global) -> Result<Command<'a>, AllocError>
+    ensures { IfOk result (λ command. app_of command ≡ command_line) }
+{
+    let active = "The active states, with commas between them";
+    let done = "The done states, with commas between them";
+    let group = "How many commands are settled together, from 1 to 1000";
+    Command::new(alloc, "orgstore")
+        .arg(folder_argument(alloc))?
+        .arg(new_argument(alloc))?
+        .arg(option(alloc, "todo", "LIST", active, "TODO"))?
+        .arg(option(alloc, "done", "LIST", done, "DONE"))?
+        .arg(option(alloc, "group", "K", group, "1"))
+}
+
+fn owned(alloc: Global, words: &[&str]) -> Result<Vec<String>, AllocError>
+    ensures { IfOk result (λ owned. map string_bytes owned.items
+        ≡ map (λ word. word.now) words.now) }
+{
+    let mut owned = Vec::new(alloc);
+    for word in words {
+        owned.push(String::from_str(alloc, word)?)?;
+    }
+    Ok(owned)
+}
+
+// The group that a decimal number is. It has no sign.
+fn group_of(text: &str) -> Option<u32>
+    ensures { SomeIff result (IsGroupText text.now) (digits_value 10 text.now) }
+{
+    if let [b'+', ..] = text.as_bytes() {
+        return None;
+    }
+    match text.parse::<u32>() {
+        Ok(group) if 1 <= group && group <= 1000 => Some(group),
+        _ => None,
+    }
+}
+
+fn usage(alloc: Global, error: &Error) -> Fault
+    ensures { IsFaultBy (kind_of error.now ≡ ErrorKind.OutOfMemory → ⊥) result }
+{
+    if error.kind() == ErrorKind::OutOfMemory {
+        return Fault::Open(OpenFault::OutOfMemory);
+    }
+    match format!(in alloc; "{error}") {
+        Ok(text) => Fault::Usage(text),
+        Err(_) => Fault::Open(OpenFault::OutOfMemory),
+    }
+}
+
+// The words can't be read at all: one of them isn't UTF-8.
+fn unreadable(alloc: Global, error: &io::Error) -> Fault
+    ensures { IsFaultOfWords result }
+{
+    if error.kind() == io::ErrorKind::OutOfMemory {
+        return Fault::Open(OpenFault::OutOfMemory);
+    }
+    match String::from_str(alloc, "error: an argument isn't UTF-8\n") {
+        Ok(text) => Fault::Usage(text),
+        Err(_) => Fault::Open(OpenFault::OutOfMemory),
+    }
+}
