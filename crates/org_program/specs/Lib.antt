@@ -3,3 +3,4 @@ pub mod Causes
 pub mod Folder
 pub mod Words
 pub mod Lists
+pub mod Faults

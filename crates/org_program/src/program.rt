@@ -5,6 +5,7 @@ ghost use Rattle.org_disk.specs.Names.{IsOrgFile};
 ghost use Rattle.org_fileset.specs.declared.open.OpenFault.TheVariants.{OutOfMemory};
 ghost use Rattle.org_store.specs.Group.{IsGroup};
 ghost use Rattle.org_program.specs.Causes.{told, IsCause, MayShare};
+ghost use Rattle.org_program.specs.Faults.{IsFaultOfRun};
 ghost use Rattle.org_program.specs.Lists.{states_in};
 ghost use Rattle.org_program.specs.declared.fault.Fault.TheVariants.{Open};
 
@@ -23,8 +24,12 @@ use org_store::OpenFault;
 use std::io::{BufWriter, Stdout};
 
 /// Runs the command lines of standard input over the folder that the arguments name, and writes their replies to standard
-/// output. A fault is to be told on standard error, by which it prints, and by the exit status, which is its `status`.
-pub fn run(rt: &HostRuntime) -> Result<(), Fault> {
+/// output. A fault is to be told on standard error, as it prints, and by the exit status, which is its `status`. It tells
+/// why words aren't taken, why the store of words that are isn't opened, or how serving it ended, which is then not well;
+/// no clause can name the words that the process was given.
+pub fn run(rt: &HostRuntime) -> Result<(), Fault>
+    ensures { IfErr result IsFaultOfRun }
+{
     let arguments = arguments::read(rt)?;
     // A standard stream that is closed is the folder then, and no file of the store.
     let _streams = fill_streams(rt, &arguments.folder)?;
