@@ -19,7 +19,7 @@ use Rattle.org_texts.specs.Texts.{Holding, bytes_or, held_over, text_of}
 use Rattle.org_texts.proofs.Looking.{not_equal, the_value}
 use Rattle.org_move.specs.declared.fault.MoveFault.{MoveFault}
 use Rattle.org_move.specs.declared.fault.MoveFault.TheVariants as fault
-use Rattle.org_move.specs.Answers.{Gives, GivesPlace}
+use Rattle.org_move.specs.Answers.{GivesPlace}
 use Rattle.org_move.specs.Archive.{archive_across, archive_within}
 use Rattle.org_move.specs.Location.{Destination, location}
 use Rattle.org_move.specs.Refile.{Moved}
@@ -100,29 +100,6 @@ module _ (plan : Plan) (held : Holding) (file to_file : List ℕ) (new : Moved) 
 
   pub across_texts : new_texts plan held.now ≡ texts_across file to_file new
   across_texts = two_texts plan second.0 held file to_file left_text.0 into_text.0 (print new.source) (print new.target) apart makes.0 second.1 second.2.0 left_text.1 into_text.1 left_text.2 into_text.2
-
--- ---- what the calls answer, told of the outlines' texts
-
-module _ (states given : Keywords) (file : List ℕ) (path : List (List ℕ)) (text seen : List ℕ) (same : given ≡ states) (is : seen ≡ text) where
-  pub place_told : (result : Result Destination MoveFault) → GivesPlace (location given file path seen) result → GivesPlace (location states file path text) result
-  place_told result gives =
-      subst (λ (k : Keywords). GivesPlace (location k file path text) result) same
-      (subst (λ (t : List ℕ). GivesPlace (location given file path t) result) is gives)
-
-  pub within_told : (moment : CivilMinute) (to : Destination) (result : Result Plan MoveFault) → Gives (archive_within given file path moment to (tree seen)) (MakesDocument file seen) result
-      → Gives (archive_within states file path moment to (tree text)) (MakesDocument file text) result
-  within_told moment to result gives =
-      subst (λ (k : Keywords). Gives (archive_within k file path moment to (tree text)) (MakesDocument file text) result) same
-      (subst (λ (t : List ℕ). Gives (archive_within given file path moment to (tree t)) (MakesDocument file t) result) is gives)
-
-  pub across_told : (moment : CivilMinute) (to : Destination) (other : Keywords) (target found : List ℕ) (result : Result Plan MoveFault) → other ≡ states → found ≡ target
-      → Gives (archive_across given file path moment (tree seen) other to (tree found)) (MakesDocuments file to.file seen found) result
-      → Gives (archive_across states file path moment (tree text) states to (tree target)) (MakesDocuments file to.file text target) result
-  across_told moment to other target found result alike there gives =
-      subst (λ (k : Keywords). Gives (archive_across k file path moment (tree text) states to (tree target)) (MakesDocuments file to.file text target) result) same
-      (subst (λ (k : Keywords). Gives (archive_across given file path moment (tree text) k to (tree target)) (MakesDocuments file to.file text target) result) alike
-      (subst (λ (t : List ℕ). Gives (archive_across given file path moment (tree text) other to (tree t)) (MakesDocuments file to.file text t) result) there
-      (subst (λ (t : List ℕ). Gives (archive_across given file path moment (tree t) other to (tree found)) (MakesDocuments file to.file t found) result) is gives)))
 
 -- ---- the outcome
 

@@ -1,7 +1,7 @@
 -- Captures: what their planner finds is what the outcome says.
 use Rattle.std.proofs.Common.{◌≡◌, ℕ, false, List, [], ◌∷◌, Option, Some, None, Result, Ok, Err, Vec, refl, sym, ◌∙◌, ap, subst}
 use Rattle.std.specs.Global.{Global}
-use Rattle.std.specs.Option.{IsSome}
+use Rattle.std.specs.Option.{IsSome, unwrap_or}
 use Rattle.std.proofs.lemmas.Bool.{false≢true}
 use Rattle.org_splice.specs.Lines.{terminated}
 use Rattle.org_splice.proofs.Lines.{terminated_twice}
@@ -18,7 +18,7 @@ use Rattle.org_capture.specs.Capture.{captured}
 use Rattle.org_capture.specs.Entry.{IsEntry, terminated_if_one, entry_in, entry_text, only_root}
 use Rattle.org_store.specs.Capture.{MakesEntry, PlansDocument, entry_of_text, new_entry, one_entry}
 use Rattle.org_store.specs.Keeping.{fault_of_capture}
-use Rattle.org_store.specs.Outcome.{Refuses, capture, changed, refusal_of, with_document, with_entry}
+use Rattle.org_store.specs.Outcome.{Outcome, Refuses, capture, changed, refusal_of, with_document, with_entry}
 use Rattle.org_store.specs.Session.{Session}
 use Rattle.org_store.specs.Step.{Does}
 
@@ -94,36 +94,39 @@ entry_refused s name target place moment template initial (Some text) result why
     go fault.NotFound makes = (unbroken, refuses fault.NotFound makes, refl)
     go fault.NotUnique makes = (unbroken, refuses fault.NotUnique makes, refl)
 
--- what a capture is to do with its entry and the text, which the planner sees terminated
-document_is : (s : Session) (name : List ℕ) (target : Target) (place : Place) (moment : CivilMinute) (template initial text seen : List ℕ) (node : Node) (said : Result Document CaptureFault)
-    → new_entry moment template initial ≡ Ok node → seen ≡ terminated text → captured s.states target place moment node (tree seen) ≡ said
-    → capture s name target place moment template initial (Some text) ≡ with_document s name said
-document_is s name target place moment template initial text seen node said made shut is =
-    ap (λ entry. with_entry s name target place moment entry text) made
-    ∙ ap (λ (d : Document). with_document s name (captured s.states target place moment node d)) (sym (ap tree shut ∙ tree-terminated text))
-    ∙ ap (with_document s name) is
+-- what a capture is to do, whose template stands for this entry
+pub entry_is : (s : Session) (name : List ℕ) (target : Target) (place : Place) (moment : CivilMinute) (template initial : List ℕ) (old : Option (List ℕ)) (node : Node) → IsSome old → new_entry moment template initial ≡ Ok node
+    → capture s name target place moment template initial old ≡ with_entry s name target place moment (Ok node) (unwrap_or old [])
+entry_is s name target place moment template initial None node some made = absurd (false≢true some)
+entry_is s name target place moment template initial (Some text) node some made = ap (λ entry. with_entry s name target place moment entry text) made
 
--- what is refused for its target
-pub target_refused : (s : Session) (name : List ℕ) (target : Target) (place : Place) (moment : CivilMinute) (template initial text seen : List ℕ) (node : Node) (result : Result Plan CaptureFault) (why : CaptureFault)
-    → s.broken ≡ false → new_entry moment template initial ≡ Ok node → seen ≡ terminated text → result ≡ Err why → PlansDocument name seen (captured s.states target place moment node (tree seen)) result
-    → Does s (capture s name target place moment template initial (Some text)) (Err (fault_of_capture why)) s
-target_refused s name target place moment template initial text seen node result why unbroken made shut was plans = go why (subst (PlansDocument name seen said) was plans)
-  where
-    said : Result Document CaptureFault
-    said = captured s.states target place moment node (tree seen)
+module _ (s : Session) (name : List ℕ) (target : Target) (place : Place) (moment : CivilMinute) (text seen : List ℕ) (node : Node) (shut : seen ≡ terminated text) where
+  abbrev pub told : Outcome
+  told = with_entry s name target place moment (Ok node) text
 
-    refuses : (w : CaptureFault) → said ≡ Err w → capture s name target place moment template initial (Some text) ≡ Refuses (refusal_of w)
-    refuses w is = document_is s name target place moment template initial text seen node (Err w) made shut is
+  abbrev said : Result Document CaptureFault
+  said = captured s.states target place moment node (tree seen)
 
-    go : (w : CaptureFault) → PlansDocument name seen said (Err w) → Does s (capture s name target place moment template initial (Some text)) (Err (fault_of_capture w)) s
-    go fault.OutOfMemory plans = (unbroken, refl)
-    go fault.BadTemplate plans = (unbroken, refuses fault.BadTemplate plans, refl)
-    go fault.BadEntry plans = (unbroken, refuses fault.BadEntry plans, refl)
-    go fault.NotFound plans = (unbroken, refuses fault.NotFound plans, refl)
-    go fault.NotUnique plans = (unbroken, refuses fault.NotUnique plans, refl)
+  -- what is to be done with the text, which the planner sees terminated
+  document_is : (made : Result Document CaptureFault) → captured s.states target place moment node (tree seen) ≡ made → told ≡ with_document s name made
+  document_is made is =
+      ap (λ (d : Document). with_document s name (captured s.states target place moment node d)) (sym (ap tree shut ∙ tree-terminated text)) ∙ ap (with_document s name) is
 
-pub target_planned : (s : Session) (name : List ℕ) (target : Target) (place : Place) (moment : CivilMinute) (template initial text seen : List ℕ) (node : Node) (plan : Plan) (changes : List (List ℕ × List ℕ))
-    → new_entry moment template initial ≡ Ok node → seen ≡ terminated text → (plans : PlansDocument name seen (captured s.states target place moment node (tree seen)) (Ok plan)) → changes ≡ (name, print plans.0) ∷ []
-    → capture s name target place moment template initial (Some text) ≡ changed s changes
-target_planned s name target place moment template initial text seen node plan changes made shut plans are =
-    document_is s name target place moment template initial text seen node (Ok plans.0) made shut plans.1 ∙ ap (changed s) (sym are)
+  -- what is refused for its target
+  pub target_refused : (result : Result Plan CaptureFault) (why : CaptureFault) → s.broken ≡ false → result ≡ Err why → PlansDocument name seen (captured s.states target place moment node (tree seen)) result
+      → Does s told (Err (fault_of_capture why)) s
+  target_refused result why unbroken was plans = go why (subst (PlansDocument name seen said) was plans)
+    where
+      refuses : (w : CaptureFault) → said ≡ Err w → told ≡ Refuses (refusal_of w)
+      refuses w is = document_is (Err w) is
+
+      go : (w : CaptureFault) → PlansDocument name seen said (Err w) → Does s told (Err (fault_of_capture w)) s
+      go fault.OutOfMemory plans = (unbroken, refl)
+      go fault.BadTemplate plans = (unbroken, refuses fault.BadTemplate plans, refl)
+      go fault.BadEntry plans = (unbroken, refuses fault.BadEntry plans, refl)
+      go fault.NotFound plans = (unbroken, refuses fault.NotFound plans, refl)
+      go fault.NotUnique plans = (unbroken, refuses fault.NotUnique plans, refl)
+
+  pub target_planned : (plan : Plan) (changes : List (List ℕ × List ℕ)) → (plans : PlansDocument name seen (captured s.states target place moment node (tree seen)) (Ok plan)) → changes ≡ (name, print plans.0) ∷ []
+      → told ≡ changed s changes
+  target_planned plan changes plans are = document_is (Ok plans.0) plans.1 ∙ ap (changed s) (sym are)

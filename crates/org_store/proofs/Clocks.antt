@@ -124,6 +124,13 @@ switch_refused now text from found fault.BadRepeat answers some = answers
 switch_refused now text from found fault.DateRange answers some = answers
 switch_refused now text from found fault.ClockBackwards answers some = answers
 
+pub switch_stays : (now : CivilMinute) (text : List ℕ) (from : ℕ) (found : Result ℕ PathFault) (edits : Vec Edit Global) → edits.items ≡ [] → AnswersSwitch now text from found (Ok edits) → switched_at now from (tree text) found ≡ Ok None
+switch_stays now text from found edits none (new, is, makes) = go new is makes
+  where
+    go : (o : Option Document) → switched_at now from (tree text) found ≡ Ok o → Makes o text edits.items → switched_at now from (tree text) found ≡ Ok None
+    go None is makes = is
+    go (Some d) is makes = absurd (makes.0 none)
+
 pub switch_made : (now : CivilMinute) (text : List ℕ) (from : ℕ) (found : Result ℕ PathFault) (edits : Vec Edit Global) → edits.items ≢ [] → AnswersSwitch now text from found (Ok edits)
     → (new : Document) × (switched_at now from (tree text) found ≡ Ok (Some new)) × AreEdits edits.items text (print new)
 switch_made now text from found edits some (new, is, makes) = go new is makes

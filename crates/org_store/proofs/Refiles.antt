@@ -1,18 +1,23 @@
 -- Refiles: what their planner finds is what the outcome says.
-use Rattle.std.proofs.Common.{◌≡◌, ◌≢◌, inl, inr, ℕ, false, List, Option, Some, None, Result, Ok, Err, refl, sym, ◌∙◌, ap, subst}
+use Rattle.std.proofs.Common.{◌≡◌, ◌≢◌, inl, inr, ℕ, false, List, [], ◌∷◌, Option, Some, None, Result, Ok, Err, refl, sym, ◌∙◌, ap, subst}
+use Rattle.std.specs.Prelude.{IsSomeAnd}
 use Rattle.org_disk.proofs.Names.{name_cases, same_name}
+use Rattle.org_splice.specs.declared.edit.Edit.{Edit}
+use Rattle.org_splice.specs.Edits.{AreEdits}
 use Rattle.org_splice.specs.Lines.{terminated}
 use Rattle.org_outline.specs.declared.moves.Place.{Place}
-use Rattle.org_outline.specs.Tree.{Document, tree}
+use Rattle.org_outline.specs.Tree.{Document, print, tree}
 use Rattle.org_outline.proofs.Trees.{tree-terminated}
+use Rattle.org_texts.specs.declared.plan.FileEdits.{FileEdits}
+use Rattle.org_texts.specs.declared.plan.Plan.{Plan}
 use Rattle.org_move.specs.declared.fault.MoveFault.{MoveFault}
 use Rattle.org_move.specs.declared.fault.MoveFault.TheVariants as fault
 use Rattle.org_move.specs.Answers.{Gives}
-use Rattle.org_move.specs.Refile.{refile_across, refile_within}
+use Rattle.org_move.specs.Refile.{Moved, refile_across, refile_within}
 use Rattle.org_store.specs.declared.command.Refusal.TheVariants.{NoSuchFile}
 use Rattle.org_store.specs.Keeping.{fault_of_move}
 use Rattle.org_store.specs.Outcome.{Outcome, Refuses, changed, refile, refusal_of_move, with_moved}
-use Rattle.org_store.specs.Refile.{text_within, texts_across}
+use Rattle.org_store.specs.Refile.{MakesDocuments, text_within, texts_across}
 use Rattle.org_store.specs.Session.{Session}
 use Rattle.org_store.specs.Step.{Does}
 
@@ -54,6 +59,21 @@ move_refused {A} {B} s texts told said Fits result why unbroken is was gives = g
 pub move_planned : {B : Type 0} (s : Session) (texts : B → List (List ℕ × List ℕ)) (told : Outcome) (said : Result B MoveFault) (new : B) (changes : List (List ℕ × List ℕ))
     → told ≡ with_moved s texts said → said ≡ Ok new → changes ≡ texts new → told ≡ changed s changes
 move_planned s texts told said new changes is made are = is ∙ ap (with_moved s texts) made ∙ ap (changed s) (sym are)
+
+-- a plan of one edit in each of two files makes what the edits make
+pub two_made : (file to_file text target : List ℕ) (edit to_edit : Edit) (new : Moved) (plan : Plan)
+    → (plan.first.file ≡ file) × (plan.first.edits.items ≡ edit ∷ []) × IsSomeAnd plan.second (λ second. (second.file ≡ to_file) × (second.edits.items ≡ to_edit ∷ []))
+    → AreEdits (edit ∷ []) text (print new.source) → AreEdits (to_edit ∷ []) target (print new.target) → MakesDocuments file to_file text target new plan
+two_made file to_file text target edit to_edit new plan (named, one, two) source goes_in = (
+  named,
+  subst (λ (es : List Edit). AreEdits es text (print new.source)) (sym one) source,
+  go plan.second two,
+)
+  where
+    go : (o : Option FileEdits) → IsSomeAnd o (λ second. (second.file ≡ to_file) × (second.edits.items ≡ to_edit ∷ []))
+        → IsSomeAnd o (λ second. (second.file ≡ to_file) × AreEdits second.edits.items target (print new.target))
+    go None two = absurd two
+    go (Some second) two = (two.0, subst (λ (es : List Edit). AreEdits es target (print new.target)) (sym two.1) goes_in)
 
 -- a target that isn't there
 pub no_target : (s : Session) (file : List ℕ) (path : List (List ℕ)) (to_file : List ℕ) (to : List (List ℕ)) (place : Place) (old : Option (List ℕ)) → refile s file path to_file to place old None ≡ Refuses NoSuchFile

@@ -1,6 +1,7 @@
 -- Changes of states: what their planner finds is what the outcome says.
 use Rattle.std.proofs.Common.{◌≡◌, ◌≢◌, ℕ, true, false, List, [], ◌∷◌, Option, Some, None, Result, Ok, Err, Vec, refl, sym, ◌∙◌, ap, subst}
 use Rattle.std.specs.Global.{Global}
+use Rattle.std.specs.Prelude.{IfNone, IfSome}
 use Rattle.std.specs.Option.{ForSome}
 use Rattle.org_splice.specs.declared.edit.Edit.{Edit}
 use Rattle.org_splice.specs.Edits.{AreEdits}
@@ -61,6 +62,15 @@ module _ (states : Keywords) (path : List (List ℕ)) (state : List ℕ) (now : 
       go : (o : Option Document) → IsTodo states path state now (tree text) (Ok o) → Makes o text edits.items → (d : Document) × (in_state states path state now (tree text) ≡ Ok (Some d)) × AreEdits edits.items text (print d)
       go None is makes = absurd (some makes)
       go (Some d) is makes = (d, todo_computed states path state now (tree text) (Ok (Some d)) is, makes.1)
+
+-- a plan of edits that make what is said, none where there is no edit
+pub plan_made : (file text : List ℕ) (said : Result (Option Document) StateFault) (edits : List Edit) (o : Option Plan) → IfNone o (edits ≡ [])
+    → IfSome o (λ plan. (edits ≢ []) × (plan.first.file ≡ file) × (plan.second ≡ None) × (plan.first.edits.items ≡ edits))
+    → (edits ≡ [] → said ≡ Ok None) → (edits ≢ [] → (d : Document) × (said ≡ Ok (Some d)) × AreEdits edits text (print d)) → PlansState file text said (Ok o)
+plan_made file text said edits None none some stays makes = stays none
+plan_made file text said edits (Some plan) none (changes, named, alone, are) stays makes =
+    let made = makes changes in
+    (made.0, made.1, (named, alone, subst (λ (es : List Edit). AreEdits es text (print made.0)) (sym are) made.2))
 
 -- ---- the outcome
 

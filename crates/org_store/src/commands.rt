@@ -2,6 +2,7 @@
 pub(crate) mod archive;
 pub(crate) mod capture;
 pub(crate) mod clock;
+mod edits;
 mod outline;
 pub(crate) mod refile;
 pub(crate) mod running;

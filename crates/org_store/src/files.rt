@@ -216,7 +216,7 @@ impl<D: Disk> Files<D> {
         ensures { IsTrue result → (name : List ℕ) → slice_get self.now.names index ≡ Some name
             → RunsIn self.now.held.before name None }
     {
-        matches!(self.quiet.get(index), Some(true))
+        is_noted(&self.quiet, index)
     }
 
     /// Notes that no clock runs in the file of this number, until an edit of it is put. Nothing else changes.
@@ -321,6 +321,13 @@ fn is_large(texts: &Texts, plan: &Plan) -> bool
         Some(change) => is_large_text(texts, &change.file),
         None => false,
     }
+}
+
+/// Whether the file of this number is noted.
+fn is_noted(quiet: &[bool], index: usize) -> bool
+    ensures { IsTrue result → slice_get quiet.now index ≡ Some true }
+{
+    matches!(quiet.get(index), Some(true))
 }
 
 /// Notes the file of this number, where it is noted already or is the next one. Without memory it isn't noted.

@@ -15,15 +15,14 @@ ghost use Rattle.org_store.specs.Refile.{MakesDocument, MakesDocuments};
 ghost use Rattle.org_store.specs.Session.{kept_over};
 
 use crate::command::{Refusal, RunFault};
+use crate::commands::edits::{plan_of_one, plan_of_two};
 use crate::commands::outline::outline_of;
-use crate::commands::refile::edits_of;
 use crate::files::Files;
 use org_disk::{Disk, FileName};
 use org_move::{Location, MoveFault, archive, archive_within, location};
 use org_outline::{Outline, States, Titles};
 use org_stamp::Moment;
 use org_texts::Plan;
-use std::alloc::Global;
 
 /// The outline of one of the files, whose text is ready. Takes no memory.
 fn outline_in<'a, D: Disk>(files: &'a Files<D>, states: &'a States, file: &FileName) -> Outline<'a>
@@ -37,59 +36,68 @@ fn outline_in<'a, D: Disk>(files: &'a Files<D>, states: &'a States, file: &FileN
     }
 }
 
-/// Where a subtree of a file with this outline goes: see `location`.
-fn find_location(
-    alloc: Global,
-    outline: &Outline<'_>,
+/// Where a subtree of one of the files, whose text is ready, goes: see `location`.
+fn find_location<D: Disk>(
+    files: &Files<D>,
+    states: &States,
     file: &FileName,
     path: &Titles,
 ) -> Result<Location, MoveFault>
-    ensures { GivesPlace (location outline.now.states file.now path.now outline.now.text) result }
+    requires { IsReady file.now files.now.held }
+    ensures { let seen = bytes_or [] (text_of files.now.held.now file.now) in
+        GivesPlace (location states.now file.now path.now seen) result }
 {
-    location(alloc, outline, file, path.as_slice())
+    let outline = outline_in(files, states, file);
+    location(files.alloc(), &outline, file, path.as_slice())
 }
 
-/// The edits of a file with this outline that archive a subtree within it.
-fn plan_within(
-    alloc: Global,
-    outline: &Outline<'_>,
+/// The edits of one of the files, whose text is ready, that archive a subtree within it.
+fn plan_within<D: Disk>(
+    files: &Files<D>,
+    states: &States,
     file: &FileName,
     path: &Titles,
     moment: Moment,
     to: &Location,
 ) -> Result<Plan, MoveFault>
-    ensures { let document = tree outline.now.text in
-        Gives (archive_within outline.now.states file.now path.now moment to.now document)
-        (MakesDocument file.now outline.now.text) result }
+    requires { IsReady file.now files.now.held }
+    ensures { let seen = bytes_or [] (text_of files.now.held.now file.now) in
+        Gives (archive_within states.now file.now path.now moment to.now (tree seen))
+        (MakesDocument file.now seen) result }
 {
-    let edits = archive_within(alloc, outline, file, path.as_slice(), moment, to)?;
-    Ok(Plan {
-        first: edits_of(alloc, file, edits)?,
-        second: None,
-    })
+    let alloc = files.alloc();
+    let outline = outline_in(files, states, file);
+    let edits = archive_within(alloc, &outline, file, path.as_slice(), moment, to)?;
+    Ok(plan_of_one(alloc, file, edits)?)
 }
 
-/// The edits of two files with these outlines that archive a subtree of the first in the second, the location's file.
-fn plan_across(
-    alloc: Global,
-    source: &Outline<'_>,
-    target: &Outline<'_>,
+/// The edits of two files, whose texts are ready, that archive a subtree of the first in the second, the location's file.
+fn plan_across<D: Disk>(
+    files: &Files<D>,
+    states: &States,
     file: &FileName,
     path: &Titles,
     moment: Moment,
     to: &Location,
 ) -> Result<Plan, MoveFault>
-    ensures { let from = tree source.now.text in
-        let into = tree target.now.text in
-        Gives (archive_across source.now.states file.now path.now moment from
-        target.now.states to.now into)
-        (MakesDocuments file.now to.now.file source.now.text target.now.text) result }
+    requires source { IsReady file.now files.now.held }
+    requires target { IsReady to.now.file files.now.held }
+    ensures { let seen = bytes_or [] (text_of files.now.held.now file.now) in
+        let target = bytes_or [] (text_of files.now.held.now to.now.file) in
+        Gives (archive_across states.now file.now path.now moment (tree seen) states.now to.now
+        (tree target)) (MakesDocuments file.now to.now.file seen target) result }
 {
-    let (goes_out, goes_in) = archive(alloc, source, target, file, path.as_slice(), moment, to)?;
-    Ok(Plan {
-        first: edits_of(alloc, file, [goes_out])?,
-        second: Some(edits_of(alloc, to.file(), [goes_in])?),
-    })
+    let alloc = files.alloc();
+    let (goes_out, goes_in) = archive(
+        alloc,
+        &outline_in(files, states, file),
+        &outline_in(files, states, to.file()),
+        file,
+        path.as_slice(),
+        moment,
+        to,
+    )?;
+    Ok(plan_of_two(alloc, file, goes_out, to.file(), goes_in)?)
 }
 
 /// What an archiving to this location is to change, from a file that is ready. It is refused for the location's file first,
@@ -115,19 +123,15 @@ fn plan_archive_to<D: Disk>(
     ensures disk { OnlyReads D.steady D.honest D.failures D.files D.moment D.left_since
         files.old files.new result }
 {
-    let alloc = files.alloc();
     let to_file = to.file();
     if file == to_file {
-        let outline = outline_in(files, states, file);
-        return Ok(plan_within(alloc, &outline, file, path, moment, to)?);
+        return Ok(plan_within(files, states, file, path, moment, to)?);
     }
     if !files.has(to_file) {
         return Err(RunFault::Refused(Refusal::NoSuchFile));
     }
     files.ready(to_file)?;
-    let source = outline_in(files, states, file);
-    let target = outline_in(files, states, to_file);
-    Ok(plan_across(alloc, &source, &target, file, path, moment, to)?)
+    Ok(plan_across(files, states, file, path, moment, to)?)
 }
 
 /// What an archiving is to change. It is refused for its file first, then for its path, then where the file is an archive
@@ -153,7 +157,6 @@ pub(crate) fn plan_archive<D: Disk>(
         return Err(RunFault::Refused(Refusal::NoSuchFile));
     }
     files.ready(file)?;
-    let alloc = files.alloc();
-    let to = find_location(alloc, &outline_in(files, states, file), file, path)?;
+    let to = find_location(files, states, file, path)?;
     plan_archive_to(files, states, file, path, moment, &to)
 }

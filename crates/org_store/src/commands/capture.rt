@@ -1,26 +1,29 @@
 //! New entries.
-ghost use Rattle.std.specs.Prelude.{◌≡◌, ◌∷◌, [], None, IfOk, true};
+ghost use Rattle.std.specs.Prelude.{◌≡◌, [], Ok, IfOk, true};
+ghost use Rattle.std.specs.Option.{unwrap_or};
 ghost use Rattle.org_outline.specs.Tree.{Node, tree};
 ghost use Rattle.org_capture.specs.Capture.{captured};
 ghost use Rattle.org_capture.specs.Entry.{IsEntry};
 ghost use Rattle.org_store.specs.declared.tally.Tally.{Tally};
 ghost use Rattle.org_store.specs.Capture.{MakesEntry, PlansDocument, new_entry};
 ghost use Rattle.org_store.specs.Files.{AreBetweenCommands, IsPlanFor};
-ghost use Rattle.org_store.specs.InOrder.{text_at};
+ghost use Rattle.org_store.specs.InOrder.{is_name, text_at};
 ghost use Rattle.org_store.specs.Keeping.{Plans};
-ghost use Rattle.org_store.specs.Outcome.{capture as outcome};
+ghost use Rattle.org_store.specs.Outcome.{capture as outcome, with_entry};
 ghost use Rattle.org_store.specs.Reading.{OnlyReads};
 ghost use Rattle.org_store.specs.Session.{kept_over};
 
 use crate::command::{Refusal, RunFault};
+use crate::commands::edits::plan_of_one;
+use crate::commands::outline::outline_of;
 use crate::files::Files;
 use org_capture::{CaptureFault, Target, capture, entry, expand};
 use org_disk::{Disk, FileName};
-use org_outline::{Outline, Place, States};
-use org_splice::{Bytes, Edit};
+use org_outline::{Place, States};
+use org_splice::Bytes;
 use org_stamp::Moment;
-use org_texts::{FileEdits, Held, Plan};
-use std::alloc::{AllocError, Global};
+use org_texts::{Held, Plan};
+use std::alloc::Global;
 
 /// The entry that a template stands for.
 fn new_entry(
@@ -34,20 +37,6 @@ fn new_entry(
 {
     let text = expand(alloc, template, moment, initial)?;
     entry(alloc, text.as_slice(), states)
-}
-
-/// The plan of one edit of one file.
-fn one_edit(alloc: Global, file: &FileName, edit: Edit) -> Result<Plan, AllocError>
-    ensures { IfOk result (λ plan. (plan.first.file ≡ file.now) × (plan.second ≡ None)
-        × (plan.first.edits.items ≡ edit ∷ [])) }
-{
-    let mut edits = Vec::new(alloc);
-    edits.push(edit)?;
-    let file = file.clone()?;
-    Ok(Plan {
-        first: FileEdits { file, edits },
-        second: None,
-    })
 }
 
 /// The edit of a text, which is ready, that puts an entry in.
@@ -67,12 +56,40 @@ fn plan_insertion(
         → PlansDocument file.now held.now.text.bytes
         (captured states.now target.now place moment node (tree held.now.text.bytes)) result }
 {
-    let Some(heads) = held.heads() else {
+    let outline = outline_of(held, states);
+    let edit = capture(alloc, &outline, target, place, moment, entry)?;
+    Ok(plan_of_one(alloc, file, [edit])?)
+}
+
+/// What a capture of this entry into one of the files is to change.
+fn plan_entry<D: Disk>(
+    files: &mut Files<D>,
+    states: &States,
+    file: &FileName,
+    target: &Target,
+    place: Place,
+    moment: Moment,
+    entry: &[u8],
+) -> Result<Plan, RunFault>
+    requires file { is_name files.old.names file.now ≡ true }
+    requires between { AreBetweenCommands files.old }
+    requires entry { (node : Node) × IsEntry entry.now node }
+    ensures plan { IfOk result (λ plan. IsPlanFor files.new.names files.new.held plan) }
+    ensures plans { (tally : Tally) (node : Node) → IsEntry entry.now node
+        → D.honest files.new.disk
+        → let session = (kept_over D.files states.now files.old tally).session in
+        let text = unwrap_or (text_at session.names session.files file.now) [] in
+        Plans session (with_entry session file.now target.now place moment (Ok node) text) result
+        files.new.held (kept_over D.files states.now files.new tally).session }
+    ensures disk { OnlyReads D.steady D.honest D.failures D.files D.moment D.left_since
+        files.old files.new result }
+{
+    files.ready(file)?;
+    let Some(held) = files.get(file) else {
         unreachable!();
     };
-    let outline = Outline::over(held.bytes(), heads, states);
-    let edit = capture(alloc, &outline, target, place, moment, entry)?;
-    Ok(one_edit(alloc, file, edit)?)
+    let alloc = files.alloc();
+    Ok(plan_insertion(alloc, states, held, file, target, place, moment, entry)?)
 }
 
 /// What a capture into a file is to change. It is refused for its file first, then for its template, then for its entry,
@@ -102,17 +119,12 @@ pub(crate) fn plan_capture<D: Disk>(
     if !files.has(file) {
         return Err(RunFault::Refused(Refusal::NoSuchFile));
     }
-    let alloc = files.alloc();
     let entry = new_entry(
-        alloc,
+        files.alloc(),
         states,
         moment,
         template.as_slice(),
         initial.as_slice(),
     )?;
-    files.ready(file)?;
-    let Some(held) = files.get(file) else {
-        unreachable!();
-    };
-    Ok(plan_insertion(alloc, states, held, file, target, place, moment, &entry)?)
+    plan_entry(files, states, file, target, place, moment, &entry)
 }

@@ -18,15 +18,16 @@ ghost use Rattle.org_store.specs.Session.{kept_over};
 ghost use Rattle.org_store.specs.Todo.{PlansState};
 
 use crate::command::{Refusal, RunFault};
+use crate::commands::edits::{plan_of, plan_of_one, plan_of_two};
 use crate::commands::outline::outline_of;
-use crate::commands::refile::{both_ready, edits_of};
+use crate::commands::refile::both_ready;
 use crate::commands::running::{Clock, running_clock};
 use crate::files::Files;
 use org_disk::{Disk, FileName};
 use org_outline::{States, Titles};
 use org_stamp::Moment;
 use org_state::{Running, StateFault, clock_in, clock_out, switch_clock};
-use org_texts::{FileEdits, Held, Plan};
+use org_texts::{Held, Plan};
 use std::alloc::Global;
 
 /// Tests that a text that is ready has a heading at a path.
@@ -52,12 +53,8 @@ fn plan_start(
     ensures { let d = tree held.now.text.bytes in PlansState file.now held.now.text.bytes
         (clocked_in moment None d (find_path states.now d path.now)) result }
 {
-    let outline = outline_of(held, states);
-    let edit = clock_in(alloc, &outline, path.as_slice(), moment)?;
-    Ok(Some(Plan {
-        first: edits_of(alloc, file, [edit])?,
-        second: None,
-    }))
+    let edit = clock_in(alloc, &outline_of(held, states), path.as_slice(), moment)?;
+    Ok(Some(plan_of_one(alloc, file, [edit])?))
 }
 
 /// The edits of a file, whose text is ready, that clock in at one of its headings, where this clock runs in it; none where
@@ -78,14 +75,7 @@ fn plan_switch(
 {
     let outline = outline_of(held, states);
     let edits = switch_clock(alloc, &outline, path.as_slice(), running, moment)?;
-    if edits.is_empty() {
-        return Ok(None);
-    }
-    let file = file.clone()?;
-    Ok(Some(Plan {
-        first: FileEdits { file, edits },
-        second: None,
-    }))
+    Ok(plan_of(file, edits)?)
 }
 
 /// The edits of a file, whose text is ready, that clock in at one of its headings. This clock runs in it, or none.
@@ -124,12 +114,8 @@ fn plan_stop(
     ensures { PlansState file.now held.now.text.bytes
         (clocked_out moment running (tree held.now.text.bytes)) result }
 {
-    let outline = outline_of(held, states);
-    let edit = clock_out(alloc, outline.text(), running, moment)?;
-    Ok(Some(Plan {
-        first: edits_of(alloc, file, [edit])?,
-        second: None,
-    }))
+    let edit = clock_out(alloc, outline_of(held, states).text(), running, moment)?;
+    Ok(Some(plan_of_one(alloc, file, [edit])?))
 }
 
 /// The edits of two files, whose texts are ready, that stop the clock that runs in the first, and clock in at a heading of
@@ -152,14 +138,14 @@ fn plan_move(
         (clock_moved moment clock.now.running (tree other.now.text.bytes) d
         (find_path states.now d path.now)) result }
 {
-    let from = outline_of(other, states);
-    let into = outline_of(held, states);
-    let start = clock_in(alloc, &into, path.as_slice(), moment)?;
-    let stop = clock_out(alloc, from.text(), clock.running, moment)?;
-    Ok(Plan {
-        first: edits_of(alloc, &clock.file, [stop])?,
-        second: Some(edits_of(alloc, file, [start])?),
-    })
+    let start = clock_in(alloc, &outline_of(held, states), path.as_slice(), moment)?;
+    let stop = clock_out(
+        alloc,
+        outline_of(other, states).text(),
+        clock.running,
+        moment,
+    )?;
+    Ok(plan_of_two(alloc, &clock.file, stop, file, start)?)
 }
 
 /// Tests that one of the files has a heading at a path. No text changes.
@@ -299,6 +285,41 @@ pub(crate) fn plan_clock_in<D: Disk>(
     Ok(Some(plan))
 }
 
+/// What stopping the clock that runs in one of the files is to change.
+fn stop_running<D: Disk>(
+    files: &mut Files<D>,
+    states: &States,
+    clock: &Clock,
+    moment: Moment,
+) -> Result<Option<Plan>, RunFault>
+    requires file { is_name files.old.names clock.now.file ≡ true }
+    requires between { AreBetweenCommands files.old }
+    requires runs { RunsHeld files.old.held clock.now.file clock.now.running }
+    ensures plan { IfOk result (λ plan. ForSome plan
+        (λ plan. IsPlanFor files.new.names files.new.held plan)) }
+    ensures plans { (tally : Tally) → D.honest files.new.disk
+        → let session = (kept_over D.files states.now files.old tally).session in
+        let d = tree (unwrap_or (text_at session.names session.files clock.now.file) []) in
+        PlansOrStays session (with_state session clock.now.file
+        (clocked_out moment clock.now.running d)) result
+        files.new.held (kept_over D.files states.now files.new tally).session }
+    ensures disk { OnlyReads D.steady D.honest D.failures D.files D.moment D.left_since
+        files.old files.new result }
+{
+    files.ready(&clock.file)?;
+    let Some(held) = files.get(&clock.file) else {
+        unreachable!();
+    };
+    Ok(plan_stop(
+        files.alloc(),
+        states,
+        held,
+        &clock.file,
+        clock.running,
+        moment,
+    )?)
+}
+
 /// What clocking out is to change. It is refused where no clock runs, and where the moment is before the start of the one
 /// that does.
 pub(crate) fn plan_clock_out<D: Disk>(
@@ -320,16 +341,5 @@ pub(crate) fn plan_clock_out<D: Disk>(
     let Some(clock) = running_clock(files, states)? else {
         return Err(RunFault::Refused(Refusal::NoClock));
     };
-    files.ready(&clock.file)?;
-    let Some(held) = files.get(&clock.file) else {
-        unreachable!();
-    };
-    Ok(plan_stop(
-        files.alloc(),
-        states,
-        held,
-        &clock.file,
-        clock.running,
-        moment,
-    )?)
+    stop_running(files, states, &clock, moment)
 }

@@ -14,28 +14,14 @@ ghost use Rattle.org_store.specs.Refile.{MakesDocument, MakesDocuments};
 ghost use Rattle.org_store.specs.Session.{kept_over};
 
 use crate::command::{Refusal, RunFault};
+use crate::commands::edits::{plan_of_one, plan_of_two};
 use crate::commands::outline::outline_of;
 use crate::files::Files;
 use org_disk::{Disk, FileName};
 use org_move::{MoveFault, refile_across, refile_within};
 use org_outline::{Place, States, Titles};
-use org_splice::Edit;
-use org_texts::{FileEdits, Held, Plan};
-use std::alloc::{AllocError, Global};
-
-/// These edits of a file.
-pub(crate) fn edits_of<const N: usize>(
-    alloc: Global,
-    file: &FileName,
-    edits: [Edit; N],
-) -> Result<FileEdits, AllocError>
-    ensures { IfOk result (λ change. (change.file ≡ file.now)
-        × (change.edits.items ≡ edits.entry)) }
-{
-    let file = file.clone()?;
-    let edits = Vec::from_array(alloc, edits)?;
-    Ok(FileEdits { file, edits })
-}
+use org_texts::{Held, Plan};
+use std::alloc::Global;
 
 /// The edits of a file, whose text is ready, that move a subtree within it.
 fn plan_within(
@@ -53,10 +39,7 @@ fn plan_within(
 {
     let outline = outline_of(held, states);
     let edits = refile_within(alloc, &outline, path.as_slice(), to.as_slice(), place)?;
-    Ok(Plan {
-        first: edits_of(alloc, file, edits)?,
-        second: None,
-    })
+    Ok(plan_of_one(alloc, file, edits)?)
 }
 
 /// The edits of two files, whose texts are ready, that move a subtree from the first into the second.
@@ -77,20 +60,15 @@ fn plan_across(
         states.now to.now (tree target.now.text.bytes) place)
         (MakesDocuments file.now to_file.now source.now.text.bytes target.now.text.bytes) result }
 {
-    let from = outline_of(source, states);
-    let into = outline_of(target, states);
     let (goes_out, goes_in) = refile_across(
         alloc,
-        &from,
-        &into,
+        &outline_of(source, states),
+        &outline_of(target, states),
         path.as_slice(),
         to.as_slice(),
         place,
     )?;
-    Ok(Plan {
-        first: edits_of(alloc, file, [goes_out])?,
-        second: Some(edits_of(alloc, to_file, [goes_in])?),
-    })
+    Ok(plan_of_two(alloc, file, goes_out, to_file, goes_in)?)
 }
 
 /// Makes two files ready: see `Files::ready`.

@@ -13,6 +13,7 @@ ghost use Rattle.org_store.specs.Session.{kept_over};
 ghost use Rattle.org_store.specs.Todo.{PlansState};
 
 use crate::command::{Refusal, RunFault};
+use crate::commands::edits::plan_of;
 use crate::commands::outline::outline_of;
 use crate::files::Files;
 use org_disk::{Disk, FileName};
@@ -20,7 +21,7 @@ use org_outline::{States, Titles};
 use org_splice::Bytes;
 use org_stamp::Moment;
 use org_state::{StateFault, todo};
-use org_texts::{FileEdits, Held, Plan};
+use org_texts::{Held, Plan};
 use std::alloc::Global;
 
 /// The edits of a file, whose text is ready, that put one of its headings into another state; none where nothing changes.
@@ -37,16 +38,14 @@ fn plan_state(
     ensures { PlansState file.now held.now.text.bytes
         (todo states.now path.now state.now moment (tree held.now.text.bytes)) result }
 {
-    let outline = outline_of(held, states);
-    let edits = todo(alloc, &outline, path.as_slice(), state.as_slice(), moment)?;
-    if edits.is_empty() {
-        return Ok(None);
-    }
-    let file = file.clone()?;
-    Ok(Some(Plan {
-        first: FileEdits { file, edits },
-        second: None,
-    }))
+    let edits = todo(
+        alloc,
+        &outline_of(held, states),
+        path.as_slice(),
+        state.as_slice(),
+        moment,
+    )?;
+    Ok(plan_of(file, edits)?)
 }
 
 /// What a change of a state is to change; no plan where nothing changes. It is refused for its file first, then for its

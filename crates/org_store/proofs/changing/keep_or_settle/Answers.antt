@@ -1,4 +1,4 @@
-use Rattle.std.proofs.Common.{◌≡◌, ◌∙◌, inl, ◌+◌, [], Ok, Err, refl, ap, subst, rules}
+use Rattle.std.proofs.Common.{◌≡◌, ◌∙◌, inl, ◌+◌, [], true, false, Ok, Err, refl, ap, subst, rules}
 use Rattle.org_journal.specs.Recovered.{contents}
 use Rattle.org_texts.specs.Texts.{held_over}
 use Rattle.org_store.specs.declared.command.RunFault.TheVariants.{OutOfMemory}
@@ -7,6 +7,7 @@ use Rattle.org_store.specs.InOrder.{texts_of}
 use Rattle.org_store.specs.Left.{IsLeft, IsLeftAlone}
 use Rattle.org_store.specs.Outcome.{Accepts}
 use Rattle.org_store.specs.Session.{kept_over}
+use Rattle.org_store.specs.Step.{fills}
 use Rattle.org_store.proofs.Leaving.{leaves_unwritten}
 use Rattle.org_store.proofs.changing.keep_or_settle.Goals as goal
 
@@ -33,3 +34,39 @@ returns-in-Err-OutOfMemory-clause-disk g c states honest =
     leaves_unwritten d.files d.moment d.left_since old (IsLeft {A = Unit {0}} old.session files (Accepts c.args.files.now.held.now.waiting texts) (Err OutOfMemory) c.args.tally.now.accepted)
     (IsLeftAlone {A = Unit {0}} old.session [] (Accepts c.args.files.now.held.now.waiting texts) (Err OutOfMemory) c.args.tally.now.accepted) _
     (λ image left. g.met.D.Disk.only_now c.args.files.now.disk image was left) refl (λ image holds. inl holds) _ same refl
+
+pub returns-then-not-fills-clause-keeps : goal.returns-then-not-fills-clause-keeps
+returns-then-not-fills-clause-keeps g c states honest =
+    let old = kept_over g.D.Disk.files states c.args.files.now c.args.tally.now in
+    let room : fills old.session ≡ false = search rules in
+    let kept = c.keep.ensures in
+    rw (kept.memory.disk, kept.memory.names, kept.memory.broken, kept.before, room) refl
+
+pub returns-in-Ok-clause-keeps : goal.returns-in-Ok-clause-keeps
+returns-in-Ok-clause-keeps g c states honest =
+    let old = kept_over g.D.Disk.files states c.args.files.now c.args.tally.now in
+    let full : fills old.session ≡ true = search rules in
+    let whole : c.commit.new.self.broken ≡ c.args.files.now.broken = search rules in
+    rw (c.commit.ensures.names, whole, full, c.in-Ok.ensures.texts honest, (c.in-Ok.ensures.commits honest).texts) refl
+
+pub returns-in-Err-Device-clause-keeps : goal.returns-in-Err-Device-clause-keeps
+returns-in-Err-Device-clause-keeps g c states honest =
+    let d = g.D.Disk in
+    let old = kept_over d.files states c.args.files.now c.args.tally.now in
+    let full : fills old.session ≡ true = search rules in
+    let fell : c.commit.new.self.broken ≡ true = search rules in
+    let new = c.undo.new.self in
+    let taken = c.undo.ensures in (
+      full,
+      (
+        texts_of (held_over new.held.before (contents (d.files new.disk))) new.names,
+        texts_of (contents (d.files new.disk)) new.names,
+        rw (taken.memory.names, c.commit.ensures.names, taken.memory.broken, fell) refl,
+      ),
+    )
+
+pub returns-in-Err-OutOfMemory-clause-keeps : goal.returns-in-Err-OutOfMemory-clause-keeps
+returns-in-Err-OutOfMemory-clause-keeps g c states honest =
+    let unwritten : c.commit.new.self ≡ c.args.files.now = search rules in
+    let taken = c.undo-in-Err-OutOfMemory.ensures in
+    rw (taken.memory.disk, taken.memory.names, taken.memory.broken, taken.before, unwritten) refl

@@ -1,4 +1,4 @@
-use Rattle.std.proofs.Common.{◌≡◌, ◌∙◌, ◌∷◌, [], false, true, Some, Result, Ok, Err, List, ℕ, refl, sym, ap, subst, rules}
+use Rattle.std.proofs.Common.{◌≡◌, ◌∙◌, ◌∷◌, [], false, true, Some, Result, Err, List, ℕ, refl, sym, ap, subst, rules}
 use Rattle.org_journal.specs.Recovered.{Image, contents}
 use Rattle.org_texts.specs.declared.plan.Plan.{Plan}
 use Rattle.org_texts.specs.Texts.{held_over}
@@ -9,11 +9,11 @@ use Rattle.org_store.specs.Keeping.{Plans, Reads, fault_of_move}
 use Rattle.org_store.specs.Outcome.{Outcome, archive, archive_to}
 use Rattle.org_store.specs.Session.{Session, session_over}
 use Rattle.org_store.specs.Step.{Does}
-use Rattle.org_store.proofs.Archives.{held_bytes, is_ready, place_found, place_refused, place_told, store_text}
+use Rattle.org_store.proofs.Archives.{held_bytes, is_ready, place_found, place_refused, store_text}
 use Rattle.org_store.proofs.Held.{none_ready}
 use Rattle.org_store.proofs.InOrder.{none_at}
 use Rattle.org_store.proofs.Plans.{one_name}
-use Rattle.org_store.proofs.Reading.{only_reads_then}
+use Rattle.org_store.proofs.Reading.{only_reads_none, only_reads_then}
 use Rattle.org_store.proofs.Sessions.{does_read}
 use Rattle.org_store.proofs.commands.archive.plan_archive.Goals as goal
 
@@ -38,8 +38,8 @@ returns-in_err-ready-clause-plans g c tally honest =
     let reads = subst (λ (r : Result (Unit {0}) RunFault). Reads s r new) c.in_err-ready.was (c.ready.ensures.reads a.states.now tally honest) in
     subst (λ (r : Result Plan RunFault). Plans s told r c.ready.new.self.held new) (sym given) (does_read (Unit {0}) s new told fault c.requires.between.unbroken reads)
 
-pub outline_in-requires : goal.outline_in-requires
-outline_in-requires g c =
+pub find_location-requires : goal.find_location-requires
+find_location-requires g c =
     let held = c.ready.new.self.held in
     let file = c.args.file.now in
     let ready : AreReady (file ∷ []) held = c.in_ok-ready.ensures.ready [] (none_ready c.args.files.now.held c.requires.between.begun) in
@@ -62,8 +62,8 @@ returns-in_err-to-clause-plans g c tally honest =
     let named : is_name files.names file ≡ true = ap (λ (ns : List (List ℕ)). is_name ns file) c.ready.ensures.disk.names ∙ there in
     let own = store_text texts a.states.now files tally s (file ∷ []) file read ready (one_name file) named in
     let seen = held_bytes files.held file in
-    let gives = place_told a.states.now c.outline_in.result.states file a.path.now seen c.outline_in.result.text c.outline_in.ensures.1 c.outline_in.ensures.0 c.find_location-2.result c.find_location-2.ensures in
-    let refused = place_refused s file a.path.now a.moment own.0 seen c.find_location-2.result why c.requires.between.unbroken own.1 own.2 c.in_err-to.was gives in
+    let gives = c.find_location.ensures in
+    let refused = place_refused s file a.path.now a.moment own.0 seen c.find_location.result why c.requires.between.unbroken own.1 own.2 c.in_err-to.was gives in
     subst (λ (r : Result Plan RunFault). Plans s told r files.held new) (sym given)
     (subst (λ (t : Session). Does s told (Err (fault_of_move why)) t) (sym read) refused)
 
@@ -88,10 +88,13 @@ returns-clause-plans g c tally honest =
     let named : is_name files.names file ≡ true = ap (λ (ns : List (List ℕ)). is_name ns file) c.ready.ensures.disk.names ∙ there in
     let own = store_text texts a.states.now files tally s (file ∷ []) file read ready (one_name file) named in
     let seen = held_bytes files.held file in
-    let place = place_told a.states.now c.outline_in.result.states file a.path.now seen c.outline_in.result.text c.outline_in.ensures.1 c.outline_in.ensures.0 (Ok to) c.in_ok-to.ensures in
+    let place = c.in_ok-to.ensures in
     let found = place_found s file a.path.now a.moment own.0 seen to own.1 own.2 place in
     let plans = subst (λ (t : Session). text_at t.names t.files file ≡ Some own.0 → Plans t (archive_to t file a.path.now a.moment own.0 to (text_at t.names t.files to.file)) c.plan_archive_to.result later.held new) read (c.plan_archive_to.ensures.plans tally own.0 honest) own.1 in
     subst (λ (o : Outcome). Plans s o c.plan_archive_to.result later.held new) (sym found) plans
 
 pub returns-clause-disk : goal.returns-clause-disk
 returns-clause-disk g c = only_reads_then c.in_ok-ready.ensures.disk c.plan_archive_to.ensures.disk
+
+pub returns-then-not-has-clause-disk : goal.returns-then-not-has-clause-disk
+returns-then-not-has-clause-disk g c = only_reads_none c.requires.between.unbroken (λ no. cc) (λ no. cc)

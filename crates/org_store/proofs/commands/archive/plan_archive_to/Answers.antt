@@ -1,25 +1,25 @@
-use Rattle.std.proofs.Common.{◌≡◌, ◌≢◌, ◌∙◌, ◌∷◌, [], false, true, Result, Ok, Err, List, ℕ, refl, sym, ap, subst, rules}
+use Rattle.std.proofs.Common.{◌≡◌, ◌≢◌, ◌∙◌, ◌∷◌, [], false, true, Result, Err, List, ℕ, refl, sym, ap, subst, rules}
 use Rattle.org_journal.specs.Recovered.{Image, contents}
 use Rattle.org_outline.specs.Tree.{tree}
 use Rattle.org_texts.specs.declared.plan.Plan.{Plan}
 use Rattle.org_move.specs.Archive.{archive_across, archive_within}
 use Rattle.org_store.specs.declared.command.RunFault.{RunFault}
-use Rattle.org_store.specs.Files.{AreReady, new_texts}
+use Rattle.org_store.specs.Files.{AreReady, IsReady, new_texts}
 use Rattle.org_store.specs.InOrder.{is_name, text_at}
 use Rattle.org_store.specs.Keeping.{Plans, Reads, fault_of_move}
 use Rattle.org_store.specs.Outcome.{archive_to}
 use Rattle.org_store.specs.Refile.{MakesDocument, MakesDocuments, text_within, texts_across}
 use Rattle.org_store.specs.Session.{Session, session_over}
 use Rattle.org_store.specs.Step.{Does}
-use Rattle.org_store.proofs.Archives.{across_fits, across_is, across_texts, across_told, held_bytes, is_ready, no_place, no_text, same_shut, store_text, within_fits, within_is, within_texts, within_told}
+use Rattle.org_store.proofs.Archives.{across_fits, across_is, across_texts, held_bytes, is_ready, no_place, no_text, same_shut, store_text, within_fits, within_is, within_texts}
 use Rattle.org_store.proofs.Plans.{first_name, one_name, second_name}
-use Rattle.org_store.proofs.Reading.{only_reads_fault, only_reads_fine}
+use Rattle.org_store.proofs.Reading.{only_reads_fault, only_reads_fine, only_reads_none}
 use Rattle.org_store.proofs.Refiles.{move_planned, move_refused}
 use Rattle.org_store.proofs.Sessions.{does_read}
 use Rattle.org_store.proofs.commands.archive.plan_archive_to.Goals as goal
 
-pub outline_in-outline-requires : goal.outline_in-outline-requires
-outline_in-outline-requires g c = is_ready (c.args.file.now ∷ []) c.args.files.now.held c.args.file.now c.requires.ready (one_name c.args.file.now)
+pub plan_within-requires : goal.plan_within-requires
+plan_within-requires g c = is_ready (c.args.file.now ∷ []) c.args.files.now.held c.args.file.now c.requires.ready (one_name c.args.file.now)
 
 pub returns-in_err-plan_within-clause-plans : goal.returns-in_err-plan_within-clause-plans
 returns-in_err-plan_within-clause-plans g c tally text honest at =
@@ -36,7 +36,7 @@ returns-in_err-plan_within-clause-plans g c tally text honest at =
     let own = store_text texts a.states.now files tally s (file ∷ []) file refl c.requires.ready (one_name file) c.requires.name in
     let seen = held_bytes files.held file in
     let is = within_is s file a.path.now a.moment text seen to at (same_shut text own.0 seen (sym at ∙ own.1) own.2) same in
-    let gives = within_told a.states.now c.outline_in-outline.result.states file a.path.now seen c.outline_in-outline.result.text c.outline_in-outline.ensures.1 c.outline_in-outline.ensures.0 a.moment to c.plan_within.result c.plan_within.ensures in
+    let gives = c.plan_within.ensures in
     let refused = move_refused s (text_within file) told (archive_within a.states.now file a.path.now a.moment to (tree seen)) (MakesDocument file seen) c.plan_within.result why c.requires.unbroken is c.in_err-plan_within.was gives in
     subst (λ (r : Result Plan RunFault). Plans s told r files.held s) (sym given) refused
 
@@ -48,7 +48,7 @@ returns-then-eq-clause-plan g c =
     let to = a.to.now in
     let plan = c.in_ok-plan_within.field-0 in
     let seen = held_bytes files.held file in
-    let made = within_told a.states.now c.outline_in-outline.result.states file a.path.now seen c.outline_in-outline.result.text c.outline_in-outline.ensures.1 c.outline_in-outline.ensures.0 a.moment to (Ok plan) c.in_ok-plan_within.ensures in
+    let made = c.in_ok-plan_within.ensures in
     within_fits plan files.held file made.0 made.2 c.requires.ready files.names c.requires.name
 
 pub returns-then-eq-clause-plans : goal.returns-then-eq-clause-plans
@@ -65,7 +65,7 @@ returns-then-eq-clause-plans g c tally text honest at =
     let own = store_text texts a.states.now files tally s (file ∷ []) file refl c.requires.ready (one_name file) c.requires.name in
     let seen = held_bytes files.held file in
     let is = within_is s file a.path.now a.moment text seen to at (same_shut text own.0 seen (sym at ∙ own.1) own.2) same in
-    let made = within_told a.states.now c.outline_in-outline.result.states file a.path.now seen c.outline_in-outline.result.text c.outline_in-outline.ensures.1 c.outline_in-outline.ensures.0 a.moment to (Ok plan) c.in_ok-plan_within.ensures in (
+    let made = c.in_ok-plan_within.ensures in (
       move_planned s (text_within file) told (archive_within a.states.now file a.path.now a.moment to (tree seen)) made.0 (new_texts plan files.held.now) is made.1 (within_texts plan files.held file made.0 made.2 c.requires.ready),
       refl,
     )
@@ -102,21 +102,21 @@ returns-in_err-ready-clause-disk g c =
     let given : c.from_residual-in_err-ready.result ≡ Err c.in_err-ready.field-0.0 = search rules in
     only_reads_fault given c.in_err-ready.ensures.disk
 
-pub outline_in-source-requires : goal.outline_in-source-requires
-outline_in-source-requires g c =
+pub plan_across-requires-clause-source : goal.plan_across-requires-clause-source
+plan_across-requires-clause-source g c =
     let held = c.ready.new.self.held in
     let file = c.args.file.now in
     let to_file = c.file-to_file.result.now in
     let ready : AreReady (to_file ∷ file ∷ []) held = c.in_ok-ready.ensures.ready (file ∷ []) c.requires.ready in
     is_ready (to_file ∷ file ∷ []) held file ready (second_name to_file file)
 
-pub outline_in-target-requires : goal.outline_in-target-requires
-outline_in-target-requires g c =
+pub plan_across-requires-clause-target : goal.plan_across-requires-clause-target
+plan_across-requires-clause-target g c =
     let held = c.ready.new.self.held in
     let file = c.args.file.now in
     let to_file = c.file-to_file.result.now in
     let ready : AreReady (to_file ∷ file ∷ []) held = c.in_ok-ready.ensures.ready (file ∷ []) c.requires.ready in
-    is_ready (to_file ∷ file ∷ []) held to_file ready (first_name to_file (file ∷ []))
+    subst (λ (n : List ℕ). IsReady n held) c.file-to_file.ensures (is_ready (to_file ∷ file ∷ []) held to_file ready (first_name to_file (file ∷ [])))
 
 pub returns-in_err-plan_across-clause-plans : goal.returns-in_err-plan_across-clause-plans
 returns-in_err-plan_across-clause-plans g c tally text honest at =
@@ -144,8 +144,7 @@ returns-in_err-plan_across-clause-plans g c tally text honest at =
     let seen = held_bytes later.held file in
     let target = held_bytes later.held to.file in
     let is = across_is s file a.path.now a.moment text seen other.0 target to other.1 (same_shut text own.0 seen (sym at ∙ own.1) own.2) other.2 apart in
-    let gives = across_told a.states.now c.outline_in-source.result.states file a.path.now seen c.outline_in-source.result.text c.outline_in-source.ensures.1 c.outline_in-source.ensures.0 a.moment to c.outline_in-target.result.states target c.outline_in-target.result.text
-    c.plan_across.result c.outline_in-target.ensures.1 (c.outline_in-target.ensures.0 ∙ ap (held_bytes later.held) c.file-to_file.ensures) c.plan_across.ensures in
+    let gives = c.plan_across.ensures in
     let refused = move_refused s (texts_across file to.file) told (archive_across a.states.now file a.path.now a.moment (tree seen) a.states.now to (tree target)) (MakesDocuments file to.file seen target) c.plan_across.result why
     c.requires.unbroken is c.in_err-plan_across.was gives in
     subst (λ (r : Result Plan RunFault). Plans s told r later.held new) (sym given)
@@ -171,8 +170,7 @@ returns-clause-plan g c =
     let apart : file ≢ to.file = λ same. differ (same ∙ sym c.file-to_file.ensures) in
     let seen = held_bytes later.held file in
     let target = held_bytes later.held to.file in
-    let made = across_told a.states.now c.outline_in-source.result.states file a.path.now seen c.outline_in-source.result.text c.outline_in-source.ensures.1 c.outline_in-source.ensures.0 a.moment to c.outline_in-target.result.states target c.outline_in-target.result.text
-    (Ok plan) c.outline_in-target.ensures.1 (c.outline_in-target.ensures.0 ∙ ap (held_bytes later.held) c.file-to_file.ensures) c.in_ok-plan_across.ensures in
+    let made = c.in_ok-plan_across.ensures in
     across_fits plan later.held file to.file made.0 apart made.2 both later.names still also
 
 pub returns-clause-plans : goal.returns-clause-plans
@@ -200,8 +198,7 @@ returns-clause-plans g c tally text honest at =
     let seen = held_bytes later.held file in
     let target = held_bytes later.held to.file in
     let is = across_is s file a.path.now a.moment text seen other.0 target to other.1 (same_shut text own.0 seen (sym at ∙ own.1) own.2) other.2 apart in
-    let made = across_told a.states.now c.outline_in-source.result.states file a.path.now seen c.outline_in-source.result.text c.outline_in-source.ensures.1 c.outline_in-source.ensures.0 a.moment to c.outline_in-target.result.states target c.outline_in-target.result.text
-    (Ok plan) c.outline_in-target.ensures.1 (c.outline_in-target.ensures.0 ∙ ap (held_bytes later.held) c.file-to_file.ensures) c.in_ok-plan_across.ensures in (
+    let made = c.in_ok-plan_across.ensures in (
       move_planned s (texts_across file to.file) told (archive_across a.states.now file a.path.now a.moment (tree seen) a.states.now to (tree target)) made.0 (new_texts plan later.held.now) is made.1
           (across_texts plan later.held file to.file made.0 apart made.2 both),
       read,
@@ -209,3 +206,6 @@ returns-clause-plans g c tally text honest at =
 
 pub returns-clause-disk : goal.returns-clause-disk
 returns-clause-disk g c = only_reads_fine (λ no. cc) (λ no. cc) c.in_ok-ready.ensures.disk
+
+pub returns-then-not-has-clause-disk : goal.returns-then-not-has-clause-disk
+returns-then-not-has-clause-disk g c = only_reads_none c.requires.unbroken (λ no. cc) (λ no. cc)

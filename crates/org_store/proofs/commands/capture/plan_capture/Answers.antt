@@ -1,23 +1,18 @@
-use Rattle.std.proofs.Common.{◌≡◌, ◌∙◌, ◌∷◌, [], false, true, Some, Result, Ok, Err, List, ℕ, refl, sym, ap, subst, rules}
+use Rattle.std.proofs.Common.{◌≡◌, ◌∙◌, false, true, Result, Ok, Err, List, ℕ, refl, sym, ap, subst, rules}
 use Rattle.std.specs.Option.{IsSome}
 use Rattle.org_journal.specs.Recovered.{Image, contents}
-use Rattle.org_outline.specs.Tree.{print}
 use Rattle.org_capture.specs.Entry.{IsEntry}
 use Rattle.org_texts.specs.declared.plan.Plan.{Plan}
-use Rattle.org_texts.specs.Texts.{held_over, text_of}
+use Rattle.org_texts.specs.Texts.{held_over}
 use Rattle.org_store.specs.declared.command.RunFault.{RunFault}
 use Rattle.org_store.specs.Capture.{MakesEntry, new_entry}
-use Rattle.org_store.specs.Files.{AreReady, new_texts}
 use Rattle.org_store.specs.InOrder.{is_name, text_at}
-use Rattle.org_store.specs.Keeping.{Plans, Reads, fault_of_capture}
-use Rattle.org_store.specs.Outcome.{capture}
-use Rattle.org_store.specs.Session.{Session, session_over}
-use Rattle.org_store.specs.Step.{Does}
-use Rattle.org_store.proofs.Captures.{entry_refused, target_planned, target_refused}
-use Rattle.org_store.proofs.Held.{none_ready}
+use Rattle.org_store.specs.Keeping.{Plans, fault_of_capture}
+use Rattle.org_store.specs.Outcome.{Outcome, capture}
+use Rattle.org_store.specs.Session.{session_over}
+use Rattle.org_store.proofs.Captures.{entry_is, entry_refused}
 use Rattle.org_store.proofs.InOrder.{none_at, text_there}
-use Rattle.org_store.proofs.Plans.{not_missing, now_held, one_name, one_text, plan_of_one, ready_heads, ready_text, text_held}
-use Rattle.org_store.proofs.Sessions.{does_read}
+use Rattle.org_store.proofs.Reading.{only_reads_none}
 use Rattle.org_store.proofs.commands.capture.plan_capture.Goals as goal
 
 pub returns-then-not-has-clause-plans : goal.returns-then-not-has-clause-plans
@@ -44,96 +39,32 @@ returns-in_err-entry-clause-plans g c tally honest =
     subst (λ (r : Result Plan RunFault). Plans s told r files.held s) (sym given)
     (entry_refused s file a.target.now a.place a.moment a.template.now a.initial.now (text_at s.names s.files file) c.new_entry.result why some c.requires.between.unbroken c.in_err-entry.was makes)
 
-pub returns-in_err-ready-clause-plans : goal.returns-in_err-ready-clause-plans
-returns-in_err-ready-clause-plans g c tally honest =
-    let a = c.args in
-    let texts : g.row.D.Denot → Image = λ disk. contents (g.D.Disk.files disk) in
-    let s = session_over texts a.states.now a.files.now tally in
-    let new = session_over texts a.states.now c.ready.new.self tally in
-    let fault = c.in_err-ready.field-0.0 in
-    let told = capture s a.file.now a.target.now a.place a.moment a.template.now a.initial.now (text_at s.names s.files a.file.now) in
-    let given : c.from_residual-in_err-ready.result ≡ Err fault = search rules in
-    let reads = subst (λ (r : Result (Unit {0}) RunFault). Reads s r new) c.in_err-ready.was (c.ready.ensures.reads a.states.now tally honest) in
-    subst (λ (r : Result Plan RunFault). Plans s told r c.ready.new.self.held new) (sym given) (does_read (Unit {0}) s new told fault c.requires.between.unbroken reads)
-
-pub unreachable-requires : goal.unreachable-requires
-unreachable-requires g c =
-    let held = c.ready.new.self.held in
-    let file = c.args.file.now in
-    let ready : AreReady (file ∷ []) held = c.in_ok-ready.ensures.ready [] (none_ready c.args.files.now.held c.requires.between.begun) in
-    not_missing (λ h. h.now.text) c.get.result (text_of held.now file) c.get.ensures.text (now_held (file ∷ []) held file ready (one_name file)) c.in_default.not-Some
-
-pub plan_insertion-requires-clause-ready : goal.plan_insertion-requires-clause-ready
-plan_insertion-requires-clause-ready g c =
-    let held = c.ready.new.self.held in
-    let file = c.args.file.now in
-    let ready : AreReady (file ∷ []) held = c.in_ok-ready.ensures.ready [] (none_ready c.args.files.now.held c.requires.between.begun) in
-    ready_heads (file ∷ []) held file (λ h. h.now.ready) c.get.result c.in-Some.held ready (one_name file) c.get.ensures.ready c.in-Some.is
-
-pub returns-in_err-plan_insertion-clause-plans : goal.returns-in_err-plan_insertion-clause-plans
-returns-in_err-plan_insertion-clause-plans g c tally honest =
-    let a = c.args in
-    let texts : g.row.D.Denot → Image = λ disk. contents (g.D.Disk.files disk) in
-    let s = session_over texts a.states.now a.files.now tally in
-    let new = session_over texts a.states.now c.ready.new.self tally in
-    let held = c.ready.new.self.held in
-    let file = a.file.now in
-    let told = capture s file a.target.now a.place a.moment a.template.now a.initial.now (text_at s.names s.files file) in
-    let why = c.in_err-plan_insertion.field-0.0 in
-    let given : c.from_residual-in_err-plan_insertion.result ≡ Err (fault_of_capture why) = search rules in
-    let read : new ≡ s = c.in_ok-ready.ensures.reads a.states.now tally honest in
-    let ready : AreReady (file ∷ []) held = c.in_ok-ready.ensures.ready [] (none_ready a.files.now.held c.requires.between.begun) in
-    let there : is_name a.files.now.names file ≡ true = search rules in
-    let named : is_name c.ready.new.self.names file ≡ true = ap (λ (ns : List (List ℕ)). is_name ns file) c.ready.ensures.disk.names ∙ there in
-    let at : text_of held.now file ≡ Some c.in-Some.held.now.text = search rules in
-    let old = ready_text (file ∷ []) held file c.in-Some.held.now.text ready (one_name file) at in
-    let seen : text_at new.names new.files file ≡ Some old.0.bytes = text_held c.ready.new.self.names held (texts c.ready.new.self.disk) file old.0 named old.1 in
-    let found : text_at s.names s.files file ≡ Some old.0.bytes = subst (λ (t : Session). text_at t.names t.files file ≡ Some old.0.bytes) read seen in
-    let made : MakesEntry (new_entry a.moment a.template.now a.initial.now) (Ok c.in_ok-entry.entry) = rw (c.as_slice.ensures, c.as_slice-2.ensures) at c.in_ok-entry.ensures in
-    let entry : IsEntry c.deref.result.now made.0 = subst (λ (t : List ℕ). IsEntry t made.0) (sym c.deref.ensures.value) made.2 in
-    subst (λ (r : Result Plan RunFault). Plans s told r held new) (sym given)
-    (subst (λ o. Does s (capture s file a.target.now a.place a.moment a.template.now a.initial.now o) (Err (fault_of_capture why)) new) (sym found)
-    (subst (λ (t : Session). Does s (capture s file a.target.now a.place a.moment a.template.now a.initial.now (Some old.0.bytes)) (Err (fault_of_capture why)) t) (sym read)
-    (target_refused s file a.target.now a.place a.moment a.template.now a.initial.now old.0.bytes c.in-Some.held.now.text.bytes made.0 c.plan_insertion.result why c.requires.between.unbroken made.1 old.2 c.in_err-plan_insertion.was
-    (c.plan_insertion.ensures made.0 entry))))
+pub plan_entry-requires-clause-entry : goal.plan_entry-requires-clause-entry
+plan_entry-requires-clause-entry g c =
+    let made = c.in_ok-entry.ensures in
+    (made.0, subst (λ (t : List ℕ). IsEntry t made.0) (sym c.deref.ensures.value) made.2)
 
 pub returns-clause-plan : goal.returns-clause-plan
-returns-clause-plan g c =
-    let a = c.args in
-    let held = c.ready.new.self.held in
-    let file = a.file.now in
-    let plan = c.in_ok-plan_insertion.field-0 in
-    let ready : AreReady (file ∷ []) held = c.in_ok-ready.ensures.ready [] (none_ready a.files.now.held c.requires.between.begun) in
-    let there : is_name a.files.now.names file ≡ true = search rules in
-    let named : is_name c.ready.new.self.names file ≡ true = ap (λ (ns : List (List ℕ)). is_name ns file) c.ready.ensures.disk.names ∙ there in
-    let at : text_of held.now file ≡ Some c.in-Some.held.now.text = search rules in
-    let made : MakesEntry (new_entry a.moment a.template.now a.initial.now) (Ok c.in_ok-entry.entry) = rw (c.as_slice.ensures, c.as_slice-2.ensures) at c.in_ok-entry.ensures in
-    let entry : IsEntry c.deref.result.now made.0 = subst (λ (t : List ℕ). IsEntry t made.0) (sym c.deref.ensures.value) made.2 in
-    let plans = c.in_ok-plan_insertion.ensures made.0 entry in
-    plan_of_one plan c.ready.new.self.names held file c.in-Some.held.now.text (print plans.0) plans.2 plans.3 at plans.4 named ready
+returns-clause-plan g c = c.plan_entry.ensures.plan
 
 pub returns-clause-plans : goal.returns-clause-plans
 returns-clause-plans g c tally honest =
     let a = c.args in
+    let files = a.files.now in
     let texts : g.row.D.Denot → Image = λ disk. contents (g.D.Disk.files disk) in
-    let s = session_over texts a.states.now a.files.now tally in
-    let new = session_over texts a.states.now c.ready.new.self tally in
-    let held = c.ready.new.self.held in
+    let s = session_over texts a.states.now files tally in
+    let new = session_over texts a.states.now c.plan_entry.new.files tally in
     let file = a.file.now in
-    let plan = c.in_ok-plan_insertion.field-0 in
-    let read : new ≡ s = c.in_ok-ready.ensures.reads a.states.now tally honest in
-    let ready : AreReady (file ∷ []) held = c.in_ok-ready.ensures.ready [] (none_ready a.files.now.held c.requires.between.begun) in
-    let there : is_name a.files.now.names file ≡ true = search rules in
-    let named : is_name c.ready.new.self.names file ≡ true = ap (λ (ns : List (List ℕ)). is_name ns file) c.ready.ensures.disk.names ∙ there in
-    let at : text_of held.now file ≡ Some c.in-Some.held.now.text = search rules in
-    let old = ready_text (file ∷ []) held file c.in-Some.held.now.text ready (one_name file) at in
-    let seen : text_at new.names new.files file ≡ Some old.0.bytes = text_held c.ready.new.self.names held (texts c.ready.new.self.disk) file old.0 named old.1 in
-    let found : text_at s.names s.files file ≡ Some old.0.bytes = subst (λ (t : Session). text_at t.names t.files file ≡ Some old.0.bytes) read seen in
+    let old = text_at s.names s.files file in
+    let there : is_name files.names file ≡ true = search rules in
+    let some : IsSome old = sym (text_there (held_over files.held.before (texts files.disk)) files.names file) ∙ there in
     let made : MakesEntry (new_entry a.moment a.template.now a.initial.now) (Ok c.in_ok-entry.entry) = rw (c.as_slice.ensures, c.as_slice-2.ensures) at c.in_ok-entry.ensures in
     let entry : IsEntry c.deref.result.now made.0 = subst (λ (t : List ℕ). IsEntry t made.0) (sym c.deref.ensures.value) made.2 in
-    let plans = c.in_ok-plan_insertion.ensures made.0 entry in
-    let changes = one_text plan held file c.in-Some.held.now.text (print plans.0) plans.2 plans.3 at plans.4 in (
-      ap (capture s file a.target.now a.place a.moment a.template.now a.initial.now) found
-          ∙ target_planned s file a.target.now a.place a.moment a.template.now a.initial.now old.0.bytes c.in-Some.held.now.text.bytes made.0 plan (new_texts plan held.now) made.1 old.2 plans changes,
-      read,
-    )
+    subst (λ (o : Outcome). Plans s o c.plan_entry.result c.plan_entry.new.files.held new)
+    (sym (entry_is s file a.target.now a.place a.moment a.template.now a.initial.now old made.0 some made.1)) (c.plan_entry.ensures.plans tally made.0 entry honest)
+
+pub returns-clause-disk : goal.returns-clause-disk
+returns-clause-disk g c = c.plan_entry.ensures.disk
+
+pub returns-then-not-has-clause-disk : goal.returns-then-not-has-clause-disk
+returns-then-not-has-clause-disk g c = only_reads_none c.requires.between.unbroken (λ no. cc) (λ no. cc)

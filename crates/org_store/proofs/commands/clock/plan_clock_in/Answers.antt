@@ -15,7 +15,7 @@ use Rattle.org_store.specs.Outcome.{Outcome, clock_in, with_clock_moved, with_st
 use Rattle.org_store.specs.Session.{Session, session_over}
 use Rattle.org_store.proofs.Clocks.{beside_other, beside_same, clock_in_is, look_up_fails, none_left, path_fails}
 use Rattle.org_store.proofs.InOrder.{none_at, text_there}
-use Rattle.org_store.proofs.Reading.{only_reads_fault, only_reads_fine, only_reads_then}
+use Rattle.org_store.proofs.Reading.{only_reads_fault, only_reads_fine, only_reads_none, only_reads_then}
 use Rattle.org_store.proofs.Sessions.{does_read}
 use Rattle.org_store.proofs.commands.clock.plan_clock_in.Goals as goal
 
@@ -210,3 +210,6 @@ returns-in_default-clause-plan g c = c.start_in_one.ensures.plan
 
 pub returns-then-eq-clause-plan : goal.returns-then-eq-clause-plan
 returns-then-eq-clause-plan g c = c.start_in_one-then-eq.ensures.plan
+
+pub returns-then-not-has-clause-disk : goal.returns-then-not-has-clause-disk
+returns-then-not-has-clause-disk g c = only_reads_none c.requires.between.unbroken (λ no. cc) (λ no. cc)

@@ -1,10 +1,9 @@
-use Rattle.std.proofs.Common.{◌≡◌, ◌∙◌, Ok, Err, List, Some, sym, subst, rules}
-use Rattle.org_splice.specs.declared.edit.Edit.{Edit}
-use Rattle.org_splice.specs.Edits.{AreEdits}
+use Rattle.std.proofs.Common.{◌≡◌, ◌∙◌, Ok, Err, rules}
 use Rattle.org_outline.specs.Paths.{find_path, titles_of}
-use Rattle.org_outline.specs.Tree.{print, tree}
+use Rattle.org_outline.specs.Tree.{tree}
 use Rattle.org_store.specs.Clocking.{clock_moved}
 use Rattle.org_store.proofs.Clocks.{move_made, move_not_started, move_not_stopped, not_moved, opening_told}
+use Rattle.org_store.proofs.Refiles.{two_made}
 use Rattle.org_store.proofs.commands.clock.plan_move.Goals as goal
 
 pub returns-in_err-start : goal.returns-in_err-start
@@ -15,8 +14,8 @@ returns-in_err-start c =
     let text = a.held.now.text.bytes in
     let why = c.in_err-start.field-0.0 in
     let given : c.from_residual.result ≡ Err why = search rules in
-    let answers = opening_told a.states.now c.outline_of-into.result.states a.path.now (titles_of c.as_slice.result.now) a.moment text c.outline_of-into.result.text (Err why)
-    c.outline_of-into.ensures.1 c.as_slice.ensures c.outline_of-into.ensures.0 c.in_err-start.ensures in
+    let answers = opening_told a.states.now c.outline_of.result.states a.path.now (titles_of c.as_slice.result.now) a.moment text c.outline_of.result.text (Err why)
+    c.outline_of.ensures.1 c.as_slice.ensures c.outline_of.ensures.0 c.in_err-start.ensures in
     not_moved clock.file a.file.now other text (clock_moved a.moment clock.running (tree other) (tree text) (find_path a.states.now (tree text) a.path.now)) c.from_residual.result why given
     (move_not_started a.states.now a.path.now a.moment other text clock.running why answers)
 
@@ -29,10 +28,10 @@ returns-in_err-stop c =
     let start = c.in_ok-start.start in
     let why = c.in_err-stop.field-0.0 in
     let given : c.from_residual-in_err-stop.result ≡ Err why = search rules in
-    let answers = opening_told a.states.now c.outline_of-into.result.states a.path.now (titles_of c.as_slice.result.now) a.moment text c.outline_of-into.result.text (Ok start)
-    c.outline_of-into.ensures.1 c.as_slice.ensures c.outline_of-into.ensures.0 c.in_ok-start.ensures in
+    let answers = opening_told a.states.now c.outline_of.result.states a.path.now (titles_of c.as_slice.result.now) a.moment text c.outline_of.result.text (Ok start)
+    c.outline_of.ensures.1 c.as_slice.ensures c.outline_of.ensures.0 c.in_ok-start.ensures in
     not_moved clock.file a.file.now other text (clock_moved a.moment clock.running (tree other) (tree text) (find_path a.states.now (tree text) a.path.now)) c.from_residual-in_err-stop.result why given
-    (move_not_stopped a.states.now a.path.now a.moment other text clock.running start why c.text.result.now (c.text.ensures.value ∙ c.outline_of-from.ensures.0) answers c.in_err-stop.ensures)
+    (move_not_stopped a.states.now a.path.now a.moment other text clock.running start why c.text-2.result.now (c.text-2.ensures.value ∙ c.outline_of-2.ensures.0) answers c.in_err-stop.ensures)
 
 pub returns : goal.returns
 returns c =
@@ -42,12 +41,8 @@ returns c =
     let text = a.held.now.text.bytes in
     let start = c.in_ok-start.start in
     let stop = c.in_ok-stop.stop in
-    let answers = opening_told a.states.now c.outline_of-into.result.states a.path.now (titles_of c.as_slice.result.now) a.moment text c.outline_of-into.result.text (Ok start)
-    c.outline_of-into.ensures.1 c.as_slice.ensures c.outline_of-into.ensures.0 c.in_ok-start.ensures in
+    let answers = opening_told a.states.now c.outline_of.result.states a.path.now (titles_of c.as_slice.result.now) a.moment text c.outline_of.result.text (Ok start)
+    c.outline_of.ensures.1 c.as_slice.ensures c.outline_of.ensures.0 c.in_ok-start.ensures in
     move_made a.states.now a.path.now a.moment other text clock.running clock.file a.file.now start stop
-    (record { first = c.in_ok-edits_of.field-0; second = Some c.in_ok-edits_of-2.field-0 }) c.text.result.now (c.text.ensures.value ∙ c.outline_of-from.ensures.0) answers c.in_ok-stop.ensures
-    (λ new closes opens. (
-      c.in_ok-edits_of.ensures.0,
-      subst (λ (es : List Edit). AreEdits es other (print new.source)) (sym c.in_ok-edits_of.ensures.1) closes,
-      (c.in_ok-edits_of-2.ensures.0, subst (λ (es : List Edit). AreEdits es text (print new.target)) (sym c.in_ok-edits_of-2.ensures.1) opens),
-    ))
+    c.in_ok-plan_of_two.field-0 c.text-2.result.now (c.text-2.ensures.value ∙ c.outline_of-2.ensures.0) answers c.in_ok-stop.ensures
+    (λ new closes opens. two_made clock.file a.file.now other text stop start new c.in_ok-plan_of_two.field-0 c.in_ok-plan_of_two.ensures closes opens)

@@ -1,4 +1,4 @@
-use Rattle.std.proofs.Common.{◌≡◌, Ok, Err, refl, rules}
+use Rattle.std.proofs.Common.{◌≡◌, Ok, Err, rules}
 use Rattle.org_outline.specs.Paths.{find_path, titles_of}
 use Rattle.org_outline.specs.Tree.{tree}
 use Rattle.std.specs.Prelude.{None}
@@ -12,8 +12,8 @@ returns-in_err-edit c =
     let text = a.held.now.text.bytes in
     let why = c.in_err-edit.field-0.0 in
     let given : c.from_residual.result ≡ Err why = search rules in
-    let answers = opening_told a.states.now c.outline_of-outline.result.states a.path.now (titles_of c.as_slice.result.now) a.moment text c.outline_of-outline.result.text (Err why)
-    c.outline_of-outline.ensures.1 c.as_slice.ensures c.outline_of-outline.ensures.0 c.in_err-edit.ensures in
+    let answers = opening_told a.states.now c.outline_of.result.states a.path.now (titles_of c.as_slice.result.now) a.moment text c.outline_of.result.text (Err why)
+    c.outline_of.ensures.1 c.as_slice.ensures c.outline_of.ensures.0 c.in_err-edit.ensures in
     not_planned a.file.now text (clocked_in a.moment None (tree text) (find_path a.states.now (tree text) a.path.now)) c.from_residual.result why given
     (start_refused a.states.now a.path.now a.moment text why answers)
 
@@ -22,7 +22,7 @@ returns c =
     let a = c.args in
     let text = a.held.now.text.bytes in
     let edit = c.in_ok-edit.edit in
-    let answers = opening_told a.states.now c.outline_of-outline.result.states a.path.now (titles_of c.as_slice.result.now) a.moment text c.outline_of-outline.result.text (Ok edit)
-    c.outline_of-outline.ensures.1 c.as_slice.ensures c.outline_of-outline.ensures.0 c.in_ok-edit.ensures in
-    let made = start_made a.states.now a.path.now a.moment text edit c.in_ok-edits_of.field-0.edits.items c.in_ok-edits_of.ensures.1 answers in
-    (made.0, made.1, (c.in_ok-edits_of.ensures.0, refl, made.2))
+    let answers = opening_told a.states.now c.outline_of.result.states a.path.now (titles_of c.as_slice.result.now) a.moment text c.outline_of.result.text (Ok edit)
+    c.outline_of.ensures.1 c.as_slice.ensures c.outline_of.ensures.0 c.in_ok-edit.ensures in
+    let made = start_made a.states.now a.path.now a.moment text edit c.in_ok-plan_of_one.field-0.first.edits.items c.in_ok-plan_of_one.ensures.2 answers in
+    (made.0, made.1, (c.in_ok-plan_of_one.ensures.0, c.in_ok-plan_of_one.ensures.1, made.2))

@@ -1,9 +1,9 @@
-use Rattle.std.proofs.Common.{◌≡◌, ◌≢◌, ◌==◌, Ok, Err, ℕ, [], true, refl, sym, ap, ◌∙◌, rules}
-use Rattle.std.proofs.lemmas.Bool.{false≢true}
+use Rattle.std.proofs.Common.{◌≡◌, Ok, Err, rules}
 use Rattle.org_outline.specs.Paths.{find_path, titles_of}
 use Rattle.org_outline.specs.Tree.{tree}
 use Rattle.org_state.specs.Clock.{switched_at}
-use Rattle.org_store.proofs.Clocks.{not_planned, switch_made, switch_refused, switch_told}
+use Rattle.org_store.proofs.Clocks.{not_planned, switch_made, switch_refused, switch_stays, switch_told}
+use Rattle.org_store.proofs.Todos.{plan_made}
 use Rattle.org_store.proofs.commands.clock.plan_switch.Goals as goal
 
 pub returns-in_err-edits : goal.returns-in_err-edits
@@ -23,10 +23,8 @@ returns c =
     let text = a.held.now.text.bytes in
     let found = find_path a.states.now (tree text) a.path.now in
     let edits = c.in_ok-edits.edits in
-    let some : edits.items ≢ [] = λ none.
-    let empty : c.is_empty.result ≡ true = (let len : edits.len ≡ 0 = search rules in c.is_empty.ensures ∙ ap (λ (n : ℕ). n == 0) len) in
-    false≢true (sym c.if-is_empty.false ∙ empty) in
     let answers = switch_told a.states.now c.outline_of-outline.result.states a.path.now (titles_of c.as_slice.result.now) a.moment a.running.heading text c.outline_of-outline.result.text (Ok edits)
     c.outline_of-outline.ensures.1 c.as_slice.ensures c.outline_of-outline.ensures.0 c.in_ok-edits.ensures in
-    let made = switch_made a.moment text a.running.heading found edits some answers in
-    (made.0, made.1, (c.in_ok-file.ensures.cases, refl, made.2))
+    plan_made a.file.now text (switched_at a.moment a.running.heading (tree text) found) edits.items c.in_ok-plan_of.field-0 c.in_ok-plan_of.ensures.none c.in_ok-plan_of.ensures.some
+    (λ none. switch_stays a.moment text a.running.heading found edits none answers)
+    (λ some. switch_made a.moment text a.running.heading found edits some answers)

@@ -3,6 +3,7 @@ use Rattle.org_journal.specs.Recovered.{Image, contents}
 use Rattle.org_store.specs.Keeping.{Reads}
 use Rattle.org_store.specs.Session.{Session, session_over}
 use Rattle.org_store.proofs.Held.{keeps_then}
+use Rattle.org_store.proofs.Reading.{only_reads_fault, only_reads_then}
 use Rattle.org_store.proofs.Sessions.{reads_fault}
 use Rattle.org_store.proofs.commands.refile.both_ready.Goals as goal
 
@@ -22,3 +23,11 @@ returns-clause-reads g c states tally honest =
 
 pub returns-clause-keeps : goal.returns-clause-keeps
 returns-clause-keeps g c = keeps_then c.args.files.now.held c.ready.new.self.held c.ready-2.new.self.held c.ready.ensures.keeps c.ready-2.ensures.keeps
+
+pub returns-in_err-ready-clause-disk : goal.returns-in_err-ready-clause-disk
+returns-in_err-ready-clause-disk g c =
+    let given : c.from_residual.result ≡ Err c.in_err-ready.field-0.0 = search rules in
+    only_reads_fault given c.in_err-ready.ensures.disk
+
+pub returns-clause-disk : goal.returns-clause-disk
+returns-clause-disk g c = only_reads_then c.in_ok-ready.ensures.disk c.ready-2.ensures.disk

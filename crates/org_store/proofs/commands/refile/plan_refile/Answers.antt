@@ -6,6 +6,7 @@ use Rattle.org_store.specs.Keeping.{Plans}
 use Rattle.org_store.specs.Outcome.{refile}
 use Rattle.org_store.specs.Session.{session_over}
 use Rattle.org_store.proofs.InOrder.{none_at}
+use Rattle.org_store.proofs.Reading.{only_reads_none}
 use Rattle.org_store.proofs.Refiles.{no_target}
 use Rattle.org_store.proofs.commands.refile.plan_refile.Goals as goal
 use Rattle.org_store.proofs.commands.refile.plan_refile.Goals.{then-not-has-via-then-not-has, then-not-has-via-else-not-has+then-not-has-2}
@@ -40,3 +41,6 @@ returns-then-eq-clause-plans g c tally honest =
     let same : a.file.now ≡ a.to_file.now = search rules in
     subst (λ (to_file : List ℕ). Plans s (refile s a.file.now a.path.now to_file a.to.now a.place (text_at s.names s.files a.file.now) (text_at s.names s.files to_file)) c.refile_in_one.result c.refile_in_one.new.files.held new) same
     (c.refile_in_one.ensures.plans tally honest)
+
+pub returns-then-not-has-clause-disk : goal.returns-then-not-has-clause-disk
+returns-then-not-has-clause-disk g c = only_reads_none c.requires.between.unbroken (λ no. cc) (λ no. cc)

@@ -10,7 +10,7 @@ use Rattle.org_store.specs.InOrder.{is_name, texts_of}
 use Rattle.org_store.specs.Keeping.{Reads}
 use Rattle.org_store.specs.Session.{Session, session_over}
 use Rattle.org_store.proofs.Held.{keeps_then}
-use Rattle.org_store.proofs.Reading.{only_reads_fine, only_reads_then}
+use Rattle.org_store.proofs.Reading.{only_reads_fault, only_reads_fine, only_reads_then}
 use Rattle.org_store.proofs.Running.{named_at, runs_here, runs_later, runs_over}
 use Rattle.org_store.proofs.Sessions.{reads_fault}
 use Rattle.org_store.proofs.commands.running.running_clock.Goals as goal
@@ -133,3 +133,11 @@ returns-in_err-running-clause-keeps g c = keeps_then c.args.files.now.held c.loo
 
 pub returns-in-Some-clause-keeps : goal.returns-in-Some-clause-keeps
 returns-in-Some-clause-keeps g c = keeps_then c.args.files.now.held c.loop-index.files.held c.running_in_file.new.files.held c.loop-index.invariant.keeps c.running_in_file.ensures.keeps
+
+pub returns-in_err-file-clause-disk : goal.returns-in_err-file-clause-disk
+returns-in_err-file-clause-disk g c = only_reads_fine (search rules) (search rules) c.loop-index.invariant.reads
+
+pub returns-in_err-running-clause-disk : goal.returns-in_err-running-clause-disk
+returns-in_err-running-clause-disk g c =
+    let given : c.from_residual-in_err-running.result ≡ Err c.in_err-running.field-0.0 = search rules in
+    only_reads_then c.loop-index.invariant.reads (only_reads_fault given c.in_err-running.ensures.disk)

@@ -1,13 +1,14 @@
-use Rattle.std.proofs.Common.{◌≡◌, ◌≢◌, ◌==◌, Ok, Err, List, ℕ, [], true, Result, Vec, refl, sym, ap, ◌∙◌, subst, rules}
+use Rattle.std.proofs.Common.{◌≡◌, Ok, Err, List, ℕ, Result, Vec, subst, rules}
 use Rattle.std.specs.Global.{Global}
-use Rattle.std.proofs.lemmas.Bool.{false≢true}
 use Rattle.org_splice.specs.declared.edit.Edit.{Edit}
 use Rattle.org_outline.specs.States.{Keywords}
 use Rattle.org_outline.specs.Paths.{titles_of}
+use Rattle.org_outline.specs.Tree.{tree}
 use Rattle.org_stamp.specs.Calendar.{CivilMinute}
 use Rattle.org_state.specs.declared.fault.StateFault.{StateFault}
 use Rattle.org_state.specs.Answers.{AnswersTodo}
-use Rattle.org_store.proofs.Todos.{state_made, state_refused}
+use Rattle.org_state.specs.Todo.{todo}
+use Rattle.org_store.proofs.Todos.{plan_made, state_made, state_refused, state_stays}
 use Rattle.org_store.proofs.commands.todo.plan_state.Goals as goal
 
 -- an answer, told of what the outline and the slices are
@@ -24,18 +25,16 @@ returns-in_err-edits c =
     let a = c.args in
     let why = c.in_err-edits.field-0.0 in
     let given : c.from_residual.result ≡ Err why = search rules in
-    let answers = told a.states.now c.outline_of-outline.result.states a.path.now (titles_of c.as_slice.result.now) a.state.now c.as_slice-2.result.now a.moment a.held.now.text.bytes c.outline_of-outline.result.text (Err why)
-    c.outline_of-outline.ensures.1 c.as_slice.ensures c.as_slice-2.ensures c.outline_of-outline.ensures.0 c.in_err-edits.ensures in
+    let answers = told a.states.now c.outline_of.result.states a.path.now (titles_of c.as_slice.result.now) a.state.now c.as_slice-2.result.now a.moment a.held.now.text.bytes c.outline_of.result.text (Err why)
+    c.outline_of.ensures.1 c.as_slice.ensures c.as_slice-2.ensures c.outline_of.ensures.0 c.in_err-edits.ensures in
     state_refused a.states.now a.path.now a.state.now a.moment a.held.now.text.bytes a.file.now c.from_residual.result why given answers
 
 pub returns : goal.returns
 returns c =
     let a = c.args in
     let edits = c.in_ok-edits.edits in
-    let some : edits.items ≢ [] = λ none.
-    let empty : c.is_empty.result ≡ true = (let len : edits.len ≡ 0 = search rules in c.is_empty.ensures ∙ ap (λ (n : ℕ). n == 0) len) in
-    false≢true (sym c.if-is_empty.false ∙ empty) in
-    let answers = told a.states.now c.outline_of-outline.result.states a.path.now (titles_of c.as_slice.result.now) a.state.now c.as_slice-2.result.now a.moment a.held.now.text.bytes c.outline_of-outline.result.text (Ok edits)
-    c.outline_of-outline.ensures.1 c.as_slice.ensures c.as_slice-2.ensures c.outline_of-outline.ensures.0 c.in_ok-edits.ensures in
-    let made = state_made a.states.now a.path.now a.state.now a.moment a.held.now.text.bytes edits some answers in
-    (made.0, made.1, (c.in_ok-file.ensures.cases, refl, made.2))
+    let answers = told a.states.now c.outline_of.result.states a.path.now (titles_of c.as_slice.result.now) a.state.now c.as_slice-2.result.now a.moment a.held.now.text.bytes c.outline_of.result.text (Ok edits)
+    c.outline_of.ensures.1 c.as_slice.ensures c.as_slice-2.ensures c.outline_of.ensures.0 c.in_ok-edits.ensures in
+    plan_made a.file.now a.held.now.text.bytes (todo a.states.now a.path.now a.state.now a.moment (tree a.held.now.text.bytes)) edits.items c.in_ok-plan_of.field-0 c.in_ok-plan_of.ensures.none c.in_ok-plan_of.ensures.some
+    (λ none. state_stays a.states.now a.path.now a.state.now a.moment a.held.now.text.bytes edits none answers)
+    (λ some. state_made a.states.now a.path.now a.state.now a.moment a.held.now.text.bytes edits some answers)

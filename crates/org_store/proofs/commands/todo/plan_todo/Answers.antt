@@ -14,6 +14,7 @@ use Rattle.org_store.specs.Step.{Does}
 use Rattle.org_store.proofs.Held.{none_ready}
 use Rattle.org_store.proofs.InOrder.{none_at}
 use Rattle.org_store.proofs.Plans.{not_missing, now_held, one_name, ready_heads, ready_text, text_held}
+use Rattle.org_store.proofs.Reading.{only_reads_none}
 use Rattle.org_store.proofs.Sessions.{does_read}
 use Rattle.org_store.proofs.Todos.{state_fits, state_planned, todo_is, todo_refused}
 use Rattle.org_store.proofs.commands.todo.plan_todo.Goals as goal
@@ -112,3 +113,6 @@ returns-clause-plans g c tally honest =
     let found : text ≡ Some old.0.bytes = subst (λ (t : Session). text_at t.names t.files file ≡ Some old.0.bytes) read before in
     let is = ap (λ o. todo s file a.path.now a.state.now a.moment o) found ∙ todo_is s file a.path.now a.state.now a.moment old.0.bytes seen.bytes old.2 in
     state_planned s new held file seen (in_state a.states.now a.path.now a.state.now a.moment (tree seen.bytes)) told c.in_ok-plan_state.field-0 is c.in_ok-plan_state.ensures at read
+
+pub returns-then-not-has-clause-disk : goal.returns-then-not-has-clause-disk
+returns-then-not-has-clause-disk g c = only_reads_none c.requires.between.unbroken (λ no. cc) (λ no. cc)

@@ -1,10 +1,14 @@
-use Rattle.std.proofs.Common.{◌≡◌, ◌∙◌, List, ℕ, false, true, None, is_some, sym, ap, subst, rules}
+use Rattle.std.proofs.Common.{◌≡◌, ◌∙◌, List, ℕ, false, true, None, Ok, Err, is_some, refl, sym, ap, subst, rules}
 use Rattle.std.specs.Option.{IsSome}
+use Rattle.std.proofs.lemmas.Bool.{false≢true}
 use Rattle.org_journal.specs.Recovered.{Image, contents}
 use Rattle.org_texts.specs.Texts.{TextSet, text_of}
+use Rattle.org_store.specs.declared.command.RunFault.TheVariants.{OutOfMemory}
 use Rattle.org_store.specs.InOrder.{is_name}
+use Rattle.org_store.specs.Keeping.{fault_of_set}
 use Rattle.org_store.proofs.Held.{held_this, keeps_held, none_found, over_held, ready_held, sound_held, sound_still}
 use Rattle.org_store.proofs.Quiet.{noted_held, noted_still}
+use Rattle.org_store.proofs.Reading.{only_reads_none, only_reads_set, set_back, set_on, set_works}
 use Rattle.org_store.proofs.Sessions.{session_still}
 use Rattle.org_store.proofs.files.Files.load.Goals as goal
 
@@ -82,3 +86,35 @@ returns-clause-keeps g c =
     let missing : is_some c.get.result ≡ false = search rules in
     let none_before : text_of inside.texts.before copy ≡ None = ap (text_of inside.texts.before) cloned ∙ none_found (λ held. held.now.before) c.get.result (text_of inside.texts.before own) missing c.get.ensures.before in
     rw (← c.self.view_is) (keeps_held copy c.in_ok-bytes.bytes.items inside.texts c.hold.new.self none_before c.in_ok-hold.ensures.before)
+
+pub returns-then-is_some-clause-disk : goal.returns-then-is_some-clause-disk
+returns-then-is_some-clause-disk g c = only_reads_none c.requires.unbroken (λ no. cc) (λ no. cc)
+
+pub returns-in_err-bytes-clause-disk : goal.returns-in_err-bytes-clause-disk
+returns-in_err-bytes-clause-disk g c =
+    let inside = c.self.inside in
+    let made = c.read.ensures in
+    let fault = c.in_err-bytes.field-0.0 in
+    let was = c.in_err-bytes.was in
+    let given : c.from_residual.result ≡ Err (fault_of_set fault) = search rules in
+    let unbroken : inside.set.broken ≡ false = rw (← c.self.view_is) at c.requires.unbroken in
+    let works = set_works c.read.result c.from_residual.result fault was given (λ no. false≢true (sym unbroken ∙ made.set.refuses.0 no)) in
+    rw (← c.self.view_is) (only_reads_set c.read.result works (set_back c.read.result c.from_residual.result fault was given) (set_on c.read.result c.from_residual.result fault was given)
+    unbroken made.set.same_names refl made.looks made.set.breaks made.accounts)
+
+pub returns-in_err-clone-clause-disk : goal.returns-in_err-clone-clause-disk
+returns-in_err-clone-clause-disk g c =
+    let inside = c.self.inside in
+    let made = c.read.ensures in
+    let given : c.from_residual-in_err-clone.result ≡ Err OutOfMemory = search rules in
+    let fine : c.read.result ≡ Ok c.in_ok-bytes.bytes = search rules in
+    let unbroken : inside.set.broken ≡ false = rw (← c.self.view_is) at c.requires.unbroken in
+    rw (← c.self.view_is) (only_reads_set c.read.result (λ no. cc) (λ no. absurd (cc)) (λ no. absurd (cc)) unbroken made.set.same_names refl made.looks made.set.breaks made.accounts)
+
+pub returns-clause-disk : goal.returns-clause-disk
+returns-clause-disk g c =
+    let inside = c.self.inside in
+    let made = c.read.ensures in
+    let fine : c.read.result ≡ Ok c.in_ok-bytes.bytes = search rules in
+    let unbroken : inside.set.broken ≡ false = rw (← c.self.view_is) at c.requires.unbroken in
+    rw (← c.self.view_is) (only_reads_set c.read.result (λ no. cc) (λ no. absurd (cc)) (λ no. absurd (cc)) unbroken made.set.same_names (ap (λ (s : TextSet). s.waiting) c.in_ok-hold.ensures.before) made.looks made.set.breaks made.accounts)

@@ -1,4 +1,6 @@
+use Rattle.std.proofs.Common.{refl, ap}
 use Rattle.org_journal.specs.Recovered.{contents}
+use Rattle.org_texts.specs.Texts.{TextSet}
 use Rattle.org_store.proofs.Reopening.{only_faults}
 use Rattle.org_store.proofs.store.Store.open.Goals as goal
 
@@ -56,3 +58,9 @@ returns-in-Err-clause-unused g c = c.in-Err.ensures.unused
 
 pub returns-in-Err-clause-accounts : goal.returns-in-Err-clause-accounts
 returns-in-Err-clause-accounts g c = c.in-Err.ensures.accounts
+
+pub returns-in-Ok-clause-session : goal.returns-in-Ok-clause-session
+returns-in-Ok-clause-session g c = rw (c.in-Ok.ensures.held.1, c.in-Ok.ensures.unbroken) refl
+
+pub returns-in-Ok-clause-waits : goal.returns-in-Ok-clause-waits
+returns-in-Ok-clause-waits g c = ap (λ (s : TextSet). s.waiting) c.in-Ok.ensures.held.1

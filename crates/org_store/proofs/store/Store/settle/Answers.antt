@@ -60,3 +60,18 @@ returns-in_err-commit-clause-disk g c =
     (λ rest. subst (λ (s : TextSet). LeavesOver d.moment d.left_since inside.files.disk c.commit.new.self.disk (HoldsEither inside.files.names files (texts_of (held_over s files) inside.files.names))) c.self.invariant.1
     ((made.commits ended).any_moment rest)) (made.commits ended).recoverable
     (subst (λ (s : TextSet). LeavesAlone d.files d.moment d.left_since (IsOther s.waiting) inside.files.disk c.commit.new.self.disk) c.self.invariant.1 (made.commits ended).alone))
+
+pub returns-then-self-clause-step : goal.returns-then-self-clause-step
+returns-then-self-clause-step g c =
+    let inside = c.self.inside in
+    let unbroken : inside.files.broken ≡ false = search rules in
+    let done : inside.tally.acknowledged ≡ inside.tally.accepted = search rules in
+    rw (← c.self.view_is) (λ honest. (unbroken, rw ((c.self.invariant.2 honest).0 unbroken done, done) refl))
+
+pub returns-clause-step : goal.returns-clause-step
+returns-clause-step g c =
+    let inside = c.self.inside in
+    let made = c.in_ok-commit.ensures in
+    let unbroken : inside.files.broken ≡ false = search rules in
+    let whole : c.commit.new.self.broken ≡ inside.files.broken = search rules in
+    rw (← c.self.view_is) (λ honest. (unbroken, rw (c.commit.ensures.names, whole, made.texts honest, (made.commits honest).texts, c.self.invariant.1) refl))
