@@ -12,6 +12,12 @@ use org_store::OpenFault;
 use std::alloc::{AllocError, Global};
 use std::{env, io};
 
+const ACTIVE: &str = "The active states, with commas between them";
+
+const DONE: &str = "The done states, with commas between them";
+
+const GROUP: &str = "How many commands are settled together, from 1 to 1000";
+
 const NO_GROUP: &str = "the value of '--group <K>' is a number from 1 to 1000";
 
 /// What the program is told to do.
@@ -133,15 +139,12 @@ fn option<'a>(
 fn command<'a>(alloc: Global) -> Result<Command<'a>, AllocError>
     ensures { IfOk result (λ command. app_of command ≡ command_line) }
 {
-    let active = "The active states, with commas between them";
-    let done = "The done states, with commas between them";
-    let group = "How many commands are settled together, from 1 to 1000";
     Command::new(alloc, "orgstore")
         .arg(folder_argument(alloc))?
         .arg(new_argument(alloc))?
-        .arg(option(alloc, "todo", "LIST", active, "TODO"))?
-        .arg(option(alloc, "done", "LIST", done, "DONE"))?
-        .arg(option(alloc, "group", "K", group, "1"))
+        .arg(option(alloc, "todo", "LIST", ACTIVE, "TODO"))?
+        .arg(option(alloc, "done", "LIST", DONE, "DONE"))?
+        .arg(option(alloc, "group", "K", GROUP, "1"))
 }
 
 fn owned(alloc: Global, words: &[&str]) -> Result<Vec<String>, AllocError>

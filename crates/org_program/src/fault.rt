@@ -14,7 +14,7 @@ use std::fmt;
 use std::fmt::{Display, Formatter};
 
 /// Why a run of the program didn't end well. It prints as what is told on standard error, with a newline at its end.
-#[derive(Debug, Drop)]
+#[derive(Drop)]
 pub enum Fault {
     /// The words of the command line aren't what the program takes, or ask for help: the text that says so.
     Usage(String),

@@ -1,12 +1,13 @@
 -- How a field is read byte by byte.
-use Rattle.std.proofs.Common.{◌≡◌, ℕ, List, [], ◌∷◌, ◌++◌, Option, None, Some, refl, append_assoc}
+use Rattle.std.proofs.Common.{◌≡◌, ◌≤◌, ℕ, List, [], ◌∷◌, ◌++◌, Option, None, Some, length, drop, refl, append_assoc, append-nil}
 use Rattle.std.specs.List.{All, list_any}
 use Rattle.std.specs.Option.{option_map}
+use Rattle.std.proofs.lemmas.List.{drop_all}
 use Rattle.std.proofs.lemmas.List.Elements.{All-nil, All-cons}
 use Rattle.std.proofs.Common.{◌==◌, true, false}
 use Rattle.std.proofs.lemmas.Bool.{ne_eqb}
 use Rattle.std.proofs.lemmas.Bool.Decides.{eqb_tells}
-use Rattle.std.proofs.Common.{inl, inr, sym, ap}
+use Rattle.std.proofs.Common.{inl, inr, sym, ap, ◌∙◌}
 use Rattle.org_serve.specs.Grammar.{escape, unescaped_from, unescaped, escaped}
 
 -- what was read in front of what is still read, where it is read
@@ -29,6 +30,24 @@ step-backslash text x more e = rw e refl
 
 pub step-plain : (text : List ℕ) (x : ℕ) (more : List ℕ) → (x ≡ 92 → ⊥) → in_front (text ++ x ∷ []) (unescaped_from false more) ≡ in_front text (unescaped_from false (x ∷ more))
 step-plain text x more ne = let no : (x == 92) ≡ false = ne_eqb x 92 ne in rw no (in_front-one text x (unescaped_from false more))
+
+pub escape-none : (text : List ℕ) (x : ℕ) (more : List ℕ) (all : Option (List ℕ)) → escape x ≡ None → in_front text (unescaped_from true (x ∷ more)) ≡ all → all ≡ None
+escape-none text x more all none before =
+    let stopped : in_front text (unescaped_from true (x ∷ more)) ≡ None = rw none refl in
+    sym before ∙ stopped
+
+-- behind the last byte
+pub ended-plain : (text field : List ℕ) (i : ℕ) → length field ≤ i → in_front text (unescaped_from false (drop i field)) ≡ unescaped field → unescaped field ≡ Some text
+ended-plain text field i le before =
+    let none : drop i field ≡ [] = drop_all i field le in
+    let all : in_front text (unescaped_from false (drop i field)) ≡ Some text = rw none (ap Some (append-nil text)) in
+    sym before ∙ all
+
+pub ended-escaped : (text field : List ℕ) (i : ℕ) → length field ≤ i → in_front text (unescaped_from true (drop i field)) ≡ unescaped field → unescaped field ≡ None
+ended-escaped text field i le before =
+    let none : drop i field ≡ [] = drop_all i field le in
+    let stopped : in_front text (unescaped_from true (drop i field)) ≡ None = rw none refl in
+    sym before ∙ stopped
 
 -- a field without a backslash stands for itself
 pub unescaped-plain : (field : List ℕ) → list_any (λ b. b == 92) field ≡ false → unescaped field ≡ Some field

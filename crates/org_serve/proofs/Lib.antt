@@ -3,6 +3,8 @@ pub mod Joins
 mod Rows
 pub mod Feeding
 mod Fields
+mod Pieces
+mod Nodes
 pub mod Inputs
 pub mod Utf8
 pub mod Counting

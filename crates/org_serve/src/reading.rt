@@ -1,11 +1,14 @@
 //! Command lines.
 ghost use Rattle.std.specs.Prelude.{map};
-ghost use Rattle.org_serve.specs.Grammar.{show_of, capture_of, refile_of, todo_of, clock_in_of, clock_out_of, clocked_of, archive_of, command_of, command_of_fields};
+ghost use Rattle.std.specs.Option.{option_map, option_and_then};
+ghost use Rattle.org_serve.specs.Grammar.{file_of, path_of, show_of, capture_of, refile_of, todo_of, clock_in_of, clock_out_of, clocked_of, archive_of, command_of, command_of_fields};
 ghost use Rattle.org_serve.specs.Gives.{Gives};
 
 use crate::fault::LineFault;
 use crate::field::{fields, file, has_few_fields, is, path, place, target, text};
 use crate::moment::moment;
+use org_disk::FileName;
+use org_outline::Titles;
 use org_store::Command;
 use std::alloc::Global;
 
@@ -83,6 +86,16 @@ fn command(alloc: Global, fields: &[&[u8]]) -> Result<Command, LineFault>
     }
 }
 
+// The node that fields FILE and PATH name.
+fn node(alloc: Global, name: &[u8], titles: &[u8]) -> Result<(FileName, Titles), LineFault>
+    ensures { Gives result (option_and_then (λ file. option_map (λ path. (file, path))
+        (path_of titles.now)) (file_of name.now)) }
+{
+    let file = file(alloc, name)?;
+    let path = path(alloc, titles)?;
+    Ok((file, path))
+}
+
 #[tactic(auto, unfolding(crate::specs::Grammar::show_of))]
 fn show(alloc: Global, name: &[u8]) -> Result<Command, LineFault>
     ensures { Gives result (show_of name.now) }
@@ -103,10 +116,10 @@ fn capture(
 ) -> Result<Command, LineFault>
     ensures { Gives result (capture_of name.now to.now at.now when.now template.now initial.now) }
 {
-    let file = file(alloc, name)?;
-    let target = target(alloc, to)?;
     let place = place(at).ok_or(LineFault::BadLine)?;
     let moment = moment(when).ok_or(LineFault::BadLine)?;
+    let file = file(alloc, name)?;
+    let target = target(alloc, to)?;
     let template = text(alloc, template)?;
     let initial = text(alloc, initial)?;
     Ok(Command::Capture {
@@ -130,11 +143,9 @@ fn refile(
 ) -> Result<Command, LineFault>
     ensures { Gives result (refile_of name.now titles.now to_name.now to_titles.now at.now) }
 {
-    let file = file(alloc, name)?;
-    let path = path(alloc, titles)?;
-    let to_file = crate::field::file(alloc, to_name)?;
-    let to_path = crate::field::path(alloc, to_titles)?;
     let place = place(at).ok_or(LineFault::BadLine)?;
+    let (file, path) = node(alloc, name, titles)?;
+    let (to_file, to_path) = node(alloc, to_name, to_titles)?;
     Ok(Command::Refile {
         file,
         path,
@@ -154,10 +165,9 @@ fn todo(
 ) -> Result<Command, LineFault>
     ensures { Gives result (todo_of name.now titles.now state.now when.now) }
 {
-    let file = file(alloc, name)?;
-    let path = path(alloc, titles)?;
-    let state = text(alloc, state)?;
     let moment = moment(when).ok_or(LineFault::BadLine)?;
+    let (file, path) = node(alloc, name, titles)?;
+    let state = text(alloc, state)?;
     Ok(Command::Todo {
         file,
         path,
@@ -170,9 +180,8 @@ fn todo(
 fn archive(alloc: Global, name: &[u8], titles: &[u8], when: &[u8]) -> Result<Command, LineFault>
     ensures { Gives result (archive_of name.now titles.now when.now) }
 {
-    let file = file(alloc, name)?;
-    let path = path(alloc, titles)?;
     let moment = moment(when).ok_or(LineFault::BadLine)?;
+    let (file, path) = node(alloc, name, titles)?;
     Ok(Command::Archive { file, path, moment })
 }
 
@@ -180,9 +189,8 @@ fn archive(alloc: Global, name: &[u8], titles: &[u8], when: &[u8]) -> Result<Com
 fn clock_in(alloc: Global, name: &[u8], titles: &[u8], when: &[u8]) -> Result<Command, LineFault>
     ensures { Gives result (clock_in_of name.now titles.now when.now) }
 {
-    let file = file(alloc, name)?;
-    let path = path(alloc, titles)?;
     let moment = moment(when).ok_or(LineFault::BadLine)?;
+    let (file, path) = node(alloc, name, titles)?;
     Ok(Command::ClockIn { file, path, moment })
 }
 
@@ -198,7 +206,6 @@ fn clock_out(when: &[u8]) -> Result<Command, LineFault>
 fn time(alloc: Global, name: &[u8], titles: &[u8]) -> Result<Command, LineFault>
     ensures { Gives result (clocked_of name.now titles.now) }
 {
-    let file = file(alloc, name)?;
-    let path = path(alloc, titles)?;
+    let (file, path) = node(alloc, name, titles)?;
     Ok(Command::Time { file, path })
 }

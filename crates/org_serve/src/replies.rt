@@ -1,6 +1,7 @@
 //! Replies, written line by line.
 ghost use Rattle.std.specs.Prelude.{◌≡◌, ◌++◌, length, OnOk, OnErr, codes, decimal};
 ghost use Rattle.std.specs.Io.KnownBytes.{Appends};
+ghost use Rattle.std.specs.List.{flat_map};
 ghost use Rattle.org_stamp.specs.Stamp.{duration_text};
 ghost use Rattle.org_store.specs.declared.command.RunFault.TheVariants.{Refused};
 ghost use Rattle.org_disk.specs.Disk.{IsCounted};
@@ -81,13 +82,12 @@ fn write_done<W: Sink>(writer: &mut W, n: u64, before: u64, safe: u64) -> Result
     ensures same { OnOk result (W.failures writer.new ≡ W.failures writer.old) }
     ensures err { OnErr result (IsCounted (W.failures writer.old) (W.failures writer.new)) }
 {
-    writer.write(b"ok ")?;
-    writer.write(Buffer::new().format(n).as_bytes())?;
-    writer.write(b"\n")?;
+    write_pieces(writer, &[b"ok ", Buffer::new().format(n).as_bytes(), b"\n"])?;
     if before < safe {
-        write_safe(writer, safe)?;
+        write_safe(writer, safe)
+    } else {
+        Ok(())
     }
-    Ok(())
 }
 
 fn write_safe<W: Sink>(writer: &mut W, safe: u64) -> Result<(), PipeFault>
@@ -98,9 +98,10 @@ fn write_safe<W: Sink>(writer: &mut W, safe: u64) -> Result<(), PipeFault>
     ensures same { OnOk result (W.failures writer.new ≡ W.failures writer.old) }
     ensures err { OnErr result (IsCounted (W.failures writer.old) (W.failures writer.new)) }
 {
-    writer.write(b"safe ")?;
-    writer.write(Buffer::new().format(safe).as_bytes())?;
-    writer.write(b"\n")
+    write_pieces(
+        writer,
+        &[b"safe ", Buffer::new().format(safe).as_bytes(), b"\n"],
+    )
 }
 
 fn write_text<W: Sink>(writer: &mut W, bytes: &[u8]) -> Result<(), PipeFault>
@@ -111,11 +112,17 @@ fn write_text<W: Sink>(writer: &mut W, bytes: &[u8]) -> Result<(), PipeFault>
     ensures same { OnOk result (W.failures writer.new ≡ W.failures writer.old) }
     ensures err { OnErr result (IsCounted (W.failures writer.old) (W.failures writer.new)) }
 {
-    writer.write(b"text ")?;
-    writer.write(Buffer::new().format(bytes.len()).as_bytes())?;
-    writer.write(b"\n")?;
-    writer.write(bytes)?;
-    writer.write(b"\n")
+    let mut size = Buffer::new();
+    write_pieces(
+        writer,
+        &[
+            b"text ",
+            size.format(bytes.len()).as_bytes(),
+            b"\n",
+            bytes,
+            b"\n",
+        ],
+    )
 }
 
 fn write_time<W: Sink>(writer: &mut W, minutes: u64) -> Result<(), PipeFault>
@@ -127,9 +134,15 @@ fn write_time<W: Sink>(writer: &mut W, minutes: u64) -> Result<(), PipeFault>
     ensures err { OnErr result (IsCounted (W.failures writer.old) (W.failures writer.new)) }
 {
     let past = (minutes % 60) as u8;
-    writer.write(b"time ")?;
-    writer.write(Buffer::new().format(minutes / 60).as_bytes())?;
-    writer.write(&[b':', b'0' + past / 10, b'0' + past % 10, b'\n'])
+    let tail = [b':', b'0' + past / 10, b'0' + past % 10, b'\n'];
+    write_pieces(
+        writer,
+        &[
+            b"time ",
+            Buffer::new().format(minutes / 60).as_bytes(),
+            &tail,
+        ],
+    )
 }
 
 fn write_fault<W: Sink>(writer: &mut W, fault: RunFault) -> Result<(), PipeFault>
@@ -156,9 +169,25 @@ fn write_refusal<W: Sink>(writer: &mut W, why: Refusal) -> Result<(), PipeFault>
     ensures same { OnOk result (W.failures writer.new ≡ W.failures writer.old) }
     ensures err { OnErr result (IsCounted (W.failures writer.old) (W.failures writer.new)) }
 {
-    writer.write(b"refused ")?;
-    writer.write(Buffer::new().format(why.code()).as_bytes())?;
-    writer.write(b" ")?;
-    writer.write(why.name().as_bytes())?;
-    writer.write(b"\n")
+    let mut code = Buffer::new();
+    let code = code.format(why.code()).as_bytes();
+    write_pieces(
+        writer,
+        &[b"refused ", code, b" ", why.name().as_bytes(), b"\n"],
+    )
+}
+
+// Writes bytes that stand in pieces.
+fn write_pieces<W: Sink>(writer: &mut W, pieces: &[&[u8]]) -> Result<(), PipeFault>
+    ensures ok { OnOk result (Appends (W.written writer.old) (W.written writer.new)
+        (flat_map (λ piece. piece.now) pieces.now)) }
+    ensures part { OnErr result (AppendsSome (W.written writer.old) (W.written writer.new)
+        (flat_map (λ piece. piece.now) pieces.now)) }
+    ensures same { OnOk result (W.failures writer.new ≡ W.failures writer.old) }
+    ensures err { OnErr result (IsCounted (W.failures writer.old) (W.failures writer.new)) }
+{
+    for piece in pieces {
+        writer.write(piece)?;
+    }
+    Ok(())
 }

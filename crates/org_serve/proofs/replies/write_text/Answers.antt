@@ -1,66 +1,22 @@
-use Rattle.std.proofs.Common.{◌≡◌, ◌++◌, length, codes, subst, rules}
+use Rattle.std.proofs.Common.{◌≡◌, ℕ, List, ◌∷◌, ◌++◌, OnOk, OnErr, length, codes, subst, rules}
 use Rattle.std.specs.Fmt.{decimal}
 use Rattle.std.specs.Io.KnownBytes.{Appends}
 use Rattle.org_serve.specs.Parts.{AppendsSome}
-use Rattle.org_serve.proofs.Joins.{Appends-append, some_first, some_then, on_err, on_err_more}
+use Rattle.org_serve.proofs.Pieces.{number_then}
 use Rattle.org_serve.proofs.replies.write_text.Goals as goal
 
-pub returns-in_err-write-clause-part : goal.returns-in_err-write-clause-part
-returns-in_err-write-clause-part g c =
-    let s0 = g.W.Sink.written c.args.writer.now in
-    let s1 = g.W.Sink.written c.write.new.self in
-    on_err c.from_residual.result (some_first s0 s1 (codes "text " ++ decimal (length c.args.bytes.now) ++ codes "\n" ++ c.args.bytes.now) (codes "\n") (some_first s0 s1 (codes "text " ++ decimal (length c.args.bytes.now) ++ codes "\n") (c.args.bytes.now) (some_first s0 s1 (codes "text " ++ decimal (length c.args.bytes.now)) (codes "\n") (some_first s0 s1 (codes "text ") (decimal (length c.args.bytes.now)) (c.in_err-write.ensures.part)))))
-
-pub returns-in_err-write-2-clause-part : goal.returns-in_err-write-2-clause-part
-returns-in_err-write-2-clause-part g c =
-    let s0 = g.W.Sink.written c.args.writer.now in
-    let s1 = g.W.Sink.written c.write.new.self in
-    let s2 = g.W.Sink.written c.write-2.new.self in
-    let w1 : Appends s0 s1 (codes "text ") = c.in_ok-write.ensures.bytes in
-    let n2 : c.as_bytes.result.now ≡ decimal (length c.args.bytes.now) = search rules in
-    on_err c.from_residual-in_err-write-2.result (some_first s0 s2 (codes "text " ++ decimal (length c.args.bytes.now) ++ codes "\n" ++ c.args.bytes.now) (codes "\n") (some_first s0 s2 (codes "text " ++ decimal (length c.args.bytes.now) ++ codes "\n") (c.args.bytes.now) (some_first s0 s2 (codes "text " ++ decimal (length c.args.bytes.now)) (codes "\n") (some_then s0 s1 s2 (codes "text ") (decimal (length c.args.bytes.now)) w1 (subst (AppendsSome s1 s2) n2 c.in_err-write-2.ensures.part)))))
-
-pub returns-in_err-write-3-clause-part : goal.returns-in_err-write-3-clause-part
-returns-in_err-write-3-clause-part g c =
-    let s0 = g.W.Sink.written c.args.writer.now in
-    let s1 = g.W.Sink.written c.write.new.self in
-    let s2 = g.W.Sink.written c.write-2.new.self in
-    let s3 = g.W.Sink.written c.write-3.new.self in
-    let w1 : Appends s0 s1 (codes "text ") = c.in_ok-write.ensures.bytes in
-    let n2 : c.as_bytes.result.now ≡ decimal (length c.args.bytes.now) = search rules in
-    let w2 : Appends s1 s2 (decimal (length c.args.bytes.now)) = subst (Appends s1 s2) n2 c.in_ok-write-2.ensures.bytes in
-    let a2 : Appends s0 s2 (codes "text " ++ decimal (length c.args.bytes.now)) = Appends-append s0 s1 s2 (codes "text ") (decimal (length c.args.bytes.now)) w1 w2 in
-    on_err c.from_residual-in_err-write-3.result (some_first s0 s3 (codes "text " ++ decimal (length c.args.bytes.now) ++ codes "\n" ++ c.args.bytes.now) (codes "\n") (some_first s0 s3 (codes "text " ++ decimal (length c.args.bytes.now) ++ codes "\n") (c.args.bytes.now) (some_then s0 s2 s3 (codes "text " ++ decimal (length c.args.bytes.now)) (codes "\n") a2 (c.in_err-write-3.ensures.part))))
-
-pub returns-in_err-write-4-clause-part : goal.returns-in_err-write-4-clause-part
-returns-in_err-write-4-clause-part g c =
-    let s0 = g.W.Sink.written c.args.writer.now in
-    let s1 = g.W.Sink.written c.write.new.self in
-    let s2 = g.W.Sink.written c.write-2.new.self in
-    let s3 = g.W.Sink.written c.write-3.new.self in
-    let s4 = g.W.Sink.written c.write-4.new.self in
-    let w1 : Appends s0 s1 (codes "text ") = c.in_ok-write.ensures.bytes in
-    let n2 : c.as_bytes.result.now ≡ decimal (length c.args.bytes.now) = search rules in
-    let w2 : Appends s1 s2 (decimal (length c.args.bytes.now)) = subst (Appends s1 s2) n2 c.in_ok-write-2.ensures.bytes in
-    let w3 : Appends s2 s3 (codes "\n") = c.in_ok-write-3.ensures.bytes in
-    let a2 : Appends s0 s2 (codes "text " ++ decimal (length c.args.bytes.now)) = Appends-append s0 s1 s2 (codes "text ") (decimal (length c.args.bytes.now)) w1 w2 in
-    let a3 : Appends s0 s3 (codes "text " ++ decimal (length c.args.bytes.now) ++ codes "\n") = Appends-append s0 s2 s3 (codes "text " ++ decimal (length c.args.bytes.now)) (codes "\n") a2 w3 in
-    on_err c.from_residual-in_err-write-4.result (some_first s0 s4 (codes "text " ++ decimal (length c.args.bytes.now) ++ codes "\n" ++ c.args.bytes.now) (codes "\n") (some_then s0 s3 s4 (codes "text " ++ decimal (length c.args.bytes.now) ++ codes "\n") (c.args.bytes.now) a3 (c.in_err-write-4.ensures.part)))
+pub returns-clause-ok : goal.returns-clause-ok
+returns-clause-ok g c =
+    let bytes = c.args.bytes.now in
+    let wrote = λ (text : List ℕ). OnOk c.write_pieces.result (Appends (g.W.Sink.written c.args.writer.now) (g.W.Sink.written c.write_pieces.new.writer) text) in
+    let digits : c.as_bytes.result.now ≡ decimal (length bytes) = search rules in
+    subst wrote (number_then (codes "text ") (decimal (length bytes)) 10 bytes (codes "\n"))
+    (subst (λ (d : List ℕ). wrote (codes "text " ++ (d ++ (10 ∷ (bytes ++ codes "\n"))))) digits c.write_pieces.ensures.ok)
 
 pub returns-clause-part : goal.returns-clause-part
 returns-clause-part g c =
-    let s0 = g.W.Sink.written c.args.writer.now in
-    let s1 = g.W.Sink.written c.write.new.self in
-    let s2 = g.W.Sink.written c.write-2.new.self in
-    let s3 = g.W.Sink.written c.write-3.new.self in
-    let s4 = g.W.Sink.written c.write-4.new.self in
-    let s5 = g.W.Sink.written c.write-5.new.self in
-    let w1 : Appends s0 s1 (codes "text ") = c.in_ok-write.ensures.bytes in
-    let n2 : c.as_bytes.result.now ≡ decimal (length c.args.bytes.now) = search rules in
-    let w2 : Appends s1 s2 (decimal (length c.args.bytes.now)) = subst (Appends s1 s2) n2 c.in_ok-write-2.ensures.bytes in
-    let w3 : Appends s2 s3 (codes "\n") = c.in_ok-write-3.ensures.bytes in
-    let w4 : Appends s3 s4 (c.args.bytes.now) = c.in_ok-write-4.ensures.bytes in
-    let a2 : Appends s0 s2 (codes "text " ++ decimal (length c.args.bytes.now)) = Appends-append s0 s1 s2 (codes "text ") (decimal (length c.args.bytes.now)) w1 w2 in
-    let a3 : Appends s0 s3 (codes "text " ++ decimal (length c.args.bytes.now) ++ codes "\n") = Appends-append s0 s2 s3 (codes "text " ++ decimal (length c.args.bytes.now)) (codes "\n") a2 w3 in
-    let a4 : Appends s0 s4 (codes "text " ++ decimal (length c.args.bytes.now) ++ codes "\n" ++ c.args.bytes.now) = Appends-append s0 s3 s4 (codes "text " ++ decimal (length c.args.bytes.now) ++ codes "\n") (c.args.bytes.now) a3 w4 in
-    on_err_more c.write-5.result (λ had. some_then s0 s4 s5 (codes "text " ++ decimal (length c.args.bytes.now) ++ codes "\n" ++ c.args.bytes.now) (codes "\n") a4 (had)) c.write-5.ensures.part
+    let bytes = c.args.bytes.now in
+    let some = λ (text : List ℕ). OnErr c.write_pieces.result (AppendsSome (g.W.Sink.written c.args.writer.now) (g.W.Sink.written c.write_pieces.new.writer) text) in
+    let digits : c.as_bytes.result.now ≡ decimal (length bytes) = search rules in
+    subst some (number_then (codes "text ") (decimal (length bytes)) 10 bytes (codes "\n"))
+    (subst (λ (d : List ℕ). some (codes "text " ++ (d ++ (10 ∷ (bytes ++ codes "\n"))))) digits c.write_pieces.ensures.part)

@@ -36,3 +36,18 @@ returns-in-Ok-clause-broken g c =
 
 pub returns-in-Err-clause-wrote : goal.returns-in-Err-clause-wrote
 returns-in-Err-clause-wrote g c = λ is. (c.settle-answer.result, rw c.acknowledged-2.ensures at c.in-Err.ensures.part)
+
+pub returns-in-Err-clause-write : goal.returns-in-Err-clause-write
+returns-in-Err-clause-write g c = λ is.
+    let d = g.D.Disk in
+    let e = c.settle-answer.ensures in
+    let old = c.args.store.now in
+    let new = c.settle-answer.new.self in
+    let over : d.honest new.disk → SettlesOver d.files d.moment d.left_since old c.settle-answer.result new = λ honest. record {
+      step = e.step honest;
+      disk = e.disk honest;
+      untouched = e.untouched;
+      nothing = e.nothing;
+      waits = e.waits honest;
+      unneeded = e.unneeded;
+    } in (c.settle-answer.result, record { before = e.accounts.was_honest; did = over })
