@@ -1,8 +1,15 @@
 -- Tests of the words of a list.
-use Rattle.std.proofs.Common.{◌≡◌, Bool, ◌||◌, List, [], ◌∷◌, refl, ap}
+use Rattle.std.proofs.Common.{◌≡◌, ◌∙◌, ℕ, Bool, ◌||◌, List, [], ◌∷◌, refl, ap}
 use Rattle.std.specs.Prelude.{map}
 use Rattle.std.specs.List.{list_any}
+use Rattle.std.specs.Str.{bytes_eq}
+use Rattle.std.specs.Cmp.Lexicographic.{nat_list_eq_equiv}
 
 pub list_any-map : {X Y : Type 0} (p : X → Bool) (f : Y → X) (ys : List Y) → list_any p (map f ys) ≡ list_any (λ y. p (f y)) ys
 list_any-map p f [] = refl
 list_any-map p f (y ∷ ys) = ap (λ b. p (f y) || b) (list_any-map p f ys)
+
+-- the test of a word, whichever of the two comes first
+pub list_any-flipped : {X : Type 0} (f : X → List ℕ) (w : List ℕ) (xs : List X) → list_any (λ x. bytes_eq (f x) w) xs ≡ list_any (bytes_eq w) (map f xs)
+list_any-flipped f w [] = refl
+list_any-flipped f w (x ∷ xs) = ap (λ b. b || list_any (λ x. bytes_eq (f x) w) xs) (nat_list_eq_equiv.symm (f x) w) ∙ ap (λ b. bytes_eq w (f x) || b) (list_any-flipped f w xs)

@@ -1,6 +1,6 @@
 -- What a call promises of `Ok` alone, or of `Err` alone, where it failed.
 use Rattle.std.proofs.Common.{Result, Ok, Err}
-use Rattle.std.specs.Result.{IsErr, OnOk, OnErr}
+use Rattle.std.specs.Result.{IsErr, IfOk, OnOk, OnErr}
 
 pub not_ok : {T E : Type 0} (r : Result T E) (P : Type 0) → IsErr r → OnOk r P
 not_ok (Ok v) P h = absurd (cc)
@@ -9,3 +9,7 @@ not_ok (Err e) P h = tt
 pub at_err : {T E : Type 0} (r : Result T E) (P : Type 0) → P → OnErr r P
 at_err (Ok v) P h = tt
 at_err (Err e) P h = h
+
+pub no_value : {T E : Type 0} (r : Result T E) (P : T → Type 0) → IsErr r → IfOk r P
+no_value (Ok v) P h = absurd (cc)
+no_value (Err e) P h = tt

@@ -1,8 +1,8 @@
--- The ranges with one more, made from the first range to the last.
+-- The ranges cut, and with one more, made from the first range to the last.
 use Rattle.std.proofs.Common.{◌≡◌, ◌<◌, ◌≤◌, ◌+◌, ℕ, min, max, List, [], ◌∷◌, ◌++◌, sym, ◌∙◌, ap, arith, cond, ltb, append_assoc}
 use Rattle.std.proofs.lemmas.Bool.{lt-ltb, le-ltb, cond-true, cond-false}
 use Rattle.org_splice.specs.declared.Span.{Span}
-use Rattle.org_splice.specs.Ranges.{LieApart, joined}
+use Rattle.org_splice.specs.Ranges.{LieApart, cut_at, joined}
 use Rattle.org_splice.proofs.Apart.{LieApart-earlier, joined-apart}
 
 -- what is done of it: the ranges in front, the one at hand, and those that are left
@@ -53,3 +53,17 @@ joined_touching size first ranges all own range rest not_before not_behind done 
       full = omega (arith, done.full);
       apart = LieApart-earlier (range.end + 1) 0 size rest (omega arith) done.apart.3;
     }
+
+-- one more range that is cut: it is kept, or left out
+pub cut_kept : (size : ℕ) (kept : List Span) (range : Span) (rest all : List Span) → range.start < size → kept ++ cut_at size (range ∷ rest) ≡ all
+    → (kept ++ record { start = range.start; end = min range.end size } ∷ []) ++ cut_at size rest ≡ all
+cut_kept size kept range rest all before so_far =
+    let cut : Span = record { start = range.start; end = min range.end size } in
+    append_assoc kept (cut ∷ []) (cut_at size rest)
+    ∙ ap (λ (t : List Span). kept ++ t) (sym (cond-true (ltb range.start size) (cut ∷ cut_at size rest) (cut_at size rest) (lt-ltb range.start size before)))
+    ∙ so_far
+
+pub cut_left_out : (size : ℕ) (kept : List Span) (range : Span) (rest all : List Span) → size ≤ range.start → kept ++ cut_at size (range ∷ rest) ≡ all → kept ++ cut_at size rest ≡ all
+cut_left_out size kept range rest all behind so_far =
+    let cut : Span = record { start = range.start; end = min range.end size } in
+    ap (λ (t : List Span). kept ++ t) (sym (cond-false (ltb range.start size) (cut ∷ cut_at size rest) (cut_at size rest) (le-ltb range.start size behind))) ∙ so_far

@@ -2,7 +2,7 @@
 use Rattle.std.proofs.Common.{◌≡◌, ℕ, ◌+◌, ◌-◌, ◌++◌, List, length, take, drop, Bool, true, if◌then◌else◌, eq-eqb, sym, ap, ◌∙◌}
 use Rattle.std.proofs.lemmas.Bool.{ne_eqb}
 use Rattle.org_splice.specs.declared.Span.{Span}
-use Rattle.org_splice.specs.Ranges.{own_range, with_range, cut_at, changed_by}
+use Rattle.org_splice.specs.Ranges.{own_range, changed_by}
 use Rattle.org_splice.specs.Texts.{spliced}
 use Rattle.org_splice.specs.Versions.{text_of_parts}
 
@@ -18,12 +18,10 @@ not_as_long at removed added size end other is =
       own_to : ℕ → ℕ → Span
       own_to start end = record { start = start; end = end }
 
-pub spliced_parts : (at removed size : ℕ) (bytes text new : List ℕ) (ranges kept changed : List Span) (own : Span) → size ≡ length text - removed + length bytes →
-    new ≡ take at text ++ bytes ++ drop (at + removed) text → own ≡ own_range at removed (length bytes) size → kept ≡ cut_at size ranges → changed ≡ with_range own kept →
-    text_of_parts new changed ≡ spliced at removed bytes (text_of_parts text ranges)
-spliced_parts at removed size bytes text new ranges kept changed own long made is cut with =
-    let all : changed ≡ changed_by at removed (length bytes) (length text - removed + length bytes) ranges = with ∙ ap (λ o. with_range o kept) is ∙ ap (with_range (own_range at removed (length bytes) size)) cut ∙ ap (λ s. changed_by at removed (length bytes) s ranges) long in
-    ap (λ b. text_of_parts b changed) made ∙ ap (text_of_parts (take at text ++ bytes ++ drop (at + removed) text)) all
+pub spliced_parts : (at removed : ℕ) (bytes text new : List ℕ) (ranges changed : List Span) → new ≡ take at text ++ bytes ++ drop (at + removed) text →
+    changed ≡ changed_by at removed (length bytes) (length text - removed + length bytes) ranges → text_of_parts new changed ≡ spliced at removed bytes (text_of_parts text ranges)
+spliced_parts at removed bytes text new ranges changed made with =
+    ap (λ b. text_of_parts b changed) made ∙ ap (text_of_parts (take at text ++ bytes ++ drop (at + removed) text)) with
 
 pub where_true : {A : Type 0} (n a b : A) (t : Bool) → n ≡ (if t then a else b) → t ≡ true → n ≡ a
 where_true n a b t is h = is ∙ ap (λ u. if u then a else b) h

@@ -5,7 +5,7 @@ ghost use Rattle.org_splice.specs.Edits.{CanApply, applied_each};
 use crate::bytes::Bytes;
 
 /// `removed` bytes from the byte position `at` on give way to `bytes`.
-#[derive(Debug, PartialEq, Eq, Drop)]
+#[derive(Debug, Drop)]
 pub struct Edit {
     pub at: usize,
     pub removed: usize,
@@ -23,7 +23,7 @@ pub fn size_after(size: usize, edits: &[Edit]) -> Option<usize>
     let mut size = size;
     for edit in edits {
         size = size
-            .checked_sub(edit.removed)?
+            .saturating_sub(edit.removed)
             .checked_add(edit.bytes.len())?;
     }
     Some(size)

@@ -1,8 +1,8 @@
 //! Texts under edit, whose edits can all be taken back.
-ghost use Rattle.std.specs.Prelude.{◌≡◌, ◌+◌, ◌≤◌, length, map, vec_capacity, IsFalse, IfOk, OnOk, OnErr, List, ℕ};
+ghost use Rattle.std.specs.Prelude.{◌≡◌, ◌+◌, ◌-◌, ◌<◌, ◌≤◌, length, map, slice_range, vec_capacity, vec_len, IsFalse, IfOk, OnOk, OnErr, List, ℕ};
 ghost use Rattle.org_splice.specs.Lines.{terminated};
 ghost use Rattle.org_splice.specs.Patches.{AreWellFormed, PatchedTo};
-ghost use Rattle.org_splice.specs.Ranges.{AreChanged};
+ghost use Rattle.org_splice.specs.Ranges.{AreChanged, changed_by};
 ghost use Rattle.org_splice.specs.Texts.{IsEditOf, terminated_text, settled, spliced, patches_of, pairs_of};
 ghost use Rattle.org_splice.specs.Versions.{AreUndos, revised, text_of_parts, unedited, undone_all};
 
@@ -161,6 +161,38 @@ impl Editing {
     }
 }
 
+/// The bytes that a splice removes, and the changed ranges after it, with room for what takes it back.
+fn prepared(
+    text: &[u8],
+    changed: &[Span],
+    undos: &mut Vec<Undo>,
+    at: usize,
+    removed: usize,
+    bytes: &[u8],
+) -> Result<(Vec<u8>, Vec<Span>), AllocError>
+    requires within { at + removed ≤ length text.now }
+    requires changed { AreChanged (length text.now) changed.now }
+    ensures bytes { IfOk result
+        (λ made. made.0.items ≡ slice_range text.now at (at + removed)) }
+    ensures changed { IfOk result (λ made. made.1.items ≡ changed_by at removed
+        (length bytes.now) (length text.now - removed + length bytes.now) changed.now) }
+    ensures undos { undos.new.items ≡ undos.old.items }
+    ensures room { OnOk result (vec_len undos.new < vec_capacity undos.new) }
+{
+    let alloc = *undos.allocator();
+    let size = text.len() - removed + bytes.len();
+    let end = if removed == bytes.len() {
+        at + bytes.len()
+    } else {
+        size
+    };
+    undos.reserve(1)?;
+    let kept = ranges::cut_at(alloc, size, changed)?;
+    let new_changed = ranges::with_range(alloc, Span { start: at, end }, kept)?;
+    let old_bytes = Vec::from_slice(alloc, &text[at..at + removed])?;
+    Ok((old_bytes, new_changed))
+}
+
 /// `Editing::splice`, on its parts.
 fn splice(
     text: &mut Vec<u8>,
@@ -186,18 +218,8 @@ fn splice(
     ensures can { AreUndos (vec_capacity text.new) undos.new.items
         (text_of_parts text.new.items changed.new.items) }
 {
-    let alloc = *text.allocator();
-    let size = text.len() - removed + bytes.len();
-    let end = if removed == bytes.len() {
-        at + bytes.len()
-    } else {
-        size
-    };
     // All memory is taken before anything changes.
-    undos.reserve(1)?;
-    let kept = ranges::cut_at(alloc, size, changed)?;
-    let new_changed = ranges::with_range(alloc, Span { start: at, end }, kept)?;
-    let old_bytes = Vec::from_slice(alloc, &text[at..at + removed])?;
+    let (old_bytes, new_changed) = prepared(text, changed, undos, at, removed, bytes)?;
     replace(text, at, removed, bytes)?;
     let old_changed = mem::replace(changed, new_changed);
     let undo = Undo {

@@ -1,8 +1,8 @@
 //! What is to be written of a text.
-ghost use Rattle.std.specs.Prelude.{◌≡◌, length, map, IfOk, List, ℕ};
+ghost use Rattle.std.specs.Prelude.{◌≡◌, ◌≤◌, [], ◌∷◌, ◌++◌, length, map, IfOk, OnOk, List, ℕ};
 ghost use Rattle.org_splice.specs.Patches.{AreWellFormed, PatchedTo};
 ghost use Rattle.org_splice.specs.Ranges.{AreChanged};
-ghost use Rattle.org_splice.specs.Texts.{IsEditOf, patches_of, pairs_of};
+ghost use Rattle.org_splice.specs.Texts.{IsEditOf, patch_of, patches_of, pairs_of};
 ghost use Rattle.org_splice.specs.Versions.{text_of_parts};
 
 use crate::Span;
@@ -14,6 +14,20 @@ use std::alloc::{AllocError, Global};
 pub struct Patch {
     pub from: u64,
     pub bytes: Bytes,
+}
+
+/// Puts the patch of a range at the end.
+fn push_patch(patches: &mut Vec<Patch>, text: &[u8], range: Span) -> Result<(), AllocError>
+    requires { (range.start ≤ range.end) × (range.end ≤ length text.now) }
+    ensures { OnOk result
+        (pairs_of patches.new.items ≡ pairs_of patches.old.items ++ patch_of text.now range ∷ []) }
+{
+    let bytes = Vec::from_slice(*patches.allocator(), &text[range.start..range.end])?;
+    patches.push(Patch {
+        from: range.start as u64,
+        bytes: Bytes::new(bytes),
+    })?;
+    Ok(())
 }
 
 /// The patches of a text's changed ranges, and one empty patch where there is none.
@@ -33,17 +47,10 @@ pub(crate) fn patches_of(
 {
     let mut patches = Vec::new(alloc);
     for range in changed {
-        let bytes = Vec::from_slice(alloc, &text[range.start..range.end])?;
-        patches.push(Patch {
-            from: range.start as u64,
-            bytes: Bytes::new(bytes),
-        })?;
+        push_patch(&mut patches, text, *range)?;
     }
     if patches.is_empty() {
-        patches.push(Patch {
-            from: 0,
-            bytes: Bytes::new(Vec::new(alloc)),
-        })?;
+        push_patch(&mut patches, text, Span { start: 0, end: 0 })?;
     }
     Ok(patches)
 }

@@ -11,15 +11,6 @@ offset_bounds-edits-edit-index c = grind (arith, common_steps)
 pub bounds-edits-edit-index : goal.bounds-edits-edit-index
 bounds-edits-edit-index c = omega arith
 
-pub checked_sub-requires : goal.checked_sub-requires
-checked_sub-requires c = grind (arith, common_steps)
-
-pub returns-in_err-checked_sub-clause-size : goal.returns-in_err-checked_sub-clause-size
-returns-in_err-checked_sub-clause-size c = grind (arith, common_steps)
-
-pub returns-in_err-checked_sub-clause-some : goal.returns-in_err-checked_sub-clause-some
-returns-in_err-checked_sub-clause-some c = grind (arith, common_steps)
-
 pub len-requires : goal.len-requires
 len-requires c = grind (arith, common_steps)
 
