@@ -1,4 +1,5 @@
 pub mod AllLines
+pub mod Pushed
 pub mod FirstLine
 pub mod Walk
 pub mod Drawers

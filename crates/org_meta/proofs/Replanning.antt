@@ -127,16 +127,16 @@ module _ (section : List ℕ) (slices : Sections) (whole : terminated section �
       let first : (split (lines_of section)).planning ≡ line ∷ lines_of rest = sym (planning_is section slices are) ∙ b.lines in
       ap has_closed_entry first ∙ ap (λ (o : Option PlanningLine). option_map_or (λ p. has_closed p.entries) o false) is
 
-pub with_closed_bytes : (o0 o1 o2 o3 o4 o5 o6 : List ℕ) (now : CivilMinute) (p : PlanningLine) → o1 ≡ o0 ++ p.indentation → o2 ≡ o1 ++ closed_text now → o3 ≡ o2 ++ 32 ∷ [] → o4 ≡ o3 ++ kept_text p.entries → o5 ≡ o4 ++ p.tail
-    → o6 ≡ o5 ++ 10 ∷ [] → has_others p.entries ≡ true → o6 ≡ o0 ++ (with_closed now p ++ 10 ∷ [])
-with_closed_bytes o0 o1 o2 o3 o4 o5 o6 now p e1 e2 e3 e4 e5 e6 others =
-    let a3 : o3 ≡ o0 ++ p.indentation ++ closed_text now ++ 32 ∷ [] =
+line_shape : (o i c k t : List ℕ) → o ++ i ++ c ++ 32 ∷ [] ++ (k ++ (t ++ 10 ∷ [])) ≡ o ++ ((i ++ (c ++ (32 ∷ (k ++ t)))) ++ 10 ∷ [])
+line_shape o i c k t = simp append_assoc
+
+pub with_closed_bytes : (o0 o1 o2 o3 : List ℕ) (now : CivilMinute) (p : PlanningLine) → o1 ≡ o0 ++ p.indentation → o2 ≡ o1 ++ closed_text now → o3 ≡ o2 ++ 32 ∷ [] → has_others p.entries ≡ true
+    → o3 ++ (kept_text p.entries ++ (p.tail ++ 10 ∷ [])) ≡ o0 ++ (with_closed now p ++ 10 ∷ [])
+with_closed_bytes o0 o1 o2 o3 now p e1 e2 e3 others =
+    let front : o3 ≡ o0 ++ p.indentation ++ closed_text now ++ 32 ∷ [] =
     e3 ∙ ap (λ (t : List ℕ). t ++ 32 ∷ []) (e2 ∙ ap (λ (t : List ℕ). t ++ closed_text now) e1) in
-    let a6 : o6 ≡ o3 ++ kept_text p.entries ++ p.tail ++ 10 ∷ [] =
-    e6 ∙ ap (λ (t : List ℕ). t ++ 10 ∷ []) (e5 ∙ ap (λ (t : List ℕ). t ++ p.tail) e4) in
     let line : with_closed now p ≡ p.indentation ++ (closed_text now ++ (32 ∷ (kept_text p.entries ++ p.tail))) = rw others refl in
-    let shape : o0 ++ p.indentation ++ closed_text now ++ 32 ∷ [] ++ kept_text p.entries ++ p.tail ++ 10 ∷ [] ≡ o0 ++ ((p.indentation ++ (closed_text now ++ (32 ∷ (kept_text p.entries ++ p.tail)))) ++ 10 ∷ []) = simp append_assoc in
-    a6 ∙ ap (λ (t : List ℕ). t ++ kept_text p.entries ++ p.tail ++ 10 ∷ []) a3 ∙ shape ∙ ap (λ (t : List ℕ). o0 ++ (t ++ 10 ∷ [])) (sym line)
+    ap (λ (t : List ℕ). t ++ (kept_text p.entries ++ (p.tail ++ 10 ∷ []))) front ∙ line_shape o0 p.indentation (closed_text now) (kept_text p.entries) p.tail ∙ ap (λ (t : List ℕ). o0 ++ (t ++ 10 ∷ [])) (sym line)
 
 -- ---- repetition
 

@@ -4,7 +4,7 @@ ghost use Rattle.std.specs.Option.{option_map};
 ghost use Rattle.std.specs.List.{prefix_len};
 ghost use Rattle.std.specs.Char.{is_ascii_digit};
 ghost use Rattle.org_splice.specs.Lines.{terminated, lines_of};
-ghost use Rattle.org_meta.specs.Clocks.{clock_stamp_at, behind_some, behind_mark, are_minutes, behind_hours, is_duration, minutes_between, closed_minutes, clock_from, clock_of, head_of, running_clock, is_open, minutes_in, total, open_line, HasOpenAt};
+ghost use Rattle.org_meta.specs.Clocks.{is_clock_stamp, clock_stamp_at, behind_some, behind_mark, are_minutes, behind_hours, is_duration, minutes_between, closed_minutes, clock_from, clock_of, head_of, running_clock, is_open, minutes_in, total, open_line, HasOpenAt};
 ghost use Rattle.org_splice.specs.Blanks.{is_blank, trimmed_end, behind};
 
 use crate::lines::first_line;
@@ -13,7 +13,7 @@ use org_splice::blanks::{behind_blanks, blank_count, trimmed_end};
 use org_stamp::{Moment, Stamp};
 
 /// A clock that runs.
-#[derive(Clone, Copy, Debug)]
+#[derive(Clone, Copy)]
 pub(crate) struct Running {
     pub start: Moment,
     /// How many bytes of its line go up to the end of the timestamp.
@@ -21,10 +21,17 @@ pub(crate) struct Running {
 }
 
 /// What a clock line says.
-#[derive(Clone, Copy, Debug)]
+#[derive(Clone, Copy)]
 pub(crate) enum Clock {
     Open(Running),
     Closed { minutes: u64 },
+}
+
+/// Whether the stamp is inactive, with one time, and no repeater or delay.
+fn is_clock_stamp(stamp: &Stamp) -> bool
+    ensures { result ≡ is_clock_stamp stamp.now }
+{
+    !stamp.is_active() && stamp.has_time() && !stamp.has_cookies()
 }
 
 /// Where the stamp at the front of the text starts, and the number of its bytes.
@@ -33,10 +40,11 @@ fn clock_stamp(text: &[u8]) -> Option<(Moment, usize)>
     ensures within { IfSome result (λ r. r.1 ≤ length text.now) }
 {
     let (stamp, size) = Stamp::read(text)?;
-    if stamp.is_active() || !stamp.has_time() || stamp.has_cookies() {
-        return None;
+    if is_clock_stamp(&stamp) {
+        Some((stamp.moment(), size))
+    } else {
+        None
     }
-    Some((stamp.moment(), size))
 }
 
 /// What follows the mark.

@@ -15,6 +15,7 @@ mod parts;
 mod planning;
 mod properties;
 mod split;
+mod texts;
 
 pub use clock::{find_open, total};
 pub use clocking::{close_clock, open_clock};

@@ -7,6 +7,7 @@ ghost use Rattle.org_meta.specs.Sections.{parts_of};
 
 use crate::moments::push_moment;
 use crate::split::sections;
+use crate::texts::push_all;
 use org_splice::{Bytes, Edit};
 use org_stamp::Moment;
 use std::alloc::{AllocError, Global};
@@ -15,13 +16,8 @@ use std::alloc::{AllocError, Global};
 fn push_quoted(out: &mut Vec<u8>, state: &[u8]) -> Result<(), AllocError>
     ensures { OnOk result (out.new.items ≡ out.old.items ++ quoted state.now) }
 {
-    out.push(b'"')?;
-    out.extend_from_slice(state)?;
-    out.push(b'"')?;
-    for _ in 0..10usize.saturating_sub(state.len()) {
-        out.push(b' ')?;
-    }
-    Ok(())
+    let blanks = &b"          "[state.len().min(10)..];
+    push_all(out, &[b"\"", state, b"\"", blanks])
 }
 
 /// `- State "DONE"       from "TODO"       [stamp]`, with its newline.

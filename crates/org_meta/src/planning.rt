@@ -15,6 +15,7 @@ use crate::fault::PlanningFault;
 use crate::lines::first_line;
 use crate::moments::push_moment;
 use crate::split::sections;
+use crate::texts::push_all;
 use org_splice::{Bytes, Edit};
 use org_stamp::Moment;
 use std::alloc::{AllocError, Global};
@@ -76,14 +77,16 @@ fn each_once(entries: &[Entry]) -> bool
 }
 
 /// The entry's text with these bytes for those of its stamp.
-fn push_with_stamp(out: &mut Vec<u8>, entry: &Entry, stamp: &[u8]) -> Result<(), AllocError>
+fn push_with_stamp<'a>(
+    out: &mut Vec<u8>,
+    entry: &'a Entry<'a>,
+    stamp: &'a [u8],
+) -> Result<(), AllocError>
     ensures { OnOk result (out.new.items ≡ out.old.items
         ++ entry_text (record entry.now { text = stamp.now })) }
 {
     out.extend_from_slice(word_text(entry.word))?;
-    out.extend_from_slice(entry.gap)?;
-    out.extend_from_slice(stamp)?;
-    out.extend_from_slice(entry.after)
+    push_all(out, &[entry.gap, stamp, entry.after])
 }
 
 /// The entry's text.
@@ -113,6 +116,24 @@ fn push_closed(out: &mut Vec<u8>, now: Moment) -> Result<(), AllocError>
     push_moment(out, now)
 }
 
+/// `CLOSED:` and the moment's stamp, with a newline.
+fn push_closed_line(out: &mut Vec<u8>, now: Moment) -> Result<(), AllocError>
+    ensures { OnOk result (out.new.items ≡ out.old.items ++ (closed_text now ++ 10 ∷ [])) }
+{
+    push_closed(out, now)?;
+    out.push(b'\n')?;
+    Ok(())
+}
+
+/// The texts of all entries but CLOSED, and the line's end with its newline.
+fn push_others(out: &mut Vec<u8>, planning: &Planning) -> Result<(), AllocError>
+    ensures { OnOk result (out.new.items ≡ out.old.items
+        ++ (kept_text planning.now.entries ++ (planning.now.tail ++ 10 ∷ []))) }
+{
+    push_kept(out, &planning.entries)?;
+    push_all(out, &[planning.tail, b"\n"])
+}
+
 /// The planning line without its CLOSED entry, if anything is left of it, with its newline.
 fn push_without_closed(out: &mut Vec<u8>, planning: &Planning) -> Result<(), AllocError>
     ensures { OnOk result (out.new.items
@@ -120,9 +141,7 @@ fn push_without_closed(out: &mut Vec<u8>, planning: &Planning) -> Result<(), All
 {
     if has_others(&planning.entries) {
         out.extend_from_slice(planning.indentation)?;
-        push_kept(out, &planning.entries)?;
-        out.extend_from_slice(planning.tail)?;
-        out.push(b'\n')?;
+        push_others(out, planning)?;
     }
     Ok(())
 }
@@ -133,17 +152,12 @@ fn push_with_closed(out: &mut Vec<u8>, planning: &Planning, now: Moment) -> Resu
         ≡ out.old.items ++ (with_closed now planning.now ++ 10 ∷ [])) }
 {
     if !has_others(&planning.entries) {
-        push_closed(out, now)?;
-        out.push(b'\n')?;
-        return Ok(());
+        return push_closed_line(out, now);
     }
     out.extend_from_slice(planning.indentation)?;
     push_closed(out, now)?;
     out.push(b' ')?;
-    push_kept(out, &planning.entries)?;
-    out.extend_from_slice(planning.tail)?;
-    out.push(b'\n')?;
-    Ok(())
+    push_others(out, planning)
 }
 
 /// Whether the entry has an active SCHEDULED or DEADLINE stamp whose repeater isn't 0.
@@ -233,8 +247,7 @@ pub fn set_closed(alloc: Global, section: &[u8], now: Moment) -> Result<Edit, Pl
     let line = sections(section).planning;
     let mut bytes = Vec::new(alloc);
     let Some((text, _rest)) = first_line(line) else {
-        push_closed(&mut bytes, now)?;
-        bytes.push(b'\n')?;
+        push_closed_line(&mut bytes, now)?;
         return Ok(Edit {
             at: 0,
             removed: 0,
@@ -273,8 +286,7 @@ pub fn repeat_planning(
     }
     let mut bytes = Vec::from_slice(alloc, planning.indentation)?;
     push_all_repeated(&mut bytes, &planning.entries, now)?;
-    bytes.extend_from_slice(planning.tail)?;
-    bytes.push(b'\n')?;
+    push_all(&mut bytes, &[planning.tail, b"\n"])?;
     Ok(Some(Edit {
         at: 0,
         removed: line.len(),

@@ -8,6 +8,7 @@ ghost use Rattle.org_meta.specs.Sections.{value_named, value_before_end, put_bef
 use crate::lines::{Place, first_line};
 use crate::names::same_name;
 use crate::split::{is_end, property_of, sections};
+use crate::texts::push_all;
 use org_splice::{Bytes, Edit};
 use std::alloc::{AllocError, Global};
 
@@ -77,15 +78,11 @@ fn push_property(out: &mut Vec<u8>, name: &[u8], value: &[u8]) -> Result<(), All
     ensures { OnOk result (out.new.items
         ≡ out.old.items ++ property_line name.now value.now ++ 10 ∷ []) }
 {
-    out.push(b':')?;
-    out.extend_from_slice(name)?;
-    out.push(b':')?;
-    if !value.is_empty() {
-        out.push(b' ')?;
-        out.extend_from_slice(value)?;
+    if value.is_empty() {
+        push_all(out, &[b":", name, b":\n"])
+    } else {
+        push_all(out, &[b":", name, b": ", value, b"\n"])
     }
-    out.push(b'\n')?;
-    Ok(())
 }
 
 /// The edit that puts a property into the section (Org manual, "Property Syntax"): its line in the

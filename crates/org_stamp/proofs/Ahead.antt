@@ -5,7 +5,7 @@ use Rattle.std.proofs.lemmas.Bool.Decides.{nat_tests}
 use Rattle.jiff_core.proofs.SignedLemmas.{signed_arith}
 use Rattle.org_stamp.specs.declared.kind.Times.{Times}
 use Rattle.org_stamp.specs.declared.kind.Unit.{Unit}
-use Rattle.org_stamp.specs.declared.kind.Unit.TheVariants.{Hour, Week, Month, Year}
+use Rattle.org_stamp.specs.declared.kind.Unit.TheVariants.{Hour, Day, Week, Month, Year}
 use Rattle.org_stamp.specs.Calendar.{CivilDay, CivilMinute, IsDay, day_number, minutes_of, days_after, months_after}
 use Rattle.org_stamp.specs.Stamp.{StampValue, Part, IsTime, start_of}
 use Rattle.org_stamp.specs.Repeat.{IsLater, at_total, moved, target_of}
@@ -64,6 +64,9 @@ not_by_day s u w n now d t e is time minute target h later =
 -- the number of units, counted in days or months
 pub units : (k v m : ℕ) → k * (m * v) ≡ m * (k * v)
 units k v m = omega arith
+
+pub day_is : (s : StampValue) (day : CivilDay) (k v : ℕ) → s.day ≡ day → record s { day = days_after day (k * v) } ≡ moved s Day (k * v)
+day_is s day k v e = ap (λ d. record s { day = days_after d (k * v) }) (sym e)
 
 pub week_is : (s : StampValue) (day : CivilDay) (k v : ℕ) → s.day ≡ day → record s { day = days_after day (k * (7 * v)) } ≡ moved s Week (k * v)
 week_is s day k v e = ap (λ n. record s { day = days_after day n }) (units k v 7) ∙ ap (λ d. record s { day = days_after d (7 * (k * v)) }) (sym e)

@@ -2,7 +2,9 @@
 use Rattle.std.proofs.Common.{◌≡◌, ℕ, ◌+◌, ◌==◌, Bool, true, false, ◌&&◌, if◌then◌else◌, Option, None, Some, List, length, slice_index, take, drop, position, eq-eqb, refl, sym, ap, ◌∙◌}
 use Rattle.std.proofs.lemmas.Bool.{ne_eqb}
 use Rattle.org_stamp.specs.Calendar.{CivilDay}
-use Rattle.org_stamp.specs.Parts.{◌>>=◌, number_of, day_if_any, date_of, clock_of, times_of, times_cut}
+use Rattle.std.specs.Option.{option_and}
+use Rattle.org_stamp.specs.declared.kind.Interval.{Interval}
+use Rattle.org_stamp.specs.Parts.{◌>>=◌, number_of, day_if_any, date_of, clock_of, times_of, times_cut, interval_of, intervals_cut, first_interval_of}
 
 unless_second : {A : Type 0} (a b c : Bool) (o : Option A) → b ≡ false → None ≡ (if a && b && c then o else None)
 unless_second true b c o e = sym (ap (λ t. if t && c then o else None) e)
@@ -53,3 +55,14 @@ two_times text at start end some first second =
     let starts : (start >>= λ s. end >>= λ e. Some (record { start = s; end = Some e })) ≡ (clock_of (take at text) >>= λ s. end >>= λ e. Some (record { start = s; end = Some e })) = ap (λ o. o >>= λ s. end >>= λ e. Some (record { start = s; end = Some e })) first in
     let ends : (clock_of (take at text) >>= λ s. end >>= λ e. Some (record { start = s; end = Some e })) ≡ times_cut text (Some at) = ap (λ o. clock_of (take at text) >>= λ s. o >>= λ e. Some (record { start = s; end = Some e })) second in
     starts ∙ ends ∙ ap (λ o. times_cut text o) some
+
+-- the first where the second is there too
+both : {A B : Type 0} (first : Option A) (second : Option B) → option_and second first ≡ (first >>= λ i. second >>= λ j. Some i)
+both None None = refl
+both None (Some j) = refl
+both (Some i) None = refl
+both (Some i) (Some j) = refl
+
+pub two_intervals : (text : List ℕ) (at : ℕ) (first second : Option Interval) → Some at ≡ position (λ b. b == 47) text → first ≡ interval_of (take at text) → second ≡ interval_of (drop (at + 1) text) → option_and second first ≡ first_interval_of text
+two_intervals text at first second some one two =
+    both first second ∙ ap (λ o. o >>= λ i. second >>= λ j. Some i) one ∙ ap (λ o. interval_of (take at text) >>= λ i. o >>= λ j. Some i) two ∙ ap (λ o. intervals_cut text o) some

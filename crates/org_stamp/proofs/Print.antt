@@ -223,8 +223,8 @@ print_is s h =
     }
 
 -- what is pushed in turn is the text
-pub pushed : (o c : ℕ) (date name time cookies v0 v1 v2 v3 v4 v5 v6 v7 : List ℕ) → v0 ≡ [] → v1 ≡ v0 ++ (o ∷ []) → v2 ≡ v1 ++ date → v3 ≡ v2 ++ (32 ∷ []) → v4 ≡ v3 ++ name → v5 ≡ v4 ++ time → v6 ≡ v5 ++ cookies → v7 ≡ v6 ++ (c ∷ []) →
-    v7 ≡ o ∷ (date ++ (32 ∷ name) ++ time ++ cookies ++ c ∷ [])
-pushed o c date name time cookies v0 v1 v2 v3 v4 v5 v6 v7 e0 e1 e2 e3 e4 e5 e6 e7 =
-    let all : v7 ≡ (((((([] ++ (o ∷ [])) ++ date) ++ (32 ∷ [])) ++ name) ++ time) ++ cookies) ++ (c ∷ []) = cc in
+pub pushed : (o c a b : ℕ) (day time cookies v0 v1 v2 v3 v4 v5 : List ℕ) → a ≡ o → b ≡ c → v0 ≡ [] → v1 ≡ v0 ++ (a ∷ []) → v2 ≡ v1 ++ day → v3 ≡ v2 ++ time → v4 ≡ v3 ++ cookies → v5 ≡ v4 ++ (b ∷ []) →
+    v5 ≡ o ∷ (day ++ time ++ cookies ++ c ∷ [])
+pushed o c a b day time cookies v0 v1 v2 v3 v4 v5 f g e0 e1 e2 e3 e4 e5 =
+    let all : v5 ≡ (((([] ++ (o ∷ [])) ++ day) ++ time) ++ cookies) ++ (c ∷ []) = cc in
     all ∙ simp append_assoc

@@ -12,13 +12,10 @@ pub fn duration(alloc: Global, minutes: u64, width: usize) -> Result<Vec<u8>, Al
     requires high { width ≤ 2 }
     ensures { IfOk result (λ v. v.items ≡ duration_text minutes width) }
 {
-    let hours = format!(in alloc; "{}", minutes / 60)?;
-    let mut out = Vec::new(alloc);
-    if hours.len() < width {
-        out.push(b' ')?;
+    let mut out = format!(in alloc; "{}:", minutes / 60)?.into_bytes();
+    if out.len() <= width {
+        out.insert(0, b' ')?;
     }
-    out.extend_from_slice(hours.as_bytes())?;
-    out.push(b':')?;
     push_two(&mut out, (minutes % 60) as u16)?;
     Ok(out)
 }

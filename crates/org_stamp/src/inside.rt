@@ -10,7 +10,7 @@ use crate::kind::{Kind, Times};
 use crate::part::{is_blank, read_kind};
 
 /// A repeater or a delay, with its bytes.
-#[derive(Clone, Copy, Debug)]
+#[derive(Clone, Copy)]
 pub struct Cookie<'a> {
     /// The bytes that were read, which are printed again.
     pub run: &'a [u8],
@@ -19,7 +19,7 @@ pub struct Cookie<'a> {
 }
 
 /// The repeater and the delay, in the order in which they stand.
-#[derive(Clone, Copy, Debug)]
+#[derive(Clone, Copy)]
 pub enum Cookies<'a> {
     Empty,
     One(Cookie<'a>),
@@ -28,7 +28,7 @@ pub enum Cookies<'a> {
 }
 
 /// What was found so far.
-#[derive(Clone, Copy, Debug)]
+#[derive(Clone, Copy)]
 pub struct Found<'a> {
     /// Whether a day name stood there.
     pub named: bool,
@@ -68,26 +68,14 @@ impl<'a> Found<'a> {
         ensures { option_map gathered result ≡ found_with (gathered self.entry) run.now kind }
     {
         match kind {
-            Kind::Name => {
-                if self.named {
-                    None
-                } else {
-                    Some(Found {
-                        named: true,
-                        ..self
-                    })
-                }
-            }
-            Kind::Clock(times) => {
-                if self.time.is_some() {
-                    None
-                } else {
-                    Some(Found {
-                        time: Some(times),
-                        ..self
-                    })
-                }
-            }
+            Kind::Name => (!self.named).then_some(Found {
+                named: true,
+                ..self
+            }),
+            Kind::Clock(times) => self.time.is_none().then_some(Found {
+                time: Some(times),
+                ..self
+            }),
             Kind::Repeat(_) | Kind::Delay => {
                 let cookies = self.cookies.with(Cookie { run, kind })?;
                 Some(Found { cookies, ..self })

@@ -1,7 +1,7 @@
 // What the parts of a timestamp say.
 
 /// What a repeater counts (Org manual, "Repeated tasks").
-#[derive(Clone, Copy, Debug, PartialEq, Eq)]
+#[derive(Clone, Copy)]
 pub enum Unit {
     /// `h`
     Hour,
@@ -16,7 +16,7 @@ pub enum Unit {
 }
 
 /// How a repeater moves a timestamp (Org manual, "Repeated tasks").
-#[derive(Clone, Copy, Debug, PartialEq, Eq)]
+#[derive(Clone, Copy)]
 pub enum Mark {
     /// `+`: one step from the timestamp.
     Cumulate,
@@ -27,7 +27,7 @@ pub enum Mark {
 }
 
 /// The minutes of the day at which a timestamp starts and, for a range, ends.
-#[derive(Clone, Copy, Debug, PartialEq, Eq)]
+#[derive(Clone, Copy)]
 pub struct Times {
     /// From 0 for 0:00 to 1439 for 23:59.
     pub start: u16,
@@ -36,7 +36,7 @@ pub struct Times {
 }
 
 /// A number of units, as `2w`.
-#[derive(Clone, Copy, Debug, PartialEq, Eq)]
+#[derive(Clone, Copy)]
 pub struct Interval {
     /// From 0 to 9999.
     pub value: u16,
@@ -44,14 +44,14 @@ pub struct Interval {
 }
 
 /// A repeater, as `.+2w`.
-#[derive(Clone, Copy, Debug, PartialEq, Eq)]
+#[derive(Clone, Copy)]
 pub struct Repeater {
     pub mark: Mark,
     pub interval: Interval,
 }
 
 /// What a part says.
-#[derive(Clone, Copy, Debug, PartialEq, Eq)]
+#[derive(Clone, Copy)]
 pub enum Kind {
     /// The day's name, in any language; it says nothing.
     Name,

@@ -149,11 +149,7 @@ fn read_first_interval(text: &[u8]) -> Option<Interval>
 {
     match find(text, b'/') {
         None => read_interval(text),
-        Some(at) => {
-            let first = read_interval(&text[..at])?;
-            let _ = read_interval(&text[at + 1..])?;
-            Some(first)
-        }
+        Some(at) => read_interval(&text[at + 1..]).and(read_interval(&text[..at])),
     }
 }
 
@@ -180,8 +176,8 @@ fn read_delay(text: &[u8]) -> Option<Interval>
     ensures { result ≡ delay_of text.now }
 {
     match text {
-        [b'-', b'-', ..] => read_interval(&text[2..]),
-        [b'-', ..] => read_interval(&text[1..]),
+        [b'-', b'-', rest @ ..] => read_interval(rest),
+        [b'-', rest @ ..] => read_interval(rest),
         _ => None,
     }
 }
@@ -195,10 +191,7 @@ pub fn read_kind(run: &[u8]) -> Option<Kind>
     }
     match run[0] {
         b'0'..=b'9' => Some(Kind::Clock(read_times(run)?)),
-        b'-' => {
-            let _ = read_delay(run)?;
-            Some(Kind::Delay)
-        }
+        b'-' => read_delay(run).and(Some(Kind::Delay)),
         _ => Some(Kind::Repeat(read_repeater(run)?)),
     }
 }

@@ -1,5 +1,6 @@
 // What timestamps are written as.
-ghost use Rattle.std.specs.Prelude.{◌≡◌, ◌∷◌, ◌++◌, OnOk};
+ghost use Rattle.std.specs.Prelude.{◌≡◌, ◌+◌, ◌%◌, [], ◌∷◌, ◌++◌, OnOk};
+ghost use Rattle.org_stamp.specs.Calendar.{weekday_of};
 ghost use Rattle.org_stamp.specs.Stamp.{two_digits, date_text, day_name, clock_text, end_text, time_text, cookies_text};
 ghost use Rattle.org_stamp.specs.Reading.{part_of, parts_of};
 
@@ -8,28 +9,51 @@ use crate::inside::{Cookie, Cookies};
 use crate::kind::Times;
 use std::alloc::AllocError;
 
+// The last decimal digit.
+fn digit(number: u16) -> u8
+    ensures { result ≡ 48 + number % 10 }
+{
+    b'0' + (number % 10) as u8
+}
+
 /// Appends the last two decimal digits.
 pub fn push_two(out: &mut Vec<u8>, number: u16) -> Result<(), AllocError>
     ensures { OnOk result (out.new.items ≡ out.old.items ++ two_digits number) }
 {
-    let digits = [b'0' + (number / 10 % 10) as u8, b'0' + (number % 10) as u8];
-    out.extend_from_slice(&digits)
+    out.extend_from_slice(&[digit(number / 10), digit(number)])
 }
 
-/// Appends `YYYY-MM-DD`.
-pub fn push_date(out: &mut Vec<u8>, day: Day) -> Result<(), AllocError>
-    ensures { OnOk result (out.new.items ≡ out.old.items ++ date_text day) }
+// Appends `YYYY-MM-DD` and a space.
+fn push_date(out: &mut Vec<u8>, day: Day) -> Result<(), AllocError>
+    ensures { OnOk result (out.new.items ≡ out.old.items ++ (date_text day ++ 32 ∷ [])) }
 {
-    push_two(out, day.year() / 100)?;
-    push_two(out, day.year())?;
-    out.push(b'-')?;
-    push_two(out, u16::from(day.month()))?;
-    out.push(b'-')?;
-    push_two(out, u16::from(day.day()))
+    let (year, month, date) = (day.year(), u16::from(day.month()), u16::from(day.day()));
+    out.extend_from_slice(&[
+        digit(year / 1000),
+        digit(year / 100),
+        digit(year / 10),
+        digit(year),
+        b'-',
+        digit(month / 10),
+        digit(month),
+        b'-',
+        digit(date / 10),
+        digit(date),
+        b' ',
+    ])
 }
 
-/// The day's name in English, three letters, from 0 for Monday.
-pub fn day_name(weekday: u8) -> &'static [u8]
+/// Appends `YYYY-MM-DD`, a space and the day's name.
+pub fn push_day(out: &mut Vec<u8>, day: Day) -> Result<(), AllocError>
+    ensures { OnOk result (out.new.items
+        ≡ out.old.items ++ (date_text day ++ (32 ∷ day_name (weekday_of day)))) }
+{
+    push_date(out, day)?;
+    out.extend_from_slice(day_name(day.weekday()))
+}
+
+// The day's name in English, three letters, from 0 for Monday.
+fn day_name(weekday: u8) -> &'static [u8]
     ensures { result.now ≡ day_name weekday }
 {
     match weekday {
@@ -43,12 +67,19 @@ pub fn day_name(weekday: u8) -> &'static [u8]
     }
 }
 
-fn push_clock(out: &mut Vec<u8>, minute: u16) -> Result<(), AllocError>
-    ensures { OnOk result (out.new.items ≡ out.old.items ++ clock_text minute) }
+// Appends the byte and `HH:MM`.
+fn push_clock(out: &mut Vec<u8>, byte: u8, minute: u16) -> Result<(), AllocError>
+    ensures { OnOk result (out.new.items ≡ out.old.items ++ (byte ∷ clock_text minute)) }
 {
-    push_two(out, minute / 60)?;
-    out.push(b':')?;
-    push_two(out, minute % 60)
+    let (hour, minute) = (minute / 60, minute % 60);
+    out.extend_from_slice(&[
+        byte,
+        digit(hour / 10),
+        digit(hour),
+        b':',
+        digit(minute / 10),
+        digit(minute),
+    ])
 }
 
 /// Appends ` HH:MM` or ` HH:MM-HH:MM` where there is a time.
@@ -58,13 +89,11 @@ pub fn push_time(out: &mut Vec<u8>, time: Option<Times>) -> Result<(), AllocErro
     let Some(times) = time else {
         return Ok(());
     };
-    out.push(b' ')?;
-    push_clock(out, times.start)?;
-    let Some(end) = times.end else {
-        return Ok(());
-    };
-    out.push(b'-')?;
-    push_clock(out, end)
+    push_clock(out, b' ', times.start)?;
+    match times.end {
+        None => Ok(()),
+        Some(end) => push_clock(out, b'-', end),
+    }
 }
 
 fn push_cookie(out: &mut Vec<u8>, cookie: Cookie<'_>) -> Result<(), AllocError>

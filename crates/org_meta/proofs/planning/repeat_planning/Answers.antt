@@ -1,4 +1,4 @@
-use Rattle.std.proofs.Common.{◌≡◌, Some, true, false, refl, sym, ap, ◌∙◌}
+use Rattle.std.proofs.Common.{◌≡◌, Some, true, false, [], ◌∷◌, ◌++◌, refl, sym, ap, ◌∙◌, append_assoc}
 use Rattle.std.proofs.lemmas.Result.{err_from_is_err_and}
 use Rattle.org_meta.specs.Planning.{PlanningLine, planning_of, has_repeater}
 use Rattle.org_meta.proofs.Replanning.{planning_terminated, repeat_none, repeat_odd, repeat_nothing, repeat_fault, repeat_gives}
@@ -35,5 +35,6 @@ returns-clause-ok c =
     let plan : PlanningLine = record { indentation = c.planning.inside.indentation.now; entries = c.planning.inside.entries.items; tail = c.planning.inside.tail.now } in
     let is : planning_of c.in-Some.text.now ≡ Some plan = c.in_ok-planning.ensures.ok ∙ sym (ap (λ p. Some p) c.planning.view_is) in
     let some : has_repeater c.deref-2.result.now ≡ true = ap has_repeater (c.deref-2.ensures.value ∙ sym c.deref.ensures.value) ∙ sym c.has_repeater.ensures ∙ c.if-not-has_repeater.false in
-    repeat_gives c.args.section.now c.sections.result c.requires c.sections.ensures c.args.now _ c.in-Some.text.now c.in-Some._rest.now plan c.deref-2.result.now _ _ _ c.in-Some.ensures.some is c.deref-2.ensures.value some
-    c.in_ok-bytes.ensures.items c.in_ok-push_all_repeated.ensures.ok c.in_ok-extend_from_slice.ensures.items refl refl (c.new.ensures ∙ c.in_ok-push.ensures.items)
+    let repeated = c.push_all_repeated.new.out.items in
+    repeat_gives c.args.section.now c.sections.result c.requires c.sections.ensures c.args.now _ c.in-Some.text.now c.in-Some._rest.now plan c.deref-2.result.now _ _ (repeated ++ plan.tail) c.in-Some.ensures.some is c.deref-2.ensures.value some
+    c.in_ok-bytes.ensures.items c.in_ok-push_all_repeated.ensures.ok refl refl refl (c.new.ensures ∙ c.in_ok-push_all.ensures ∙ sym (append_assoc repeated plan.tail (10 ∷ [])))

@@ -10,7 +10,7 @@ first_line-requires c = planning_terminated c.args.section.now _ c.sections.ensu
 pub returns-in_default-clause-ok : goal.returns-in_default-clause-ok
 returns-in_default-clause-ok c =
     plan_none c.args.section.now c.sections.result c.requires c.sections.ensures (closed_text c.args.now ∷ []) (λ p. with_closed c.args.now p ∷ []) _ c.in_default.ensures.none refl refl
-    (c.new.ensures ∙ c.in_ok-push.ensures.items ∙ ap (λ (t : List ℕ). t ++ 10 ∷ []) (c.in_ok-push_closed.ensures ∙ ap (λ (t : List ℕ). t ++ closed_text c.args.now) c.new-bytes.ensures.items))
+    (c.new.ensures ∙ c.in_ok-push_closed_line.ensures ∙ ap (λ (t : List ℕ). t ++ (closed_text c.args.now ++ 10 ∷ [])) c.new-bytes.ensures.items)
 
 pub returns-in_err-planning-clause-err : goal.returns-in_err-planning-clause-err
 returns-in_err-planning-clause-err c =

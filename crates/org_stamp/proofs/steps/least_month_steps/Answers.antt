@@ -1,10 +1,17 @@
 use Rattle.std.proofs.Common.{◌≡◌, inl, inr, ◌+◌, ◌-◌, ◌*◌, ◌/◌, ◌<◌, ◌≤◌, ◌≤ℤ◌, ◌<ℤ◌, arith}
 use Rattle.std.proofs.lemmas.Int.{ints}
+use Rattle.std.proofs.Math.Nat.{div-mul-le_self}
 use Rattle.std.proofs.lemmas.Bool.{cases_lt}
 use Rattle.org_stamp.specs.Calendar.{day_number, months_after, month_number}
 use Rattle.org_stamp.proofs.Later.{reach, miss, few_steps, whole_steps, past_steps, months_within, found_months, to_year_in, reached_at, missed_at, missed_steps}
 use Rattle.org_stamp.proofs.steps.least_month_steps.Goals as goal
 use Rattle.org_stamp.proofs.steps.least_month_steps.Goals.{in_default-via-in-Some+else-target-number, in_default-via-in_default}
+
+pub overflow_mul-whole : goal.overflow_mul-whole
+overflow_mul-whole c = omega (arith, div-mul-le_self (c.month_number-to.result - c.month_number-from.result) c.args.step)
+
+pub plus_months-requires : goal.plus_months-requires
+plus_months-requires c = omega (arith, div-mul-le_self (c.month_number-to.result - c.month_number-from.result) c.args.step)
 
 pub returns-then-to-from-clause-reached : goal.returns-then-to-from-clause-reached
 returns-then-to-from-clause-reached c =

@@ -1,11 +1,11 @@
 use Rattle.std.proofs.Common.{◌≡◌, ◌*◌, pos, ℤ, ◌+ℤ◌, ◌≤ℤ◌, ◌<ℤ◌, sym, ap, subst, arith}
 use Rattle.std.proofs.lemmas.Int.{ints}
 use Rattle.jiff_core.proofs.SignedLemmas.{signed_arith}
-use Rattle.org_stamp.specs.declared.kind.Unit.TheVariants.{Hour, Week, Month, Year}
+use Rattle.org_stamp.specs.declared.kind.Unit.TheVariants.{Hour, Day, Week, Month, Year}
 use Rattle.org_stamp.specs.Calendar.{day_number, days_after, months_after, minutes_of}
 use Rattle.org_stamp.specs.Stamp.{StampValue, IsStamp, start_of}
 use Rattle.org_stamp.specs.Repeat.{moved}
-use Rattle.org_stamp.proofs.Ahead.{by_day, not_by_day, hour_minutes, at_unit, of_unit, week_is, month_is, year_is}
+use Rattle.org_stamp.proofs.Ahead.{by_day, not_by_day, hour_minutes, at_unit, of_unit, day_is, week_is, month_is, year_is}
 use Rattle.org_stamp.proofs.stamp.Stamp.steps.Goals as goal
 
 pub returns-in-Hour-clause-later : goal.returns-in-Hour-clause-later
@@ -32,6 +32,28 @@ returns-in-Hour-clause-least c = λ j some lt later.
     let after : minutes_of c.args.now <ℤ minutes_of (start_of (moved s Hour (j * v))) = of_unit s c.args.interval.unit Hour (j * v) c.args.now c.in-Hour.is later in
     let whole : minutes_of c.args.now <ℤ (minutes_of (start_of s) +ℤ pos (j * (60 * v))) = subst (λ (z : ℤ). minutes_of c.args.now <ℤ z) at after in
     absurd (omega (arith, signed_arith, before, whole))
+
+pub returns-in-Day-clause-later : goal.returns-in-Day-clause-later
+returns-in-Day-clause-later c =
+    let s = c.args.self.now in
+    let stamp : IsStamp s = subst IsStamp c.self.view_is c.self.invariant in
+    let day : s.day ≡ c.self.inside.day = sym (ap (λ (x : StampValue). x.day) c.self.view_is) in
+    let k = c.least_day_steps.result in
+    let v = c.args.interval.value in
+    let there = days_after c.self.inside.day (k * v) in
+    let reached : c.target.result ≤ℤ day_number there = omega (arith, ints, c.least_day_steps.ensures.reached, c.target.ensures.bound) in
+    by_day s c.args.interval.unit Day (k * v) c.args.now there c.target.result c.in-Day.is (day_is s c.self.inside.day k v day) stamp.behind.time c.target.ensures.minute c.target.ensures.value reached
+
+pub returns-in-Day-clause-least : goal.returns-in-Day-clause-least
+returns-in-Day-clause-least c = λ j some lt later.
+    let s = c.args.self.now in
+    let stamp : IsStamp s = subst IsStamp c.self.view_is c.self.invariant in
+    let day : s.day ≡ c.self.inside.day = sym (ap (λ (x : StampValue). x.day) c.self.view_is) in
+    let v = c.args.interval.value in
+    let there = days_after c.self.inside.day (j * v) in
+    let few = c.least_day_steps.ensures.least j some lt in
+    let missed : day_number there <ℤ c.target.result = omega (arith, ints, few, c.target.ensures.bound) in
+    not_by_day s c.args.interval.unit Day (j * v) c.args.now there c.target.result c.in-Day.is (day_is s c.self.inside.day j v day) stamp.behind.time c.target.ensures.minute c.target.ensures.value missed later
 
 pub returns-in-Week-clause-later : goal.returns-in-Week-clause-later
 returns-in-Week-clause-later c =
