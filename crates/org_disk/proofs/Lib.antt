@@ -6,5 +6,6 @@ pub mod Ranges
 mod Calls
 mod ImageSoFar
 mod Outcomes
+mod Fuses
 mod NameRows
 pub mod Accounting

@@ -73,7 +73,8 @@ impl<D: Disk> Disk for Fuse<D> {
 
     ghost content_is_image = { λ fuse name honest. D.content_is_image fuse.disk name honest };
 
-    ghost counts_now = { λ fuse t image honest le now. D.counts_now fuse.disk t image honest le now };
+    ghost counts_now = { λ fuse t image honest le now.
+        D.counts_now fuse.disk t image honest le now };
 
     ghost only_now = { λ fuse image honest left. D.only_now fuse.disk image honest left };
 

@@ -11,7 +11,7 @@ use indexmap::IndexMap;
 use std::alloc::{AllocError, Global};
 
 /// What a crash leaves of each file, one of its images.
-#[derive(Clone, Copy, Debug, PartialEq, Eq)]
+#[derive(Clone, Copy, Debug)]
 pub enum Outcome {
     /// Every write and cut so far took place, the crashed one too.
     All,
@@ -73,7 +73,8 @@ pub struct MemoryDisk {
     // the call that fails, counted from 1; 0 for none
     fail_in: u64,
     crash: Crash,
-    ghost tied: { (name : List ℕ) → content_in contents name ≡ (files_after calls.items name).content },
+    ghost tied: { (name : List ℕ) →
+        content_in contents name ≡ (files_after calls.items name).content },
     // a file that isn't kept was never longer than nothing
     ghost absent: { (name : List ℕ) → IsNone (get bytes_eq contents name) →
         (files_after calls.items name).least ≡ 0 },

@@ -7,7 +7,7 @@ ghost use Rattle.std.specs.Cmp.Lexicographic.{pointwise, slice_cmp, nat_list_eq_
 ghost use Rattle.std.specs.Cmp.{partial_equiv_from_equiv};
 ghost use Rattle.std.specs.Cmp.Rules.{hashing};
 ghost use Rattle.std.proofs.Common.{rules};
-ghost use Rattle.org_disk.specs.Names.{is_name_byte, is_org_name, is_archive_name, archive_name, is_file_name, journal_name, IsDiskName};
+ghost use Rattle.org_disk.specs.Names.{is_name_byte, is_org_name, is_archive_name, archive_name, base_name, is_file_name, journal_name, IsDiskName};
 
 use std::alloc::{AllocError, Global};
 use std::cmp::Ordering;
@@ -84,11 +84,7 @@ impl FileName {
     pub fn accepts(text: &str) -> bool
         ensures { result ≡ is_file_name text.now }
     {
-        let name = text.as_bytes();
-        match name.strip_suffix(ARCHIVE_SUFFIX.as_bytes()) {
-            Some(base) => is_org_name(base),
-            None => is_org_name(name),
-        }
+        is_org_name(base_of(text.as_bytes()))
     }
 
     /// The name of the journal. No text makes it by `new`.
@@ -125,6 +121,16 @@ impl FileName {
         let mut text = self.text.clone()?;
         text.push_str(ARCHIVE_SUFFIX)?;
         Ok(FileName { text })
+    }
+}
+
+// A name without the suffix of an archive file.
+fn base_of(name: &[u8]) -> &[u8]
+    ensures { result.now ≡ base_name name.now }
+{
+    match name.strip_suffix(ARCHIVE_SUFFIX.as_bytes()) {
+        Some(base) => base,
+        None => name,
     }
 }
 

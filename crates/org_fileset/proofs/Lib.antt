@@ -1,3 +1,5 @@
+mod Accounted
+mod Sets
 mod Starting
 mod Patching
 pub mod Elements

@@ -1,11 +1,11 @@
 -- What a call that the record tells of did to the files and to their past.
-use Rattle.std.proofs.Common.{◌≡◌, ◌≢◌, ℕ, ◌≤◌, List, [], ◌∷◌, length, true, false, is_ok, IsErr, IfSome, MatchOption, Option, None, Some, ◌<◌, Result, Ok, Err, refl, sym, ◌∙◌, ap, subst, inl, inr, ⊎_elim, arith}
+use Rattle.std.proofs.Common.{◌≡◌, ◌≢◌, ℕ, ◌≤◌, List, [], ◌∷◌, length, true, false, is_ok, IsErr, IfSome, MatchOption, Option, None, Some, ◌<◌, ◌⊎◌, Result, Ok, Err, IfOk, OnOk, OnErr, refl, sym, ◌∙◌, ap, subst, inl, inr, ⊎_elim, arith}
 use Rattle.org_disk.specs.Disk.{FileState, IsImage, AreImages, AreLeftBy, IsLeftBy, Passes, write, cut, sync}
 use Rattle.org_disk.specs.declared.disk.DiskFault.{DiskFault}
 use Rattle.org_disk.proofs.Moments.{Image, passes_none, passes_as}
 use Rattle.org_disk.proofs.Ranges.{nothing_written}
 use Rattle.org_folder.specs.Calls.{Event, World, files, changed, reading, AreRight, LeftSince, Looks, Does}
-use Rattle.org_folder.specs.Calls.Event.{Length, Write, Cut, Sync}
+use Rattle.org_folder.specs.Calls.Event.{Length, Read, Write, Cut, Sync}
 use Rattle.std.specs.List.{AllWithin, HoldsAt}
 use Rattle.org_folder.specs.CallsLaws.{changed_here, changed_other, own_image}
 
@@ -26,11 +26,23 @@ pub looks_same : (world : World) (old new : List Event) → new ≡ old → Look
 looks_same world old new is =
     subst (λ calls. Looks world old calls) (sym is) (record { same = refl; time = passes_none (length old) (LeftSince world old) (AreImages (files world old)) })
 
-looks_told : (world : World) (event : Event) (old new : List Event) → new ≡ event ∷ old → files world (event ∷ old) ≡ files world old → Looks world old new
+pub looks_told : (world : World) (event : Event) (old new : List Event) → new ≡ event ∷ old → files world (event ∷ old) ≡ files world old → Looks world old new
 looks_told world event old new is same = subst (λ calls. Looks world old calls) (sym is) (record {
   same = same;
   time = passes_told world event old (AreImages (files world old)) (λ image now. subst (λ (fs : List ℕ → FileState). AreImages fs image) same now);
 })
+
+-- a look that came to the call, where the record before is known by an equation
+
+pub looks_read : (world : World) (called : List ℕ) (from : ℕ) (bytes : List ℕ) (old mid new : List Event) (result : Answer) → mid ≡ old → OnOk result (new ≡ Read called from bytes ∷ mid) → OnErr result (new ≡ mid)
+    → Looks world old new
+looks_read world called from bytes old mid new (Ok done) before told kept =
+    looks_told world (Read called from bytes) old new (told ∙ ap (λ calls. Read called from bytes ∷ calls) before) refl
+looks_read world called from bytes old mid new (Err fault) before told kept = looks_same world old new (kept ∙ before)
+
+pub looks_length : (world : World) (called : List ℕ) (old mid new : List Event) (result : Result ℕ DiskFault) → mid ≡ old → IfOk result (λ n. new ≡ Length called n ∷ mid) → OnErr result (new ≡ mid) → Looks world old new
+looks_length world called old mid new (Ok n) before told kept = looks_told world (Length called n) old new (told ∙ ap (λ calls. Length called n ∷ calls) before) refl
+looks_length world called old mid new (Err fault) before told kept = looks_same world old new (kept ∙ before)
 
 -- What looks answer, of a file that was opened under the name
 
@@ -111,7 +123,7 @@ does_cut world called name to old mid new result right same before is =
     subst (λ n. Does world (cut to) n old new result) same (subst (λ calls. Does world (cut to) called calls new result) before
     (subst (λ calls. Does world (cut to) called mid calls result) (sym is) (cut_told world called to mid result (subst (AreRight world) is right))))
 
-pub does_sync : (world : World) (called name : List ℕ) (old mid new : List Event) (result : Answer) → AreRight world new → called ≡ name → mid ≡ old
+does_sync : (world : World) (called name : List ℕ) (old mid new : List Event) (result : Answer) → AreRight world new → called ≡ name → mid ≡ old
     → new ≡ Sync called (is_ok result) ∷ mid → Does world sync name old new result
 does_sync world called name old mid new result right same before is =
     subst (λ n. Does world sync n old new result) same (subst (λ calls. Does world sync called calls new result) before
@@ -161,3 +173,11 @@ pub at_first : {X : Type 0} (Yes No : X → Type 0) (xs : List X) (found : Optio
     → MatchOption found (AllWithin No xs 0 (length xs)) (λ i. (i < length xs) × HoldsAt Yes xs i × AllWithin No xs 0 i) → IfSome found (λ i. HoldsAt Yes xs i)
 at_first Yes No xs None first = tt
 at_first Yes No xs (Some i) first = first.1
+
+-- a sync that came to it, or a fault before it
+pub does_sync_opened : (world : World) (called name : List ℕ) (old mid new : List Event) (result : Answer) → AreRight world new → called ≡ name → mid ≡ old
+    → (new ≡ Sync called (is_ok result) ∷ mid) ⊎ (IsErr result × (new ≡ mid)) → Does world sync name old new result
+does_sync_opened world called name old mid new result right same before (inl is) = does_sync world called name old mid new result right same before is
+does_sync_opened world called name old mid new result right same before (inr failed) =
+    let is : new ≡ old = failed.1 ∙ before in
+    does_nothing world sync name old new result failed.0 (subst (AreRight world) is right) (looks_same world old new is)

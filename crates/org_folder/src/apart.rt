@@ -9,7 +9,7 @@ ghost use Rattle.org_folder.specs.declared.apart.ApartFault.TheVariants.{Device,
 use crate::lock::LockedFolder;
 use org_disk::FileName;
 use std::alloc::{AllocError, AllocFailed};
-use std::fs::{self, Files};
+use std::fs::{self, Files, Metadata};
 use std::io::{self, ErrorKind};
 use std::os::unix::fs::MetadataExt;
 use std::path::Path;
@@ -57,7 +57,7 @@ impl<T: Drop> From<AllocFailed<T>> for ApartFault {
 }
 
 /// A file as the system tells it from others: its device, and its number there.
-#[derive(Clone, Copy, Debug, PartialEq, Eq)]
+#[derive(Clone, Copy, Debug)]
 pub struct Node {
     device: u64,
     number: u64,
@@ -105,7 +105,14 @@ fn node_of<R: Files + AllocGlobal>(
     ensures { IfErr result (MayTell []) }
 {
     let path = Path::new(path).join(rt.alloc(), name.as_str())?;
-    match fs::metadata(rt, path.as_path()) {
+    told(fs::metadata(rt, path.as_path()))
+}
+
+// The file that the system told of, none where there is no such file.
+fn told(answer: io::Result<Metadata>) -> Result<Option<Node>, ApartFault>
+    ensures { IfErr result (MayTell []) }
+{
+    match answer {
         Ok(metadata) => Ok(Some(Node {
             device: metadata.dev(),
             number: metadata.ino(),

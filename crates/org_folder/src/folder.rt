@@ -1,8 +1,9 @@
 //! The files of a folder, each opened once and kept open. No fault is counted here.
-ghost use Rattle.std.specs.Prelude.{◌≡◌, ◌<◌, ◌≤◌, [], length, take, drop, IfOk, IfSome, IfNone, OnOk};
+ghost use Rattle.std.specs.Prelude.{◌≡◌, ◌⊎◌, ◌<◌, ◌≤◌, [], ◌∷◌, length, take, drop, is_ok, IfOk, IfSome, IfNone, IsErr, OnOk};
 ghost use Rattle.std.specs.List.{HoldsAt};
 ghost use Rattle.org_disk.specs.Disk.{cut, stable, sync, write};
 ghost use Rattle.org_folder.specs.Calls.{files, AreRight, Does, Looks};
+ghost use Rattle.org_folder.specs.Calls.Event.{Sync};
 
 use crate::calls::{Calls, Opened};
 use org_disk::{DiskFault, FileName};
@@ -98,14 +99,10 @@ where
         ensures honest { AreRight C.world (C.history self.new.calls)
             → AreRight C.world (C.history self.old.calls) }
     {
-        let Some(at) = self.find(name)? else {
-            return Ok(());
-        };
-        let opened = &mut self.files[at];
-        if !opened.is_entered() {
-            self.calls.sync_entry(opened)?;
+        match self.find(name)? {
+            Some(at) => sync_opened(&mut self.calls, &mut self.files[at]),
+            None => Ok(()),
         }
-        self.calls.sync(opened)
     }
 
     // Where the file of a name stands among those that are open, if there is one.
@@ -170,4 +167,17 @@ where
             Err(_) => Err(DiskFault),
         }
     }
+}
+
+// Syncs a file, whose entry in the folder goes along the first time.
+fn sync_opened<C: Calls>(calls: &mut C, opened: &mut Opened<C::File>) -> Result<(), DiskFault>
+where
+    C::File: Drop,
+    ensures { (C.history calls.new ≡ Sync opened.old.name (is_ok result) ∷ C.history calls.old)
+        ⊎ (IsErr result × (C.history calls.new ≡ C.history calls.old)) }
+{
+    if !opened.is_entered() {
+        calls.sync_entry(opened)?;
+    }
+    calls.sync(opened)
 }

@@ -1,5 +1,5 @@
 //! The Org files of a folder.
-ghost use Rattle.std.specs.Prelude.{◌≡◌, ◌↔◌, IsTrue, IsFalse, IfOk, IsErrOf, All};
+ghost use Rattle.std.specs.Prelude.{◌≡◌, ◌↔◌, IsTrue, IsFalse, IfOk, IfSome, IsErrOf, All};
 ghost use Rattle.std.specs.IoError.{error_kind};
 ghost use Rattle.org_disk.specs.Names.{IsOrgFile};
 ghost use Rattle.org_folder.specs.Faults.{IsToldAs};
@@ -14,7 +14,7 @@ use std::io::{self, ErrorKind};
 use thiserror::Error;
 
 /// Why a folder's files can't be told.
-#[derive(Clone, Copy, Debug, PartialEq, Eq, Error)]
+#[derive(Clone, Copy, Debug, Error)]
 pub enum ListFault {
     /// The folder can't be listed, or the name of one of its entries isn't UTF-8.
     #[error("the folder can't be listed")]
@@ -73,18 +73,27 @@ pub fn org_files<R: Files + AllocGlobal + Clone + Drop>(
 {
     let mut names = Vec::new(rt.alloc());
     for entry in fs::read_dir(rt, folder.path())? {
-        let entry = entry?;
-        match org_file(rt.alloc(), entry.file_name()) {
-            Ok(name) => {
-                if is_file(rt, &entry) {
-                    names.push(name)?;
-                }
-            }
-            Err(NameFault::BadName) => {}
-            Err(NameFault::OutOfMemory) => return Err(ListFault::OutOfMemory),
-        }
+        let Some(name) = name_of(rt, entry)? else {
+            continue;
+        };
+        names.push(name)?;
     }
     Ok(names)
+}
+
+// The name of an entry that is an Org file.
+fn name_of<R: Files + AllocGlobal + Drop>(
+    rt: &R,
+    entry: io::Result<DirEntry<R>>,
+) -> Result<Option<FileName>, ListFault>
+    ensures { IfOk result (λ found. IfSome found IsOrgFile) }
+{
+    let entry = entry?;
+    match org_file(rt.alloc(), entry.file_name()) {
+        Ok(name) if is_file(rt, &entry) => Ok(Some(name)),
+        Ok(_) | Err(NameFault::BadName) => Ok(None),
+        Err(NameFault::OutOfMemory) => Err(ListFault::OutOfMemory),
+    }
 }
 
 // Links are followed. What can't be looked at is a file: its first use then fails.

@@ -9,7 +9,7 @@ use std::path::Path;
 use thiserror::Error;
 
 /// Why a folder isn't to be looked at.
-#[derive(Clone, Copy, Debug, PartialEq, Eq, Error)]
+#[derive(Clone, Copy, Debug, Error)]
 pub enum LockFault {
     /// Another store is open on it.
     #[error("another store is open on the folder")]
@@ -57,12 +57,12 @@ pub fn lock_folder<'a, R: Files<File = File> + AllocGlobal>(
 {
     // A path that ends in a slash opens a folder or nothing: a pipe would wait for its writer.
     let inside = Path::new(path).join(rt.alloc(), "")?;
-    let lock = match File::open(rt, inside.as_path()) {
-        Ok(folder) => {
+    let lock = match opened(rt, inside.as_path()) {
+        Some(folder) => {
             let tried = folder.try_lock();
             held(folder, tried)?
         }
-        Err(_) => None,
+        None => None,
     };
     Ok(LockedFolder { path, _lock: lock })
 }
@@ -76,11 +76,12 @@ pub fn fill_streams<R: Files<File = File> + AllocGlobal>(
 ) -> Result<[Option<File>; 3], AllocError> {
     let path = Path::new(path).join(rt.alloc(), "")?;
     let path = path.as_path();
-    Ok([
-        File::open(rt, path).ok(),
-        File::open(rt, path).ok(),
-        File::open(rt, path).ok(),
-    ])
+    Ok([opened(rt, path), opened(rt, path), opened(rt, path)])
+}
+
+// A folder, where it can be opened.
+fn opened<R: Files<File = File>>(rt: &R, path: Path<'_>) -> Option<File> {
+    File::open(rt, path).ok()
 }
 
 // What is held of a folder that was opened, by what the system answered to the try to lock it.

@@ -18,7 +18,7 @@ accounts_as forth back call = record {
 }
 
 -- nothing failed, and no failure is told
-accounts_quiet : {D : Type 0} {steady : Type 0} {honest : D → Type 0} {failures : D → ℕ} {old new : D} {Failed : Type 0} → (Failed → ⊥)
+pub accounts_quiet : {D : Type 0} {steady : Type 0} {honest : D → Type 0} {failures : D → ℕ} {old new : D} {Failed : Type 0} → (Failed → ⊥)
     → Accounts steady honest failures old new ⊥ → Accounts steady honest failures old new Failed
 accounts_quiet fine call = accounts_as (λ none. absurd none) fine call
 

@@ -48,11 +48,23 @@ fn size_of<D: Disk>(disk: &mut D, journal: &FileName) -> Result<Option<u64>, Fin
     }
     let mut header = [0; 16];
     disk.read_at(journal, 0, &mut header)?;
+    size_in(&header, length)
+}
+
+// The size of the record that the header of a journal of this many bytes gives, and nothing where the gate is closed.
+fn size_in(header: &[u8], total: u64) -> Result<Option<u64>, FindFault>
+    requires header { length header.now ≡ front_size }
+    requires total { front_size ≤ total }
+    ensures found { (journal : List ℕ) → header.now ≡ take front_size journal
+        → length journal ≡ total → FindsSize journal result }
+    ensures small { IfOk result (λ found. IfSome found (λ size. front_size + size < 2 ^ 64)) }
+    ensures no_call { ¬ (IsErrOf result FindFault.Device) }
+{
     if header[0] != OPEN {
         return Ok(None);
     }
     let size = BigEndian::read_u64(&header[8..]);
-    if size > length - FRONT {
+    if size > total - FRONT {
         return Err(FindFault::BadJournal);
     }
     Ok(Some(size))

@@ -66,8 +66,7 @@ where
         }
     }
 
-    // A link that leads nowhere is followed: the file is made where it leads. One that has bytes by now was made by
-    // another name or another program since it was found absent: it isn't written over.
+    // A link that leads nowhere is followed: the file is made where it leads.
     fn find_or_make(&self, name: &FileName) -> io::Result<R::File> {
         let path = self.path_of(name)?;
         let file = File::options()
@@ -75,10 +74,7 @@ where
             .write(true)
             .create(true)
             .open(&self.rt, path.as_path())?;
-        if file.metadata()?.len() > 0 {
-            return Err(Error::from(ErrorKind::AlreadyExists));
-        }
-        Ok(file)
+        only_empty(file)
     }
 
     fn sync_folder_of(&self, name: &FileName) -> io::Result<()> {
@@ -102,6 +98,15 @@ where
     {
         Path::new(self.path.as_str()).join(self.rt.alloc(), name.as_str())
     }
+}
+
+// A file that was found absent. One that has bytes by now was made by another name or another program since: it isn't
+// written over.
+fn only_empty<F: OpenFile + Drop>(file: F) -> io::Result<F> {
+    if file.metadata()?.len() > 0 {
+        return Err(Error::from(ErrorKind::AlreadyExists));
+    }
+    Ok(file)
 }
 
 fn is_refused(kind: ErrorKind) -> bool {

@@ -3,7 +3,8 @@ use Rattle.org_disk.specs.Disk.{FileState, write, cut}
 use Rattle.org_splice.specs.Texts.{pairs_of}
 use Rattle.org_fileset.proofs.Patching.{applies_none, applies_call, applies_read, takes_write, takes_cut}
 use Rattle.org_fileset.proofs.Steps.{pair_at, patched_each-more, next_within, next_small, long_enough}
-use Rattle.org_disk.proofs.Accounting.{accounts_none, accounts_then, accounts_call_ok}
+use Rattle.org_disk.proofs.Accounting.{accounts_none, accounts_then, accounts_call, accounts_call_ok}
+use Rattle.org_journal.proofs.Accounted.{accounts_failed, accounts_fine_test}
 use Rattle.org_fileset.proofs.Writes.{alone_none, alone_then, alone_looks, alone_call}
 use Rattle.org_fileset.proofs.apply.apply_entry.Goals as goal
 
@@ -174,3 +175,23 @@ returns-else-length-entry-clause-alone g c ended =
     let Mine : List ℕ → Type 0 = λ other. other ≢ c.args.entry.now.name in
     alone_then g.D.Disk.files g.D.Disk.moment g.D.Disk.left_since Mine c.args.disk.now c.loop-patch.disk c.length.new.self (c.loop-patch.invariant.alone (c.length.ensures.accounts.was_honest ended))
     (alone_looks g.D.Disk.files g.D.Disk.moment g.D.Disk.left_since Mine c.loop-patch.disk c.length.new.self (c.length.ensures.looks ended))
+
+pub returns-in_err-write_at-clause-accounts : goal.returns-in_err-write_at-clause-accounts
+returns-in_err-write_at-clause-accounts g c =
+    accounts_then c.loop-patch.invariant.accounts (accounts_failed c.from_residual.ensures.0 (accounts_call _ c.in_err-write_at.ensures.accounts))
+
+pub returns-in_err-length-clause-accounts : goal.returns-in_err-length-clause-accounts
+returns-in_err-length-clause-accounts g c =
+    accounts_then c.loop-patch.invariant.accounts (accounts_failed c.from_residual-in_err-length.ensures.0 (accounts_call _ c.in_err-length.ensures.accounts))
+
+pub returns-in_err-cut-clause-accounts : goal.returns-in_err-cut-clause-accounts
+returns-in_err-cut-clause-accounts g c =
+    accounts_then c.loop-patch.invariant.accounts (accounts_then (accounts_call_ok c.in_ok-length.ensures.accounts) (accounts_failed c.from_residual-in_err-cut.ensures.0 (accounts_call _ c.in_err-cut.ensures.accounts)))
+
+pub returns-in_ok-cut-clause-accounts : goal.returns-in_ok-cut-clause-accounts
+returns-in_ok-cut-clause-accounts g c =
+    accounts_fine_test (accounts_then c.loop-patch.invariant.accounts (accounts_then (accounts_call_ok c.in_ok-length.ensures.accounts) (accounts_call_ok c.in_ok-cut.ensures.accounts)))
+
+pub returns-else-length-entry-clause-accounts : goal.returns-else-length-entry-clause-accounts
+returns-else-length-entry-clause-accounts g c =
+    accounts_fine_test (accounts_then c.loop-patch.invariant.accounts (accounts_call_ok c.in_ok-length.ensures.accounts))

@@ -2,6 +2,8 @@ use Rattle.std.proofs.Common.{rules, ◌≡◌, ◌≢◌, inl, inr, ◌∷◌, 
 use Rattle.std.proofs.lemmas.Result.{on_ok_weaker}
 use Rattle.org_splice.specs.Overwritten.{overwritten}
 use Rattle.org_disk.specs.Disk.{IsStable}
+use Rattle.org_disk.proofs.Accounting.{accounts_then, accounts_ok}
+use Rattle.org_journal.proofs.Accounted.{accounts_failed}
 use Rattle.org_disk.proofs.Moments.{passes_as, passes_then}
 use Rattle.org_journal.specs.Gate.{LeavesClosed, LeavesBody, Puts}
 use Rattle.org_journal.specs.Reading.{journal_at}
@@ -151,3 +153,14 @@ returns-clause-commits g c ended =
           name_is (λ name is. is.apart) (c.open_gate.ensures.puts h2).others (c.open_gate.ensures.any_moment h2) (λ image left. left.others)))
           replays.alone;
     }
+
+pub returns-in_err-arm-clause-accounts : goal.returns-in_err-arm-clause-accounts
+returns-in_err-arm-clause-accounts g c = accounts_failed c.from_residual.ensures.0 c.in_err-arm.ensures.accounts
+
+pub returns-in_err-open_gate-clause-accounts : goal.returns-in_err-open_gate-clause-accounts
+returns-in_err-open_gate-clause-accounts g c =
+    accounts_then (accounts_ok c.in_ok-arm.ensures.accounts) (accounts_failed c.from_residual-in_err-open_gate.ensures.0 c.in_err-open_gate.ensures.accounts)
+
+pub returns-clause-accounts : goal.returns-clause-accounts
+returns-clause-accounts g c =
+    accounts_then (accounts_ok c.in_ok-arm.ensures.accounts) (accounts_then (accounts_ok c.in_ok-open_gate.ensures.accounts) c.replay.ensures.accounts)

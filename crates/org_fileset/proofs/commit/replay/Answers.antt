@@ -1,6 +1,8 @@
 use Rattle.std.proofs.Common.{rules, ◌≡◌, inl, inr, ◌≤◌, ◌∷◌, ℕ, List, length, drop, IsErr, sym, ◌∙◌, ap, subst, arith}
 use Rattle.org_disk.specs.Disk.{FileState, IsStable}
 use Rattle.org_disk.specs.Names.{journal_name}
+use Rattle.org_disk.proofs.Accounting.{accounts_then, accounts_ok}
+use Rattle.org_journal.proofs.Accounted.{accounts_failed}
 use Rattle.org_disk.proofs.Moments.{passes_as, passes_then}
 use Rattle.org_disk.proofs.Names.{name_cases}
 use Rattle.org_journal.specs.Gate.{front_size, LeavesBody, Puts}
@@ -113,3 +115,14 @@ returns-clause-replays g c ended =
           (alone_journal g.D.Disk.files g.D.Disk.moment g.D.Disk.left_since c.args.journal.now (IsUnwritten entries) (LeavesBody c.args.journal.now last) c.sync_all.new.disk c.close_gate.new.disk
           c.requires.journal (λ name is. is.apart) (c.close_gate.ensures.puts ended).others (c.close_gate.ensures.any_moment ended) (λ image left. left.others));
     }
+
+pub returns-in_err-apply_all-clause-accounts : goal.returns-in_err-apply_all-clause-accounts
+returns-in_err-apply_all-clause-accounts g c = accounts_failed c.from_residual.ensures.0 c.in_err-apply_all.ensures.accounts
+
+pub returns-in_err-sync_all-clause-accounts : goal.returns-in_err-sync_all-clause-accounts
+returns-in_err-sync_all-clause-accounts g c =
+    accounts_then (accounts_ok c.in_ok-apply_all.ensures.accounts) (accounts_failed c.from_residual-in_err-sync_all.ensures.0 c.in_err-sync_all.ensures.accounts)
+
+pub returns-clause-accounts : goal.returns-clause-accounts
+returns-clause-accounts g c =
+    accounts_then (accounts_ok c.in_ok-apply_all.ensures.accounts) (accounts_then (accounts_ok c.in_ok-sync_all.ensures.accounts) c.close_gate.ensures.accounts)

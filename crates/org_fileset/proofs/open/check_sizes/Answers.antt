@@ -1,6 +1,8 @@
 use Rattle.std.proofs.Common.{◌≤◌, ℕ, List, length, ◌∙◌, ap, arith}
 use Rattle.org_disk.specs.Disk.{FileState}
-use Rattle.org_disk.proofs.Accounting.{accounts_then, accounts_call_ok, looks_then}
+use Rattle.org_disk.proofs.Accounting.{accounts_then, accounts_call, accounts_call_ok, looks_then}
+use Rattle.org_journal.proofs.Accounted.{accounts_answered, accounts_quiet, accounts_told}
+use Rattle.org_fileset.proofs.Accounted.{accounts_other}
 use Rattle.org_journal.specs.Recovered.{contents}
 use Rattle.org_fileset.specs.Names.{limit}
 use Rattle.org_fileset.proofs.Sorted.{first_large-next}
@@ -20,3 +22,30 @@ loop-name-preserved g c =
       looks = λ ended. looks_then (sofar.looks (back ended)) (c.length.ensures.looks ended);
       accounts = accounts_then sofar.accounts (accounts_call_ok c.in_ok-length.ensures.accounts);
     }
+
+pub returns-in_err-length-clause-looks : goal.returns-in_err-length-clause-looks
+returns-in_err-length-clause-looks g c ended =
+    looks_then (c.loop-name.invariant.looks (c.length.ensures.accounts.was_honest ended)) (c.length.ensures.looks ended)
+
+pub returns-in_err-clone-clause-looks : goal.returns-in_err-clone-clause-looks
+returns-in_err-clone-clause-looks g c ended =
+    looks_then (c.loop-name.invariant.looks (c.length.ensures.accounts.was_honest ended)) (c.length.ensures.looks ended)
+
+pub returns-then-branch-clause-looks : goal.returns-then-branch-clause-looks
+returns-then-branch-clause-looks g c ended =
+    looks_then (c.loop-name.invariant.looks (c.length.ensures.accounts.was_honest ended)) (c.length.ensures.looks ended)
+
+pub returns-in_err-length-clause-accounts : goal.returns-in_err-length-clause-accounts
+returns-in_err-length-clause-accounts g c =
+    accounts_then c.loop-name.invariant.accounts (accounts_told c.from_residual.ensures.1 (accounts_call _ c.in_err-length.ensures.accounts))
+
+pub returns-in_err-clone-clause-accounts : goal.returns-in_err-clone-clause-accounts
+returns-in_err-clone-clause-accounts g c =
+    accounts_other c.from_residual-in_err-clone.ensures.1 (λ e. cc e) (accounts_then c.loop-name.invariant.accounts (accounts_call_ok c.in_ok-length.ensures.accounts))
+
+pub returns-then-branch-clause-accounts : goal.returns-then-branch-clause-accounts
+returns-then-branch-clause-accounts g c =
+    accounts_quiet (λ failed. cc failed) (accounts_then c.loop-name.invariant.accounts (accounts_call_ok c.in_ok-length.ensures.accounts))
+
+pub returns-clause-accounts : goal.returns-clause-accounts
+returns-clause-accounts g c = accounts_answered c.loop-name.invariant.accounts

@@ -6,6 +6,8 @@ use Rattle.org_fileset.specs.Recovery.{IsReopened}
 use Rattle.org_fileset.proofs.Armed.{on_ok_always, on_ok_never}
 use Rattle.org_disk.specs.Names.{journal_name}
 use Rattle.org_fileset.specs.Writes.{IsUnconcerned}
+use Rattle.org_journal.proofs.Accounted.{accounts_after}
+use Rattle.org_fileset.proofs.Accounted.{accounts_opened}
 use Rattle.org_fileset.proofs.Starting.{since_start}
 use Rattle.org_fileset.proofs.Writes.{alone_looks, alone_then}
 use Rattle.org_fileset.proofs.Recovering.{as_before}
@@ -40,3 +42,10 @@ returns-clause-reopens g c ended =
       alone = alone_then g.D.Disk.files g.D.Disk.moment g.D.Disk.left_since (IsUnconcerned (contents old journal_name)) c.args.disk.now c.recover.new.disk c.check_sizes.new.disk made.alone
           (alone_looks g.D.Disk.files g.D.Disk.moment g.D.Disk.left_since (IsUnconcerned (contents old journal_name)) c.recover.new.disk c.check_sizes.new.disk looks);
     }
+
+pub returns-in_err-recover-clause-accounts : goal.returns-in_err-recover-clause-accounts
+returns-in_err-recover-clause-accounts g c =
+    accounts_opened c.in_err-recover.field-0.0 c.from_residual.ensures.1 c.in_err-recover.ensures.accounts
+
+pub returns-clause-accounts : goal.returns-clause-accounts
+returns-clause-accounts g c = accounts_after c.in_ok-recover.ensures.accounts c.check_sizes.ensures.accounts

@@ -3,7 +3,9 @@ use Rattle.std.specs.Prelude.{IsSomeAnd}
 use Rattle.std.proofs.lemmas.Result.{err_from_is_err_and}
 use Rattle.org_disk.specs.Disk.{FileState, IsStable, AreLeftBy, Changes, sync}
 use Rattle.org_disk.specs.Names.{journal_name}
+use Rattle.org_disk.proofs.Accounting.{accounts_then, accounts_ok, accounts_call, accounts_call_ok}
 use Rattle.org_disk.proofs.Moments.{Image, passes_as, passes_then}
+use Rattle.org_journal.proofs.Accounted.{accounts_after, accounts_answered, accounts_passed, accounts_told}
 use Rattle.org_journal.specs.declared.record.Entry.{Entry}
 use Rattle.org_journal.specs.declared.fault.FindFault.{FindFault}
 use Rattle.org_journal.specs.declared.fault.FindFault.TheVariants.{BadJournal}
@@ -304,3 +306,35 @@ returns-in_ok-prepare-in-Closed-clause-reopens g c ended =
           (alone_journal g.D.Disk.files g.D.Disk.moment g.D.Disk.left_since c.args.journal.now (IsUnconcerned (contents old journal_name)) (LeavesClosed c.args.journal.now last) c.length.new.self c.prepare.new.disk c.requires (λ name is. is.apart)
           (c.prepare.ensures.puts ended).others (c.prepare.ensures.any_moment ended) (λ image left. left.others));
     }
+
+pub returns-in_err-sync-clause-accounts : goal.returns-in_err-sync-clause-accounts
+returns-in_err-sync-clause-accounts g c =
+    accounts_told c.from_residual.ensures.1 (accounts_call _ c.in_err-sync.ensures.accounts)
+
+pub returns-in_err-record-clause-accounts : goal.returns-in_err-record-clause-accounts
+returns-in_err-record-clause-accounts g c =
+    accounts_then (accounts_call_ok c.in_ok-sync.ensures.accounts) (accounts_passed c.from_residual-in_err-record.ensures.1 c.in_err-record.ensures.accounts)
+
+pub returns-in_err-replay-in-Armed-clause-accounts : goal.returns-in_err-replay-in-Armed-clause-accounts
+returns-in_err-replay-in-Armed-clause-accounts g c =
+    accounts_then (accounts_call_ok c.in_ok-sync.ensures.accounts) (accounts_after c.in_ok-record.ensures.accounts (accounts_told c.from_residual-in_err-replay-in-Armed.ensures.1 c.in_err-replay-in-Armed.ensures.accounts))
+
+pub returns-in_ok-replay-in-Armed-clause-accounts : goal.returns-in_ok-replay-in-Armed-clause-accounts
+returns-in_ok-replay-in-Armed-clause-accounts g c =
+    accounts_answered (accounts_then (accounts_call_ok c.in_ok-sync.ensures.accounts) (accounts_after c.in_ok-record.ensures.accounts (accounts_ok c.in_ok-replay-in-Armed.ensures.accounts)))
+
+pub returns-in_err-length-in-Closed-clause-accounts : goal.returns-in_err-length-in-Closed-clause-accounts
+returns-in_err-length-in-Closed-clause-accounts g c =
+    accounts_then (accounts_call_ok c.in_ok-sync.ensures.accounts) (accounts_after c.in_ok-record.ensures.accounts (accounts_told c.from_residual-in_err-length-in-Closed.ensures.1 (accounts_call _ c.in_err-length-in-Closed.ensures.accounts)))
+
+pub returns-else-branch-lt-FRONT-clause-accounts : goal.returns-else-branch-lt-FRONT-clause-accounts
+returns-else-branch-lt-FRONT-clause-accounts g c =
+    accounts_answered (accounts_then (accounts_call_ok c.in_ok-sync.ensures.accounts) (accounts_after c.in_ok-record.ensures.accounts (accounts_call_ok c.in_ok-length-in-Closed.ensures.accounts)))
+
+pub returns-in_err-prepare-in-Closed-clause-accounts : goal.returns-in_err-prepare-in-Closed-clause-accounts
+returns-in_err-prepare-in-Closed-clause-accounts g c =
+    accounts_then (accounts_call_ok c.in_ok-sync.ensures.accounts) (accounts_after c.in_ok-record.ensures.accounts (accounts_then (accounts_call_ok c.in_ok-length-in-Closed.ensures.accounts) (accounts_told c.from_residual-in_err-prepare-in-Closed.ensures.1 c.in_err-prepare-in-Closed.ensures.accounts)))
+
+pub returns-in_ok-prepare-in-Closed-clause-accounts : goal.returns-in_ok-prepare-in-Closed-clause-accounts
+returns-in_ok-prepare-in-Closed-clause-accounts g c =
+    accounts_answered (accounts_then (accounts_call_ok c.in_ok-sync.ensures.accounts) (accounts_after c.in_ok-record.ensures.accounts (accounts_then (accounts_call_ok c.in_ok-length-in-Closed.ensures.accounts) (accounts_ok c.in_ok-prepare-in-Closed.ensures.accounts))))

@@ -1,9 +1,10 @@
-use Rattle.std.proofs.Common.{◌≡◌, Bool, List, ℕ, ap, sym, ◌∙◌, ◌+◌, length, drop, true}
+use Rattle.std.proofs.Common.{◌≡◌, Bool, List, ℕ, ap, sym, subst, ◌∙◌, ◌+◌, length, drop, true, false}
 use Rattle.std.specs.Prelude.{◌&&◌}
 use Rattle.org_disk.specs.Disk.{FileState}
 use Rattle.org_disk.proofs.Accounting.{accounts_call, accounts_call_ok, accounts_then, looks_then}
 use Rattle.org_journal.proofs.Accounted.{accounts_failed, accounts_fine_test}
 use Rattle.org_splice.specs.declared.patch.Patch.{Patch}
+use Rattle.org_splice.specs.Patches.{AreWellFormed}
 use Rattle.org_splice.specs.Texts.{pairs_of}
 use Rattle.org_journal.specs.Recovered.{contents, fits, all_fit}
 use Rattle.org_journal.proofs.Fitting.{patches_first, all_first}
@@ -46,3 +47,20 @@ returns-then-not-fits-clause-accounts g c =
 
 pub returns-clause-accounts : goal.returns-clause-accounts
 returns-clause-accounts g c = accounts_fine_test c.loop-entry.invariant.accounts
+
+pub fits-requires : goal.fits-requires
+fits-requires g c = subst (λ (p : List Patch). AreWellFormed (pairs_of p) c.entry-item.result.length) (sym c.as_slice.ensures)
+    (patches_first c.args.entries.now c.loop-entry.entry-index c.entry-item.result c.loop-entry-test.true c.entry-item.is c.loop-entry.invariant.formed).0
+
+pub returns-then-not-fits-clause-fit : goal.returns-then-not-fits-clause-fit
+returns-then-not-fits-clause-fit g c ended =
+    let so_far = c.loop-entry.invariant in
+    let call = c.length.ensures in
+    let entries = c.args.entries.now in
+    let entry = c.entry-item.result in
+    let i = c.loop-entry.entry-index in
+    let image = contents (g.D.Disk.files c.args.disk.now) in
+    let size : c.in_ok-size.size ≡ length (image entry.name) = c.in_ok-size.ensures.value ended ∙ ap (λ (f : List ℕ → FileState). length (f entry.name).content) (so_far.looks (call.accounts.was_honest ended)).same in
+    let test : fits (pairs_of entry.patches) entry.length (length (image entry.name)) ≡ false =
+    ap (fits (pairs_of entry.patches) entry.length) (sym size) ∙ ap (λ (p : List Patch). fits (pairs_of p) entry.length c.in_ok-size.size) (sym c.as_slice.ensures) ∙ sym c.fits.ensures ∙ c.if-not-fits.true in
+    sym (sym (so_far.fit (call.accounts.was_honest ended)) ∙ all_first entries i entry image c.loop-entry-test.true c.entry-item.is ∙ ap (λ (b : Bool). b && all_fit (drop (i + 1) entries) image) test)

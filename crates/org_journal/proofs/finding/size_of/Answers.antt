@@ -1,17 +1,9 @@
 use Rattle.org_disk.proofs.Accounting.{accounts_call, accounts_call_ok, accounts_then, looks_then}
-use Rattle.org_journal.proofs.Accounted.{accounts_answered, accounts_bad, accounts_told}
+use Rattle.org_journal.proofs.Accounted.{accounts_answered, accounts_quiet, accounts_told}
 use Rattle.org_journal.proofs.finding.size_of.Goals as goal
 
 pub returns-in_err-read_at-clause-looks : goal.returns-in_err-read_at-clause-looks
 returns-in_err-read_at-clause-looks g c ended =
-    looks_then (c.length.ensures.looks (c.read_at.ensures.accounts.was_honest ended)) (c.read_at.ensures.looks ended)
-
-pub returns-then-header-ne-OPEN-clause-looks : goal.returns-then-header-ne-OPEN-clause-looks
-returns-then-header-ne-OPEN-clause-looks g c ended =
-    looks_then (c.length.ensures.looks (c.read_at.ensures.accounts.was_honest ended)) (c.read_at.ensures.looks ended)
-
-pub returns-then-size-length-clause-looks : goal.returns-then-size-length-clause-looks
-returns-then-size-length-clause-looks g c ended =
     looks_then (c.length.ensures.looks (c.read_at.ensures.accounts.was_honest ended)) (c.read_at.ensures.looks ended)
 
 pub returns-clause-looks : goal.returns-clause-looks
@@ -28,14 +20,6 @@ pub returns-in_err-read_at-clause-accounts : goal.returns-in_err-read_at-clause-
 returns-in_err-read_at-clause-accounts g c =
     accounts_then (accounts_call_ok c.in_ok-length.ensures.accounts) (accounts_told c.from_residual-in_err-read_at.ensures.1 (accounts_call _ c.in_err-read_at.ensures.accounts))
 
-pub returns-then-header-ne-OPEN-clause-accounts : goal.returns-then-header-ne-OPEN-clause-accounts
-returns-then-header-ne-OPEN-clause-accounts g c =
-    accounts_answered (accounts_then (accounts_call_ok c.in_ok-length.ensures.accounts) (accounts_call_ok c.in_ok-read_at.ensures.accounts))
-
-pub returns-then-size-length-clause-accounts : goal.returns-then-size-length-clause-accounts
-returns-then-size-length-clause-accounts g c =
-    accounts_bad (accounts_then (accounts_call_ok c.in_ok-length.ensures.accounts) (accounts_call_ok c.in_ok-read_at.ensures.accounts))
-
 pub returns-clause-accounts : goal.returns-clause-accounts
 returns-clause-accounts g c =
-    accounts_answered (accounts_then (accounts_call_ok c.in_ok-length.ensures.accounts) (accounts_call_ok c.in_ok-read_at.ensures.accounts))
+    accounts_quiet c.size_in.ensures.no_call (accounts_then (accounts_call_ok c.in_ok-length.ensures.accounts) (accounts_call_ok c.in_ok-read_at.ensures.accounts))

@@ -1,7 +1,8 @@
-use Rattle.std.proofs.Common.{rules, ◌≡◌, ℕ, List, [], Option, Some, Ok, Err, IsErr, length, sym, ◌∙◌, ap, subst, arith}
+use Rattle.std.proofs.Common.{rules, ◌≡◌, ℕ, List, [], Option, Some, Ok, Err, IsErr, length, refl, sym, ◌∙◌, ap, subst, arith}
 use Rattle.std.specs.Prelude.{IsTrue}
 use Rattle.std.specs.Map.{keys_of}
 use Rattle.std.proofs.lemmas.List.{nil_from_length}
+use Rattle.std.proofs.lemmas.Result.{err_from_is_err_and}
 use Rattle.org_disk.specs.Names.{journal_name}
 use Rattle.org_disk.specs.declared.disk.DiskFault.{DiskFault}
 use Rattle.org_splice.specs.Texts.{EditedText}
@@ -15,6 +16,9 @@ use Rattle.org_fileset.specs.Writes.{IsOther, IsUnwritten}
 use Rattle.org_fileset.specs.declared.fault.SetFault.TheVariants.{Device}
 use Rattle.org_fileset.proofs.Armed.{on_ok_never}
 use Rattle.org_fileset.proofs.Recorded.{changes_applicable, changes_fit}
+use Rattle.org_disk.proofs.Accounting.{accounts_ok}
+use Rattle.org_journal.proofs.Accounted.{accounts_answered}
+use Rattle.org_fileset.proofs.Sets.{keeps_whole, keeps_broken}
 use Rattle.org_fileset.proofs.Committing.{committable, all_edits, changes_formed, commits_none, commits_changes, has_record}
 use Rattle.org_fileset.proofs.set.FileSet.commit.Goals as goal
 
@@ -99,3 +103,39 @@ returns-in-Ok-clause-record g c ended =
     let journal = contents (g.D.Disk.files c.commit_entries.new.disk) journal_name in
     has_record (g.C.Changes.pairs c.args.changes.now) c.in_ok-entries_of.field-0.items journal c.in_ok-entries_of.ensures.entries
     (c.in-Ok.ensures.record ended ∙ ap (λ (l : List Entry). let o : Option (List Entry) = Some l in o) (c.entries.ensures ∙ c.new-record.ensures))
+
+pub returns-in_err-entries_of-clause-nothing : goal.returns-in_err-entries_of-clause-nothing
+returns-in_err-entries_of-clause-nothing g c none = absurd (omega (arith, c.if-len-eq0.false, c.len.ensures.len ∙ ap length none))
+
+pub returns-in_err-body-clause-nothing : goal.returns-in_err-body-clause-nothing
+returns-in_err-body-clause-nothing g c none = absurd (omega (arith, c.if-len-eq0.false, c.len.ensures.len ∙ ap length none))
+
+pub returns-in-Ok-clause-nothing : goal.returns-in-Ok-clause-nothing
+returns-in-Ok-clause-nothing g c none = absurd (omega (arith, c.if-len-eq0.false, c.len.ensures.len ∙ ap length none))
+
+pub returns-clause-nothing : goal.returns-clause-nothing
+returns-clause-nothing g c none = absurd (omega (arith, c.if-len-eq0.false, c.len.ensures.len ∙ ap length none))
+
+pub returns-then-len-eq0-clause-set : goal.returns-then-len-eq0-clause-set
+returns-then-len-eq0-clause-set g c =
+    rw (← c.self.view_is) (keeps_whole _ _ _ _ refl c.if-self.false c.if-self.false (Ok (tt {0})) (λ e. cc e) (λ e. cc e))
+
+pub returns-in_err-entries_of-clause-set : goal.returns-in_err-entries_of-clause-set
+returns-in_err-entries_of-clause-set g c =
+    let p = err_from_is_err_and c.from_residual.result c.from_residual.ensures.1 in
+    rw (← c.self.view_is) (keeps_whole _ _ _ _ refl c.if-self.false c.if-self.false c.from_residual.result (λ e. cc (e, p.1, p.2)) (λ e. cc (e, p.1, p.2)))
+
+pub returns-in_err-body-clause-set : goal.returns-in_err-body-clause-set
+returns-in_err-body-clause-set g c =
+    let p = err_from_is_err_and c.from_residual-in_err-body.result c.from_residual-in_err-body.ensures.1 in
+    rw (← c.self.view_is) (keeps_whole _ _ _ _ refl c.if-self.false c.if-self.false c.from_residual-in_err-body.result (λ e. cc (e, p.1, p.2)) (λ e. cc (e, p.1, p.2)))
+
+pub returns-in-Ok-clause-set : goal.returns-in-Ok-clause-set
+returns-in-Ok-clause-set g c =
+    rw (← c.self.view_is) (keeps_whole _ _ _ _ refl c.if-self.false c.if-self.false (Ok (tt {0})) (λ e. cc e) (λ e. cc e))
+
+pub returns-clause-set : goal.returns-clause-set
+returns-clause-set g c = rw (← c.self.view_is) (keeps_broken _ _ _ _ refl c.if-self.false refl)
+
+pub returns-in-Ok-clause-accounts : goal.returns-in-Ok-clause-accounts
+returns-in-Ok-clause-accounts g c = rw (← c.self.view_is) (accounts_answered (accounts_ok c.in-Ok.ensures.accounts))

@@ -1,0 +1,52 @@
+-- The accounts of a fuse, of those of its disk.
+use Rattle.std.proofs.Common.{◌≡◌, ℕ, ◌+◌, ◌-◌, ◌^◌, min, true≢false, sym, ap, ◌∙◌, subst, inl, inr, ⊎_elim, arith}
+use Rattle.std.specs.Prelude.{Result, Ok, Err, IsErr}
+use Rattle.std.proofs.lemmas.Bool.{cases_lt}
+use Rattle.org_disk.specs.Accounts.{AccountsOfCall}
+use Rattle.org_disk.specs.Disk.{IsCounted}
+use Rattle.org_disk.specs.Fuse.{fuse_failures}
+use Rattle.org_disk.specs.declared.disk.DiskFault.{DiskFault}
+use Rattle.org_disk.specs.declared.fuse.Fuse.{Fuse}
+
+-- a count that is cut off at its greatest value
+counted_most : (a b : ℕ) → IsCounted a b → IsCounted (min a (2 ^ 64 - 1)) (min b (2 ^ 64 - 1))
+counted_most a b (inl more) =
+    ⊎_elim {C = IsCounted (min a (2 ^ 64 - 1)) (min b (2 ^ 64 - 1))} (λ below. inl (omega (arith, more, below))) (λ past. inr (omega (arith, past), omega (arith, more, past))) (cases_lt a (2 ^ 64 - 1))
+counted_most a b (inr full) = inr (omega (arith, full.0), omega (arith, full.1))
+
+-- one failure more, of the fuse's own or of its disk
+counted_own : (own own' disk disk' : ℕ) → IsCounted own own' → disk' ≡ disk → IsCounted (fuse_failures own disk) (fuse_failures own' disk')
+counted_own own own' disk disk' (inl more) same = counted_most (own + disk) (own' + disk') (inl (omega (arith, more, same)))
+counted_own own own' disk disk' (inr full) same = counted_most (own + disk) (own' + disk') (inr (omega (arith, full.0), omega (arith, full.1, same)))
+
+counted_disk : (own own' disk disk' : ℕ) → own' ≡ own → IsCounted disk disk' → IsCounted (fuse_failures own disk) (fuse_failures own' disk')
+counted_disk own own' disk disk' same (inl more) = counted_most (own + disk) (own' + disk') (inl (omega (arith, more, same)))
+counted_disk own own' disk disk' same (inr full) = counted_most (own + disk) (own' + disk') (inr (omega (arith, full.0), omega (arith, full.1, same)))
+
+-- a call that the fuse failed
+pub accounts_blown : {D A : Type 0} {steady : Type 0} (honest : D → Type 0) (failures : D → ℕ) (old new : Fuse D) (result : Result A DiskFault) → IsErr result → new.disk ≡ old.disk → IsCounted old.failures new.failures
+    → AccountsOfCall steady (λ (fuse : Fuse D). honest fuse.disk) (λ (fuse : Fuse D). fuse_failures fuse.failures (failures fuse.disk)) old new result
+accounts_blown honest failures old new (Ok x) failed same counted = absurd (true≢false (sym failed))
+accounts_blown honest failures old new (Err fault) failed same counted = record {
+  was_honest = λ h. subst honest same h;
+  stays_honest = λ steady h. subst honest (sym same) h;
+  kept = tt;
+  counted = counted_own old.failures new.failures (failures old.disk) (failures new.disk) counted (ap failures same);
+}
+
+-- a call that was passed on
+pub accounts_passed : {D A : Type 0} {steady : Type 0} {honest : D → Type 0} {failures : D → ℕ} (old mid new : Fuse D) (result : Result A DiskFault) → mid.disk ≡ old.disk → mid.failures ≡ old.failures → new.failures ≡ mid.failures
+    → AccountsOfCall steady honest failures mid.disk new.disk result
+    → AccountsOfCall steady (λ (fuse : Fuse D). honest fuse.disk) (λ (fuse : Fuse D). fuse_failures fuse.failures (failures fuse.disk)) old new result
+accounts_passed {honest = honest} {failures = failures} old mid new (Ok x) same kept own call = record {
+  was_honest = λ h. subst honest same (call.was_honest h);
+  stays_honest = λ steady h. call.stays_honest steady (subst honest (sym same) h);
+  kept = λ j. fuse_failures ((own ∙ kept) j) ((call.kept ∙ ap failures same) j);
+  counted = tt;
+}
+accounts_passed {honest = honest} {failures = failures} old mid new (Err fault) same kept own call = record {
+  was_honest = λ h. subst honest same (call.was_honest h);
+  stays_honest = λ steady h. call.stays_honest steady (subst honest (sym same) h);
+  kept = tt;
+  counted = counted_disk old.failures new.failures (failures old.disk) (failures new.disk) (own ∙ kept) (subst (λ d. IsCounted (failures d) (failures new.disk)) same call.counted);
+}

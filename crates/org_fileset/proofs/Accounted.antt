@@ -1,0 +1,35 @@
+-- The accounts of a call of a set, of those of the calls that it made.
+use Rattle.std.proofs.Common.{◌≡◌, ℕ, refl, ◌∙◌, ap}
+use Rattle.std.specs.Prelude.{Result, Err, IsErrOf, IsErrAnd}
+use Rattle.std.proofs.lemmas.Result.{err_from_is_err_and}
+use Rattle.org_disk.specs.Accounts.{Accounts}
+use Rattle.org_disk.proofs.Accounting.{accounts_fine}
+use Rattle.org_journal.proofs.Accounted.{accounts_quiet}
+use Rattle.org_journal.specs.declared.fault.FindFault.{FindFault}
+use Rattle.org_journal.specs.declared.fault.FindFault.TheVariants as find
+use Rattle.org_fileset.specs.Opening.{fault_of}
+use Rattle.org_fileset.specs.declared.open.OpenFault.{OpenFault}
+use Rattle.org_fileset.specs.declared.open.OpenFault.TheVariants.{Device}
+
+-- a fault that no call of the disk made, which a `?` told
+pub accounts_other : {D : Type 0} {U E : Type 0} {e fault : E} {answer : Result U E} {steady : Type 0} {honest : D → Type 0} {failures : D → ℕ} {old new : D}
+    → IsErrAnd answer (λ y. y ≡ e) → (e ≡ fault → ⊥) → Accounts steady honest failures old new ⊥ → Accounts steady honest failures old new (IsErrOf answer fault)
+accounts_other {answer = answer} is apart call =
+    let p = err_from_is_err_and answer is in
+    accounts_quiet (λ f. apart (cc (f, p.1, p.2))) call
+
+-- the fault of a search for the journal, as an opening tells it
+pub accounts_opened : {D : Type 0} {T U : Type 0} {answer : Result U OpenFault} {steady : Type 0} {honest : D → Type 0} {failures : D → ℕ} {old new : D} (found : FindFault)
+    → IsErrAnd answer (λ y. y ≡ fault_of found) → Accounts steady honest failures old new (IsErrOf {T = T} (Err found) find.Device)
+    → Accounts steady honest failures old new (IsErrOf answer Device)
+accounts_opened find.BadJournal is call = accounts_other is (λ e. cc e) (accounts_fine (λ f. cc f) call)
+accounts_opened find.OutOfMemory is call = accounts_other is (λ e. cc e) (accounts_fine (λ f. cc f) call)
+accounts_opened {answer = answer} find.Device is call =
+    let p = err_from_is_err_and answer is in
+    record {
+      was_honest = call.was_honest;
+      stays_honest = call.stays_honest;
+      no_less = call.no_less;
+      risen = λ failed. call.risen refl;
+      equal = λ fine. absurd (fine (p.1 ∙ ap (λ e. Err e) p.2));
+    }

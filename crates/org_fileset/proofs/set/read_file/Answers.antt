@@ -1,0 +1,28 @@
+use Rattle.org_disk.proofs.Accounting.{accounts_then, accounts_call, accounts_call_ok, looks_then}
+use Rattle.org_journal.proofs.Accounted.{accounts_answered, accounts_told}
+use Rattle.org_fileset.proofs.Accounted.{accounts_other}
+use Rattle.org_fileset.proofs.set.read_file.Goals as goal
+
+pub returns-in_err-read_at-clause-looks : goal.returns-in_err-read_at-clause-looks
+returns-in_err-read_at-clause-looks g c ended =
+    looks_then (c.length.ensures.looks (c.read_at.ensures.accounts.was_honest ended)) (c.read_at.ensures.looks ended)
+
+pub returns-clause-looks : goal.returns-clause-looks
+returns-clause-looks g c ended =
+    looks_then (c.length.ensures.looks (c.read_at.ensures.accounts.was_honest ended)) (c.read_at.ensures.looks ended)
+
+pub returns-in_err-length-clause-accounts : goal.returns-in_err-length-clause-accounts
+returns-in_err-length-clause-accounts g c =
+    accounts_told c.from_residual.ensures.1 (accounts_call _ c.in_err-length.ensures.accounts)
+
+pub returns-in_err-bytes-clause-accounts : goal.returns-in_err-bytes-clause-accounts
+returns-in_err-bytes-clause-accounts g c =
+    accounts_other c.from_residual-in_err-bytes.ensures.1 (λ e. cc e) (accounts_call_ok c.in_ok-length.ensures.accounts)
+
+pub returns-in_err-read_at-clause-accounts : goal.returns-in_err-read_at-clause-accounts
+returns-in_err-read_at-clause-accounts g c =
+    accounts_then (accounts_call_ok c.in_ok-length.ensures.accounts) (accounts_told c.from_residual-in_err-read_at.ensures.1 (accounts_call _ c.in_err-read_at.ensures.accounts))
+
+pub returns-clause-accounts : goal.returns-clause-accounts
+returns-clause-accounts g c =
+    accounts_answered (accounts_then (accounts_call_ok c.in_ok-length.ensures.accounts) (accounts_call_ok c.in_ok-read_at.ensures.accounts))
