@@ -2,9 +2,9 @@
 ghost use Rattle.std.specs.Prelude.{◌≡◌, ◌<◌, IfOk};
 ghost use Rattle.std.specs.Option.{ForSome};
 ghost use Rattle.org_outline.specs.Tree.{Node as NodeOf, node_count, tree};
-ghost use Rattle.org_outline.specs.Paths.{titles_of};
+ghost use Rattle.org_outline.specs.Paths.{find_headed, titles_of};
 ghost use Rattle.org_capture.specs.Entry.{IsEntry};
-ghost use Rattle.org_capture.specs.Capture.{captured, date_base};
+ghost use Rattle.org_capture.specs.Capture.{below_head, captured, date_base};
 ghost use Rattle.org_capture.specs.Answers.{AnswersEdit};
 
 use crate::date_trees::dated_insertion;
@@ -31,6 +31,31 @@ fn date_base(outline: &Outline<'_>, path: &[Vec<u8>]) -> Result<Option<Node>, Pa
     Ok(Some(outline.find(path)?))
 }
 
+/// The edit that puts an entry below the one heading with a title, which is made at level 1 at the
+/// end where there is none.
+fn below_head(
+    alloc: Global,
+    outline: &Outline<'_>,
+    title: &[u8],
+    place: Place,
+    entry: &[u8],
+) -> Result<Edit, CaptureFault>
+    requires { (node : NodeOf) × IsEntry entry.now node }
+    ensures { let states = outline.now.states in
+        let d = tree outline.now.text in
+        (node : NodeOf) → IsEntry entry.now node
+        → AnswersEdit (below_head states title.now place node d
+        (find_headed states d title.now)) outline.now.text result }
+{
+    if let Some(node) = outline.headed(title)? {
+        return insertion(alloc, outline, Some(node), place, entry);
+    }
+    if !can_be_title(alloc, title, outline.states())? {
+        return Err(CaptureFault::NotFound);
+    }
+    Ok(made_head(alloc, outline, title, place, entry)?)
+}
+
 /// The one edit of a text that puts an entry below its target, with the headings that are made for
 /// it: it removes nothing (Org manual, "Template elements"). The entry is one that `entry` answers;
 /// it goes one level below the target, and its descendants move with it.
@@ -52,16 +77,7 @@ pub fn capture(
 {
     match target {
         Target::Top => insertion(alloc, outline, None, place, entry),
-        Target::Head(title) => {
-            let title = title.as_slice();
-            if let Some(node) = outline.headed(title)? {
-                return insertion(alloc, outline, Some(node), place, entry);
-            }
-            if !can_be_title(alloc, title, outline.states())? {
-                return Err(CaptureFault::NotFound);
-            }
-            Ok(made_head(alloc, outline, title, place, entry)?)
-        }
+        Target::Head(title) => below_head(alloc, outline, title.as_slice(), place, entry),
         Target::Path(path) => {
             let node = outline.find(path.as_slice())?;
             insertion(alloc, outline, Some(node), place, entry)

@@ -11,7 +11,7 @@ use std::alloc::Global;
 
 /// How many bytes a text has, and how many of them stand behind its last newline; 2^64 - 1 where there
 /// are more.
-#[derive(Clone, Copy, Debug, PartialEq, Eq)]
+#[derive(Clone, Copy)]
 pub(crate) struct Sizes {
     whole: usize,
     line: usize,

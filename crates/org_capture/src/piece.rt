@@ -3,7 +3,7 @@ ghost use Rattle.std.specs.Prelude.{◌≡◌, ◌∷◌, ◌<◌, [], length, M
 ghost use Rattle.org_capture.specs.Template.{escape_of, pieces_of};
 
 /// A byte or an escape of a template.
-#[derive(Clone, Copy, Debug, PartialEq, Eq)]
+#[derive(Clone, Copy)]
 pub(crate) enum Piece {
     /// A byte that stands for itself.
     Byte(u8),

@@ -3,7 +3,7 @@ use org_outline::Titles;
 use org_splice::Bytes;
 
 /// What a new entry goes below (Org manual, "Template elements": target).
-#[derive(Debug, PartialEq, Eq, Drop)]
+#[derive(Drop)]
 pub enum Target {
     /// Nothing: it is at top level.
     Top,

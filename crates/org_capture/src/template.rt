@@ -7,7 +7,7 @@ ghost use Rattle.org_capture.specs.Answers.{Adds, AnswersBytes};
 
 use crate::fault::CaptureFault;
 use crate::piece::{Piece, first_piece};
-use memchr::memchr;
+use memchr::{memchr, memrchr};
 use org_stamp::{Moment, Stamp};
 use std::alloc::{AllocError, Global};
 
@@ -16,7 +16,10 @@ pub(crate) fn last_line_len(text: &[u8]) -> usize
     ensures count { result ≡ suffix_len (λ b. not (b == 10)) text.now }
     ensures within { result ≤ length text.now }
 {
-    text.iter().rev().take_while(|byte| **byte != b'\n').count()
+    match memrchr(b'\n', text) {
+        Some(last) => text.len() - last - 1,
+        None => text.len(),
+    }
 }
 
 /// What stands behind the last newline.

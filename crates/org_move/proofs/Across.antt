@@ -1,5 +1,5 @@
 -- The edits of an archived subtree make the documents that are defined.
-use Rattle.std.proofs.Common.{◌≡◌, ℕ, ◌<◌, List, [], ◌∷◌, Option, Some, None, Ok, refl, sym, ap, subst, ◌∙◌, arith}
+use Rattle.std.proofs.Common.{◌≡◌, ℕ, ◌<◌, List, [], ◌∷◌, Option, Ok, refl, sym, subst, ◌∙◌, arith}
 use Rattle.std.specs.Prelude.{Result}
 use Rattle.org_splice.specs.Edits.{AreEdits}
 use Rattle.org_splice.specs.Lines.{terminated}

@@ -1,12 +1,12 @@
 -- The properties that the code lists are those of the definition.
-use Rattle.std.proofs.Common.{◌≡◌, ℕ, List, [], ◌∷◌, ◌++◌, Option, Some, None, append_assoc, refl, sym, ap, subst, ◌∙◌, ◌<◌, codes}
+use Rattle.std.proofs.Common.{◌≡◌, ℕ, List, [], ◌∷◌, ◌++◌, Option, Some, None, refl, sym, ap, subst, ◌∙◌, ◌<◌, codes}
 use Rattle.std.specs.Borrow.{Bor}
 use Rattle.std.specs.List.{AllByRecursion, join_with_byte}
 use Rattle.std.specs.Option.{option_map, unwrap_or}
 use Rattle.std.proofs.lemmas.List.{append-nil}
 use Rattle.std.specs.Prelude.{slice_range}
 use Rattle.org_disk.specs.Names.{IsDiskName}
-use Rattle.org_splice.specs.Lines.{terminated, lines_of}
+use Rattle.org_splice.specs.Lines.{lines_of}
 use Rattle.org_splice.specs.declared.Span.{Span}
 use Rattle.org_stamp.specs.Calendar.{CivilMinute}
 use Rattle.org_outline.specs.States.{Keywords}
@@ -20,7 +20,7 @@ use Rattle.org_move.specs.Archive.{archive_properties, archived_section, categor
 use Rattle.org_move.specs.Given.{IsGood, with_given}
 use Rattle.org_move.specs.Inherited.{inherited_tags, nearest, nonempty, titles_above}
 use Rattle.org_move.proofs.Values.{IsPut, all_put, name_line}
-use Rattle.org_move.proofs.Own.{section_terminated, section_parts}
+use Rattle.org_move.proofs.Own.{section_parts}
 
 abbrev pub read : Bor (List ℕ) → List ℕ
 read text = text.now
@@ -75,20 +75,12 @@ section_made states name now t u i s start new ps same lt is start_is ps_is new_
     let old : split_of start ≡ split (node_at (tree t) i).node.section = ap split_of start_is ∙ section_parts t u i s same lt is in
     sym (joined_split (lines_of new)) ∙ ap joined (new_is ∙ ap (put_each ps) old) ∙ ap (λ qs. joined (put_each qs (split (node_at (tree t) i).node.section))) ps_is
 
-pub start_terminated : (t u : List ℕ) (i : ℕ) (s : Span) (start : List ℕ) → u ≡ t → IsSection t (node_at (tree t) i) s → start ≡ slice_range u s.start s.end → terminated start ≡ start
-start_terminated t u i s start same is start_is = ap terminated start_is ∙ section_terminated t u i s same is ∙ sym start_is
-
 pub all_good : (states : Keywords) (name : List ℕ) (now : CivilMinute) (t : List ℕ) (i : ℕ) (ps : List NodeProperty) → IsDiskName name → ps ≡ archive_properties states name now (tree t) i → AllByRecursion IsGood ps
 all_good states name now t i ps valid is =
     subst (AllByRecursion IsGood) (sym is) (good_of (archive_properties states name now (tree t) i) (all_put states name now (tree t) i (name_line name valid) (tree-is t).valid))
 
--- the category, where there is a property of that name, and where there is none
-pub category_found : (file : List ℕ) (d : Document) (i : ℕ) (o : Option (Bor (List ℕ))) (value : Bor (List ℕ)) → option_map read o ≡ nearest (codes "CATEGORY") d i → o ≡ Some value
-    → value.now ≡ category_of file d i
-category_found file d i o value is some =
-    ap (λ o. unwrap_or o (without_org file)) (sym (ap (option_map read) some) ∙ is)
-
-pub category_none : (file : List ℕ) (d : Document) (i : ℕ) (o : Option (Bor (List ℕ))) (value : List ℕ) → option_map read o ≡ nearest (codes "CATEGORY") d i → o ≡ None
-    → value ≡ without_org file → value ≡ category_of file d i
-category_none file d i o value is none value_is =
-    value_is ∙ ap (λ o. unwrap_or o (without_org file)) (sym (ap (option_map read) none) ∙ is)
+-- the category
+pub category_is : (file : List ℕ) (d : Document) (i : ℕ) (o : Option (Bor (List ℕ))) (name value : Bor (List ℕ)) → option_map read o ≡ nearest (codes "CATEGORY") d i → name.now ≡ without_org file
+    → value ≡ unwrap_or o name → value.now ≡ category_of file d i
+category_is file d i None name value is name_is value_is = ap read value_is ∙ name_is ∙ ap (λ o. unwrap_or o (without_org file)) is
+category_is file d i (Some text) name value is name_is value_is = ap read value_is ∙ ap (λ o. unwrap_or o (without_org file)) is

@@ -106,17 +106,15 @@ lists-one (y ∷ xs) x = ap (λ (zs : List (List ℕ)). tag_list y ++ zs) (lists
 pub tags_start : (found : List (Bor (List ℕ))) → map read found ≡ with_first (map read found) []
 tags_start found = sym (append-nil (map read found))
 
-pub tags_more : (first old new pieces : List (Bor (List ℕ))) (k : ℕ) (d : Bor (List ℕ)) → map read old ≡ with_first (map read first) (nonempty_only (firsts pieces k)) → k < length pieces
-    → map read new ≡ with_first (map read old) (nonempty_only ((get_or pieces k d).now ∷ [])) → map read new ≡ with_first (map read first) (nonempty_only (firsts pieces (k + 1)))
-tags_more first old new pieces k d w lt new_is =
-    let tag : List ℕ = (get_or pieces k d).now in
-    first_more (map read first) (nonempty_only (firsts pieces k)) (nonempty_only (tag ∷ [])) (map read old) (map read new) w new_is
-    ∙ ap (with_first (map read first)) (sym (filter-one (firsts pieces k) tag) ∙ ap nonempty_only (sym (one_more pieces k d lt)))
+pub tags_more : (first old new seen : List (Bor (List ℕ))) (tag : Bor (List ℕ)) → map read old ≡ with_first (map read first) (nonempty_only (map read seen))
+    → map read new ≡ with_first (map read old) (nonempty_only (tag.now ∷ [])) → map read new ≡ with_first (map read first) (nonempty_only (map read (seen ++ tag ∷ [])))
+tags_more first old new seen tag w new_is =
+    first_more (map read first) (nonempty_only (map read seen)) (nonempty_only (tag.now ∷ [])) (map read old) (map read new) w new_is
+    ∙ ap (with_first (map read first)) (sym (filter-one (map read seen) tag.now) ∙ ap nonempty_only (sym (map-append read seen (tag ∷ []))))
 
-pub tags_end : (first old pieces items : List (Bor (List ℕ))) (k : ℕ) (tags : List ℕ) → map read old ≡ with_first (map read first) (nonempty_only (firsts items k)) → length items ≤ k → items ≡ pieces
-    → map read pieces ≡ slice_split is_colon tags → map read old ≡ with_first (map read first) (tag_list tags)
-tags_end first old pieces items k tags w le same is =
-    w ∙ ap (λ ts. with_first (map read first) (nonempty_only ts)) (ap (map read) (take_all k items le ∙ same) ∙ is)
+pub tags_end : (first old seen : List (Bor (List ℕ))) (tags : List ℕ) → map read old ≡ with_first (map read first) (nonempty_only (map read seen))
+    → map read seen ≡ slice_split is_colon tags → map read old ≡ with_first (map read first) (tag_list tags)
+tags_end first old seen tags w is = w ∙ ap (λ ts. with_first (map read first) (nonempty_only ts)) is
 
 -- and of all headings
 pub lists_more : (old new all : List (Bor (List ℕ))) (k : ℕ) (d : Bor (List ℕ)) → map read old ≡ first_ones [] (flat_map tag_list (firsts all k)) → k < length all

@@ -60,12 +60,3 @@ put_together text old again first bytes second new e same same_again first_is by
     let both : second ≡ take e.at text ++ e.bytes =
     second_is ∙ ap (λ (t : List ℕ). t ++ bytes) (first_is ∙ ap (take e.at) same) ∙ ap (λ (t : List ℕ). take e.at text ++ t) bytes_is in
     new_is ∙ ap (λ (t : List ℕ). t ++ slice_range again (e.at + e.removed) (length again)) both ∙ ap (λ (t : List ℕ). (take e.at text ++ e.bytes) ++ t) back
-
--- the same, of a section that is called twice
-pub put_parts : (name value section text new : List ℕ) (e : Edit) → text ≡ section → is_property_name name ≡ true → IsLine (property_line name value) → GivesParts e text (put name value (parts_of text))
-    → new ≡ applied e section → parts_of new ≡ put name value (parts_of section)
-put_parts name value section text new e same good line gives is =
-    put_split name value text new e good line gives (is ∙ ap (applied e) (sym same)) ∙ ap (λ t. put name value (parts_of t)) same
-
-pub put_shut : (name value section text new : List ℕ) (e : Edit) → text ≡ section → GivesParts e text (put name value (parts_of text)) → new ≡ applied e section → terminated new ≡ new
-put_shut name value section text new e same gives is = put_terminated name value text new e gives (is ∙ ap (applied e) (sym same))

@@ -1,6 +1,6 @@
 -- The values of an archived entry's properties hold no newline, nor does the title of its place, and its section is one still.
 use Rattle.std.proofs.Common.{◌≡◌, ℕ, zero, suc, ◌+◌, ◌-◌, ◌/◌, ◌<◌, Bool, true, false, eqb, not, ◌&&◌, List, [], ◌∷◌, ◌++◌, length, take, drop, map, get_or, refl, sym, ap, subst, ◌∙◌, arith, inl, inr, Option, None, Some, Ok, Err}
-use Rattle.std.specs.Prelude.{◌≢◌, codes, if◌then◌else◌, IsTrue, ◌==◌, filter, is_some, Result}
+use Rattle.std.specs.Prelude.{◌≢◌, codes, if◌then◌else◌, ◌==◌, is_some, Result}
 use Rattle.std.specs.List.{AllByRecursion, find, flat_map, join_with_byte, list_all, list_any, onto_first, slice_split}
 use Rattle.std.specs.Option.{IfSome, option_and_then, option_map, option_or, unwrap_or}
 use Rattle.std.specs.Str.{bytes_eq, is_utf8}
@@ -9,7 +9,7 @@ use Rattle.std.proofs.lemmas.Bool.{cases_Bool, false≢true}
 use Rattle.std.proofs.lemmas.List.{take-append-drop}
 use Rattle.std.proofs.lemmas.Slice.Eq.{bytes_eq-Decides}
 use Rattle.org_disk.specs.Names.{IsDiskName, archive_suffix, base_name, is_archive_name, is_file_name, is_name_byte, is_org_name, journal_name}
-use Rattle.org_splice.specs.Blanks.{is_blank, is_solid, is_trailing, behind, end_of, front, trimmed}
+use Rattle.org_splice.specs.Blanks.{is_blank, is_solid, behind, end_of, front, trimmed}
 use Rattle.org_splice.specs.Lines.{IsLine, lines_of}
 use Rattle.org_splice.proofs.Ends.{both}
 use Rattle.org_splice.proofs.Lines.{lines_of-lines}
@@ -20,18 +20,18 @@ use Rattle.org_outline.specs.Text.{level_of}
 use Rattle.org_outline.specs.Tree.{Document, IsPlain, IsValid, Placed, no_node, node_at, nodes, tree}
 use Rattle.org_outline.specs.Moves.{IsNode}
 use Rattle.org_outline.specs.Numbers.{ancestors_of}
-use Rattle.org_outline.specs.Parts.{after_keyword, after_priority, are_tags, content_of, keyword_of, parts_of, priority_of, tags_of}
+use Rattle.org_outline.specs.Parts.{after_keyword, after_priority, are_tags, content_of, parts_of}
 use Rattle.org_outline.specs.Paths.{find_path, title_of}
 use Rattle.org_outline.proofs.Sections.{nodes-valid}
 use Rattle.org_outline.proofs.Trees.{tree-is}
-use Rattle.org_meta.specs.Sections.{NodeProperty, SectionParts, drawer_size, is_end, is_name_run, is_property_name, joined, planning_size, property, property_line, property_of, put, split, value_before_end, value_if_named, value_named}
+use Rattle.org_meta.specs.Sections.{NodeProperty, drawer_size, is_end, is_name_run, is_property_name, joined, planning_size, property, property_line, property_of, put, split, value_before_end, value_if_named, value_named}
 use Rattle.org_meta.proofs.AllLines.{AllByRecursion-append, AllByRecursion-take, AllByRecursion-drop}
 use Rattle.org_meta.proofs.Keeping.{keeps_put}
 use Rattle.org_meta.proofs.Reading.{line_said}
 use Rattle.org_meta.proofs.Resplit.{split_put}
 use Rattle.org_move.specs.declared.fault.MoveFault.{MoveFault}
 use Rattle.org_move.specs.declared.fault.MoveFault.TheVariants.{AlreadyArchive, NoSuchFile}
-use Rattle.org_move.specs.Archive.{archive_properties, archived_section, category_of, named, put_each, time_text, unless_none, without_org}
+use Rattle.org_move.specs.Archive.{archive_properties, category_of, named, put_each, time_text, unless_none, without_org}
 use Rattle.org_move.specs.Inherited.{first_ones, inherited_tags, is_colon, last_value, nearest, nonempty, nonempty_only, own_value, tag_list, tags_above, titles_above}
 use Rattle.org_move.specs.Location.{Destination, Halves, Heading, and_file, file_named, halves_of, heading_of, is_archive_line, is_title_alone, location, location_of, titled_line, value_behind, value_for, value_of_lines, with_byte}
 use Rattle.org_move.proofs.Moving.{found_of}

@@ -1,5 +1,5 @@
 -- The edits of a subtree archived in its own text make the document that is defined.
-use Rattle.std.proofs.Common.{◌≡◌, ℕ, ◌<◌, List, [], ◌∷◌, Option, Some, None, Ok, Err, rules, refl, sym, ap, subst, ◌∙◌}
+use Rattle.std.proofs.Common.{◌≡◌, ℕ, ◌<◌, List, [], ◌∷◌, Option, Ok, Err, rules, refl, sym, ap, subst, ◌∙◌}
 use Rattle.std.specs.Prelude.{Result, IsOk}
 use Rattle.org_splice.specs.Edits.{AreEdits}
 use Rattle.org_splice.specs.Lines.{terminated}

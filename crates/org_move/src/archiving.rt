@@ -14,27 +14,14 @@ ghost use Rattle.org_move.specs.Location.{Destination};
 use crate::MoveFault;
 use crate::destination::Location;
 use crate::place::apart;
-use crate::refile::without;
-use crate::subtree::{archived_subtree, filled};
+use crate::refile::{level_of, without};
+use crate::subtree::archived_lines;
 use crate::target::target_heading;
 use org_disk::FileName;
 use org_outline::{Node, Outline, Place};
 use org_splice::{Bytes, Edit};
 use org_stamp::Moment;
 use std::alloc::Global;
-
-/// The level of a heading.
-fn level_of(outline: &Outline<'_>, node: Node) -> usize
-    requires { node < node_count (tree outline.now.text) }
-    ensures value { result ≡ (node_at (tree outline.now.text) node).node.level }
-    ensures terminated { terminated outline.now.text ≡ outline.now.text }
-    ensures room { result + 1 < 2 ^ 63 }
-{
-    let end = outline.text().len();
-    let level = outline.level(node);
-    prove!(level < end);
-    level
-}
 
 /// The byte at which a subtree goes in last below a heading, and the level of that heading; with none, the end of the
 /// text.
@@ -127,8 +114,7 @@ pub fn archive(
     let node = source.find(path)?;
     let up = target_heading(target, to)?;
     let (at, above) = last_below(target, up);
-    let subtree = archived_subtree(alloc, source, node, name, now)?;
-    let lines = filled(alloc, &subtree, to, above)?;
+    let lines = archived_lines(alloc, source, node, name, now, to, above)?;
     let goes_in = insertion(at, lines);
     Ok((without(alloc, source, node), goes_in))
 }
@@ -158,8 +144,7 @@ pub fn archive_within(
     let node = outline.find(path)?;
     let up = apart(outline, node, target_heading(outline, to)?)?;
     let (at, above) = last_below_without(outline, node, up);
-    let subtree = archived_subtree(alloc, outline, node, name, now)?;
-    let lines = filled(alloc, &subtree, to, above)?;
+    let lines = archived_lines(alloc, outline, node, name, now, to, above)?;
     let goes_in = insertion(at, lines);
     Ok([without(alloc, outline, node), goes_in])
 }

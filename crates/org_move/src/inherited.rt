@@ -1,9 +1,9 @@
 //! What an entry has of the headings above it.
 ghost use Rattle.std.specs.Prelude.{◌≡◌, ◌<◌, [], ◌∷◌, IfOk, OnOk, map};
 ghost use Rattle.std.specs.Option.{option_map};
-ghost use Rattle.std.specs.List.{flat_map, join_with_byte, slice_split};
+ghost use Rattle.std.specs.List.{flat_map, join_with_byte};
 ghost use Rattle.org_outline.specs.Tree.{node_count, tree};
-ghost use Rattle.org_move.specs.Inherited.{first_ones, is_colon, nearest, own_value, nonempty, nonempty_only, tag_list, with_first, tags_above, titles_above};
+ghost use Rattle.org_move.specs.Inherited.{first_ones, nearest, own_value, nonempty, nonempty_only, tag_list, with_first, tags_above, titles_above};
 
 use org_meta::property;
 use org_outline::{Node, Outline};
@@ -90,14 +90,6 @@ pub(crate) fn joined(alloc: Global, texts: &[&[u8]], byte: u8) -> Result<Vec<u8>
     Ok(made)
 }
 
-/// What stands between the colons of `:a:b:`, and before and behind them.
-fn between_colons<'a>(alloc: Global, tags: &'a [u8]) -> Result<Vec<&'a [u8]>, AllocError>
-    ensures { IfOk result
-        (λ pieces. map (λ piece. piece.now) pieces.items ≡ slice_split is_colon tags.now) }
-{
-    tags.split(|byte| *byte == b':').collect(alloc)
-}
-
 /// Puts the tag at the end, unless it is empty or is there.
 fn push_tag<'a>(found: &mut Vec<&'a [u8]>, tag: &'a [u8]) -> Result<(), AllocError>
     ensures { OnOk result (map (λ tag. tag.now) found.new.items
@@ -115,8 +107,7 @@ fn push_tags<'a>(found: &mut Vec<&'a [u8]>, tags: &'a [u8]) -> Result<(), AllocE
     ensures { OnOk result (map (λ tag. tag.now) found.new.items
         ≡ with_first (map (λ tag. tag.now) found.old.items) (tag_list tags.now)) }
 {
-    let pieces = between_colons(*found.allocator(), tags)?;
-    for tag in &pieces {
+    for tag in tags.split(|byte| *byte == b':') {
         push_tag(found, tag)?;
     }
     Ok(())

@@ -4,10 +4,11 @@ ghost use Rattle.std.specs.List.{find};
 ghost use Rattle.std.specs.Option.{option_map};
 ghost use Rattle.std.specs.Str.{is_utf8};
 ghost use Rattle.org_splice.specs.Lines.{terminated, lines_of};
+ghost use Rattle.org_outline.specs.Parts.{AreParts, Parts};
 ghost use Rattle.org_outline.specs.Paths.{titles_of};
 ghost use Rattle.org_outline.specs.Tree.{node_count, tree};
 ghost use Rattle.org_move.specs.Answers.{GivesName, GivesPlace};
-ghost use Rattle.org_move.specs.Location.{location, file_named, halves_made, halves_of, heading_made, heading_of, is_archive_line, value_for, value_of_lines, with_name};
+ghost use Rattle.org_move.specs.Location.{location, file_named, halves_made, halves_of, heading_made, heading_of, is_archive_line, is_title_alone, value_for, value_of_lines, with_file, with_name};
 ghost use Rattle.org_splice.specs.Blanks.{is_blank, behind};
 
 use crate::MoveFault;
@@ -81,6 +82,16 @@ fn halves(value: &[u8]) -> Option<(&[u8], &[u8])>
     None
 }
 
+/// Whether a heading line of these parts has a title, and nothing else.
+fn is_title_alone(parts: &HeadParts<'_>) -> bool
+    ensures { (said : Parts) → AreParts parts.now said → result ≡ is_title_alone said }
+{
+    parts.keyword.is_empty()
+        && parts.priority.is_empty()
+        && parts.tags.is_empty()
+        && !parts.title.is_empty()
+}
+
 /// The level and the title of the heading that the line is, where it is a title alone; level 0 of no line.
 fn heading<'a>(states: &States, line: &'a [u8]) -> Option<(usize, &'a [u8])>
     ensures value { option_map heading_made result ≡ heading_of states.now line.now }
@@ -91,11 +102,7 @@ fn heading<'a>(states: &States, line: &'a [u8]) -> Option<(usize, &'a [u8])>
     }
     let level = heading_level(line)?;
     let parts = HeadParts::of(states, line.split_at(level).1);
-    if parts.keyword.is_empty()
-        && parts.priority.is_empty()
-        && parts.tags.is_empty()
-        && !parts.title.is_empty()
-    {
+    if is_title_alone(&parts) {
         Some((level, parts.title))
     } else {
         None
@@ -155,6 +162,28 @@ fn file_name(alloc: Global, bytes: &[u8]) -> Result<FileName, MoveFault>
     }
 }
 
+/// The place below this heading, in the file that the text says.
+fn place(
+    alloc: Global,
+    name: &FileName,
+    file: &[u8],
+    level: usize,
+    title: &[u8],
+) -> Result<Location, MoveFault>
+    requires { level + 1 < 2 ^ 63 }
+    ensures { let file = file_named name.now file.now in
+        GivesPlace (with_file (record { file = file; level = level; title = title.now })) result }
+{
+    let file = file_text(alloc, name.as_str().as_bytes(), file)?;
+    let file = file_name(alloc, &file)?;
+    let title = Vec::from_slice(alloc, title)?;
+    Ok(Location {
+        file,
+        level,
+        title: Bytes::new(title),
+    })
+}
+
 /// Where the subtree at `path` of the file of this name goes when it is archived (Org manual, "Moving a tree to an archive
 /// file"): the nearest nonempty property ARCHIVE of it or a heading above it says so; else the text's first line that
 /// begins with `#+ARCHIVE:`, if it says something; else it is the top level of the file's archive file.
@@ -178,12 +207,5 @@ pub fn location(
     }
     let (file, line) = halves(value_for(outline, node)).ok_or(MoveFault::BadLocation)?;
     let (level, title) = heading(outline.states(), line).ok_or(MoveFault::BadLocation)?;
-    let file = file_text(alloc, name.as_str().as_bytes(), file)?;
-    let file = file_name(alloc, &file)?;
-    let title = Vec::from_slice(alloc, title)?;
-    Ok(Location {
-        file,
-        level,
-        title: Bytes::new(title),
-    })
+    place(alloc, name, file, level, title)
 }

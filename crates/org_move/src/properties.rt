@@ -1,5 +1,5 @@
 //! The properties of an archived entry.
-ghost use Rattle.std.specs.Prelude.{◌≡◌, ◌<◌, ℕ, [], true, IfOk, OnOk, map};
+ghost use Rattle.std.specs.Prelude.{◌≡◌, ◌<◌, ◌++◌, ℕ, [], true, IfOk, OnOk, map};
 ghost use Rattle.std.specs.List.{AllByRecursion};
 ghost use Rattle.std.specs.Option.{option_map};
 ghost use Rattle.org_disk.specs.Names.{IsDiskName};
@@ -27,22 +27,39 @@ pub(crate) fn time_text(alloc: Global, now: Moment) -> Result<Vec<u8>, AllocErro
     Vec::from_slice(alloc, &stamp[1..stamp.len() - 1])
 }
 
-/// Puts a property into a section.
-pub(crate) fn put(section: &mut Vec<u8>, name: &[u8], value: &[u8]) -> Result<(), AllocError>
-    requires terminated { terminated section.old.items ≡ section.old.items }
+/// The bytes between two others.
+pub(crate) fn between(
+    alloc: Global,
+    front: &[u8],
+    bytes: &[u8],
+    back: &[u8],
+) -> Result<Vec<u8>, AllocError>
+    ensures { IfOk result (λ whole. whole.items ≡ (front.now ++ bytes.now) ++ back.now) }
+{
+    let mut whole = Vec::from_slice(alloc, front)?;
+    whole.extend_from_slice(bytes)?;
+    whole.extend_from_slice(back)?;
+    Ok(whole)
+}
+
+/// A section with a property put into it.
+fn with_property(
+    alloc: Global,
+    section: &[u8],
+    name: &[u8],
+    value: &[u8],
+) -> Result<Vec<u8>, AllocError>
+    requires terminated { terminated section.now ≡ section.now }
     requires name { is_property_name name.now ≡ true }
     requires line { IsLine (property_line name.now value.now) }
-    ensures parts { OnOk result
-        (parts_of section.new.items ≡ put name.now value.now (parts_of section.old.items)) }
-    ensures terminated { OnOk result (terminated section.new.items ≡ section.new.items) }
+    ensures parts { IfOk result
+        (λ new. parts_of new.items ≡ put name.now value.now (parts_of section.now)) }
+    ensures terminated { IfOk result (λ new. terminated new.items ≡ new.items) }
 {
-    let alloc = *section.allocator();
     let edit = put_property(alloc, section, name, value)?;
-    let mut new = Vec::from_slice(alloc, &section[..edit.at])?;
-    new.extend_from_slice(edit.bytes.as_slice())?;
-    new.extend_from_slice(&section[edit.at + edit.removed..])?;
-    *section = new;
-    Ok(())
+    let front = &section[..edit.at];
+    let back = &section[edit.at + edit.removed..];
+    between(alloc, front, edit.bytes.as_slice(), back)
 }
 
 /// A property that an archived entry gets; without a value it is left out.
@@ -61,24 +78,29 @@ fn put_given(section: &mut Vec<u8>, property: Property<'_>) -> Result<(), AllocE
         (parts_of section.old.items)) }
     ensures terminated { OnOk result (terminated section.new.items ≡ section.new.items) }
 {
-    match property.value {
-        Some(value) => put(section, property.name, value),
-        None => Ok(()),
-    }
-}
-
-/// Puts properties into a section, in their order.
-fn put_each(section: &mut Vec<u8>, properties: &[Property<'_>]) -> Result<(), AllocError>
-    requires terminated { terminated section.old.items ≡ section.old.items }
-    requires good { AllByRecursion IsGood (given properties.now) }
-    ensures parts { OnOk result (parts_of section.new.items
-        ≡ put_each (given properties.now) (parts_of section.old.items)) }
-    ensures terminated { OnOk result (terminated section.new.items ≡ section.new.items) }
-{
-    for property in properties {
-        put_given(section, *property)?;
+    if let Some(value) = property.value {
+        *section = with_property(*section.allocator(), section, property.name, value)?;
     }
     Ok(())
+}
+
+/// A section with properties put into it, in their order.
+fn with_properties(
+    alloc: Global,
+    section: &[u8],
+    properties: &[Property<'_>],
+) -> Result<Vec<u8>, AllocError>
+    requires terminated { terminated section.now ≡ section.now }
+    requires good { AllByRecursion IsGood (given properties.now) }
+    ensures parts { IfOk result (λ new. parts_of new.items
+        ≡ put_each (given properties.now) (parts_of section.now)) }
+    ensures terminated { IfOk result (λ new. terminated new.items ≡ new.items) }
+{
+    let mut new = Vec::from_slice(alloc, section)?;
+    for property in properties {
+        put_given(&mut new, *property)?;
+    }
+    Ok(new)
 }
 
 /// The texts with a byte between each two; nothing where there are none.
@@ -192,16 +214,12 @@ pub(crate) fn archived_section(
 {
     let time = time_text(alloc, now)?;
     let above = inherited(alloc, outline, node)?;
-    let category = match nearest(outline, node, b"CATEGORY") {
-        Some(category) => category,
-        None => without_org(file),
-    };
+    let category = nearest(outline, node, b"CATEGORY").unwrap_or(without_org(file));
     let keyword = outline.parts(node).keyword;
     let span = outline.section(node);
-    let mut section = Vec::from_slice(alloc, &outline.text()[span.start..span.end])?;
-    put_each(
-        &mut section,
+    with_properties(
+        alloc,
+        &outline.text()[span.start..span.end],
         &properties(file, &time, category, keyword, &above),
-    )?;
-    Ok(section)
+    )
 }

@@ -27,6 +27,19 @@ pub(crate) fn without(alloc: Global, outline: &Outline<'_>, node: Node) -> Edit
     }
 }
 
+/// The level of a heading.
+pub(crate) fn level_of(outline: &Outline<'_>, node: Node) -> usize
+    requires { node < node_count (tree outline.now.text) }
+    ensures value { result ≡ (node_at (tree outline.now.text) node).node.level }
+    ensures terminated { terminated outline.now.text ≡ outline.now.text }
+    ensures room { result + 1 < 2 ^ 63 }
+{
+    let end = outline.text().len();
+    let level = outline.level(node);
+    prove!(level < end);
+    level
+}
+
 /// The level of what is put below a heading.
 fn level_below(outline: &Outline<'_>, parent: Node) -> usize
     requires { parent < node_count (tree outline.now.text) }
@@ -35,10 +48,7 @@ fn level_below(outline: &Outline<'_>, parent: Node) -> usize
     ensures low { 1 ≤ result }
     ensures high { result < 2 ^ 63 }
 {
-    let end = outline.text().len();
-    let level = outline.level(parent);
-    prove!(level < end);
-    level + 1
+    level_of(outline, parent) + 1
 }
 
 /// The edit that puts the subtree of a text in at a byte of that text or another one, with its root at a level.

@@ -8,7 +8,7 @@ ghost use Rattle.org_outline.specs.Tree.{node_at, node_count, print_node, tree};
 ghost use Rattle.org_move.specs.Archive.{archived, filled};
 
 use crate::destination::Location;
-use crate::properties::archived_section;
+use crate::properties::{archived_section, between};
 use org_disk::FileName;
 use org_outline::{Node, Outline, shift};
 use org_stamp::Moment;
@@ -31,14 +31,13 @@ fn with_section(
     let subtree = outline.subtree(node);
     let old = outline.section(node);
     let text = outline.text();
-    let mut made = Vec::from_slice(alloc, &text[subtree.start..old.start])?;
-    made.extend_from_slice(section)?;
-    made.extend_from_slice(&text[old.end..subtree.end])?;
-    Ok(made)
+    let front = &text[subtree.start..old.start];
+    let back = &text[old.end..subtree.end];
+    between(alloc, front, section, back)
 }
 
 /// The lines of a subtree whose root has the properties of an archived entry of the file with this name.
-pub(crate) fn archived_subtree(
+fn archived_subtree(
     alloc: Global,
     outline: &Outline<'_>,
     node: Node,
@@ -71,8 +70,8 @@ fn heading_line(alloc: Global, to: &Location) -> Result<Vec<u8>, AllocError>
     Ok(line)
 }
 
-/// What goes in: the subtree, below a heading of a level, or below the heading of the place, which is made.
-pub(crate) fn filled(
+/// What goes in of a subtree: its lines, below a heading of a level, or below the heading of the place, which is made.
+fn filled(
     alloc: Global,
     subtree: &[u8],
     to: &Location,
@@ -93,4 +92,26 @@ pub(crate) fn filled(
     let below = shift(alloc, subtree, to.level() + 1)?;
     made.extend_from_slice(&below)?;
     Ok(made)
+}
+
+/// What goes in of an archived entry of the file with this name: its subtree, whose root has the properties, below a
+/// heading of a level, or below the heading of the place, which is made.
+pub(crate) fn archived_lines(
+    alloc: Global,
+    outline: &Outline<'_>,
+    node: Node,
+    name: &FileName,
+    now: Moment,
+    to: &Location,
+    above: Option<usize>,
+) -> Result<Vec<u8>, AllocError>
+    requires node { node < node_count (tree outline.now.text) }
+    requires high { ForSome above (λ level. level + 1 < 2 ^ 63) }
+    ensures lines { let d = tree outline.now.text in
+        let root = archived outline.now.states name.now now d node in
+        IfOk result (λ made. made.items ≡ print_node (filled to.now above root)) }
+    ensures terminated { IfOk result (λ made. terminated outline.now.text ≡ outline.now.text) }
+{
+    let subtree = archived_subtree(alloc, outline, node, name, now)?;
+    filled(alloc, &subtree, to, above)
 }

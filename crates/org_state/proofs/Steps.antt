@@ -168,7 +168,6 @@ two_made t i e e2 k new r edits shut lt at gives rest is =
     let all : edits ≡ moved (section_start (tree t) i) e ∷ k ∷ [] = is ∙ ap (λ (e : Edit). e ∷ k ∷ []) at in
     (λ none. absurd (let no : e2 ∷ k ∷ [] ≡ [] = sym is ∙ none in cc), subst (λ (es : List Edit). AreEdits es t (print (with_own_lines i r new (tree t)))) (sym all) made)
 
--- edits that were pushed, one after another
 -- ---- a repeated section
 
 -- a note, a property and a planning line put into a section, each edit made for the section as it was

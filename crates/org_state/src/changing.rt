@@ -1,5 +1,5 @@
 //! A heading put into another state.
-ghost use Rattle.std.specs.Prelude.{◌≡◌, ◌<◌, ◌≤◌, ◌+◌, ℕ, List, length, codes, Some, Ok, IfOk};
+ghost use Rattle.std.specs.Prelude.{◌≡◌, ◌<◌, ◌≤◌, ◌+◌, [], ◌∷◌, ℕ, List, length, codes, Some, Ok, IfOk};
 ghost use Rattle.org_splice.specs.Lines.{print_lines, terminated};
 ghost use Rattle.org_meta.specs.Edits.{Gives, GivesParts};
 ghost use Rattle.org_meta.specs.Moments.{moment_text};
@@ -9,6 +9,7 @@ ghost use Rattle.org_meta.specs.Sections.{split, parts_of, put};
 ghost use Rattle.org_outline.specs.Tree.{node_at, node_count, tree};
 ghost use Rattle.org_outline.specs.Paths.{titles_of};
 ghost use Rattle.org_state.specs.Answers.{AnswersOwn, AnswersTodo, Makes};
+ghost use Rattle.org_state.specs.Edits.{moved, section_start};
 ghost use Rattle.org_state.specs.Keyword.{with_keyword};
 ghost use Rattle.org_state.specs.Todo.{Own, own_at, with_own_at, with_lines, changed, repeating, TurnsDone, IsChanged};
 
@@ -68,6 +69,37 @@ fn last_repeat(alloc: Global, section: &[u8], now: Moment) -> Result<Edit, Alloc
     put_property(alloc, section, b"LAST_REPEAT", &stamp)
 }
 
+/// The edits of the heading's section, as edits of the text, and that of its keyword: the last first,
+/// so that each stands where it does in the text as it was.
+fn last_first(
+    alloc: Global,
+    outline: &Outline<'_>,
+    node: Node,
+    note: Edit,
+    property: Edit,
+    planning: Edit,
+    keyword: Edit,
+) -> Result<Vec<Edit>, AllocError>
+    requires node { node < node_count (tree outline.now.text) }
+    requires note { note.at + note.removed
+        ≤ length (print_lines (node_at (tree outline.now.text) node).node.section) }
+    requires property { property.at + property.removed
+        ≤ length (print_lines (node_at (tree outline.now.text) node).node.section) }
+    requires planning { planning.at + planning.removed
+        ≤ length (print_lines (node_at (tree outline.now.text) node).node.section) }
+    ensures { let start = section_start (tree outline.now.text) node in
+        IfOk result (λ edits. edits.items
+        ≡ moved start note ∷ moved start property ∷ moved start planning ∷ keyword ∷ []) }
+{
+    let edits = [
+        in_section(outline, node, note),
+        in_section(outline, node, property),
+        in_section(outline, node, planning),
+        keyword,
+    ];
+    Ok(Vec::from_array(alloc, edits)?)
+}
+
 /// The edits of a repeated task that turns done, where `planning` repeats its planning line.
 fn repeat(
     alloc: Global,
@@ -94,14 +126,7 @@ fn repeat(
     let property = last_repeat(alloc, above_rest(section), now)?;
     let active = outline.states().first_active().as_bytes();
     let keyword = keyword_edit(alloc, outline, node, active)?;
-    // The last first, so that each stands where it does in the text as it was.
-    let edits = [
-        in_section(outline, node, note),
-        in_section(outline, node, property),
-        in_section(outline, node, planning),
-        keyword,
-    ];
-    Ok(Vec::from_array(alloc, edits)?)
+    last_first(alloc, outline, node, note, property, planning, keyword)
 }
 
 /// The edits of an entry that turns done: its planning is repeated, or else it gets a CLOSED entry.

@@ -1,32 +1,27 @@
-use Rattle.std.proofs.Common.{◌≡◌, ◌∙◌, ℕ, List, Option, Result, true, Ok, None, sym, ap, subst}
+use Rattle.std.proofs.Common.{◌≡◌, ◌∙◌, ℕ, List, Option, Result, Ok, sym, subst}
 use Rattle.org_outline.specs.declared.paths.PathFault.{PathFault}
 use Rattle.org_outline.specs.States.{Keywords}
 use Rattle.org_outline.specs.Tree.{Document, tree}
 use Rattle.org_outline.specs.Paths.{titles_of, find_headed, find_path}
-use Rattle.org_capture.specs.Capture.{below_head, below_made, below_found, below_day, can_be_title, date_base}
-use Rattle.org_capture.specs.Answers.{AnswersEdit, Makes}
-use Rattle.org_capture.proofs.Insertions.{head_made}
+use Rattle.org_capture.specs.Capture.{below_head, below_found, below_day, date_base}
+use Rattle.org_capture.specs.Answers.{AnswersEdit}
 use Rattle.org_capture.proofs.capturing.capture.Goals as goal
 
-pub returns-in_ok-made_head-in-Head : goal.returns-in_ok-made_head-in-Head
-returns-in_ok-made_head-in-Head c = λ node entry.
+pub returns-in-Head : goal.returns-in-Head
+returns-in-Head c = λ node entry.
     let states : Keywords = c.args.outline.now.states in
     let d : Document = tree c.args.outline.now.text in
-    let title : List ℕ = c.as_slice-title.result.now in
-    let none : find_headed states d title ≡ Ok None = sym c.headed.ensures.value ∙ c.in_ok-node-in-Head.was ∙ ap Ok c.in_default.is in
-    let can : can_be_title states title ≡ true = ap (λ s. can_be_title s title) (sym c.states.ensures.value) ∙ sym c.in_ok-can_be_title-in-Head.ensures ∙ c.if-not-branch.false in
-    let Said : List ℕ → Type 0 = λ t. (new : Document) × (below_head states t c.args.place node d (find_headed states d t) ≡ Ok new) × Makes c.in_ok-made_head-in-Head.field-0 c.args.outline.now.text new in
-    let made : Said title = (below_made c.args.place node title d, head_made states title c.args.place node d (find_headed states d title) none can, c.in_ok-made_head-in-Head.ensures node entry) in
-    rw c.in-Head.is (subst Said c.as_slice-title.ensures made)
+    let Said : List ℕ → Type 0 = λ t. AnswersEdit (below_head states t c.args.place node d (find_headed states d t)) c.args.outline.now.text c.below_head.result in
+    rw c.in-Head.is (subst Said c.as_slice.ensures (c.below_head.ensures node entry))
 
 pub returns-in_ok-node-in-Path : goal.returns-in_ok-node-in-Path
 returns-in_ok-node-in-Path c = λ node entry.
     let states : Keywords = c.args.outline.now.states in
     let d : Document = tree c.args.outline.now.text in
-    let found : find_path states d (titles_of c.as_slice.result.now) ≡ Ok c.in_ok-node-in-Path.node = sym c.find.ensures.value ∙ c.in_ok-node-in-Path.was in
+    let found : find_path states d (titles_of c.as_slice-in-Path.result.now) ≡ Ok c.in_ok-node-in-Path.node = sym c.find.ensures.value ∙ c.in_ok-node-in-Path.was in
     let Found : Result ℕ PathFault → Type 0 = λ r. AnswersEdit (below_found c.args.place node d r) c.args.outline.now.text c.insertion-in-Path.result in
     let Said : List (List ℕ) → Type 0 = λ titles. Found (find_path states d titles) in
-    rw c.in-Path.is (subst Said c.as_slice.ensures (subst Found (sym found) (c.insertion-in-Path.ensures node entry)))
+    rw c.in-Path.is (subst Said c.as_slice-in-Path.ensures (subst Found (sym found) (c.insertion-in-Path.ensures node entry)))
 
 pub returns-in_ok-base-in-Date : goal.returns-in_ok-base-in-Date
 returns-in_ok-base-in-Date c = λ node entry.

@@ -1,8 +1,7 @@
-use Rattle.std.proofs.Common.{◌≡◌, ℕ, List, Option, ap, ◌∙◌}
-use Rattle.org_outline.specs.Tree.{Node, node_at, print_node, tree}
+use Rattle.std.proofs.Common.{ℕ, Option, ap, ◌∙◌}
+use Rattle.org_outline.specs.Tree.{Node, print_node, tree}
 use Rattle.org_move.specs.Archive.{archived, filled}
 use Rattle.org_move.proofs.Across.{archive_made}
-use Rattle.org_move.proofs.Putting.{level_at}
 use Rattle.org_move.proofs.archiving.archive.Goals as goal
 
 pub returns : goal.returns
@@ -11,10 +10,8 @@ returns c =
     let target = c.args.target.now in
     let to = c.args.to.now in
     let up = c.in_ok-up.up in
-    let root = ap (λ (t : List ℕ). (node_at (tree t) 0).node) c.deref.ensures.value ∙ c.in_ok-subtree.ensures.root in
-    let lines = c.in_ok-lines.ensures
-    ∙ ap (λ (above : Option ℕ). print_node (filled to above (node_at (tree c.deref.result.now) 0).node)) c.last_below-at.ensures.level
-    ∙ ap (λ (node : Node). print_node (filled to (level_at up (tree target.text)) node)) root in
-    archive_made source.states c.args.name.now _ c.args.now source.text target.states to target.text _ _ _ _ _ _ _ _ c.in_ok-subtree.ensures.terminated c.last_below-at.ensures.terminated
+    let root : Node = archived source.states c.args.name.now c.args.now (tree source.text) c.in_ok-node.node in
+    let lines = c.in_ok-lines.ensures.lines ∙ ap (λ (above : Option ℕ). print_node (filled to above root)) c.last_below-at.ensures.level in
+    archive_made source.states c.args.name.now _ c.args.now source.text target.states to target.text _ _ _ _ _ _ _ _ c.in_ok-lines.ensures.terminated c.last_below-at.ensures.terminated
     c.find.ensures.value c.in_ok-node.was c.target_heading.ensures.value c.in_ok-up.was c.in_ok-node.ensures.within
     (λ node. c.last_below-at.ensures.place to node) c.without.ensures c.insertion-goes_in.ensures lines

@@ -1,15 +1,14 @@
-use Rattle.std.proofs.Common.{◌≡◌, ℕ, List, Option, Err, ap, ◌∙◌, subst, sym}
+use Rattle.std.proofs.Common.{ℕ, List, Option, Err, ap, ◌∙◌, subst, sym}
 use Rattle.std.specs.Prelude.{Result}
 use Rattle.std.proofs.lemmas.Result.{err_from_is_err_and}
 use Rattle.org_splice.specs.Edits.{AreEdits}
 use Rattle.org_splice.specs.declared.edit.Edit.{Edit}
 use Rattle.org_outline.specs.Paths.{titles_of}
-use Rattle.org_outline.specs.Tree.{Document, Node, node_at, print, print_node, tree}
+use Rattle.org_outline.specs.Tree.{Document, Node, print, print_node, tree}
 use Rattle.org_move.specs.declared.fault.MoveFault.{MoveFault}
 use Rattle.org_move.specs.Answers.{Gives}
 use Rattle.org_move.specs.Archive.{archive_within, archived, filled}
 use Rattle.org_move.proofs.Within.{archived_within, not_apart, starved}
-use Rattle.org_move.proofs.Putting.{level_at}
 use Rattle.org_move.proofs.archiving.archive_within.Goals as goal
 
 pub returns-in_err-up : goal.returns-in_err-up
@@ -23,18 +22,6 @@ returns-in_err-up c =
     subst G (sym (told.1 ∙ ap (λ (fault : MoveFault). Err fault) told.2))
     (not_apart outline.states c.args.name.now path c.args.now c.args.to.now d Fits _ _ _ c.in_ok-target_heading.field-0 c.in_err-up.field-0.0
     c.find.ensures.value c.in_ok-node.was c.target_heading.ensures.value c.in_ok-target_heading.was c.in_err-up.ensures.value)
-
-pub returns-in_err-subtree : goal.returns-in_err-subtree
-returns-in_err-subtree c =
-    let outline = c.args.outline.now in
-    let path = titles_of c.args.path.now in
-    let d : Document = tree outline.text in
-    let Fits : Document → List Edit → Type 0 = λ new edits. AreEdits edits outline.text (print new) in
-    let G : Result (List Edit) MoveFault → Type 0 = λ r. Gives (archive_within outline.states c.args.name.now path c.args.now c.args.to.now d) Fits r in
-    let told = err_from_is_err_and c.from_residual-in_err-subtree.result c.from_residual-in_err-subtree.ensures.1 in
-    subst G (sym told.1)
-    (starved outline.states c.args.name.now path c.args.now c.args.to.now d Fits _ _ _ c.in_ok-target_heading.field-0 c.in_ok-up.up told.0
-    c.find.ensures.value c.in_ok-node.was c.target_heading.ensures.value c.in_ok-target_heading.was c.in_ok-up.ensures.value told.2)
 
 pub returns-in_err-lines : goal.returns-in_err-lines
 returns-in_err-lines c =
@@ -53,10 +40,8 @@ returns c =
     let outline = c.args.outline.now in
     let to = c.args.to.now in
     let up = c.in_ok-up.up in
-    let root = ap (λ (t : List ℕ). (node_at (tree t) 0).node) c.deref.ensures.value ∙ c.in_ok-subtree.ensures.root in
-    let lines = c.in_ok-lines.ensures
-    ∙ ap (λ (above : Option ℕ). print_node (filled to above (node_at (tree c.deref.result.now) 0).node)) c.last_below_without-at.ensures.level
-    ∙ ap (λ (node : Node). print_node (filled to (level_at up (tree outline.text)) node)) root in
-    archived_within outline.states c.args.name.now _ c.args.now outline.text to _ _ _ c.in_ok-target_heading.field-0 up _ _ _ _ c.in_ok-subtree.ensures.terminated
+    let root : Node = archived outline.states c.args.name.now c.args.now (tree outline.text) c.in_ok-node.node in
+    let lines = c.in_ok-lines.ensures.lines ∙ ap (λ (above : Option ℕ). print_node (filled to above root)) c.last_below_without-at.ensures.level in
+    archived_within outline.states c.args.name.now _ c.args.now outline.text to _ _ _ c.in_ok-target_heading.field-0 up _ _ _ _ c.in_ok-lines.ensures.terminated
     c.find.ensures.value c.in_ok-node.was c.target_heading.ensures.value c.in_ok-target_heading.was c.in_ok-up.ensures.value c.in_ok-node.ensures.within
     (λ node. c.last_below_without-at.ensures.place to node) c.without.ensures c.insertion-goes_in.ensures lines

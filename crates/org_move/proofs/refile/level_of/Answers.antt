@@ -1,6 +1,6 @@
 use Rattle.std.proofs.Common.{arith}
 use Rattle.org_move.proofs.Made.{level_less}
-use Rattle.org_move.proofs.refile.level_below.Goals as goal
+use Rattle.org_move.proofs.refile.level_of.Goals as goal
 
 pub prove-unreachable-requires : goal.prove-unreachable-requires
 prove-unreachable-requires c =

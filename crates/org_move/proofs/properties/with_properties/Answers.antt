@@ -1,6 +1,5 @@
-use Rattle.std.proofs.Common.{refl}
 use Rattle.org_move.proofs.Each.{good_at, each_more, each_all}
-use Rattle.org_move.proofs.properties.put_each.Goals as goal
+use Rattle.org_move.proofs.properties.with_properties.Goals as goal
 
 pub put_given-requires-clause-good : goal.put_given-requires-clause-good
 put_given-requires-clause-good c = good_at c.args.properties.now c.loop-property.property-index _ c.requires.good c.loop-property-test.true

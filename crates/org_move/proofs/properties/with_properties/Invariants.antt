@@ -3,11 +3,11 @@ use Rattle.org_splice.specs.Lines.{terminated}
 use Rattle.org_meta.specs.Sections.{parts_of}
 use Rattle.org_move.specs.Archive.{put_each}
 use Rattle.org_move.specs.Given.{given}
-use Rattle.org_move.proofs.properties.put_each.Given as goal
+use Rattle.org_move.proofs.properties.with_properties.Given as goal
 
 abbrev pub invariant-loop-property : goal.invariant-loop-property
 invariant-loop-property l =
     record {
-      parts : parts_of l.section.items ≡ put_each (given (take l.property-index l.properties)) (parts_of l.initial.section.items);
-      shut : terminated l.section.items ≡ l.section.items;
+      parts : parts_of l.new.items ≡ put_each (given (take l.property-index l.properties)) (parts_of l.section);
+      shut : terminated l.new.items ≡ l.new.items;
     }
