@@ -18,6 +18,16 @@ pub fn must<T>(rt: &impl Abort, given: Result<T, Fail>) -> T {
     }
 }
 
+// Whether the names are these texts, in order.
+pub fn are_texts(names: &[FileName], texts: &[&str]) -> bool {
+    for (name, text) in names.iter().zip(texts) {
+        if name.as_str() != *text {
+            return false;
+        }
+    }
+    names.len() == texts.len()
+}
+
 // The name of the one file that these tests write.
 fn a_org(rt: &impl Abort, alloc: Global) -> FileName {
     FileName::new(alloc, "a.org").expect(rt, "no name")

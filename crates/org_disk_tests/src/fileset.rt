@@ -6,7 +6,7 @@ mod openings;
 use crate::disk::must;
 use org_disk::MemoryDisk;
 use org_fileset::{FileSet, OpenFault, OpenRefused};
-use org_fixtures::{NEW, disk_with, file_name, org_names};
+use org_fixtures::{NEW, bytes_of, disk_with, file_name, org_names};
 use std::alloc::Global;
 use std::process::Abort;
 use std::test::Fail;
@@ -19,18 +19,11 @@ fn with_journal(rt: &impl Abort, alloc: Global, journal: &[u8]) -> MemoryDisk {
     )
 }
 
-// The bytes with another one at this place.
-fn with_byte(alloc: Global, bytes: &[u8], at: usize, byte: u8) -> Result<Vec<u8>, Fail> {
-    let mut changed = bytes.to_vec(alloc)?;
-    if at < changed.len() {
-        changed[at] = byte;
-    }
-    Ok(changed)
-}
-
-// The same, where there has to be memory.
-fn with_one(rt: &impl Abort, alloc: Global, bytes: &[u8], at: usize, byte: u8) -> Vec<u8> {
-    must(rt, with_byte(alloc, bytes, at, byte))
+// The worked journal with this gate.
+fn with_gate(gate: u8) -> [u8; 75] {
+    let mut journal = NEW;
+    journal[0] = gate;
+    journal
 }
 
 // Makes a file hold these bytes.
@@ -41,8 +34,7 @@ fn set_file(alloc: Global, disk: &mut MemoryDisk, name: &str, bytes: &[u8]) -> R
 
 // A disk that crashed while the record was applied: some of the text is there.
 fn crashed(rt: &impl Abort, alloc: Global, gate: u8) -> MemoryDisk {
-    let journal = with_one(rt, alloc, &NEW, 0, gate);
-    let mut disk = with_journal(rt, alloc, &journal);
+    let mut disk = with_journal(rt, alloc, &with_gate(gate));
     must(rt, set_file(alloc, &mut disk, "inbox.org", b"* TO"));
     disk
 }
@@ -72,44 +64,44 @@ fn open(rt: &impl Abort, alloc: Global, disk: MemoryDisk) -> FileSet<MemoryDisk>
     }
 }
 
-// What the journal and the two files hold.
-#[derive(Drop)]
-struct Held {
-    journal: Vec<u8>,
-    a: Vec<u8>,
-    inbox: Vec<u8>,
+// Whether the set reads this text of a file, or of the journal.
+fn reads(
+    alloc: Global,
+    set: &mut FileSet<MemoryDisk>,
+    name: &str,
+    text: &[u8],
+) -> Result<bool, Fail> {
+    let read = set.read(&file_name(alloc, name)?)?;
+    Ok(read.as_slice() == text)
 }
 
-fn read(alloc: Global, set: &mut FileSet<MemoryDisk>, name: &str) -> Result<Vec<u8>, Fail> {
-    Ok(set.read(&file_name(alloc, name)?)?)
+// Whether it reads this journal, and this text of inbox.org.
+fn reads_record(
+    rt: &impl Abort,
+    alloc: Global,
+    set: &mut FileSet<MemoryDisk>,
+    journal: &[u8],
+    inbox: &[u8],
+) -> bool {
+    must(rt, reads(alloc, set, "orgstore.journal", journal))
+        && must(rt, reads(alloc, set, "inbox.org", inbox))
 }
 
-fn read_all(rt: &impl Abort, alloc: Global, set: &mut FileSet<MemoryDisk>) -> Held {
-    Held {
-        journal: must(rt, read(alloc, set, "orgstore.journal")),
-        a: must(rt, read(alloc, set, "a.org")),
-        inbox: must(rt, read(alloc, set, "inbox.org")),
-    }
+// Whether it reads these texts of the two files.
+fn reads_texts(
+    rt: &impl Abort,
+    alloc: Global,
+    set: &mut FileSet<MemoryDisk>,
+    a: &[u8],
+    inbox: &[u8],
+) -> bool {
+    must(rt, reads(alloc, set, "a.org", a)) && must(rt, reads(alloc, set, "inbox.org", inbox))
 }
 
-fn holds(held: &Held, journal: &[u8], inbox: &[u8]) -> bool {
-    held.journal.as_slice() == journal && held.inbox.as_slice() == inbox
-}
-
-fn has_texts(held: &Held, a: &[u8], inbox: &[u8]) -> bool {
-    held.a.as_slice() == a && held.inbox.as_slice() == inbox
-}
-
-// What is read once a set was opened, and the disk then.
-fn read_opened(rt: &impl Abort, alloc: Global, disk: MemoryDisk) -> (Held, MemoryDisk) {
-    let mut set = open(rt, alloc, disk);
-    let held = read_all(rt, alloc, &mut set);
-    (held, set.into_disk())
-}
-
-fn held_in(rt: &impl Abort, alloc: Global, disk: MemoryDisk) -> Held {
-    let (held, _) = read_opened(rt, alloc, disk);
-    held
+// Whether a file of the disk holds these bytes.
+fn holds(alloc: Global, disk: &mut MemoryDisk, name: &str, bytes: &[u8]) -> Result<bool, Fail> {
+    let held = bytes_of(alloc, disk, &file_name(alloc, name)?)?;
+    Ok(held.as_slice() == bytes)
 }
 
 // The disk that an opening leaves, and why it is refused, if it is.

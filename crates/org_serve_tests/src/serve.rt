@@ -1,5 +1,5 @@
 // Lines served over a disk in memory.
-ghost use Rattle.std.specs.Prelude.{IfOk, All};
+ghost use Rattle.std.specs.Prelude.{◌≡◌, Ok, All};
 ghost use Rattle.org_disk.specs.Names.{IsOrgFile};
 ghost use Rattle.org_serve.specs.Group.{IsGroup};
 
@@ -20,7 +20,6 @@ use org_fixtures::{org_names, two_files};
 use org_outline::States;
 use org_serve::{Counted, ServeEnd, Served, Setup, Sink, Source, serve_disk, serve_synced};
 use org_store::OpenFault;
-use std::alloc::Global;
 use std::process::Abort;
 use std::test::Fail;
 
@@ -34,7 +33,9 @@ struct Ended {
 
 // What a step gives, which has to go well. Where it doesn't the test stops here and lets go of nothing, so a function
 // that owns a disk has no exit for each of its steps, which its proof would have to follow.
-fn must<T>(rt: &impl Abort, given: Result<T, Fail>) -> T {
+fn must<T>(rt: &impl Abort, given: Result<T, Fail>) -> T
+    ensures { given ≡ Ok result }
+{
     match given {
         Ok(value) => value,
         Err(_) => panic!(rt; "a step of the test failed"),
@@ -42,98 +43,84 @@ fn must<T>(rt: &impl Abort, given: Result<T, Fail>) -> T {
 }
 
 // A store of these two files and of inbox.org, which is absent.
-fn setup(alloc: Global, group: u32) -> Result<Setup, Fail>
+fn setup(rt: &(impl Abort + AllocGlobal), group: u32) -> Setup
     requires { IsGroup group }
-    ensures { IfOk result (λ setup. All IsOrgFile setup.names.items × IsGroup setup.group) }
+    ensures names { All IsOrgFile result.names.items }
+    ensures group { IsGroup result.group }
 {
-    Ok(Setup {
-        names: org_names(alloc, &["inbox.org", "b.org", "a.org"])?,
-        states: States::new(alloc, &["TODO"], &["DONE"])?,
+    Setup {
+        names: must(rt, org_names(rt.alloc(), &["inbox.org", "b.org", "a.org"])),
+        states: States::new(rt.alloc(), &["TODO"], &["DONE"]).expect(rt, "states"),
         group,
-    })
+    }
 }
 
 // Serves what comes from a reader over a disk, in groups of this size.
 fn serve_over<R: Source, W: Sink>(
-    alloc: Global,
+    rt: &(impl Abort + AllocGlobal),
     disk: MemoryDisk,
     group: u32,
     reader: &mut R,
     writer: &mut W,
     turns: u64,
-) -> Result<Served<MemoryDisk>, Fail>
+) -> Served<MemoryDisk>
     requires { IsGroup group }
 {
-    let setup = setup(alloc, group)?;
-    Ok(serve_disk(alloc, disk, setup, reader, writer, turns))
+    serve_disk(rt.alloc(), disk, setup(rt, group), reader, writer, turns)
 }
 
 // Serves this input over a disk, in groups of this size.
-fn run(alloc: Global, disk: MemoryDisk, group: u32, input: &[u8]) -> Result<Ended, Fail>
+fn run(rt: &(impl Abort + AllocGlobal), disk: MemoryDisk, group: u32, input: &[u8]) -> Ended
     requires { IsGroup group }
 {
     let mut reader = Counted::new(input);
-    let mut writer = Counted::new(Vec::new(alloc));
-    let Served { disk, end } = serve_over(
-        alloc,
-        disk,
-        group,
-        &mut reader,
-        &mut writer,
-        10_000_000,
-    )?;
-    Ok(Ended {
+    let mut writer = Counted::new(Vec::new(rt.alloc()));
+    let Served { disk, end } = serve_over(rt, disk, group, &mut reader, &mut writer, 10_000_000);
+    Ended {
         written: writer.into_inner(),
         end,
         disk,
-    })
+    }
 }
 
 // Serves this input in groups of one over a disk whose files are synced first.
-fn run_synced(alloc: Global, disk: MemoryDisk, input: &[u8]) -> Result<Ended, Fail> {
+fn run_synced(rt: &(impl Abort + AllocGlobal), disk: MemoryDisk, input: &[u8]) -> Ended {
     let mut reader = Counted::new(input);
-    let mut writer = Counted::new(Vec::new(alloc));
-    let setup = setup(alloc, 1)?;
+    let mut writer = Counted::new(Vec::new(rt.alloc()));
     let Served { disk, end } = serve_synced(
-        alloc,
+        rt.alloc(),
         disk,
-        setup,
+        setup(rt, 1),
         &mut reader,
         &mut writer,
         10_000_000,
     );
-    Ok(Ended {
+    Ended {
         written: writer.into_inner(),
         end,
         disk,
-    })
+    }
 }
 
 // What is written for an input that is served to its end.
-fn served(alloc: Global, disk: MemoryDisk, group: u32, input: &[u8]) -> Result<Vec<u8>, Fail>
+fn served(rt: &(impl Abort + AllocGlobal), disk: MemoryDisk, group: u32, input: &[u8]) -> Vec<u8>
     requires { IsGroup group }
 {
     let Ended {
         written,
         end,
         disk: _,
-    } = run(alloc, disk, group, input)?;
-    match end {
-        Ok(ServeEnd::End) => Ok(written),
-        _ => Err("another end")?,
-    }
+    } = run(rt, disk, group, input);
+    assert!(rt; matches!(end, Ok(ServeEnd::End)), "another end");
+    written
 }
 
-// Whether this input is answered so.
-fn is_answered(
-    alloc: Global,
-    disk: MemoryDisk,
-    group: u32,
-    input: &[u8],
-    wanted: &[u8],
-) -> Result<bool, Fail>
-    requires { IsGroup group }
-{
-    let written = served(alloc, disk, group, input)?;
-    Ok(written.as_slice() == wanted)
+// A disk with these texts of a.org and b.org.
+fn two(rt: &(impl Abort + AllocGlobal), a: &[u8], b: &[u8]) -> MemoryDisk {
+    must(rt, two_files(rt.alloc(), a, b))
+}
+
+// A disk that holds what a crash leaves of this one.
+fn image(rt: &(impl Abort + AllocGlobal), disk: &MemoryDisk) -> MemoryDisk {
+    disk.image(rt.alloc()).expect(rt, "memory")
 }

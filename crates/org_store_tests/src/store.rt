@@ -1,6 +1,5 @@
 // A store over a disk in memory.
-ghost use Rattle.std.specs.List.{All};
-ghost use Rattle.org_disk.specs.Names.{IsOrgFile};
+ghost use Rattle.std.specs.Prelude.{◌≡◌, Ok};
 
 mod crashes;
 mod failures;
@@ -20,102 +19,138 @@ use std::test::Fail;
 
 // What a step gives, which has to go well. Where it doesn't the test stops here and lets go of nothing, so a function
 // that owns a store has no exit for each of its steps, which its proof would have to follow.
-fn must<T>(rt: &impl Abort, given: Result<T, Fail>) -> T {
+fn must<T>(rt: &impl Abort, given: Result<T, Fail>) -> T
+    ensures { given ≡ Ok result }
+{
     match given {
         Ok(value) => value,
         Err(_) => panic!(rt; "a step of the test failed"),
     }
 }
 
-// A store over a disk, or why it wasn't opened.
+// A store over the files of these names on a disk, or why it wasn't opened.
 fn opened(
+    rt: &impl Abort,
     alloc: Global,
     disk: MemoryDisk,
-    names: Vec<FileName>,
-) -> Result<Result<Store<MemoryDisk>, OpenRefused<MemoryDisk>>, Fail>
-    requires { All IsOrgFile names.items }
-{
-    let states = States::new(alloc, &["TODO"], &["DONE"])?;
-    Ok(Store::open(alloc, disk, names, states))
+    names: &[&str],
+) -> Result<Store<MemoryDisk>, OpenRefused<MemoryDisk>> {
+    let names = must(rt, org_names(alloc, names));
+    let states = States::new(alloc, &["TODO"], &["DONE"]).expect(rt, "states");
+    Store::open(alloc, disk, names, states)
 }
 
 // A store over the two files of a disk.
-fn open(alloc: Global, disk: MemoryDisk) -> Result<Store<MemoryDisk>, Fail> {
-    match opened(alloc, disk, org_names(alloc, &["b.org", "a.org"])?)? {
-        Ok(store) => Ok(store),
-        Err(refused) => Err(refused.fault)?,
+fn open(rt: &impl Abort, alloc: Global, disk: MemoryDisk) -> Store<MemoryDisk> {
+    match opened(rt, alloc, disk, &["b.org", "a.org"]) {
+        Ok(store) => store,
+        Err(_) => panic!(rt; "not opened"),
     }
 }
 
 // A store over a.org and b.org, which have these texts.
 fn store_over(rt: &impl Abort, alloc: Global, a: &[u8], b: &[u8]) -> Store<MemoryDisk> {
-    let disk = must(rt, two_files(alloc, a, b));
-    must(rt, open(alloc, disk))
+    open(rt, alloc, must(rt, two_files(alloc, a, b)))
 }
 
-// A capture at the end of a file.
-fn capture(alloc: Global, file: &str, template: &[u8]) -> Result<Command, Fail> {
-    Ok(Command::Capture {
-        file: FileName::new(alloc, file)?,
-        target: Target::Top,
+fn file(rt: &impl Abort, alloc: Global, name: &str) -> FileName {
+    FileName::new(alloc, name).expect(rt, "a name")
+}
+
+fn bytes(rt: &impl Abort, alloc: Global, bytes: &[u8]) -> Bytes {
+    Bytes::new(bytes.to_vec(alloc).expect(rt, "memory"))
+}
+
+// 2026-07-01 10:00.
+fn now(rt: &impl Abort) -> Moment {
+    Moment::new(2026, 7, 1, 10, 0).expect(rt, "a moment")
+}
+
+// A capture at the end of what a file has there.
+fn capture(rt: &impl Abort, alloc: Global, name: &str, target: Target, template: &[u8]) -> Command {
+    Command::Capture {
+        file: file(rt, alloc, name),
+        target,
         place: Place::Last,
-        moment: Moment::new(2026, 7, 1, 10, 0).ok_or("no moment")?,
-        template: Bytes::new(template.to_vec(alloc)?),
-        initial: Bytes::new(Vec::new(alloc)),
-    })
-}
-
-fn show(alloc: Global, file: &str) -> Result<Command, Fail> {
-    Ok(Command::Show {
-        file: FileName::new(alloc, file)?,
-    })
-}
-
-// A command, of whose answer nothing is said here: the proofs of what calls this have less to carry on.
-fn run(store: &mut Store<MemoryDisk>, command: &Command) -> Result<Reply, RunFault> {
-    store.run(command)
-}
-
-// What a show of the file answers.
-fn shown(alloc: Global, store: &mut Store<MemoryDisk>, file: &str) -> Result<Vec<u8>, Fail> {
-    match run(store, &show(alloc, file)?)? {
-        Reply::Text(text) => Ok(text.into_vec()),
-        _ => Err("no text")?,
+        moment: now(rt),
+        template: bytes(rt, alloc, template),
+        initial: bytes(rt, alloc, b""),
     }
 }
 
-// The texts of both files, as the store shows them.
-fn both(alloc: Global, store: &mut Store<MemoryDisk>) -> Result<(Vec<u8>, Vec<u8>), Fail> {
-    let a = shown(alloc, store, "a.org")?;
-    Ok((a, shown(alloc, store, "b.org")?))
+fn show(rt: &impl Abort, alloc: Global, name: &str) -> Command {
+    Command::Show {
+        file: file(rt, alloc, name),
+    }
 }
 
-// The texts of both files, as a store over this disk shows them.
-fn left_on(rt: &impl Abort, alloc: Global, disk: MemoryDisk) -> (Vec<u8>, Vec<u8>) {
-    let mut store = must(rt, open(alloc, disk));
-    must(rt, both(alloc, &mut store))
+// What a command is answered, of which nothing is said here: the proofs of what calls this have less to carry on.
+fn answer(store: &mut Store<MemoryDisk>, command: &Command) -> Result<Reply, RunFault> {
+    store.run(command)
+}
+
+fn run(store: &mut Store<MemoryDisk>, command: Command) -> Result<Reply, RunFault> {
+    answer(store, &command)
+}
+
+fn is_text(answer: Result<Reply, RunFault>, text: &[u8]) -> bool {
+    matches!(&answer, Ok(Reply::Text(shown)) if shown.as_slice() == text)
+}
+
+// Whether a show of the file answers this text.
+fn shows(
+    rt: &impl Abort,
+    alloc: Global,
+    store: &mut Store<MemoryDisk>,
+    name: &str,
+    text: &[u8],
+) -> bool {
+    is_text(run(store, show(rt, alloc, name)), text)
+}
+
+// Texts of a.org and b.org.
+type Texts = (&'static [u8], &'static [u8]);
+
+// Which of these texts a store shows.
+fn shown(
+    rt: &impl Abort,
+    alloc: Global,
+    store: &mut Store<MemoryDisk>,
+    rows: &[Texts],
+) -> Option<usize> {
+    for (i, (a, b)) in rows.iter().enumerate() {
+        if shows(rt, alloc, store, "a.org", a) && shows(rt, alloc, store, "b.org", b) {
+            return Some(i);
+        }
+    }
+    None
+}
+
+// Which of these texts are left on a disk, as a store over it shows them.
+fn left_on(rt: &impl Abort, alloc: Global, disk: MemoryDisk, rows: &[Texts]) -> Option<usize> {
+    let mut store = open(rt, alloc, disk);
+    shown(rt, alloc, &mut store, rows)
 }
 
 // What a command that changes files is answered: its number, or why there is none.
-fn answered(
-    store: &mut Store<MemoryDisk>,
-    command: &Command,
-) -> Result<Result<u64, RunFault>, Fail> {
-    match run(store, command) {
-        Ok(Reply::Done(number)) => Ok(Ok(number)),
-        Ok(_) => Err("no number")?,
-        Err(fault) => Ok(Err(fault)),
+fn number_in(rt: &impl Abort, answer: Result<Reply, RunFault>) -> Result<u64, RunFault> {
+    match &answer {
+        Ok(Reply::Done(number)) => Ok(*number),
+        Ok(_) => panic!(rt; "no number"),
+        Err(fault) => Err(*fault),
     }
 }
 
 // What a capture at the end of a file is answered.
 fn captured(
+    rt: &impl Abort,
     alloc: Global,
     store: &mut Store<MemoryDisk>,
-    file: &str,
+    name: &str,
     template: &[u8],
-) -> Result<Result<u64, RunFault>, Fail> {
-    answered(store, &capture(alloc, file, template)?)
+) -> Result<u64, RunFault> {
+    let command = capture(rt, alloc, name, Target::Top, template);
+    number_in(rt, run(store, command))
 }
 
 // Whether so many commands are accepted, and so many of them on the disk.

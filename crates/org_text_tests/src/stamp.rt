@@ -1,11 +1,11 @@
 // Moments, timestamps, repeaters and durations, on dates taken from calendars.
 mod durations;
 mod moments;
-mod repeats;
+mod rows;
 mod timestamps;
 
 use org_stamp::{Moment, Stamp};
-use std::alloc::{AllocError, Global};
+use std::alloc::Global;
 use std::process::Abort;
 
 fn moment(rt: &impl Abort, year: u16, month: u8, day: u8, hour: u8, minute: u8) -> Moment {
@@ -20,7 +20,6 @@ fn stamp<'a>(rt: &impl Abort, text: &'a [u8]) -> Stamp<'a> {
 }
 
 // Whether a timestamp is printed so.
-fn prints(alloc: Global, stamp: &Stamp<'_>, text: &[u8]) -> Result<bool, AllocError> {
-    let printed = stamp.print(alloc)?;
-    Ok(printed.as_slice() == text)
+fn prints(rt: &impl Abort, alloc: Global, stamp: &Stamp<'_>, text: &str) -> bool {
+    stamp.print(alloc).expect(rt, "memory").as_slice() == text.as_bytes()
 }

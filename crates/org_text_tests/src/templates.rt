@@ -1,8 +1,7 @@
-// Templates, the initial texts put into them, and entries: rows worked by hand from the rules of templates.
-use org_capture::{CaptureFault, entry, expand, expanded_length};
-use org_outline::States;
+// Templates, and the initial texts put into them: rows worked by hand from the rules of templates.
+use org_capture::{expand, expanded_length};
 use org_stamp::Moment;
-use std::alloc::{AllocError, Global};
+use std::alloc::Global;
 use std::process::Abort;
 
 /// A template, an initial text, and what they make on 2026-07-01.
@@ -15,15 +14,15 @@ fn now(rt: &impl Abort) -> Moment {
 
 /// Whether a template makes these bytes, as many as are told of it.
 fn fills(
+    rt: &impl Abort,
     alloc: Global,
     template: &[u8],
     initial: &[u8],
     wanted: &[u8],
     now: Moment,
-) -> Result<bool, CaptureFault> {
-    let size = expanded_length(alloc, template, now, initial)?;
-    let text = expand(alloc, template, now, initial)?;
-    Ok(size == wanted.len() && text.as_slice() == wanted)
+) -> bool {
+    let text = expand(alloc, template, now, initial).expect(rt, "a text");
+    text.as_slice() == wanted && expanded_length(alloc, template, now, initial) == Ok(wanted.len())
 }
 
 const FILLED: &[Filled] = &[
@@ -67,56 +66,11 @@ const FILLED: &[Filled] = &[
 fn templates_filled(rt: HostRuntime) {
     let now = now(&rt);
     for (template, initial, wanted) in FILLED {
-        let answer = fills(
-            rt.alloc(),
-            template.as_bytes(),
-            initial.as_bytes(),
-            wanted.as_bytes(),
-            now,
+        let (bytes, initial) = (template.as_bytes(), initial.as_bytes());
+        assert!(rt;
+            fills(&rt, rt.alloc(), bytes, initial, wanted.as_bytes(), now),
+            "{template}"
         );
-        assert!(rt; answer == Ok(true), "{template}");
-    }
-}
-
-const BAD_TEMPLATES: &[&str] = &[
-    "* %d", "%(", "%[", "%<", "%^", "%:", "%*", "%\\", "%A", "%?%z",
-];
-
-#[test]
-fn other_escapes_are_refused(rt: HostRuntime) {
-    let now = now(&rt);
-    for template in BAD_TEMPLATES {
-        let fault = expand(rt.alloc(), template.as_bytes(), now, b"").err();
-        assert!(rt; fault == Some(CaptureFault::BadTemplate), "{template}");
-    }
-}
-
-/// Bytes, and the entry that they are, if they are one.
-const ENTRIES: &[(&str, Option<&str>)] = &[
-    ("* A", Some("* A\n")),
-    ("** A\ntext\n*** B", Some("** A\ntext\n*** B\n")),
-    ("", None),
-    ("N", None),
-    ("\n* A\n", None),
-    ("* A\n* B", None),
-    ("** A\n* B\n", None),
-];
-
-/// Whether an answer is the entry that is wanted, or that the bytes are none.
-fn is_entry(answer: &Result<Vec<u8>, CaptureFault>, wanted: Option<&str>) -> bool {
-    match (answer, wanted) {
-        (Ok(text), Some(wanted)) => text.as_slice() == wanted.as_bytes(),
-        (Err(fault), None) => *fault == CaptureFault::BadEntry,
-        _ => false,
-    }
-}
-
-#[test]
-fn entries_are_one_heading(rt: HostRuntime) {
-    let states = States::new(rt.alloc(), &["TODO"], &["DONE"]).expect(&rt, "states");
-    for (bytes, wanted) in ENTRIES {
-        let answer = entry(rt.alloc(), bytes.as_bytes(), &states);
-        assert!(rt; is_entry(&answer, *wanted), "{bytes}");
     }
 }
 
@@ -124,28 +78,24 @@ fn entries_are_one_heading(rt: HostRuntime) {
 const LARGE: usize = 1_048_576;
 
 /// These bytes, so often.
-fn repeated(alloc: Global, unit: &[u8], times: usize) -> Result<Vec<u8>, AllocError> {
+fn repeated(rt: &impl Abort, alloc: Global, unit: &[u8], times: usize) -> Vec<u8> {
     let mut bytes = Vec::new(alloc);
     for _ in 0..times {
-        bytes.extend_from_slice(unit)?;
+        bytes.extend_from_slice(unit).expect(rt, "memory");
     }
-    Ok(bytes)
+    bytes
 }
 
 /// Whether a template, a unit so often, makes another unit so often.
-fn fills_repeated(
-    alloc: Global,
-    (unit, times): (&[u8], usize),
-    initial: &[u8],
-    (made, often): (&[u8], usize),
-    now: Moment,
-) -> Result<bool, CaptureFault> {
-    let template = repeated(alloc, unit, times)?;
-    let wanted = repeated(alloc, made, often)?;
-    fills(alloc, template.as_slice(), initial, wanted.as_slice(), now)
+fn fills_repeated(rt: &impl Abort, alloc: Global, row: &Large, now: Moment) -> bool {
+    let (unit, times, initial, made, often) = row;
+    let template = repeated(rt, alloc, unit, *times);
+    let wanted = repeated(rt, alloc, made, *often);
+    fills(rt, alloc, &template, initial, &wanted, now)
 }
 
-/// A unit and how often it stands in a template, the initial text, and another unit and how often it stands in what is made.
+/// A unit and how often it stands in a template, the initial text, and another unit and how often it stands in what is
+/// made.
 type Large = (&'static [u8], usize, &'static [u8], &'static [u8], usize);
 
 const LARGE_TEMPLATES: &[Large] = &[
@@ -166,22 +116,17 @@ const LARGE_TEMPLATES: &[Large] = &[
 #[test]
 fn templates_of_a_mebibyte(rt: HostRuntime) {
     let now = now(&rt);
-    for (unit, times, initial, made, often) in LARGE_TEMPLATES {
-        let answer = fills_repeated(rt.alloc(), (*unit, *times), *initial, (*made, *often), now);
-        assert!(rt; answer == Ok(true));
+    for row in LARGE_TEMPLATES {
+        assert!(rt; fills_repeated(&rt, rt.alloc(), row, now));
     }
 }
 
 /// How long a template is of which a unit stands so often, over an initial text of such units.
-fn length_of(
-    alloc: Global,
-    (unit, times): (&[u8], usize),
-    (initial_unit, initial_times): (&[u8], usize),
-    now: Moment,
-) -> Result<usize, CaptureFault> {
-    let template = repeated(alloc, unit, times)?;
-    let initial = repeated(alloc, initial_unit, initial_times)?;
-    expanded_length(alloc, template.as_slice(), now, initial.as_slice())
+fn length_of(rt: &impl Abort, alloc: Global, row: &Length, now: Moment) -> usize {
+    let (unit, times, initial, often, _) = row;
+    let template = repeated(rt, alloc, unit, *times);
+    let initial = repeated(rt, alloc, initial, *often);
+    expanded_length(alloc, &template, now, &initial).expect(rt, "a length")
 }
 
 /// A unit and how often it stands in a template, the same of the initial text, and how many bytes that makes.
@@ -214,8 +159,7 @@ b",
 #[test]
 fn lengths_without_the_texts(rt: HostRuntime) {
     let now = now(&rt);
-    for (unit, times, initial, often, size) in LENGTHS {
-        let answer = length_of(rt.alloc(), (*unit, *times), (*initial, *often), now);
-        assert!(rt; answer == Ok(*size), "{size}");
+    for row in LENGTHS {
+        assert!(rt; length_of(&rt, rt.alloc(), row, now) == row.4, "{}", row.4);
     }
 }

@@ -5,10 +5,10 @@ ghost use Rattle.org_disk.specs.Disk.{stable};
 use super::{a_org, leaves, must, sync_write_cut};
 use org_disk::{Disk, DiskFault, FileName, MemoryDisk, Outcome};
 use std::alloc::{AllocError, Global};
+use std::process::Abort;
 use std::test::Fail;
 
 // What is done to a file.
-#[derive(Clone, Copy)]
 enum Calls {
     WriteCut,
     WriteCutWrite,
@@ -33,7 +33,7 @@ fn write_cut_write<D: Disk>(disk: &mut D, name: &FileName) -> Result<(), DiskFau
 }
 
 // Calls, which of them crashes the disk, how, and what that leaves.
-const CRASHES: &[(Calls, u64, Outcome, &str)] = &[
+static CRASHES: &[(Calls, u64, Outcome, &str)] = &[
     // the last write
     (Calls::WriteCutWrite, 3, Outcome::All, "abXYPQRS"),
     (Calls::WriteCutWrite, 3, Outcome::None, "abcdef"),
@@ -63,7 +63,7 @@ const CRASHES: &[(Calls, u64, Outcome, &str)] = &[
 ];
 
 // Whether the calls fail.
-fn fail(disk: &mut MemoryDisk, name: &FileName, calls: Calls) -> Result<bool, AllocError> {
+fn fail(disk: &mut MemoryDisk, name: &FileName, calls: &Calls) -> Result<bool, AllocError> {
     let made = match calls {
         Calls::SyncWriteCut => sync_write_cut(disk, name),
         Calls::WriteCut => {
@@ -88,20 +88,31 @@ fn crashes(
     disk: &mut MemoryDisk,
     alloc: Global,
     name: &FileName,
-    calls: Calls,
+    calls: &Calls,
     left: &str,
 ) -> Result<bool, Fail> {
     Ok(fail(disk, name, calls)? && is_crashed(disk, name) && leaves(disk, alloc, name, left)?)
 }
 
+// The same of a disk that crashes so at the k-th call.
+fn crashes_at(
+    rt: &(impl Abort + AllocGlobal),
+    name: &FileName,
+    calls: &Calls,
+    k: u64,
+    outcome: Outcome,
+    left: &str,
+) -> bool {
+    let mut disk = MemoryDisk::new(rt.alloc());
+    disk.crash_at(k, outcome);
+    must(rt, crashes(&mut disk, rt.alloc(), name, calls, left))
+}
+
 #[test]
 fn crashed_calls(rt: HostRuntime) {
-    let alloc = rt.alloc();
-    let a = a_org(&rt, alloc);
+    let a = a_org(&rt, rt.alloc());
     for (calls, k, outcome, left) in CRASHES {
-        let mut disk = MemoryDisk::new(alloc);
-        disk.crash_at(*k, *outcome);
-        let crashes = must(&rt, crashes(&mut disk, alloc, &a, *calls, left));
+        let crashes = crashes_at(&rt, &a, calls, *k, *outcome, left);
         assert!(rt; crashes, "crashed at call {k}, {left} is left");
     }
 }
@@ -120,18 +131,26 @@ fn goes_on(
     Ok(disk.length(name) == length && leaves(disk, alloc, name, "aX")?)
 }
 
+// The same of a disk that is to crash at the k-th call.
+fn goes_on_to(
+    rt: &(impl Abort + AllocGlobal),
+    name: &FileName,
+    k: u64,
+    length: Result<u64, DiskFault>,
+) -> bool {
+    let mut disk = MemoryDisk::new(rt.alloc());
+    disk.crash_at(1, Outcome::None);
+    disk.crash_at(k, Outcome::None);
+    must(rt, goes_on(&mut disk, rt.alloc(), name, length))
+}
+
 // Which call crashes, if any, and the length that the seventh answers.
 const SEVENTH: &[(u64, Result<u64, DiskFault>)] = &[(0, Ok(2)), (7, Err(DiskFault))];
 
 #[test]
 fn no_crash(rt: HostRuntime) {
-    let alloc = rt.alloc();
-    let a = a_org(&rt, alloc);
+    let a = a_org(&rt, rt.alloc());
     for (k, length) in SEVENTH {
-        let mut disk = MemoryDisk::new(alloc);
-        disk.crash_at(1, Outcome::None);
-        disk.crash_at(*k, Outcome::None);
-        let goes_on = must(&rt, goes_on(&mut disk, alloc, &a, *length));
-        assert!(rt; goes_on, "to crash at {k}");
+        assert!(rt; goes_on_to(&rt, &a, *k, *length), "to crash at {k}");
     }
 }

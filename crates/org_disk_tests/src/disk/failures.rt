@@ -41,16 +41,19 @@ fn fails_once(
     )
 }
 
+// The same of a disk without files.
+fn fails_at(rt: &(impl Abort + AllocGlobal), name: &FileName, k: u64, left: &str) -> bool {
+    let mut disk = MemoryDisk::new(rt.alloc());
+    disk.fail_at(1);
+    disk.fail_at(k);
+    must(rt, fails_once(&mut disk, rt.alloc(), name, k, left))
+}
+
 #[test]
 fn failed_calls(rt: HostRuntime) {
-    let alloc = rt.alloc();
-    let a = a_org(&rt, alloc);
+    let a = a_org(&rt, rt.alloc());
     for (k, left) in FAILED {
-        let mut disk = MemoryDisk::new(alloc);
-        disk.fail_at(1);
-        disk.fail_at(*k);
-        let fails_once = must(&rt, fails_once(&mut disk, alloc, &a, *k, left));
-        assert!(rt; fails_once, "call {k}");
+        assert!(rt; fails_at(&rt, &a, *k, left), "call {k}");
     }
 }
 

@@ -6,13 +6,12 @@ ghost use Rattle.org_fileset.specs.Set.{AreCommittable};
 
 use super::edited::Edited;
 use super::{
-    has_texts, held_in, holds, image_of, open, opened, opened_disk, read_opened, with_journal,
-    with_one,
+    image_of, open, opened, opened_disk, reads_record, reads_texts, with_gate, with_journal,
 };
 use crate::disk::must;
-use org_disk::{MemoryDisk, Outcome};
+use org_disk::{FileName, MemoryDisk, Outcome};
 use org_fileset::{FileSet, LIMIT, SetFault};
-use org_fixtures::{NEW, OLD, OUTCOMES, TEXT};
+use org_fixtures::{OLD, OUTCOMES, TEXT, bytes_of};
 use org_splice::Editing;
 use std::alloc::Global;
 use std::process::Abort;
@@ -120,31 +119,40 @@ fn calls_with(rt: &impl Abort, alloc: Global, edits: &[Edit]) -> u64 {
     changed(rt, alloc, with_journal(rt, alloc, b""), edits).calls()
 }
 
+// Whether the set reads the two files as they are before a commit of both edits.
+fn reads_before(rt: &impl Abort, alloc: Global, set: &mut FileSet<MemoryDisk>) -> bool {
+    reads_texts(rt, alloc, set, b"* A\n", b"")
+}
+
 // How many calls an opening and the reading of the two files make, over a journal of these bytes.
 fn calls_before_commit(rt: &impl Abort, alloc: Global, journal: &[u8]) -> u64 {
-    let (_, disk) = read_opened(rt, alloc, with_journal(rt, alloc, journal));
-    // the journal was read too
-    disk.calls().saturating_sub(2)
+    let mut set = open(rt, alloc, with_journal(rt, alloc, journal));
+    assert!(rt; reads_before(rt, alloc, &mut set));
+    set.into_disk().calls()
 }
 
 // Whether both files have their new texts; that one of them has it is a failure.
-fn are_changed(rt: &impl Abort, alloc: Global, disk: MemoryDisk) -> bool {
-    let held = held_in(rt, alloc, disk);
-    let are_new = has_texts(&held, b"* Better\n", &TEXT);
+fn has_changed(rt: &impl Abort, alloc: Global, set: &mut FileSet<MemoryDisk>) -> bool {
+    let is_new = reads_texts(rt, alloc, set, b"* Better\n", &TEXT);
     assert!(rt;
-        are_new || has_texts(&held, b"* A\n", b""),
+        is_new || reads_before(rt, alloc, set),
         "one file is old and one is new"
     );
-    are_new
+    is_new
+}
+
+// The same of a disk, once a set is opened over it.
+fn are_changed(rt: &impl Abort, alloc: Global, disk: MemoryDisk) -> bool {
+    let mut set = open(rt, alloc, disk);
+    has_changed(rt, alloc, &mut set)
 }
 
 #[test]
 fn a_commit_leaves_its_record(rt: HostRuntime) {
     let alloc = rt.alloc();
-    let journal = with_one(&rt, alloc, &NEW, 0, 0);
     let disk = changed(&rt, alloc, with_journal(&rt, alloc, b""), &[CAPTURE]);
-    let held = held_in(&rt, alloc, disk);
-    assert!(rt; holds(&held, &journal, &TEXT));
+    let mut set = open(&rt, alloc, disk);
+    assert!(rt; reads_record(&rt, alloc, &mut set, &with_gate(0), &TEXT));
 }
 
 #[test]
@@ -156,10 +164,17 @@ fn a_commit_of_nothing_makes_no_call(rt: HostRuntime) {
 
 // Opens a set over a record of version 1, open or closed: the disk then, where the record is ended.
 fn end_old(rt: &impl Abort, alloc: Global, disk: MemoryDisk) -> MemoryDisk {
-    let closed = with_one(rt, alloc, &OLD, 0, 0);
-    let (held, disk) = read_opened(rt, alloc, disk);
-    assert!(rt; holds(&held, &closed, &TEXT));
-    disk
+    let mut closed = OLD;
+    closed[0] = 0;
+    let mut set = open(rt, alloc, disk);
+    assert!(rt; reads_record(rt, alloc, &mut set, &closed, &TEXT));
+    set.into_disk()
+}
+
+// Whether the journal has a closed gate and a record of version 2.
+fn is_closed_and_new(alloc: Global, disk: &mut MemoryDisk) -> Result<bool, Fail> {
+    let bytes = bytes_of(alloc, disk, &FileName::journal_name(alloc)?)?;
+    Ok(matches!(bytes.as_slice(), [0, _, _, _, _, 2, ..]))
 }
 
 #[test]
@@ -168,8 +183,9 @@ fn an_old_record_is_ended_and_a_new_one_follows(rt: HostRuntime) {
     let disk = end_old(&rt, alloc, with_journal(&rt, alloc, &OLD));
     // opened once more, no file changes
     let disk = end_old(&rt, alloc, disk);
-    let held = held_in(&rt, alloc, changed(&rt, alloc, disk, &[RENAME]));
-    assert!(rt; matches!(held.journal.as_slice(), [0, _, _, _, _, 2, ..]));
+    let disk = changed(&rt, alloc, disk, &[RENAME]);
+    let mut disk = opened_disk(&rt, alloc, disk);
+    assert!(rt; must(&rt, is_closed_and_new(alloc, &mut disk)));
 }
 
 // Whether the gate was opened for what the crash leaves, at the write of the gate and at the sync after it.

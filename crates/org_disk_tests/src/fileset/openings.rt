@@ -1,44 +1,30 @@
 // What opening a set finds, and how it ends a record that a crash left.
 use super::{
-    crashed, has_texts, held_in, holds, image_of, open, opened_disk, opened_over,
-    opened_then_closed, set_file, with_byte, with_journal, with_one,
+    crashed, holds, image_of, open, opened, opened_disk, opened_over, opened_then_closed, reads,
+    reads_record, reads_texts, set_file, with_gate, with_journal,
 };
-use crate::disk::must;
-use org_disk::{Disk, FileName, MemoryDisk, Outcome};
+use crate::disk::{are_texts, must};
+use org_disk::{FileName, MemoryDisk, Outcome};
 use org_fileset::{FileSet, LIMIT, OpenFault, OpenRefused, SetFault};
-use org_fixtures::{NEW, OLD, OUTCOMES, TEXT, bytes_of, numbered_names};
+use org_fixtures::{NEW, OLD, OUTCOMES, TEXT, numbered_names};
 use std::alloc::Global;
 use std::process::Abort;
 use std::test::Fail;
 
-fn length_of(alloc: Global, disk: &mut MemoryDisk, name: &str) -> Result<u64, Fail> {
-    Ok(disk.length(&FileName::new(alloc, name)?)?)
-}
-
 #[test]
 fn opening_ends_a_record(rt: HostRuntime) {
     let alloc = rt.alloc();
-    let held = held_in(&rt, alloc, crashed(&rt, alloc, 1));
-    assert!(rt; has_texts(&held, b"* A\n", &TEXT));
+    let mut set = open(&rt, alloc, crashed(&rt, alloc, 1));
+    assert!(rt; reads_texts(&rt, alloc, &mut set, b"* A\n", &TEXT));
 }
 
-fn are_in_order(names: &[FileName]) -> bool {
-    match names {
-        [a, b, c, d] => {
-            a.as_str() == "a.org"
-                && b.as_str() == "a.org_archive"
-                && c.as_str() == "inbox.org"
-                && d.as_str() == "inbox.org_archive"
-        }
-        _ => false,
-    }
-}
+const IN_ORDER: &[&str] = &["a.org", "a.org_archive", "inbox.org", "inbox.org_archive"];
 
 #[test]
 fn names_are_in_byte_order(rt: HostRuntime) {
     let alloc = rt.alloc();
     let set = open(&rt, alloc, MemoryDisk::new(alloc));
-    assert!(rt; are_in_order(set.names()));
+    assert!(rt; are_texts(set.names(), IN_ORDER));
 }
 
 // The disk once a set over a.org alone was opened.
@@ -49,26 +35,28 @@ fn opened_beside(rt: &impl Abort, alloc: Global, disk: MemoryDisk) -> MemoryDisk
     }
 }
 
-// The length of inbox.org once a set over a.org alone was opened.
-fn inbox_beside(rt: &impl Abort, alloc: Global, disk: MemoryDisk) -> u64 {
-    let mut disk = opened_beside(rt, alloc, disk);
-    must(rt, length_of(alloc, &mut disk, "inbox.org"))
+// Whether inbox.org holds this text once a set over a.org alone was opened.
+fn holds_beside(rt: &impl Abort, alloc: Global, gate: u8, text: &[u8]) -> bool {
+    let mut disk = opened_beside(rt, alloc, crashed(rt, alloc, gate));
+    must(rt, holds(alloc, &mut disk, "inbox.org", text))
 }
 
 #[test]
 fn a_record_counts_for_other_files_too(rt: HostRuntime) {
-    let alloc = rt.alloc();
-    assert!(rt; inbox_beside(&rt, alloc, crashed(&rt, alloc, 1)) == 16);
-    assert!(rt; inbox_beside(&rt, alloc, crashed(&rt, alloc, 0)) == 4);
+    assert!(rt; holds_beside(&rt, rt.alloc(), 1, &TEXT));
+    assert!(rt; holds_beside(&rt, rt.alloc(), 0, b"* TO"));
+}
+
+// Whether an opening leaves a closed record, and the text that a crash left.
+fn leaves_closed(rt: &impl Abort, alloc: Global, gate: u8) -> bool {
+    let mut set = open(rt, alloc, crashed(rt, alloc, gate));
+    reads_record(rt, alloc, &mut set, &with_gate(gate), b"* TO")
 }
 
 #[test]
 fn a_closed_record_is_left(rt: HostRuntime) {
-    let alloc = rt.alloc();
     for gate in [0, 2, 0x55, 0xff] {
-        let journal = with_one(&rt, alloc, &NEW, 0, gate);
-        let held = held_in(&rt, alloc, crashed(&rt, alloc, gate));
-        assert!(rt; holds(&held, &journal, b"* TO"), "gate {gate}");
+        assert!(rt; leaves_closed(&rt, rt.alloc(), gate), "gate {gate}");
     }
 }
 
@@ -84,16 +72,21 @@ fn has_opened_twice(
     let mut disk = crashed(rt, alloc, gate);
     disk.crash_at(k, outcome);
     let disk = opened_disk(rt, alloc, disk);
-    let held = held_in(rt, alloc, image_of(rt, alloc, &disk));
-    held.inbox.as_slice() == text
+    let mut set = open(rt, alloc, image_of(rt, alloc, &disk));
+    must(rt, reads(alloc, &mut set, "inbox.org", text))
+}
+
+// The same in each way in which the call may crash.
+fn crash_at(rt: &impl Abort, alloc: Global, gate: u8, k: u64, text: &[u8]) {
+    for outcome in &OUTCOMES {
+        let has = has_opened_twice(rt, alloc, gate, (k, *outcome), text);
+        assert!(rt; has, "crashed at call {k}");
+    }
 }
 
 fn crash_opening(rt: &impl Abort, alloc: Global, gate: u8, text: &[u8]) {
     for k in 1..24u64 {
-        for outcome in OUTCOMES {
-            let has = has_opened_twice(rt, alloc, gate, (k, outcome), text);
-            assert!(rt; has, "crashed at call {k}");
-        }
+        crash_at(rt, alloc, gate, k, text);
     }
 }
 
@@ -105,34 +98,46 @@ fn a_crashed_opening_goes_on(rt: HostRuntime) {
 
 // The disk that is handed back where a journal of these bytes is bad, over a.org and an absent inbox.org.
 fn refused(rt: &impl Abort, alloc: Global, journal: &[u8]) -> MemoryDisk {
-    let (disk, fault) = opened_then_closed(rt, alloc, with_journal(rt, alloc, journal));
-    assert!(rt;
-        matches!(fault, Some(OpenFault::BadJournal)),
-        "not refused as a bad journal"
-    );
-    disk
-}
-
-// Whether a disk has this journal, its a.org and no inbox.org.
-fn is_as_before(alloc: Global, disk: &mut MemoryDisk, journal: &[u8]) -> Result<bool, Fail> {
-    let lengths = (
-        length_of(alloc, disk, "a.org")?,
-        length_of(alloc, disk, "inbox.org")?,
-    );
-    let left = bytes_of(alloc, disk, &FileName::journal_name(alloc)?)?;
-    Ok(left.as_slice() == journal && lengths == (4, 0))
+    match opened(rt, alloc, with_journal(rt, alloc, journal)) {
+        Err(
+            OpenRefused {
+                disk,
+                fault: OpenFault::BadJournal,
+            },
+        ) => disk,
+        _ => panic!(rt; "not refused as a bad journal"),
+    }
 }
 
 // A journal of these bytes is refused, and the disk is handed back as it was.
 fn refuse(rt: &impl Abort, alloc: Global, journal: &[u8]) {
     let mut disk = refused(rt, alloc, journal);
-    assert!(rt; must(rt, is_as_before(alloc, &mut disk, journal)));
+    let is_left = must(rt, holds(alloc, &mut disk, "orgstore.journal", journal))
+        && must(rt, holds(alloc, &mut disk, "a.org", b"* A\n"))
+        && must(rt, holds(alloc, &mut disk, "inbox.org", b""));
+    assert!(rt; is_left);
 }
 
 // A journal whose patch is from the second byte on, past the end of an absent file.
-fn late(alloc: Global) -> Result<Vec<u8>, Fail> {
-    let from = with_byte(alloc, &OLD, 38, 1)?;
-    with_byte(alloc, &from, 46, 17)
+fn late() -> [u8; 71] {
+    let mut late = OLD;
+    late[38] = 1;
+    late[46] = 17;
+    late
+}
+
+// A header whose record isn't there.
+fn header() -> [u8; 71] {
+    let mut header = OLD;
+    header[15] = 0xff;
+    header
+}
+
+// A journal of another magic.
+fn other() -> [u8; 75] {
+    let mut other = NEW;
+    other[1] = 0x4b;
+    other
 }
 
 #[test]
@@ -140,20 +145,9 @@ fn a_bad_journal_is_refused(rt: HostRuntime) {
     let alloc = rt.alloc();
     // the last byte missing
     refuse(&rt, alloc, &OLD[..70]);
-    refuse(&rt, alloc, &must(&rt, late(alloc)));
-    // a header whose record isn't there
-    refuse(&rt, alloc, &with_one(&rt, alloc, &OLD[..16], 15, 0xff));
-    // another magic
-    refuse(&rt, alloc, &with_one(&rt, alloc, &NEW, 1, 0x4b));
-}
-
-// Opens a set over so many files.
-fn opened_many(
-    alloc: Global,
-    count: u32,
-) -> Result<Result<FileSet<MemoryDisk>, OpenRefused<MemoryDisk>>, Fail> {
-    let names = numbered_names(alloc, count)?;
-    Ok(FileSet::open(alloc, MemoryDisk::new(alloc), names))
+    refuse(&rt, alloc, &late());
+    refuse(&rt, alloc, &header()[..16]);
+    refuse(&rt, alloc, &other());
 }
 
 // Whether a set has so many names; where there is none, they are too many, and refused before any call.
@@ -171,13 +165,19 @@ fn is_taken(
     }
 }
 
+// The same of a set that is opened over so many files.
+fn takes(alloc: Global, count: u32, names: Option<usize>) -> Result<bool, Fail> {
+    let given = numbered_names(alloc, count)?;
+    let opened = FileSet::open(alloc, MemoryDisk::new(alloc), given);
+    Ok(is_taken(&opened, names))
+}
+
 const MANY: &[(u32, Option<usize>)] = &[(256, Some(512)), (257, None)];
 
 #[test]
 fn too_many_names_are_refused(rt: HostRuntime) {
     for (count, names) in MANY {
-        let opened = must(&rt, opened_many(rt.alloc(), *count));
-        assert!(rt; is_taken(&opened, *names), "{count}");
+        assert!(rt; must(&rt, takes(rt.alloc(), *count, *names)), "{count}");
     }
 }
 
@@ -187,48 +187,52 @@ fn make_large(alloc: Global, disk: &mut MemoryDisk, length: usize) -> Result<(),
     set_file(alloc, disk, "a.org", &text)
 }
 
-// What opening answers over an a.org of this length and what a crash left, and how long inbox.org is then.
-fn open_large(rt: &impl Abort, alloc: Global, length: usize) -> (Option<OpenFault>, u64) {
+// Whether a file is refused as too large, or none where it is none.
+fn is_refusal(fault: &Option<OpenFault>, file: Option<&str>) -> bool {
+    match fault {
+        Some(OpenFault::TooLarge(name)) => file == Some(name.as_str()),
+        Some(_) => false,
+        None => file.is_none(),
+    }
+}
+
+// Opens over an a.org of this length and what a crash left: the file that is refused as too large, if one is.
+fn open_large(rt: &impl Abort, alloc: Global, length: usize, file: Option<&str>) {
     let mut disk = crashed(rt, alloc, 1);
     must(rt, make_large(alloc, &mut disk, length));
     let (mut disk, fault) = opened_then_closed(rt, alloc, disk);
-    let inbox = must(rt, length_of(alloc, &mut disk, "inbox.org"));
-    (fault, inbox)
-}
-
-fn is_too_large(fault: &Option<OpenFault>, file: &str) -> bool {
-    match fault {
-        Some(OpenFault::TooLarge(name)) => name.as_str() == file,
-        _ => false,
-    }
+    assert!(rt; is_refusal(&fault, file));
+    assert!(rt; must(rt, holds(alloc, &mut disk, "inbox.org", &TEXT)));
 }
 
 // What the crash had cut short is brought to an end, also where the opening is refused.
 #[test]
 fn files_up_to_the_limit_are_taken(rt: HostRuntime) {
-    let alloc = rt.alloc();
-    assert!(rt; matches!(open_large(&rt, alloc, LIMIT), (None, 16)));
-    let (fault, inbox) = open_large(&rt, alloc, LIMIT + 1);
-    assert!(rt; is_too_large(&fault, "a.org") && inbox == 16);
+    open_large(&rt, rt.alloc(), LIMIT, None);
+    open_large(&rt, rt.alloc(), LIMIT + 1, Some("a.org"));
 }
 
-fn read_failing(rt: &impl Abort, set: &mut FileSet<MemoryDisk>, name: &FileName) {
+// Why a.org isn't read, if it isn't.
+fn fault_of_read(set: &mut FileSet<MemoryDisk>, name: &FileName) -> Option<SetFault> {
+    set.read(name).err()
+}
+
+// One of the reads fails, and each that follows.
+fn read_failing(rt: &impl Abort, alloc: Global, set: &mut FileSet<MemoryDisk>) {
+    let name = FileName::new(alloc, "a.org").expect(rt, "a name");
     let mut failed = false;
     for _ in 0..8 {
-        if let Err(SetFault::Device) = set.read(name) {
-            failed = true;
-        }
+        failed |= fault_of_read(set, &name) == Some(SetFault::Device);
     }
     assert!(rt; failed && set.is_broken());
-    assert!(rt; matches!(set.read(name), Err(SetFault::Broken)));
+    assert!(rt; fault_of_read(set, &name) == Some(SetFault::Broken));
 }
 
 #[test]
 fn a_failed_read_breaks_the_set(rt: HostRuntime) {
     let alloc = rt.alloc();
-    let name = FileName::new(alloc, "a.org").expect(&rt, "a name");
     let mut disk = opened_disk(&rt, alloc, crashed(&rt, alloc, 1));
     disk.fail_at(12);
     let mut set = open(&rt, alloc, disk);
-    read_failing(&rt, &mut set, &name);
+    read_failing(&rt, alloc, &mut set);
 }

@@ -1,5 +1,5 @@
 // Calls of the system of which one fails.
-use super::{done, holds, make_empty, name, remove};
+use super::{holds, make_folder, name, remove};
 use crate::disk::must;
 use org_disk::{Disk, DiskFault, FileName};
 use org_folder::{FolderDisk, Unknown, lock_folder};
@@ -193,11 +193,11 @@ fn fails_once(disk: &mut FolderDisk<Failing, Unknown>, a: &FileName) -> bool {
 fn each_call_of_the_system_fails_once(rt: HostRuntime) {
     let a = must(&rt, name(&rt, "a.org"));
     for fails_in in 1..13u64 {
-        done(&rt, make_empty(&rt, "one_fails"));
+        must(&rt, make_folder(&rt, "one_fails", &[]));
         let mut disk = must(&rt, failing_disk(&rt, fails_in));
         assert!(rt; fails_once(&mut disk, &a), "call {fails_in}");
         let held = must(&rt, holds(&rt, "one_fails/a.org", b"* A\n* C\n"));
         assert!(rt; held, "call {fails_in}");
     }
-    done(&rt, remove(&rt, "one_fails"));
+    must(&rt, remove(&rt, "one_fails"));
 }

@@ -1,9 +1,8 @@
 // The Org files of a folder.
-use super::{done, link, make, make_empty, put, remove};
-use crate::disk::must;
+use super::{Entry, make_folder, remove};
+use crate::disk::{are_texts, must};
 use org_disk::{FileName, NameFault};
 use org_folder::{lock_folder, org_file, org_files};
-use std::io;
 use std::test::Fail;
 
 #[test]
@@ -15,23 +14,15 @@ fn names_of_org_files(rt: HostRuntime) {
 }
 
 // Two Org files, of which one is a link that leads nowhere, and what is none.
-fn make_listed(rt: &HostRuntime) -> io::Result<()> {
-    make_empty(rt, "listed")?;
-    put(rt, "listed/a.org", b"* A\n")?;
-    put(rt, "listed/a.org_archive", b"* B\n")?;
-    put(rt, "listed/.hidden.org", b"")?;
-    put(rt, "listed/notes.txt", b"")?;
-    make(rt, "listed/folder.org")?;
-    link(rt, "folder.org", "listed/linked_folder.org")?;
-    link(rt, "nowhere", "listed/link.org")
-}
-
-fn are_listed(names: &[FileName]) -> bool {
-    match names {
-        [first, second] => first.as_str() == "a.org" && second.as_str() == "link.org",
-        _ => false,
-    }
-}
+const LISTED: &[(&str, Entry)] = &[
+    ("listed/a.org", Entry::File(b"* A\n")),
+    ("listed/a.org_archive", Entry::File(b"* B\n")),
+    ("listed/.hidden.org", Entry::File(b"")),
+    ("listed/notes.txt", Entry::File(b"")),
+    ("listed/folder.org", Entry::Folder),
+    ("listed/linked_folder.org", Entry::Link("folder.org")),
+    ("listed/link.org", Entry::Link("nowhere")),
+];
 
 // The Org files of a folder, in order.
 fn listed(rt: &HostRuntime, folder: &str) -> Result<Vec<FileName>, Fail> {
@@ -46,8 +37,9 @@ fn fails_listed(rt: &HostRuntime, folder: &str) -> Result<bool, Fail> {
 
 #[test]
 fn files_of_a_folder(rt: HostRuntime) {
-    done(&rt, make_listed(&rt));
-    assert!(rt; are_listed(must(&rt, listed(&rt, "listed")).as_slice()));
+    must(&rt, make_folder(&rt, "listed", LISTED));
+    let names = must(&rt, listed(&rt, "listed"));
+    assert!(rt; are_texts(&names, &["a.org", "link.org"]));
     assert!(rt; must(&rt, fails_listed(&rt, "listed/nowhere")));
-    done(&rt, remove(&rt, "listed"));
+    must(&rt, remove(&rt, "listed"));
 }

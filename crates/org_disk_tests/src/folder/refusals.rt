@@ -1,108 +1,88 @@
 // Calls that the system refuses.
-use super::{
-    Folder, append, disk, done, is_there, length, link, make, make_empty, put, remove, sync, take,
-    write,
-};
+use super::{Call, Entry, Step, go, go_on, is_there, make_folder, remove};
 use crate::disk::must;
-use org_disk::Disk;
-use std::fs::{File, Permissions};
-use std::os::unix::fs::PermissionsExt;
-use std::process::Abort;
-use std::{fs, io};
+use org_disk::DiskFault;
+use std::fs::File;
 
-fn make_failing(rt: &HostRuntime) -> io::Result<()> {
-    make_empty(rt, "failing")?;
-    put(rt, "failing/a.org", b"* A\n")?;
-    put(rt, "failing/was_file.org", b"")?;
-    link(rt, "nowhere/target", "failing/link.org")
-}
+const FAILING: &[(&str, Entry)] = &[
+    ("failing/a.org", Entry::File(b"* A\n")),
+    ("failing/was_file.org", Entry::File(b"")),
+    ("failing/link.org", Entry::Link("nowhere/target")),
+];
 
-fn make_folder_of_file(rt: &HostRuntime) -> io::Result<()> {
-    take(rt, "failing/was_file.org")?;
-    make(rt, "failing/was_file.org")
-}
+// Failures that whoever may do all meets too: a name that became a folder's, and a link into a folder that isn't there.
+// Each is counted, and later calls go on.
+const COUNTED: &[Step] = &[
+    Step::Other("failing/was_file.org", Entry::Gone),
+    Step::Other("failing/was_file.org", Entry::Folder),
+    Step::Call("was_file.org", Call::Length, Err(DiskFault), 1),
+    Step::Call("was_file.org", Call::Write(b"* B\n"), Err(DiskFault), 2),
+    Step::Call("link.org", Call::Length, Ok(0), 2),
+    Step::Call("link.org", Call::Write(b"* B\n"), Err(DiskFault), 3),
+    Step::Call("a.org", Call::Append(b"* B\n"), Ok(0), 3),
+    Step::Call("a.org", Call::Sync, Ok(0), 3),
+    Step::Call("a.org", Call::Length, Ok(8), 3),
+];
 
-fn fails_at_folder(rt: &(impl Abort + AllocGlobal), disk: &mut Folder) {
-    assert!(rt; length(rt, disk, "was_file.org").is_err());
-    assert!(rt; disk.failures() == 1);
-    assert!(rt; write(rt, disk, "was_file.org", b"* B\n").is_err());
-    assert!(rt; disk.failures() == 2);
-}
-
-fn fails_at_link(rt: &(impl Abort + AllocGlobal), disk: &mut Folder) {
-    assert!(rt; length(rt, disk, "link.org").expect(rt, "a call") == 0);
-    assert!(rt; write(rt, disk, "link.org", b"* B\n").is_err());
-    assert!(rt; disk.failures() == 3);
-}
-
-fn goes_on(rt: &(impl Abort + AllocGlobal), disk: &mut Folder) {
-    append(rt, disk, "a.org", b"* B\n").expect(rt, "a call");
-    sync(rt, disk, "a.org").expect(rt, "a call");
-    assert!(rt; length(rt, disk, "a.org").expect(rt, "a call") == 8);
-    assert!(rt; disk.failures() == 3);
-}
-
-// Failures that whoever may do all meets too: a name that became a folder's, a link into a folder that isn't there,
-// and a device that is full. Each is counted, and later calls go on.
 #[test]
 fn failures_are_counted(rt: HostRuntime) {
-    done(&rt, make_failing(&rt));
-    let mut disk = must(&rt, disk(&rt, "failing"));
-    done(&rt, make_folder_of_file(&rt));
-    fails_at_folder(&rt, &mut disk);
-    fails_at_link(&rt, &mut disk);
-    goes_on(&rt, &mut disk);
-    done(&rt, remove(&rt, "failing"));
+    go(&rt, &rt, "failing", FAILING, COUNTED);
 }
 
-fn link_device(rt: &HostRuntime, has_device: bool) -> io::Result<()> {
-    if has_device {
-        link(rt, "/dev/full", "full/full.org")?;
-    }
-    Ok(())
-}
+// A write to a device that is full fails; another file is written then as if nothing had failed.
+const FULL: &[Step] = &[
+    Step::Other("full/full.org", Entry::Link("/dev/full")),
+    Step::Call("full.org", Call::Write(b"* A\n"), Err(DiskFault), 1),
+    Step::Call("a.org", Call::Write(b"* A\n"), Ok(0), 1),
+    Step::Call("a.org", Call::Sync, Ok(0), 1),
+    Step::Call("a.org", Call::Length, Ok(4), 1),
+];
 
-// A write to the device fails where there is one; another file is written then as if nothing had failed.
-fn assert_full(rt: &(impl Abort + AllocGlobal), disk: &mut Folder, has_device: bool) {
-    assert!(rt; write(rt, disk, "full.org", b"* A\n").is_err() == has_device);
-    assert!(rt; disk.failures() == u64::from(has_device));
-    write(rt, disk, "a.org", b"* A\n").expect(rt, "a call");
-    sync(rt, disk, "a.org").expect(rt, "a call");
-    assert!(rt; length(rt, disk, "a.org").expect(rt, "a call") == 4);
-    assert!(rt; disk.failures() == u64::from(has_device));
-}
+// The same where there is no such device.
+const NOT_FULL: &[Step] = &[
+    Step::Call("full.org", Call::Write(b"* A\n"), Ok(0), 0),
+    Step::Call("a.org", Call::Write(b"* A\n"), Ok(0), 0),
+    Step::Call("a.org", Call::Sync, Ok(0), 0),
+    Step::Call("a.org", Call::Length, Ok(4), 0),
+];
 
 #[test]
 fn full_device(rt: HostRuntime) {
-    done(&rt, make_empty(&rt, "full"));
-    let has_device = is_there(&rt, "/dev/full");
-    let mut disk = must(&rt, disk(&rt, "full"));
-    done(&rt, link_device(&rt, has_device));
-    assert_full(&rt, &mut disk, has_device);
-    done(&rt, remove(&rt, "full"));
+    let steps = if is_there(&rt, "/dev/full") {
+        FULL
+    } else {
+        NOT_FULL
+    };
+    go(&rt, &rt, "full", &[], steps);
 }
 
 // Two files, of which one may not be read and none be written.
-fn make_closed(rt: &HostRuntime) -> io::Result<()> {
-    make_empty(rt, "closed")?;
-    put(rt, "closed/a.org", b"* A\n")?;
-    put(rt, "closed/b.org", b"* B\n")?;
-    fs::set_permissions(rt, "closed/a.org", Permissions::from_mode(0o000))?;
-    fs::set_permissions(rt, "closed/b.org", Permissions::from_mode(0o444))
+const CLOSED: &[(&str, Entry)] = &[
+    ("closed/a.org", Entry::File(b"* A\n")),
+    ("closed/b.org", Entry::File(b"* B\n")),
+    ("closed/a.org", Entry::Mode(0o000)),
+    ("closed/b.org", Entry::Mode(0o444)),
+];
+
+// What a call answers that may be made, or may not.
+fn answer(may: bool, answer: u64) -> Result<u64, DiskFault> {
+    if may { Ok(answer) } else { Err(DiskFault) }
 }
 
 // A file is read and another one written past its four bytes exactly where that may be; what fails is counted.
-fn assert_permitted(
-    rt: &(impl Abort + AllocGlobal),
-    disk: &mut Folder,
-    may_read: bool,
-    may_write: bool,
-) {
-    assert!(rt; length(rt, disk, "a.org").is_ok() == may_read);
-    assert!(rt; disk.failures() == u64::from(!may_read));
-    assert!(rt; length(rt, disk, "b.org").expect(rt, "a call") == 4);
-    assert!(rt; append(rt, disk, "b.org", b"* C\n").is_ok() == may_write);
-    assert!(rt; disk.failures() == u64::from(!may_read) + u64::from(!may_write));
+fn permitted(may_read: bool, may_write: bool) -> [Step; 3] {
+    let unread = u64::from(!may_read);
+    let failures = unread + u64::from(!may_write);
+    [
+        Step::Call("a.org", Call::Length, answer(may_read, 4), unread),
+        Step::Call("b.org", Call::Length, Ok(4), unread),
+        Step::Call(
+            "b.org",
+            Call::Append(b"* C\n"),
+            answer(may_write, 0),
+            failures,
+        ),
+    ]
 }
 
 fn may_write(rt: &HostRuntime, path: &str) -> bool {
@@ -112,10 +92,9 @@ fn may_write(rt: &HostRuntime, path: &str) -> bool {
 // Whoever may do all may open each file; then these are none that can't be read or written.
 #[test]
 fn files_without_permission(rt: HostRuntime) {
-    done(&rt, make_closed(&rt));
+    must(&rt, make_folder(&rt, "closed", CLOSED));
     let may_read = File::open(&rt, "closed/a.org").is_ok();
     let may_write = may_write(&rt, "closed/b.org");
-    let mut disk = must(&rt, disk(&rt, "closed"));
-    assert_permitted(&rt, &mut disk, may_read, may_write);
-    done(&rt, remove(&rt, "closed"));
+    go_on(&rt, &rt, "closed", &permitted(may_read, may_write));
+    must(&rt, remove(&rt, "closed"));
 }

@@ -1,13 +1,15 @@
 // Journals on a disk.
-ghost use Rattle.std.specs.Prelude.{◌≡◌};
+ghost use Rattle.std.specs.Prelude.{◌≡◌, ◌≤◌, length, OnOk};
+ghost use Rattle.org_disk.specs.Disk.{IsStable};
 ghost use Rattle.org_disk.specs.Names.{journal_name};
 
 use super::{ALL, Body, TWO, body_of, is_capture, joined};
 use crate::disk::must;
-use org_disk::{Disk, FileName, MemoryDisk};
+use org_disk::{Disk, DiskFault, FileName, MemoryDisk};
 use org_fixtures::{NEW, OLD, disk_with};
 use org_journal::{FindFault, Found, arm, close_gate, find, open_gate, prepare};
 use std::alloc::Global;
+use std::process::Abort;
 use std::test::Fail;
 
 #[derive(Clone, Copy, PartialEq, Eq)]
@@ -38,11 +40,13 @@ fn with_journal(alloc: Global, journal: &[u8], text: &[u8]) -> Result<MemoryDisk
 }
 
 // What `find` says over a journal of this gate and these bytes behind it.
-fn answer_of(alloc: Global, gate: u8, body: &[u8], text: &[u8]) -> Result<Answer, Fail> {
-    let bytes = joined(alloc, &[gate], body)?;
-    let mut disk = with_journal(alloc, &bytes, text)?;
-    let journal = FileName::journal_name(alloc)?;
-    Ok(answer_in(&find(alloc, &mut disk, &journal)))
+fn answer_of(rt: &(impl Abort + AllocGlobal), gate: u8, body: &Body, text: &[u8]) -> Answer {
+    let alloc = rt.alloc();
+    let body = body_of(alloc, body).expect(rt, "memory");
+    let bytes = joined(alloc, &[gate], &body).expect(rt, "memory");
+    let mut disk = must(rt, with_journal(alloc, &bytes, text));
+    let journal = FileName::journal_name(alloc).expect(rt, "memory");
+    answer_in(&find(alloc, &mut disk, &journal))
 }
 
 // A patch that begins past the end of a file that is absent, and at the end of one of one byte.
@@ -52,7 +56,7 @@ const LATE: &[(usize, &[u8])] = &[(37, &[1, 0, 0, 0, 0, 0, 0, 0, 17])];
 const LONG: &[(usize, &[u8])] = &[(45, &[17])];
 
 // A gate, the bytes behind it, the text of inbox.org, and what `find` says.
-const ROWS: &[(u8, Body, &[u8], Answer)] = &[
+static ROWS: &[(u8, Body, &[u8], Answer)] = &[
     (1, (&OLD, ALL, &[], b""), b"", Answer::Capture),
     (1, (&NEW, ALL, &[], b""), b"", Answer::Capture),
     (1, (&OLD, ALL, &[], b"\0"), b"", Answer::Capture),
@@ -81,32 +85,40 @@ const ROWS: &[(u8, Body, &[u8], Answer)] = &[
 #[test]
 fn journals_on_a_disk(rt: HostRuntime) {
     for (i, (gate, body, text, expected)) in ROWS.iter().enumerate() {
-        let body = body_of(rt.alloc(), body).expect(&rt, "memory");
-        let answer = must(&rt, answer_of(rt.alloc(), *gate, &body, text));
-        assert!(rt; answer == *expected, "row {i}");
+        assert!(rt; answer_of(&rt, *gate, body, text) == *expected, "row {i}");
     }
 }
 
-// A body behind an open gate, as a commit leaves it until its files are written; then the gate is closed.
+// A body behind an open gate, as a commit leaves it until its files are written.
+fn open<D: Disk>(disk: &mut D, journal: &FileName, body: &[u8]) -> Result<(), DiskFault>
+    requires { journal.now ≡ journal_name }
+    ensures stable { D.honest disk.new → OnOk result (IsStable (D.files disk.new journal_name)) }
+    ensures nonempty { D.honest disk.new → OnOk result
+        (1 ≤ length (D.files disk.new journal_name).content) }
+{
+    disk.sync(journal)?;
+    if disk.length(journal)? >= 16 {
+        return Err(DiskFault);
+    }
+    prepare(disk, journal)?;
+    arm(disk, journal, body)?;
+    open_gate(disk, journal)
+}
+
+// The gate is open then, and is closed.
 fn opened_and_closed<D: Disk>(
     alloc: Global,
     disk: &mut D,
     journal: &FileName,
     body: &[u8],
-) -> Result<bool, Fail>
+) -> Result<bool, DiskFault>
     requires { journal.now ≡ journal_name }
 {
-    disk.sync(journal)?;
-    if disk.length(journal)? >= 16 {
-        return Ok(false);
-    }
-    prepare(disk, journal)?;
-    arm(disk, journal, body)?;
-    open_gate(disk, journal)?;
-    let open = answer_in(&find(alloc, disk, journal));
+    open(disk, journal, body)?;
+    let opened = answer_in(&find(alloc, disk, journal));
     close_gate(disk, journal)?;
     let closed = answer_in(&find(alloc, disk, journal));
-    Ok(open == Answer::Capture && closed == Answer::Closed)
+    Ok(opened == Answer::Capture && closed == Answer::Closed)
 }
 
 #[test]
@@ -114,5 +126,5 @@ fn the_gate_opens_and_closes(rt: HostRuntime) {
     let journal = FileName::journal_name(rt.alloc()).expect(&rt, "memory");
     let mut disk = MemoryDisk::new(rt.alloc());
     let both = opened_and_closed(rt.alloc(), &mut disk, &journal, &NEW[1..]);
-    assert!(rt; must(&rt, both));
+    assert!(rt; both == Ok(true));
 }

@@ -21,6 +21,14 @@ fn refuses(alloc: Global, bytes: &[u8]) -> Result<bool, AllocError> {
     Ok(is_refused(alloc, bytes) && is_refused(alloc, &longer))
 }
 
+fn refuses_body(alloc: Global, body: &Body) -> Result<bool, AllocError> {
+    refuses(alloc, &body_of(alloc, body)?)
+}
+
+fn is_formed(alloc: Global, body: &Body) -> Result<bool, AllocError> {
+    Ok(well_formed(&body_of(alloc, body)?))
+}
+
 // The bytes are the capture's, and so are they with others behind them.
 fn accept(rt: &impl Abort, alloc: Global, bytes: &[u8]) {
     let longer = joined(alloc, bytes, &OLD[1..]).expect(rt, "memory");
@@ -33,7 +41,7 @@ fn both_versions_are_read(rt: HostRuntime) {
     accept(&rt, rt.alloc(), &NEW[1..]);
 }
 
-const MALFORMED: &[Body] = &[
+static MALFORMED: &[Body] = &[
     // version 1
     (&OLD, ALL, &[(3, &[0x4b])], b""), // a wrong letter
     (&OLD, ALL, &[(4, &[3])], b""), // version 3
@@ -62,8 +70,7 @@ const MALFORMED: &[Body] = &[
 #[test]
 fn malformed_journals(rt: HostRuntime) {
     for (i, body) in MALFORMED.iter().enumerate() {
-        let bytes = body_of(rt.alloc(), body).expect(&rt, "memory");
-        assert!(rt; refuses(rt.alloc(), &bytes) == Ok(true), "row {i}");
+        assert!(rt; refuses_body(rt.alloc(), body) == Ok(true), "row {i}");
     }
 }
 
@@ -83,8 +90,7 @@ const FORMED: &[(Body, bool)] = &[
 #[test]
 fn well_formed_journals(rt: HostRuntime) {
     for (i, (body, expected)) in FORMED.iter().enumerate() {
-        let bytes = body_of(rt.alloc(), body).expect(&rt, "memory");
-        assert!(rt; well_formed(&bytes) == *expected, "row {i}");
+        assert!(rt; is_formed(rt.alloc(), body) == Ok(*expected), "row {i}");
     }
 }
 

@@ -1,10 +1,8 @@
 // Journals that a crash or an older program left.
-use super::crashes::{
-    CAPTURE, calls_of_opening, crashed, crashed_opening, files, image, prefix_in,
-};
-use super::{Ended, is_answered, must, run};
+use super::crashes::{CAPTURE, CAPTURES, calls_of_opening, done_in, files, left};
+use super::{Ended, image, must, run, served};
 use org_disk::{FileName, MemoryDisk, Outcome};
-use org_fixtures::{OLD, OUTCOMES, bytes_of};
+use org_fixtures::{OLD, OUTCOMES, bytes_of, file_name};
 use org_store::OpenFault;
 use std::alloc::Global;
 use std::process::Abort;
@@ -16,135 +14,121 @@ const RECORD: u64 = 3;
 const GATE: u64 = 5;
 
 // What a crash at this call behind the opening leaves, in a capture over the disk.
-fn crashed_behind(
-    alloc: Global,
+fn left_behind(
+    rt: &(impl Abort + AllocGlobal),
     disk: &MemoryDisk,
     call: u64,
     outcome: Outcome,
-) -> Result<MemoryDisk, Fail> {
-    let call = calls_of_opening(alloc, disk)?.saturating_add(call);
-    let (_, left) = crashed(alloc, image(alloc, disk)?, 1, CAPTURE, call, outcome)?;
-    Ok(left)
+) -> MemoryDisk {
+    let call = calls_of_opening(rt, disk).saturating_add(call);
+    left(rt, image(rt, disk), CAPTURE, (call, outcome))
 }
 
 // What a crash at the write that opens the gate leaves.
-fn crashed_at_gate(alloc: Global, outcome: Outcome) -> Result<MemoryDisk, Fail> {
-    crashed_behind(alloc, &files(alloc)?, GATE, outcome)
+fn left_at_gate(rt: &(impl Abort + AllocGlobal), outcome: Outcome) -> MemoryDisk {
+    left_behind(rt, &files(rt, CAPTURES), GATE, outcome)
 }
 
-fn journal_of(alloc: Global, disk: MemoryDisk) -> Result<Vec<u8>, Fail> {
+fn bytes_in(alloc: Global, disk: &mut MemoryDisk, name: &str) -> Result<Vec<u8>, Fail> {
+    bytes_of(alloc, disk, &file_name(alloc, name)?)
+}
+
+// The gate and the version of a journal, 0 where it isn't so long.
+fn gate_and_version(journal: &[u8]) -> (u8, u8) {
+    match journal {
+        [gate, _, _, _, _, version, ..] => (*gate, *version),
+        [gate, ..] => (*gate, 0),
+        [] => (0, 0),
+    }
+}
+
+// The same of a disk's journal.
+fn journal_in(rt: &(impl Abort + AllocGlobal), disk: MemoryDisk) -> (u8, u8) {
     let mut disk = disk;
-    bytes_of(alloc, &mut disk, &FileName::journal_name(alloc)?)
+    let journal = must(rt, bytes_in(rt.alloc(), &mut disk, "orgstore.journal"));
+    gate_and_version(&journal)
 }
 
-// The byte that is the gate.
-fn gate_of(alloc: Global, disk: MemoryDisk) -> Result<u8, Fail> {
-    let journal = journal_of(alloc, disk)?;
-    Ok(*journal.first().ok_or("no gate")?)
+// The gate once a disk was opened.
+pub fn gate_opened(rt: &(impl Abort + AllocGlobal), disk: MemoryDisk) -> u8 {
+    journal_in(rt, run(rt, disk, 1, b"").disk).0
 }
 
 #[test]
 fn the_gate_goes_out(rt: HostRuntime) {
-    let alloc = rt.alloc();
-    let left = must(&rt, crashed_at_gate(alloc, Outcome::Fill(1)));
-    assert!(rt; must(&rt, gate_of(alloc, left)) == 1);
-    let left = must(&rt, crashed_at_gate(alloc, Outcome::Fill(1)));
-    assert!(rt; must(&rt, prefix_in(alloc, left)) == 1);
-}
-
-// The gate once a disk was opened.
-pub fn gate_opened(alloc: Global, disk: MemoryDisk) -> Result<u8, Fail> {
-    gate_of(alloc, run(alloc, disk, 1, b"")?.disk)
+    let left = left_at_gate(&rt, Outcome::Fill(1));
+    assert!(rt; done_in(&rt, image(&rt, &left), CAPTURES) == 1);
+    assert!(rt; journal_in(&rt, left).0 == 1);
 }
 
 // A byte that closes the gate is left alone, also where its opening is stopped.
-fn keeps_gate(rt: &(impl Abort + AllocGlobal), left: &MemoryDisk, call: u64) {
-    let alloc = rt.alloc();
-    for outcome in OUTCOMES {
-        let image = must(rt, image(alloc, left));
-        let again = must(rt, crashed_opening(alloc, image, call, outcome));
-        assert!(rt; must(rt, gate_opened(alloc, again)) == 0x55);
-    }
-}
-
-fn keeps_gate_at_every_call(rt: &(impl Abort + AllocGlobal), left: &MemoryDisk) {
-    let opening = must(rt, calls_of_opening(rt.alloc(), left));
-    for call in 0..opening {
-        keeps_gate(rt, left, call + 1);
+fn keeps_gate(rt: &(impl Abort + AllocGlobal), disk: &MemoryDisk, call: u64) {
+    for outcome in &OUTCOMES {
+        let again = left(rt, image(rt, disk), b"", (call, *outcome));
+        assert!(rt; gate_opened(rt, again) == 0x55);
     }
 }
 
 #[test]
 fn another_byte_goes_out(rt: HostRuntime) {
-    let alloc = rt.alloc();
-    let outcome = Outcome::Fill(0x55);
-    let left = must(&rt, crashed_at_gate(alloc, outcome));
-    assert!(rt; must(&rt, gate_opened(alloc, left)) == 0x55);
-    let left = must(&rt, crashed_at_gate(alloc, outcome));
-    assert!(rt; must(&rt, prefix_in(alloc, left)) == 0);
-    keeps_gate_at_every_call(&rt, &must(&rt, crashed_at_gate(alloc, outcome)));
+    let left = left_at_gate(&rt, Outcome::Fill(0x55));
+    assert!(rt; gate_opened(&rt, image(&rt, &left)) == 0x55);
+    assert!(rt; done_in(&rt, image(&rt, &left), CAPTURES) == 0);
+    let opening = calls_of_opening(&rt, &left);
+    for call in 0..opening {
+        keeps_gate(&rt, &left, call + 1);
+    }
+}
+
+// Gives a disk a journal of these bytes.
+fn set_journal(alloc: Global, disk: &mut MemoryDisk, journal: &[u8]) -> Result<(), Fail> {
+    Ok(disk.set(&FileName::journal_name(alloc)?, journal)?)
 }
 
 // The two files, and a journal of these bytes.
-fn with_journal(alloc: Global, journal: &[u8]) -> Result<MemoryDisk, Fail> {
-    let mut disk = files(alloc)?;
-    disk.set(&FileName::journal_name(alloc)?, journal)?;
-    Ok(disk)
+fn with_journal(rt: &(impl Abort + AllocGlobal), journal: &[u8]) -> MemoryDisk {
+    let mut disk = files(rt, CAPTURES);
+    must(rt, set_journal(rt.alloc(), &mut disk, journal));
+    disk
 }
 
 // A journal of one byte that reads as an open gate has no record.
 #[test]
 fn a_journal_of_one_byte(rt: HostRuntime) {
-    let alloc = rt.alloc();
-    for outcome in OUTCOMES {
-        let disk = must(&rt, with_journal(alloc, b"\x01"));
-        let left = must(&rt, crashed_behind(alloc, &disk, RECORD, outcome));
-        assert!(rt; must(&rt, prefix_in(alloc, left)) == 0);
-    }
-}
-
-// The gate and the version of a journal.
-fn gate_and_version(journal: &[u8]) -> Option<(u8, u8)> {
-    match journal {
-        [gate, _, _, _, _, version, ..] => Some((*gate, *version)),
-        _ => None,
+    let disk = with_journal(&rt, b"\x01");
+    for outcome in &OUTCOMES {
+        let left = left_behind(&rt, &disk, RECORD, *outcome);
+        assert!(rt; done_in(&rt, left, CAPTURES) == 0);
     }
 }
 
 // The gate and the version of the old journal once these lines were served.
-fn journal_behind(alloc: Global, lines: &[u8]) -> Result<(u8, u8), Fail> {
-    let ended = run(alloc, with_journal(alloc, &OLD)?, 1, lines)?;
-    let journal = journal_of(alloc, ended.disk)?;
-    Ok(gate_and_version(&journal).ok_or("no journal")?)
+fn journal_behind(rt: &(impl Abort + AllocGlobal), lines: &[u8]) -> (u8, u8) {
+    journal_in(rt, run(rt, with_journal(rt, &OLD), 1, lines).disk)
 }
 
 #[test]
 fn an_old_journal(rt: HostRuntime) {
-    let alloc = rt.alloc();
     let lines = b"show\tinbox.org\n";
-    let wanted = b"text 16\n* TODO Call Ann\n\n";
-    let disk = must(&rt, with_journal(alloc, &OLD));
-    assert!(rt; must(&rt, is_answered(alloc, disk, 1, lines, wanted)));
-    assert!(rt; must(&rt, journal_behind(alloc, lines)) == (0, 1));
-    assert!(rt; must(&rt, journal_behind(alloc, CAPTURE)) == (0, 2));
+    let written = served(&rt, with_journal(&rt, &OLD), 1, lines);
+    assert!(rt; written.as_slice() == b"text 16\n* TODO Call Ann\n\n".as_slice());
+    assert!(rt; journal_behind(&rt, lines) == (0, 1));
+    assert!(rt; journal_behind(&rt, CAPTURE) == (0, 2));
 }
 
 // Its record is longer than the file.
 const BAD: &[u8] = b"\x01ORGJ\x01\0\0\0\0\0\0\0\0\0\xff";
 
-// Whether a disk has the bad journal, and a.org as it was.
-fn is_untouched(alloc: Global, disk: MemoryDisk) -> Result<bool, Fail> {
-    let mut disk = disk;
-    let text = bytes_of(alloc, &mut disk, &FileName::new(alloc, "a.org")?)?;
-    let journal = journal_of(alloc, disk)?;
-    Ok(journal.as_slice() == BAD && text.as_slice() == b"* A\n".as_slice())
+// Whether a file of the disk holds these bytes.
+fn holds(rt: &(impl Abort + AllocGlobal), disk: &mut MemoryDisk, name: &str, bytes: &[u8]) -> bool {
+    must(rt, bytes_in(rt.alloc(), disk, name)).as_slice() == bytes
 }
 
 #[test]
 fn a_bad_journal(rt: HostRuntime) {
-    let alloc = rt.alloc();
-    let disk = must(&rt, with_journal(alloc, BAD));
-    let Ended { written, end, disk } = must(&rt, run(alloc, disk, 1, CAPTURE));
-    assert!(rt; must(&rt, is_untouched(alloc, disk)));
+    let Ended { written, end, disk } = run(&rt, with_journal(&rt, BAD), 1, CAPTURE);
     assert!(rt; matches!(end, Err(OpenFault::BadJournal)) && written.is_empty());
+    let mut disk = disk;
+    assert!(rt; holds(&rt, &mut disk, "orgstore.journal", BAD));
+    assert!(rt; holds(&rt, &mut disk, "a.org", b"* A\n"));
 }

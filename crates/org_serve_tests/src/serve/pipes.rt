@@ -1,9 +1,8 @@
 // Input that comes in pieces, and pipes that fail.
 ghost use Rattle.org_serve.specs.Group.{IsGroup};
 
-use super::{must, serve_over, served};
+use super::{must, serve_over, served, two};
 use org_disk::MemoryDisk;
-use org_fixtures::two_files;
 use org_serve::{PipeFault, ServeEnd, Served, Sink, Source};
 use std::alloc::Global;
 use std::process::Abort;
@@ -100,30 +99,31 @@ impl Sink for Page {
 
 // Serves these pieces over a disk, in groups of this size: how it ends, and the disk then.
 pub fn pipe(
-    alloc: Global,
+    rt: &(impl Abort + AllocGlobal),
     disk: MemoryDisk,
     group: u32,
     reader: &mut Pieces<'_>,
     writer: &mut Page,
     turns: u64,
-) -> Result<(ServeEnd, MemoryDisk), Fail>
+) -> (ServeEnd, MemoryDisk)
     requires { IsGroup group }
 {
-    let Served { disk, end } = serve_over(alloc, disk, group, reader, writer, turns)?;
-    Ok((end?, disk))
+    let Served { disk, end } = serve_over(rt, disk, group, reader, writer, turns);
+    match end {
+        Ok(end) => (end, disk),
+        Err(_) => panic!(rt; "not opened"),
+    }
 }
 
-// Serves these pieces over a disk, in groups of one: how it ends, and what is written.
-fn paged(
-    alloc: Global,
-    disk: MemoryDisk,
+// Serves these pieces over an empty a.org and a b.org of one heading, in groups of one: how it ends.
+fn end_of(
+    rt: &(impl Abort + AllocGlobal),
     reader: &mut Pieces<'_>,
-    writer: Page,
+    writer: &mut Page,
     turns: u64,
-) -> Result<(ServeEnd, Vec<u8>), Fail> {
-    let mut writer = writer;
-    let (end, _) = pipe(alloc, disk, 1, reader, &mut writer, turns)?;
-    Ok((end, writer.bytes))
+) -> ServeEnd {
+    let (end, _) = pipe(rt, two(rt, b"", b"* Z\n"), 1, reader, writer, turns);
+    end
 }
 
 // Many lines, longer than one piece, and the start of one more.
@@ -140,21 +140,15 @@ fn many_lines(alloc: Global) -> Result<Vec<u8>, Fail> {
 
 // In pieces of this size the input is answered so.
 fn answers_pieces(rt: &(impl Abort + AllocGlobal), size: usize, input: &[u8], wanted: &[u8]) {
-    let alloc = rt.alloc();
-    let disk = must(rt, two_files(alloc, b"", b"* Z\n"));
-    let mut reader = in_pieces(input, size);
-    let (end, written) = must(
-        rt,
-        paged(alloc, disk, &mut reader, Page::new(alloc), 100_000),
-    );
-    assert!(rt; end == ServeEnd::End && written.as_slice() == wanted);
+    let mut writer = Page::new(rt.alloc());
+    let end = end_of(rt, &mut in_pieces(input, size), &mut writer, 100_000);
+    assert!(rt; end == ServeEnd::End && writer.bytes.as_slice() == wanted);
 }
 
 #[test]
 fn any_pieces_give_one_output(rt: HostRuntime) {
     let input = must(&rt, many_lines(rt.alloc()));
-    let disk = must(&rt, two_files(rt.alloc(), b"", b"* Z\n"));
-    let wanted = must(&rt, served(rt.alloc(), disk, 1, &input));
+    let wanted = served(&rt, two(&rt, b"", b"* Z\n"), 1, &input);
     assert!(rt; wanted.starts_with(b"ok 1\nsafe 1\ntext 4\n* Z\n\nrefused 20 BadLine\nok 2\n"));
     assert!(rt; wanted.ends_with(b"* N\n* N\n\nrefused 20 BadLine\n"));
     for size in [1, 7, 4095, 4096, 4097] {
@@ -164,12 +158,11 @@ fn any_pieces_give_one_output(rt: HostRuntime) {
 
 // Where a read fails, or the turns are used up, the lines that were read whole are answered.
 fn ends_by_reading(rt: &(impl Abort + AllocGlobal), fails_at: u64, turns: u64) {
-    let alloc = rt.alloc();
-    let disk = must(rt, two_files(alloc, b"", b"* Z\n"));
     let mut reader = in_pieces(b"show\tb.org\nshow\ta.org", 11);
     reader.fails_at = fails_at;
-    let (end, written) = must(rt, paged(alloc, disk, &mut reader, Page::new(alloc), turns));
-    assert!(rt; end == ServeEnd::Read && written.as_slice() == b"text 4\n* Z\n\n".as_slice());
+    let mut writer = Page::new(rt.alloc());
+    let end = end_of(rt, &mut reader, &mut writer, turns);
+    assert!(rt; end == ServeEnd::Read && writer.bytes.as_slice() == b"text 4\n* Z\n\n".as_slice());
 }
 
 #[test]
@@ -180,10 +173,8 @@ fn a_read_that_fails(rt: HostRuntime) {
 
 // An input of one piece, served in so many turns, ends so.
 fn ends_in(rt: &(impl Abort + AllocGlobal), turns: u64, wanted: ServeEnd) {
-    let alloc = rt.alloc();
-    let disk = must(rt, two_files(alloc, b"", b""));
     let mut reader = in_pieces(b"show\ta.org\n", 100);
-    let (end, _) = must(rt, paged(alloc, disk, &mut reader, Page::new(alloc), turns));
+    let end = end_of(rt, &mut reader, &mut Page::new(rt.alloc()), turns);
     assert!(rt; end == wanted && reader.reads == turns);
 }
 
@@ -195,26 +186,25 @@ fn turns(rt: HostRuntime) {
 }
 
 // How serving ends where this call of the writer fails, if it isn't 0, and what was written by then.
-fn written_until(alloc: Global, fails_at: u64) -> Result<(ServeEnd, Vec<u8>), Fail> {
-    let disk = two_files(alloc, b"", b"* Z\n")?;
+fn written_until(rt: &(impl Abort + AllocGlobal), fails_at: u64) -> (ServeEnd, Vec<u8>) {
     let mut reader = in_pieces(
         b"show\tb.org\ncapture\ta.org\ttop\tlast\t2026-07-01 10:00\t* N\t\n\nshow\ta.org",
         4096,
     );
-    let mut writer = Page::new(alloc);
+    let mut writer = Page::new(rt.alloc());
     writer.fails_at = fails_at;
-    paged(alloc, disk, &mut reader, writer, 100)
+    (end_of(rt, &mut reader, &mut writer, 100), writer.bytes)
 }
 
 // A text takes five writes, a change and its settling six, a bad line one; each line is flushed.
 #[test]
 fn a_write_that_fails(rt: HostRuntime) {
-    let (end, whole) = must(&rt, written_until(rt.alloc(), 0));
+    let (end, whole) = written_until(&rt, 0);
     assert!(rt; end == ServeEnd::End);
     for fails_at in 1..18 {
-        let (end, written) = must(&rt, written_until(rt.alloc(), fails_at));
+        let (end, written) = written_until(&rt, fails_at);
         assert!(rt; end == ServeEnd::Write && whole.starts_with(written.as_slice()));
     }
-    let (end, _) = must(&rt, written_until(rt.alloc(), 18));
+    let (end, _) = written_until(&rt, 18);
     assert!(rt; end == ServeEnd::End);
 }

@@ -1,22 +1,15 @@
 // A disk that crashes at a call, and what opening it again finds.
 ghost use Rattle.std.specs.Prelude.{◌≤◌};
 
-use super::{calls_of_opening, captured, left_on, must, opened};
+use super::{Texts, calls_of_opening, captured, left_on, must, opened};
 use org_disk::{MemoryDisk, Outcome};
-use org_fixtures::{OUTCOMES, org_names, two_files};
-use org_store::{OpenRefused, Store};
+use org_fixtures::{OUTCOMES, two_files};
+use org_store::Store;
 use std::alloc::Global;
 use std::process::Abort;
-use std::test::Fail;
 
-// A capture into each of two files.
-fn capture_twice(alloc: Global, store: &mut Store<MemoryDisk>) -> Result<(), Fail> {
-    let _ = captured(alloc, store, "a.org", b"* B")?;
-    let _ = captured(alloc, store, "b.org", b"* C")?;
-    Ok(())
-}
-
-// Makes two captures, in groups, and tells how many were acknowledged and how many accepted, and the disk then.
+// Makes a capture into each of two files, in groups, and tells how many were acknowledged and how many accepted, and
+// the disk then.
 fn captured_twice(
     rt: &impl Abort,
     alloc: Global,
@@ -27,7 +20,8 @@ fn captured_twice(
 {
     let mut store = store;
     store.set_group(group);
-    must(rt, capture_twice(alloc, &mut store));
+    let _ = captured(rt, alloc, &mut store, "a.org", b"* B");
+    let _ = captured(rt, alloc, &mut store, "b.org", b"* C");
     let (acknowledged, accepted) = (store.acknowledged(), store.accepted());
     (acknowledged, accepted, store.into_disk())
 }
@@ -37,14 +31,6 @@ fn crashing_disk(rt: &impl Abort, alloc: Global, call: u64, outcome: Outcome) ->
     let mut disk = must(rt, two_files(alloc, b"* A\n", b"* Z"));
     disk.crash_at(call, outcome);
     disk
-}
-
-// A store over the two files of a disk, or why it wasn't opened.
-fn opened_two(
-    alloc: Global,
-    disk: MemoryDisk,
-) -> Result<Result<Store<MemoryDisk>, OpenRefused<MemoryDisk>>, Fail> {
-    opened(alloc, disk, org_names(alloc, &["a.org", "b.org"])?)
 }
 
 // Makes two captures, in groups, over a disk that crashes on the way, and tells how many were acknowledged, how many
@@ -59,35 +45,24 @@ fn crashed(
     requires { (1 ≤ group) × (group ≤ 1000) }
 {
     let disk = crashing_disk(rt, alloc, call, outcome);
-    let (acknowledged, accepted, disk) = match must(rt, opened_two(alloc, disk)) {
+    let (acknowledged, accepted, disk) = match opened(rt, alloc, disk, &["a.org", "b.org"]) {
         Err(refused) => (0, 0, refused.disk),
         Ok(store) => captured_twice(rt, alloc, store, group),
     };
     (acknowledged, accepted, prefix_in(rt, alloc, &disk))
 }
 
-// How many of the two captures are in files with these texts.
-fn prefix_of(a: &[u8], b: &[u8]) -> Option<u64> {
-    let is_old = b == b"* Z".as_slice();
-    if a == b"* A\n".as_slice() && is_old {
-        Some(0)
-    } else if a == b"* A\n* B\n".as_slice() && is_old {
-        Some(1)
-    } else if a == b"* A\n* B\n".as_slice() && b == b"* Z\n* C\n".as_slice() {
-        Some(2)
-    } else {
-        None
-    }
-}
-
-fn image(alloc: Global, disk: &MemoryDisk) -> Result<MemoryDisk, Fail> {
-    Ok(disk.image(alloc)?)
-}
+// The texts of both files with none, one and two of the captures.
+const PREFIXES: &[Texts] = &[
+    (b"* A\n", b"* Z"),
+    (b"* A\n* B\n", b"* Z"),
+    (b"* A\n* B\n", b"* Z\n* C\n"),
+];
 
 // How many of the two captures are in the files that are left of a disk.
 fn prefix_in(rt: &impl Abort, alloc: Global, disk: &MemoryDisk) -> u64 {
-    let (a, b) = left_on(rt, alloc, must(rt, image(alloc, disk)));
-    prefix_of(&a, &b).expect(rt, "no prefix")
+    let image = disk.image(alloc).expect(rt, "memory");
+    left_on(rt, alloc, image, PREFIXES).expect(rt, "a prefix") as u64
 }
 
 // Crashes the two captures at a call in each way: what is left is one of the states between those that were

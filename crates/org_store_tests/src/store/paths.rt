@@ -1,84 +1,78 @@
 // Paths of no titles, which no line can name.
-use super::{answered, must, shown, store_over};
+use super::{Texts, bytes, capture, file, left_on, now, number_in, run, shows, store_over};
 use org_capture::Target;
-use org_disk::{FileName, MemoryDisk};
+use org_disk::MemoryDisk;
 use org_outline::{Place, Titles};
-use org_splice::Bytes;
-use org_stamp::Moment;
 use org_store::{Command, Refusal, RunFault, Store};
-use std::alloc::{AllocError, Global};
+use std::alloc::Global;
 use std::process::Abort;
-use std::test::Fail;
 
-fn titles(alloc: Global, path: &[&str]) -> Result<Titles, AllocError> {
-    let mut titles = Vec::new(alloc);
-    for title in path {
-        titles.push(Vec::from_slice(alloc, title.as_bytes())?)?;
+// The path of the heading A, or of no titles.
+fn path(rt: &impl Abort, alloc: Global, titles: &[&str]) -> Titles {
+    let mut path = Vec::new(alloc);
+    for title in titles {
+        let title = title.as_bytes().to_vec(alloc).expect(rt, "memory");
+        path.push(title).expect(rt, "memory");
     }
-    Ok(Titles::new(titles))
+    Titles::new(path)
 }
 
 // A refile from a.org into a file.
-fn refile(alloc: Global, path: &[&str], to_file: &str, to_path: &[&str]) -> Result<Command, Fail> {
-    Ok(Command::Refile {
-        file: FileName::new(alloc, "a.org")?,
-        path: titles(alloc, path)?,
-        to_file: FileName::new(alloc, to_file)?,
-        to_path: titles(alloc, to_path)?,
+fn refile(rt: &impl Abort, alloc: Global, from: &[&str], to_file: &str, to: &[&str]) -> Command {
+    Command::Refile {
+        file: file(rt, alloc, "a.org"),
+        path: path(rt, alloc, from),
+        to_file: file(rt, alloc, to_file),
+        to_path: path(rt, alloc, to),
         place: Place::Last,
-    })
+    }
 }
 
-fn todo(alloc: Global) -> Result<Command, Fail> {
-    Ok(Command::Todo {
-        file: FileName::new(alloc, "a.org")?,
-        path: titles(alloc, &[])?,
-        state: Bytes::new(b"DONE".to_vec(alloc)?),
-        moment: Moment::new(2026, 7, 1, 10, 0).ok_or("no moment")?,
-    })
+fn todo(rt: &impl Abort, alloc: Global) -> Command {
+    Command::Todo {
+        file: file(rt, alloc, "a.org"),
+        path: path(rt, alloc, &[]),
+        state: bytes(rt, alloc, b"DONE"),
+        moment: now(rt),
+    }
 }
 
-fn capture(alloc: Global) -> Result<Command, Fail> {
-    Ok(Command::Capture {
-        file: FileName::new(alloc, "a.org")?,
-        target: Target::Path(titles(alloc, &[])?),
-        place: Place::Last,
-        moment: Moment::new(2026, 7, 1, 10, 0).ok_or("no moment")?,
-        template: Bytes::new(b"* N".to_vec(alloc)?),
-        initial: Bytes::new(Vec::new(alloc)),
-    })
-}
-
-// Whether a command is refused since a heading isn't there, and leaves a.org.
-fn finds_nothing(
+// Asserts that a command is refused since a heading isn't there, and leaves a.org.
+fn assert_finds_nothing(
+    rt: &impl Abort,
     alloc: Global,
     store: &mut Store<MemoryDisk>,
-    command: &Command,
-) -> Result<bool, Fail> {
-    let is_refused = answered(store, command)? == Err(RunFault::Refused(Refusal::NotFound));
-    Ok(is_refused && shown(alloc, store, "a.org")?.as_slice() == b"* TODO A".as_slice())
+    command: Command,
+) {
+    assert!(rt; number_in(rt, run(store, command)) == Err(RunFault::Refused(Refusal::NotFound)));
+    assert!(rt; shows(rt, alloc, store, "a.org", b"* TODO A"));
 }
 
 fn refiles_nothing(rt: &impl Abort, alloc: Global, store: &mut Store<MemoryDisk>) {
     for to_file in ["a.org", "b.org"] {
-        let from = must(rt, refile(alloc, &[], to_file, &["A"]));
-        assert!(rt; must(rt, finds_nothing(alloc, store, &from)));
-        let to = must(rt, refile(alloc, &["A"], to_file, &[]));
-        assert!(rt; must(rt, finds_nothing(alloc, store, &to)));
+        assert_finds_nothing(rt, alloc, store, refile(rt, alloc, &[], to_file, &["A"]));
+        assert_finds_nothing(rt, alloc, store, refile(rt, alloc, &["A"], to_file, &[]));
     }
 }
 
 fn finds_no_heading(rt: &impl Abort, alloc: Global, store: &mut Store<MemoryDisk>) {
-    let todo = must(rt, todo(alloc));
-    assert!(rt; must(rt, finds_nothing(alloc, store, &todo)));
-    let capture = must(rt, capture(alloc));
-    assert!(rt; must(rt, finds_nothing(alloc, store, &capture)));
+    assert_finds_nothing(rt, alloc, store, todo(rt, alloc));
+    let target = Target::Path(path(rt, alloc, &[]));
+    assert_finds_nothing(
+        rt,
+        alloc,
+        store,
+        capture(rt, alloc, "a.org", target, b"* N"),
+    );
 }
+
+// The texts of both files.
+const TEXTS: Texts = (b"* TODO A", b"* T\n* T\n* A");
 
 #[test]
 fn no_titles(rt: HostRuntime) {
-    let alloc = rt.alloc();
-    let mut store = store_over(&rt, alloc, b"* TODO A", b"* T\n* T\n* A");
-    refiles_nothing(&rt, alloc, &mut store);
-    finds_no_heading(&rt, alloc, &mut store);
+    let mut store = store_over(&rt, rt.alloc(), TEXTS.0, TEXTS.1);
+    refiles_nothing(&rt, rt.alloc(), &mut store);
+    finds_no_heading(&rt, rt.alloc(), &mut store);
+    assert!(rt; left_on(&rt, rt.alloc(), store.into_disk(), &[TEXTS]).is_some());
 }

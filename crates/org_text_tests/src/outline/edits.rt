@@ -1,42 +1,48 @@
 // Headings that are kept follow an edit of their text.
-ghost use Rattle.std.specs.Prelude.{◌≡◌, ◌+◌, ◌++◌, ◌≤◌, IfOk, length, take, drop};
+ghost use Rattle.std.specs.Prelude.{◌≡◌, ◌+◌, ◌++◌, ◌≤◌, length, take, drop};
 ghost use Rattle.org_splice.specs.Lines.{terminated};
-ghost use Rattle.org_outline.specs.Outline.{IsEdit};
+ghost use Rattle.org_outline.specs.Outline.{IsEdit, headings_of};
 
 use org_outline::{Heads, Outline, States, is_terminated};
-use std::alloc::{AllocError, Global};
+use std::alloc::Global;
 use std::process::Abort;
 
 /// A text with some bytes replaced.
 fn spliced(
+    rt: &impl Abort,
     alloc: Global,
     text: &[u8],
     at: usize,
     removed: usize,
     added: &[u8],
-) -> Result<Vec<u8>, AllocError>
+) -> Vec<u8>
     requires { at + removed ≤ length text.now }
-    ensures { IfOk result
-        (λ after. after.items ≡ take at text.now ++ (added.now ++ drop (at + removed) text.now)) }
+    ensures { result.items ≡ take at text.now ++ (added.now ++ drop (at + removed) text.now) }
 {
     let mut after = Vec::new(alloc);
-    after.extend_from_slice(&text[..at])?;
-    after.extend_from_slice(added)?;
-    after.extend_from_slice(&text[at + removed..])?;
-    Ok(after)
+    after.extend_from_slice(&text[..at]).expect(rt, "memory");
+    after.extend_from_slice(added).expect(rt, "memory");
+    after
+        .extend_from_slice(&text[at + removed..])
+        .expect(rt, "memory");
+    after
 }
 
-/// Where each heading of an outline begins, and its level.
-fn listed(alloc: Global, outline: &Outline<'_>) -> Result<Vec<(usize, usize)>, AllocError> {
-    let mut list = Vec::new(alloc);
-    for i in 0..outline.count() {
-        let node = outline.node(i);
-        list.push((outline.subtree(node).start, outline.level(node)))?;
+/// Whether two outlines have the same headings.
+fn are_same(kept: &Outline<'_>, fresh: &Outline<'_>) -> bool {
+    if kept.count() != fresh.count() {
+        return false;
     }
-    Ok(list)
+    for i in 0..fresh.count() {
+        let (one, other) = (kept.node(i), fresh.node(i));
+        if kept.subtree(one) != fresh.subtree(other) || kept.level(one) != fresh.level(other) {
+            return false;
+        }
+    }
+    true
 }
 
-/// Whether these are the headings of an outline.
+/// Whether these are the headings of an outline: where each begins, and its level.
 fn are_listed(outline: &Outline<'_>, list: &[(usize, usize)]) -> bool {
     if outline.count() != list.len() {
         return false;
@@ -50,52 +56,67 @@ fn are_listed(outline: &Outline<'_>, list: &[(usize, usize)]) -> bool {
     true
 }
 
-/// Whether headings that follow an edit are these.
+/// Whether headings that follow an edit, which makes this text, are those of its fresh reading.
 fn follow(
+    rt: &impl Abort,
     heads: &mut Heads,
-    states: &States,
     after: &[u8],
+    fresh: &Outline<'_>,
     edit: (usize, usize, usize),
-    list: &[(usize, usize)],
-) -> Result<bool, AllocError>
+) -> bool
     requires terminated { terminated after.now ≡ after.now }
     requires edit { IsEdit heads.old after.now edit.0 edit.1 edit.2 }
 {
     let (at, removed, added) = edit;
-    heads.edited(after, at, removed, added)?;
-    Ok(are_listed(&Outline::over(after, heads, states), list))
+    heads.edited(after, at, removed, added).expect(rt, "memory");
+    are_same(&Outline::over(after, heads, fresh.states()), fresh)
 }
 
-/// The headings of a text after an edit, or none where there is no such edit between terminated texts.
-/// Asserts that the kept ones, and a copy of them, are those of a fresh reading.
-fn followed(
+/// Asserts that the headings of a text, and a copy of them, follow an edit.
+fn assert_follow(
     rt: &impl Abort,
     alloc: Global,
+    text: &[u8],
+    after: &[u8],
+    fresh: &Outline<'_>,
+    edit: (usize, usize, usize),
+)
+    requires text { terminated text.now ≡ text.now }
+    requires terminated { terminated after.now ≡ after.now }
+    requires edit { IsEdit (headings_of text.now) after.now edit.0 edit.1 edit.2 }
+{
+    let mut heads = Heads::read(alloc, text).expect(rt, "memory");
+    let mut copy = heads.copy().expect(rt, "memory");
+    assert!(rt; follow(rt, &mut heads, after, fresh, edit));
+    assert!(rt; follow(rt, &mut copy, after, fresh, edit));
+}
+
+/// Whether there is such an edit between terminated texts. Asserts that headings follow it, and which they are then,
+/// where that is given.
+fn follows(
+    rt: &(impl Abort + AllocGlobal),
     states: &States,
     text: &[u8],
     at: usize,
     removed: usize,
     added: &[u8],
-) -> Option<Vec<(usize, usize)>> {
+    expected: Option<&[(usize, usize)]>,
+) -> bool {
     if removed > text.len() || at > text.len() - removed || !is_terminated(text) {
-        return None;
+        return false;
     }
-    let bytes = spliced(alloc, text, at, removed, added).expect(rt, "memory");
+    let alloc = rt.alloc();
+    let bytes = spliced(rt, alloc, text, at, removed, added);
     let after = bytes.as_slice();
     if !is_terminated(after) {
-        return None;
+        return false;
     }
-    let mut heads = Heads::read(alloc, text).expect(rt, "memory");
-    let mut copy = heads.copy().expect(rt, "memory");
-    let fresh = listed(
-        alloc,
-        &Outline::read(alloc, after, states).expect(rt, "memory"),
-    )
-    .expect(rt, "memory");
-    let edit = (at, removed, added.len());
-    assert!(rt; follow(&mut heads, states, after, edit, &fresh) == Ok(true));
-    assert!(rt; follow(&mut copy, states, after, edit, &fresh) == Ok(true));
-    Some(fresh)
+    let fresh = Outline::read(alloc, after, states).expect(rt, "memory");
+    assert_follow(rt, alloc, text, after, &fresh, (at, removed, added.len()));
+    match expected {
+        Some(list) => are_listed(&fresh, list),
+        None => true,
+    }
 }
 
 /// The next number of a linear congruential generator.
@@ -104,8 +125,8 @@ fn next(seed: u64) -> u64 {
         .wrapping_add(1442695040888963407)
 }
 
-/// A text of a few bytes, most of which matter to headings.
-fn small_text(alloc: Global, mut seed: u64, length: u64) -> Result<Vec<u8>, AllocError> {
+/// A text of a few bytes, most of which matter to headings, and of these last ones.
+fn small_text(rt: &impl Abort, alloc: Global, mut seed: u64, length: u64, last: &[u8]) -> Vec<u8> {
     let mut text = Vec::new(alloc);
     for _ in 0..length {
         seed = next(seed);
@@ -115,21 +136,21 @@ fn small_text(alloc: Global, mut seed: u64, length: u64) -> Result<Vec<u8>, Allo
             9..=12 => b'\n',
             _ => b'a',
         };
-        text.push(byte)?;
+        text.push(byte).expect(rt, "memory");
     }
-    Ok(text)
+    text.extend_from_slice(last).expect(rt, "memory");
+    text
 }
 
 /// Whether an edit at random can be made; it is followed then.
 fn follows_somewhere(rt: &(impl Abort + AllocGlobal), states: &States, seed: u64) -> bool {
     let alloc = rt.alloc();
-    let mut text = small_text(alloc, seed, (seed >> 40) % 24).expect(rt, "memory");
-    text.push(b'\n').expect(rt, "memory");
+    let text = small_text(rt, alloc, seed, (seed >> 40) % 24, b"\n");
     let seed = next(seed);
     let at = ((seed >> 33) % 26) as usize;
     let removed = ((seed >> 50) % 6) as usize;
-    let added = small_text(alloc, seed, (seed >> 20) % 8).expect(rt, "memory");
-    followed(rt, alloc, states, &text, at, removed, &added).is_some()
+    let added = small_text(rt, alloc, seed, (seed >> 20) % 8, b"");
+    follows(rt, states, &text, at, removed, &added, None)
 }
 
 #[test]
@@ -147,29 +168,28 @@ fn edits_follow_readings(rt: HostRuntime) {
     assert!(rt; edits > 3000);
 }
 
-/// Texts, an edit of each, and the headings after it.
-const ROWS: &[(&str, usize, usize, &str, &[(usize, usize)])] = &[
-    ("x\n* A\n", 1, 1, "", &[]),
-    ("*A\n", 1, 0, " ", &[(0, 1)]),
-    ("* A\n* B\n", 4, 0, "** N\n", &[(0, 1), (4, 2), (9, 1)]),
+/// A text, a place in it, how many bytes are removed there, those added, and the headings after that.
+type Row = (
+    &'static [u8],
+    usize,
+    usize,
+    &'static [u8],
+    &'static [(usize, usize)],
+);
+
+const ROWS: &[Row] = &[
+    (b"x\n* A\n", 1, 1, b"", &[]),
+    (b"*A\n", 1, 0, b" ", &[(0, 1)]),
+    (b"* A\n* B\n", 4, 0, b"** N\n", &[(0, 1), (4, 2), (9, 1)]),
 ];
 
 #[test]
 fn edited_rows(rt: HostRuntime) {
     let states = States::new(rt.alloc(), &["TODO"], &["DONE"]).expect(&rt, "states");
-    for (text, at, removed, added, expected) in ROWS {
-        let found = followed(
-            &rt,
-            rt.alloc(),
-            &states,
-            text.as_bytes(),
-            *at,
-            *removed,
-            added.as_bytes(),
-        );
+    for (i, (text, at, removed, added, expected)) in ROWS.iter().enumerate() {
         assert!(rt;
-            matches!(&found, Some(list) if list.as_slice() == *expected),
-            "{text}"
+            follows(&rt, &states, text, *at, *removed, added, Some(expected)),
+            "row {i}"
         );
     }
 }

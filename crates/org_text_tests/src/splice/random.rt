@@ -1,8 +1,8 @@
 // The patches of texts that are spliced at random give the new text.
 ghost use Rattle.std.specs.Prelude.{◌<◌};
 
-use org_splice::{Editing, Patch};
-use std::alloc::{AllocError, Global};
+use org_splice::Editing;
+use std::alloc::Global;
 use std::process::Abort;
 
 /// A number below a bound, from a state that goes on.
@@ -16,28 +16,18 @@ fn below(state: &mut u64, bound: usize) -> usize
     (*state >> 40) as usize % bound
 }
 
-/// The patches written over a text, byte by byte, and the text cut to a length.
-fn written(
-    alloc: Global,
-    old: &[u8],
-    patches: &[Patch],
-    size: usize,
-) -> Result<Vec<u8>, AllocError> {
-    let mut text = Vec::from_slice(alloc, old)?;
-    for patch in patches {
-        for (i, byte) in patch.bytes.as_slice().iter().enumerate() {
-            match text.get_mut((patch.from as usize).saturating_add(i)) {
-                Some(place) => *place = *byte,
-                None => text.push(*byte)?,
-            }
+/// Writes bytes over a text, from a place on.
+fn write(rt: &impl Abort, text: &mut Vec<u8>, from: usize, bytes: &[u8]) {
+    for (i, byte) in bytes.iter().enumerate() {
+        match text.get_mut(from.saturating_add(i)) {
+            Some(place) => *place = *byte,
+            None => text.push(*byte).expect(rt, "memory"),
         }
     }
-    text.truncate(size);
-    Ok(text)
 }
 
 /// Splices a text once, at random.
-fn splice_somewhere(text: &mut Editing, state: &mut u64) -> Result<(), AllocError> {
+fn splice_somewhere(rt: &impl Abort, text: &mut Editing, state: &mut u64) {
     let letters: &[u8] = b"abcdefghijklmnop";
     let size = text.bytes().len();
     let at = below(state, size + 1);
@@ -49,24 +39,34 @@ fn splice_somewhere(text: &mut Editing, state: &mut u64) -> Result<(), AllocErro
         below(state, 9)
     };
     let first = below(state, 9);
-    text.splice(at, removed, &letters[first..first + added.min(8)])
+    let bytes = &letters[first..first + added.min(8)];
+    text.splice(at, removed, bytes).expect(rt, "memory");
+}
+
+/// Whether the patches of a text, written over what it was, and cut to its length, give it.
+fn give(rt: &impl Abort, old: &mut Vec<u8>, text: &Editing) -> bool {
+    for patch in &text.patches().expect(rt, "memory") {
+        write(rt, old, patch.from as usize, patch.bytes.as_slice());
+    }
+    old.truncate(text.bytes().len());
+    old.as_slice() == text.bytes()
 }
 
 /// Splices a text at random, settles it, and splices it so often again: whether its patches then give it.
 fn give_text(
+    rt: &impl Abort,
     alloc: Global,
     text: &mut Editing,
     splices: usize,
     state: &mut u64,
-) -> Result<bool, AllocError> {
-    splice_somewhere(text, state)?;
+) -> bool {
+    splice_somewhere(rt, text, state);
     text.settle();
-    let old = Vec::from_slice(alloc, text.bytes())?;
+    let mut old = Vec::from_slice(alloc, text.bytes()).expect(rt, "memory");
     for _ in 0..splices {
-        splice_somewhere(text, state)?;
+        splice_somewhere(rt, text, state);
     }
-    let now = written(alloc, &old, &text.patches()?, text.bytes().len())?;
-    Ok(now.as_slice() == text.bytes())
+    give(rt, &mut old, text)
 }
 
 /// Splices a text at random, at least once and so often at most, and asserts that its patches give it.
@@ -75,8 +75,10 @@ fn assert_patches(rt: &impl Abort, alloc: Global, bytes: Vec<u8>, most: usize, s
 {
     let mut text = Editing::new(bytes);
     let splices = below(state, most);
-    let give = give_text(alloc, &mut text, splices, state).expect(rt, "memory");
-    assert!(rt; give, "after {splices} splices more");
+    assert!(rt;
+        give_text(rt, alloc, &mut text, splices, state),
+        "after {splices} splices more"
+    );
 }
 
 #[test]
@@ -88,21 +90,22 @@ fn patches_of_random_splices(rt: HostRuntime) {
 }
 
 /// Some hundred lines.
-fn long_text(alloc: Global, state: &mut u64) -> Result<Vec<u8>, AllocError> {
+fn long_text(rt: &impl Abort, alloc: Global, state: &mut u64) -> Vec<u8> {
     let mut text = Vec::new(alloc);
     for _ in 0..200 + below(state, 200) {
         let title: &[u8] = b"* TODO Call Ann about the letter of Monday";
-        text.extend_from_slice(&title[..below(state, 43)])?;
-        text.push(b'\n')?;
+        text.extend_from_slice(&title[..below(state, 43)])
+            .expect(rt, "memory");
+        text.push(b'\n').expect(rt, "memory");
     }
-    Ok(text)
+    text
 }
 
 #[test]
 fn patches_of_long_texts(rt: HostRuntime) {
     let mut state = 1;
     for _ in 0..200u32 {
-        let text = long_text(rt.alloc(), &mut state).expect(&rt, "memory");
+        let text = long_text(&rt, rt.alloc(), &mut state);
         assert_patches(&rt, rt.alloc(), text, 60, &mut state);
     }
 }

@@ -19,10 +19,10 @@ const MOMENTS: &[(u16, u8, u8, u8, u8, i64, u8)] = &[
 fn moments_of_the_calendar(rt: HostRuntime) {
     for (year, month, day, hour, minute, minutes, weekday) in MOMENTS {
         let moment = moment(&rt, *year, *month, *day, *hour, *minute);
-        let date = (moment.year(), moment.month(), moment.day());
-        assert!(rt; date == (*year, *month, *day), "{minutes}");
+        let found = (moment.year(), moment.month(), moment.day());
+        let counted = (moment.minutes(), moment.weekday());
         assert!(rt;
-            (moment.minutes(), moment.weekday()) == (*minutes, *weekday),
+            (found, counted) == ((*year, *month, *day), (*minutes, *weekday)),
             "{minutes}"
         );
     }
@@ -53,8 +53,7 @@ fn no_moments(rt: HostRuntime) {
 #[test]
 fn stamps_of_moments(rt: HostRuntime) {
     let now = moment(&rt, 2026, 7, 1, 10, 0);
-    let date = Stamp::at(now, true, false);
-    assert!(rt; prints(rt.alloc(), &date, b"<2026-07-01 Wed>") == Ok(true));
-    let time = Stamp::at(now, false, true);
-    assert!(rt; prints(rt.alloc(), &time, b"[2026-07-01 Wed 10:00]") == Ok(true));
+    let (date, time) = (Stamp::at(now, true, false), Stamp::at(now, false, true));
+    assert!(rt; prints(&rt, rt.alloc(), &date, "<2026-07-01 Wed>"));
+    assert!(rt; prints(&rt, rt.alloc(), &time, "[2026-07-01 Wed 10:00]"));
 }

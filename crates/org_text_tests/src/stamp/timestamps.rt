@@ -1,69 +1,16 @@
-// How timestamps are read and printed.
-use super::{moment, prints, stamp};
+// What is read of timestamps.
+use super::{moment, stamp};
 use org_stamp::Stamp;
-use std::alloc::Global;
-use std::process::Abort;
-
-// Timestamps, and how they are printed; the last of them have their parts in every order.
-const PRINTED: &str = "\
-<2026-07-01>: <2026-07-01 Wed>
-[2026-07-01 mer. 9:05]: [2026-07-01 Wed 09:05]
-<2026-07-01 +1w/2w --3d Mon 10:00-09:00>: <2026-07-01 Wed 10:00-09:00 +1w/2w --3d>
-<2026-07-01 \t -2d  .+0001m>: <2026-07-01 Wed -2d .+0001m>
-<2026-07-01 /x[<:\r>: <2026-07-01 Wed>
-<2024-02-29 \u{e9} 23:59>: <2024-02-29 Thu 23:59>
-<0001-01-01 0:00>: <0001-01-01 Mon 00:00>
-[9999-12-31]: [9999-12-31 Fri]
-<2026-07-01 Wed 10:00 +1w -2d>: <2026-07-01 Wed 10:00 +1w -2d>
-<2026-07-01 Wed 10:00 -2d +1w>: <2026-07-01 Wed 10:00 -2d +1w>
-<2026-07-01 Wed +1w 10:00 -2d>: <2026-07-01 Wed 10:00 +1w -2d>
-<2026-07-01 Wed +1w -2d 10:00>: <2026-07-01 Wed 10:00 +1w -2d>
-<2026-07-01 Wed -2d 10:00 +1w>: <2026-07-01 Wed 10:00 -2d +1w>
-<2026-07-01 Wed -2d +1w 10:00>: <2026-07-01 Wed 10:00 -2d +1w>
-<2026-07-01 10:00 Wed +1w -2d>: <2026-07-01 Wed 10:00 +1w -2d>
-<2026-07-01 10:00 Wed -2d +1w>: <2026-07-01 Wed 10:00 -2d +1w>
-<2026-07-01 10:00 +1w Wed -2d>: <2026-07-01 Wed 10:00 +1w -2d>
-<2026-07-01 10:00 +1w -2d Wed>: <2026-07-01 Wed 10:00 +1w -2d>
-<2026-07-01 10:00 -2d Wed +1w>: <2026-07-01 Wed 10:00 -2d +1w>
-<2026-07-01 10:00 -2d +1w Wed>: <2026-07-01 Wed 10:00 -2d +1w>
-<2026-07-01 +1w Wed 10:00 -2d>: <2026-07-01 Wed 10:00 +1w -2d>
-<2026-07-01 +1w Wed -2d 10:00>: <2026-07-01 Wed 10:00 +1w -2d>
-<2026-07-01 +1w 10:00 Wed -2d>: <2026-07-01 Wed 10:00 +1w -2d>
-<2026-07-01 +1w 10:00 -2d Wed>: <2026-07-01 Wed 10:00 +1w -2d>
-<2026-07-01 +1w -2d Wed 10:00>: <2026-07-01 Wed 10:00 +1w -2d>
-<2026-07-01 +1w -2d 10:00 Wed>: <2026-07-01 Wed 10:00 +1w -2d>
-<2026-07-01 -2d Wed 10:00 +1w>: <2026-07-01 Wed 10:00 -2d +1w>
-<2026-07-01 -2d Wed +1w 10:00>: <2026-07-01 Wed 10:00 -2d +1w>
-<2026-07-01 -2d 10:00 Wed +1w>: <2026-07-01 Wed 10:00 -2d +1w>
-<2026-07-01 -2d 10:00 +1w Wed>: <2026-07-01 Wed 10:00 -2d +1w>
-<2026-07-01 -2d +1w Wed 10:00>: <2026-07-01 Wed 10:00 -2d +1w>
-<2026-07-01 -2d +1w 10:00 Wed>: <2026-07-01 Wed 10:00 -2d +1w>
-";
-
-fn assert_prints(rt: &impl Abort, alloc: Global, row: &str) {
-    let (text, printed) = row.split_once(": ").expect(rt, "a row");
-    let stamp = stamp(rt, text.as_bytes());
-    assert!(rt;
-        prints(alloc, &stamp, printed.as_bytes()) == Ok(true),
-        "{row}"
-    );
-}
-
-#[test]
-fn timestamps(rt: HostRuntime) {
-    for row in PRINTED.lines() {
-        assert_prints(&rt, rt.alloc(), row);
-    }
-}
 
 #[test]
 fn front_of_a_range(rt: HostRuntime) {
     let range: &[u8] = b"[2026-07-01 Wed 10:00]--[2026-07-01 Wed 11:30]";
     let (front, length) = Stamp::read(range).expect(&rt, "a timestamp");
     let start = moment(&rt, 2026, 7, 1, 10, 0);
-    assert!(rt; (length, front.moment().minutes()) == (22, start.minutes()));
     let has = (front.is_active(), front.has_time(), front.has_cookies());
-    assert!(rt; has == (false, true, false));
+    assert!(rt;
+        (length, front.moment().minutes(), has) == (22, start.minutes(), (false, true, false))
+    );
 }
 
 // Timestamps, and whether each has a time, has cookies, and repeats.

@@ -7,7 +7,7 @@ use Rattle.org_texts.proofs.Standing.{CanEdit-second}
 use Rattle.org_text_tests.proofs.held_texts.plan_of.Goals as goal
 
 pub returns : goal.returns
-returns c =
+returns g c =
     let first = c.args.first in
     let second = c.args.second in
     let set = c.args.texts.now.now in

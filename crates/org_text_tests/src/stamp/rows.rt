@@ -1,10 +1,46 @@
-// Timestamps that are repeated.
+// Timestamps that are printed, and that are repeated.
 use super::{prints, stamp};
 use org_stamp::{RepeatFault, Stamp};
-use std::alloc::{AllocError, Global};
+use std::alloc::Global;
 use std::process::Abort;
 
-// Each row of these tables: a timestamp, the moment at which it is repeated, and what it becomes by the proleptic
+// Timestamps, and how they are printed; the last of them have their parts in every order.
+const PRINTED: &str = "\
+<2026-07-01>: <2026-07-01 Wed>
+[2026-07-01 mer. 9:05]: [2026-07-01 Wed 09:05]
+<2026-07-01 +1w/2w --3d Mon 10:00-09:00>: <2026-07-01 Wed 10:00-09:00 +1w/2w --3d>
+<2026-07-01 \t -2d  .+0001m>: <2026-07-01 Wed -2d .+0001m>
+<2026-07-01 /x[<:\r>: <2026-07-01 Wed>
+<2024-02-29 \u{e9} 23:59>: <2024-02-29 Thu 23:59>
+<0001-01-01 0:00>: <0001-01-01 Mon 00:00>
+[9999-12-31]: [9999-12-31 Fri]
+<2026-07-01 Wed 10:00 +1w -2d>: <2026-07-01 Wed 10:00 +1w -2d>
+<2026-07-01 Wed 10:00 -2d +1w>: <2026-07-01 Wed 10:00 -2d +1w>
+<2026-07-01 Wed +1w 10:00 -2d>: <2026-07-01 Wed 10:00 +1w -2d>
+<2026-07-01 Wed +1w -2d 10:00>: <2026-07-01 Wed 10:00 +1w -2d>
+<2026-07-01 Wed -2d 10:00 +1w>: <2026-07-01 Wed 10:00 -2d +1w>
+<2026-07-01 Wed -2d +1w 10:00>: <2026-07-01 Wed 10:00 -2d +1w>
+<2026-07-01 10:00 Wed +1w -2d>: <2026-07-01 Wed 10:00 +1w -2d>
+<2026-07-01 10:00 Wed -2d +1w>: <2026-07-01 Wed 10:00 -2d +1w>
+<2026-07-01 10:00 +1w Wed -2d>: <2026-07-01 Wed 10:00 +1w -2d>
+<2026-07-01 10:00 +1w -2d Wed>: <2026-07-01 Wed 10:00 +1w -2d>
+<2026-07-01 10:00 -2d Wed +1w>: <2026-07-01 Wed 10:00 -2d +1w>
+<2026-07-01 10:00 -2d +1w Wed>: <2026-07-01 Wed 10:00 -2d +1w>
+<2026-07-01 +1w Wed 10:00 -2d>: <2026-07-01 Wed 10:00 +1w -2d>
+<2026-07-01 +1w Wed -2d 10:00>: <2026-07-01 Wed 10:00 +1w -2d>
+<2026-07-01 +1w 10:00 Wed -2d>: <2026-07-01 Wed 10:00 +1w -2d>
+<2026-07-01 +1w 10:00 -2d Wed>: <2026-07-01 Wed 10:00 +1w -2d>
+<2026-07-01 +1w -2d Wed 10:00>: <2026-07-01 Wed 10:00 +1w -2d>
+<2026-07-01 +1w -2d 10:00 Wed>: <2026-07-01 Wed 10:00 +1w -2d>
+<2026-07-01 -2d Wed 10:00 +1w>: <2026-07-01 Wed 10:00 -2d +1w>
+<2026-07-01 -2d Wed +1w 10:00>: <2026-07-01 Wed 10:00 -2d +1w>
+<2026-07-01 -2d 10:00 Wed +1w>: <2026-07-01 Wed 10:00 -2d +1w>
+<2026-07-01 -2d 10:00 +1w Wed>: <2026-07-01 Wed 10:00 -2d +1w>
+<2026-07-01 -2d +1w Wed 10:00>: <2026-07-01 Wed 10:00 -2d +1w>
+<2026-07-01 -2d +1w 10:00 Wed>: <2026-07-01 Wed 10:00 -2d +1w>
+";
+
+// Each row of the other tables: a timestamp, the moment at which it is repeated, and what it becomes by the proleptic
 // Gregorian calendar, where a day that a month lacks is its last.
 
 // Each kind of repeater as the manual has it ("Repeated tasks"), one of value 0, and none.
@@ -164,30 +200,42 @@ const BAD_REPEATS: &str = "\
 
 // Whether a timestamp became this one, or was refused by the fault of this name.
 fn is(
+    rt: &impl Abort,
     alloc: Global,
     answer: &Result<Stamp<'_>, RepeatFault>,
     wanted: &str,
-) -> Result<bool, AllocError> {
+) -> bool {
     match answer {
-        Ok(stamp) => prints(alloc, stamp, wanted.as_bytes()),
-        Err(RepeatFault::BadRepeat) => Ok(wanted == "BadRepeat"),
-        Err(RepeatFault::DateRange) => Ok(wanted == "DateRange"),
+        Ok(stamp) => prints(rt, alloc, stamp, wanted),
+        Err(RepeatFault::BadRepeat) => wanted == "BadRepeat",
+        Err(RepeatFault::DateRange) => wanted == "DateRange",
     }
 }
 
-fn assert_repeated(rt: &impl Abort, alloc: Global, row: &str) {
-    let (from, rest) = row.split_once(" at ").expect(rt, "a moment");
-    let (now, wanted) = rest.split_once(": ").expect(rt, "an outcome");
-    let now = stamp(rt, now.as_bytes()).moment();
-    let answer = stamp(rt, from.as_bytes()).repeat(now);
-    assert!(rt; is(alloc, &answer, wanted) == Ok(true), "{row}");
+fn assert_row(rt: &impl Abort, alloc: Global, row: &str) {
+    let (given, wanted) = row.split_once(": ").expect(rt, "a row");
+    let answer = match given.split_once(" at ") {
+        Some((from, now)) => stamp(rt, from.as_bytes()).repeat(stamp(rt, now.as_bytes()).moment()),
+        None => Ok(stamp(rt, given.as_bytes())),
+    };
+    assert!(rt; is(rt, alloc, &answer, wanted), "{row}");
+}
+
+fn assert_rows(rt: &impl Abort, alloc: Global, rows: &str) {
+    for row in rows.lines() {
+        assert_row(rt, alloc, row);
+    }
 }
 
 #[test]
-fn repeats(rt: HostRuntime) {
-    for rows in &[OF_THE_MANUAL, OF_MONTHS_AND_YEARS, AT_THE_ENDS, BAD_REPEATS] {
-        for row in rows.lines() {
-            assert_repeated(&rt, rt.alloc(), row);
-        }
-    }
+fn timestamps_printed(rt: HostRuntime) {
+    assert_rows(&rt, rt.alloc(), PRINTED);
+}
+
+#[test]
+fn timestamps_repeated(rt: HostRuntime) {
+    assert_rows(&rt, rt.alloc(), OF_THE_MANUAL);
+    assert_rows(&rt, rt.alloc(), OF_MONTHS_AND_YEARS);
+    assert_rows(&rt, rt.alloc(), AT_THE_ENDS);
+    assert_rows(&rt, rt.alloc(), BAD_REPEATS);
 }

@@ -1,0 +1,407 @@
+// What an outline says of its headings: where they, their subtrees and their sections lie, where subtrees go in below
+// them, which of them paths and titles name, and their parts.
+ghost use Rattle.std.specs.Prelude.{◌<◌};
+ghost use Rattle.org_outline.specs.Tree.{node_count, tree};
+
+use crate::edits::titles;
+use org_outline::{
+    HeadParts, Heads, Node, Outline, PathFault, Place, States, heading_level, is_terminated, shift,
+};
+use org_splice::Span;
+use std::alloc::Global;
+use std::process::Abort;
+
+/// Of a heading its level, its subtree and its section, the number of its parent, how many headings its subtree has, and
+/// what stands behind its stars.
+type Heading<'a> = (usize, Span, Span, Option<usize>, usize, &'a [u8]);
+
+/// What is said of headings, which stand here by their numbers.
+enum Fact {
+    Heading(usize, Heading<'static>),
+    /// A heading lies in the subtree of another.
+    LiesIn(usize, usize),
+    /// The first and the last place below a heading, or at top level.
+    Places(Option<usize>, usize, usize),
+    /// The place of a subtree below a heading once another subtree is taken out: the one taken out, and the parent.
+    Without(usize, usize, Place, usize),
+    /// The heading at a path.
+    Path(&'static [&'static str], Result<usize, PathFault>),
+    /// The one heading of a title, if there is one.
+    Headed(&'static str, Result<Option<usize>, PathFault>),
+    /// Gap, keyword, priority, title and tags of the first heading.
+    Parts(&'static [&'static [u8]]),
+}
+
+/// A text, how many headings it has, and what is said of them.
+type Row = (&'static str, usize, &'static [Fact]);
+
+/// The heading of this number, which an outline has to have.
+fn node(rt: &impl Abort, outline: &Outline<'_>, number: usize) -> Node
+    ensures { result < node_count (tree outline.now.text) }
+{
+    assert!(rt; number < outline.count());
+    let node = outline.node(number);
+    assert!(rt; node.number() == number);
+    node
+}
+
+fn heading<'a>(rt: &impl Abort, outline: &Outline<'a>, number: usize) -> Heading<'a> {
+    let node = node(rt, outline, number);
+    let parent = outline.parent(node).map(Node::number);
+    let (subtree, section) = (outline.subtree(node), outline.section(node));
+    let (level, size) = (outline.level(node), outline.size(node));
+    (level, subtree, section, parent, size, outline.rest(node))
+}
+
+fn lies_in(rt: &impl Abort, outline: &Outline<'_>, number: usize, top: usize) -> bool {
+    outline.lies_in(node(rt, outline, number), node(rt, outline, top))
+}
+
+/// The first and the last place at top level.
+fn top_places(outline: &Outline<'_>) -> (usize, usize) {
+    (
+        outline.place(None, Place::First),
+        outline.place(None, Place::Last),
+    )
+}
+
+/// The first and the last place below a heading.
+fn places_below(rt: &impl Abort, outline: &Outline<'_>, number: usize) -> (usize, usize) {
+    let parent = node(rt, outline, number);
+    let first = outline.place(Some(parent), Place::First);
+    (first, outline.place(Some(parent), Place::Last))
+}
+
+/// Where a subtree goes in below a heading once another one is taken out.
+fn place_without(
+    rt: &impl Abort,
+    outline: &Outline<'_>,
+    taken: usize,
+    parent: usize,
+    place: Place,
+) -> usize {
+    let (taken, parent) = (node(rt, outline, taken), node(rt, outline, parent));
+    assert!(rt; !outline.lies_in(parent, taken));
+    outline.place_without(taken, Some(parent), place)
+}
+
+/// The number of the heading at a path, and at a copy of it.
+fn found(
+    rt: &impl Abort,
+    alloc: Global,
+    outline: &Outline<'_>,
+    path: &[&str],
+) -> Result<usize, PathFault> {
+    let path = titles(rt, alloc, path);
+    let copy = path.clone().expect(rt, "memory");
+    assert!(rt; copy == path);
+    outline.find(copy.as_slice()).map(Node::number)
+}
+
+/// The parts of the first heading.
+fn parts<'a>(rt: &impl Abort, outline: &Outline<'a>) -> [&'a [u8]; 5] {
+    let parts = outline.parts(node(rt, outline, 0));
+    [
+        parts.gap,
+        parts.keyword,
+        parts.priority,
+        parts.title,
+        parts.tags,
+    ]
+}
+
+/// Whether a fact holds of an outline.
+fn is_so(rt: &impl Abort, alloc: Global, outline: &Outline<'_>, fact: &Fact) -> bool {
+    match fact {
+        Fact::Heading(i, expected) => heading(rt, outline, *i) == *expected,
+        Fact::LiesIn(i, top) => lies_in(rt, outline, *i, *top),
+        Fact::Places(None, first, last) => top_places(outline) == (*first, *last),
+        Fact::Places(Some(i), first, last) => places_below(rt, outline, *i) == (*first, *last),
+        Fact::Without(taken, parent, place, at) => {
+            place_without(rt, outline, *taken, *parent, *place) == *at
+        }
+        Fact::Path(path, expected) => found(rt, alloc, outline, path) == *expected,
+        Fact::Headed(title, expected) => headed(outline, title) == *expected,
+        Fact::Parts(expected) => parts(rt, outline).as_slice() == *expected,
+    }
+}
+
+/// The number of the one heading of a title, if there is one.
+fn headed(outline: &Outline<'_>, title: &str) -> Result<Option<usize>, PathFault> {
+    match outline.headed(title.as_bytes())? {
+        Some(node) => Ok(Some(node.number())),
+        None => Ok(None),
+    }
+}
+
+/// Whether these are the states that the rows are read under.
+fn are_states(states: &States) -> bool {
+    states.is_active(b"TODO")
+        && !states.is_active(b"DONE")
+        && states.is_done(b"DONE")
+        && states.first_active() == "TODO"
+}
+
+/// Whether an outline is that of a row.
+fn is_of(rt: &impl Abort, alloc: Global, outline: &Outline<'_>, row: &Row) -> bool {
+    let (text, count, facts) = row;
+    if outline.text() != text.as_bytes() || outline.count() != *count {
+        return false;
+    }
+    for fact in *facts {
+        if !is_so(rt, alloc, outline, fact) {
+            return false;
+        }
+    }
+    are_states(outline.states())
+}
+
+/// Whether the outline of a row's text is that of the row, as it is read and over headings that are kept.
+fn is_right(rt: &impl Abort, alloc: Global, states: &States, row: &Row) -> bool {
+    let text = row.0.as_bytes();
+    assert!(rt; is_terminated(text));
+    let heads = Heads::read(alloc, text).expect(rt, "memory");
+    let read = Outline::read(alloc, text, states).expect(rt, "memory");
+    is_of(rt, alloc, &read, row) && is_of(rt, alloc, &Outline::over(text, &heads, states), row)
+}
+
+fn assert_rows(rt: &(impl Abort + AllocGlobal), rows: &[Row]) {
+    let states = States::new(rt.alloc(), &["TODO"], &["DONE"]).expect(rt, "states");
+    for row in rows {
+        assert!(rt; is_right(rt, rt.alloc(), &states, row), "{}", row.0);
+    }
+}
+
+const PLACED: &[Row] = &[
+    (
+        "before\n* a\nx\n*** b\n** c\n*bold*\n* d\n",
+        4,
+        &[
+            Fact::Heading(
+                0,
+                (
+                    1,
+                    Span { start: 7, end: 31 },
+                    Span { start: 11, end: 13 },
+                    None,
+                    3,
+                    b" a",
+                ),
+            ),
+            Fact::Heading(
+                2,
+                (
+                    2,
+                    Span { start: 19, end: 31 },
+                    Span { start: 24, end: 31 },
+                    Some(0),
+                    1,
+                    b" c",
+                ),
+            ),
+            Fact::Places(None, 7, 35),
+        ],
+    ),
+    (
+        "* a\n** b\n*** c\n** d\n* e\n",
+        5,
+        &[
+            Fact::Heading(
+                1,
+                (
+                    2,
+                    Span { start: 4, end: 15 },
+                    Span { start: 9, end: 9 },
+                    Some(0),
+                    2,
+                    b" b",
+                ),
+            ),
+            Fact::LiesIn(2, 1),
+            Fact::Without(1, 0, Place::First, 4),
+            Fact::Without(1, 0, Place::Last, 9),
+            Fact::Without(1, 4, Place::Last, 13),
+        ],
+    ),
+    // The first place is the one among deeper children.
+    ("* A\n*** X\n** Y\n", 3, &[Fact::Places(Some(0), 10, 15)]),
+    ("* A\n*** X\n", 2, &[Fact::Places(Some(0), 10, 10)]),
+    // Of a block the line that looks like a heading is one; stars without a blank are none.
+    (
+        "*\n*\tA\n#+BEGIN_SRC\n* A\n#+END_SRC\n",
+        1,
+        &[
+            Fact::Heading(
+                0,
+                (
+                    1,
+                    Span { start: 18, end: 32 },
+                    Span { start: 22, end: 32 },
+                    None,
+                    1,
+                    b" A",
+                ),
+            ),
+            Fact::Headed("A", Ok(Some(0))),
+        ],
+    ),
+];
+
+#[test]
+fn places_of_headings(rt: HostRuntime) {
+    assert_rows(&rt, PLACED);
+}
+
+const NAMED: &[Row] = &[(
+    "* TODO A :x:\n** B\n* A\n* C\n*** D\n** D\n** B\n",
+    7,
+    &[
+        Fact::Path(&["A"], Err(PathFault::NotUnique)),
+        Fact::Path(&["C", "D"], Err(PathFault::NotUnique)),
+        Fact::Path(&["C", "B"], Ok(6)),
+        Fact::Path(&["B"], Err(PathFault::NotFound)),
+        Fact::Path(&[], Err(PathFault::NotFound)),
+        Fact::Headed("C", Ok(Some(3))),
+        Fact::Headed("B", Err(PathFault::NotUnique)),
+        Fact::Headed("Q", Ok(None)),
+    ],
+)];
+
+#[test]
+fn paths_and_titles(rt: HostRuntime) {
+    assert_rows(&rt, NAMED);
+}
+
+const KEYWORDS: &[Row] = &[
+    ("* A\n", 1, &[Fact::Parts(&[b" ", b"", b"", b"A", b""])]),
+    (
+        "* DONE\n",
+        1,
+        &[Fact::Parts(&[b" ", b"DONE", b"", b"", b""])],
+    ),
+    (
+        "* TODO[#A] x\n",
+        1,
+        &[Fact::Parts(&[b" ", b"", b"", b"TODO[#A] x", b""])],
+    ),
+    (
+        "* todo x\n",
+        1,
+        &[Fact::Parts(&[b" ", b"", b"", b"todo x", b""])],
+    ),
+    (
+        "* COMMENT A\n",
+        1,
+        &[Fact::Parts(&[b" ", b"", b"", b"COMMENT A", b""])],
+    ),
+];
+
+const PRIORITIES: &[Row] = &[
+    (
+        "** TODO [#A] Call Ann :x:y:\n",
+        1,
+        &[Fact::Parts(&[b" ", b"TODO", b"[#A]", b"Call Ann", b":x:y:"])],
+    ),
+    (
+        "* [#a]x\n",
+        1,
+        &[Fact::Parts(&[b" ", b"", b"[#a]", b"x", b""])],
+    ),
+    (
+        "* [#1] x\n",
+        1,
+        &[Fact::Parts(&[b" ", b"", b"[#1]", b"x", b""])],
+    ),
+    (
+        "* [#AB] x\n",
+        1,
+        &[Fact::Parts(&[b" ", b"", b"", b"[#AB] x", b""])],
+    ),
+    (
+        "* [#A]:x:\n",
+        1,
+        &[Fact::Parts(&[b" ", b"", b"[#A]", b":x:", b""])],
+    ),
+];
+
+const TAGS: &[Row] = &[
+    (
+        "* TODO :x:\n",
+        1,
+        &[Fact::Parts(&[b" ", b"TODO", b"", b"", b":x:"])],
+    ),
+    ("* :x:\n", 1, &[Fact::Parts(&[b" ", b"", b"", b"", b":x:"])]),
+    (
+        "* A :a::b:\n",
+        1,
+        &[Fact::Parts(&[b" ", b"", b"", b"A :a::b:", b""])],
+    ),
+    (
+        "* A :a_@#%1:\n",
+        1,
+        &[Fact::Parts(&[b" ", b"", b"", b"A", b":a_@#%1:"])],
+    ),
+    (
+        "* A :a-b:\n",
+        1,
+        &[Fact::Parts(&[b" ", b"", b"", b"A :a-b:", b""])],
+    ),
+    (
+        "* \u{c4} :\u{e9}:\n",
+        1,
+        &[Fact::Parts(&[b" ", b"", b"", b"\xc3\x84", b":\xc3\xa9:"])],
+    ),
+];
+
+const BLANKS: &[Row] = &[
+    (
+        "* TODO A\r\n",
+        1,
+        &[Fact::Parts(&[b" ", b"TODO", b"", b"A", b""])],
+    ),
+    ("* A\r \n", 1, &[Fact::Parts(&[b" ", b"", b"", b"A", b""])]),
+    (
+        "* A\r :x:\n",
+        1,
+        &[Fact::Parts(&[b" ", b"", b"", b"A\r", b":x:"])],
+    ),
+    (
+        "* \tTODO\t[#B]\tA\t:x:\t\n",
+        1,
+        &[Fact::Parts(&[b" \t", b"TODO", b"[#B]", b"A", b":x:"])],
+    ),
+    ("* \n", 1, &[Fact::Parts(&[b" ", b"", b"", b"", b""])]),
+    (
+        "*   \t\n",
+        1,
+        &[Fact::Parts(&[b"   \t", b"", b"", b"", b""])],
+    ),
+];
+
+#[test]
+fn parts_of_headings(rt: HostRuntime) {
+    assert_rows(&rt, KEYWORDS);
+    assert_rows(&rt, PRIORITIES);
+    assert_rows(&rt, TAGS);
+    assert_rows(&rt, BLANKS);
+}
+
+#[test]
+fn parts_without_an_outline(rt: HostRuntime) {
+    let states = States::new(rt.alloc(), &["TODO"], &["DONE"]).expect(&rt, "states");
+    assert!(rt; HeadParts::of(&states, b" TODO a :x:").title == b"a".as_slice());
+    assert!(rt; heading_level(b"** a") == Some(2));
+}
+
+#[test]
+fn different_titles(rt: HostRuntime) {
+    let path = titles(&rt, rt.alloc(), &["C", "B"]);
+    let other = titles(&rt, rt.alloc(), &["A"]);
+    assert!(rt; path != other);
+}
+
+#[test]
+fn shifted(rt: HostRuntime) {
+    let moved = shift(rt.alloc(), b"* a\nx\n*** b\n", 3).expect(&rt, "memory");
+    assert!(rt; moved.as_slice() == b"*** a\nx\n***** b\n".as_slice());
+}
