@@ -209,12 +209,3 @@ left_below section start properties slices result place whole are b is =
       ap length is.whole,
       length-append (print_lines is.before) place.left.now,
     )
-
-pub new_drawer_bytes : (b0 b1 b2 b3 first line last : List ℕ) → b0 ≡ [] → b1 ≡ b0 ++ first → b2 ≡ b1 ++ line ++ 10 ∷ [] → b3 ≡ b2 ++ last → b3 ≡ first ++ (line ++ 10 ∷ []) ++ last
-new_drawer_bytes b0 b1 b2 b3 first line last e0 e1 e2 e3 =
-    let built : b3 ≡ first ++ line ++ 10 ∷ [] ++ last =
-    e3 ∙ ap (λ (t : List ℕ). t ++ last) (e2 ∙ ap (λ (t : List ℕ). t ++ line ++ 10 ∷ []) (e1 ∙ ap (λ (t : List ℕ). t ++ first) e0)) in
-    built ∙ simp append_assoc
-
-pub property_bytes : (b0 b1 line : List ℕ) → b0 ≡ [] → b1 ≡ b0 ++ line ++ 10 ∷ [] → b1 ≡ line ++ 10 ∷ []
-property_bytes b0 b1 line e0 e1 = e1 ∙ ap (λ (t : List ℕ). t ++ line ++ 10 ∷ []) e0

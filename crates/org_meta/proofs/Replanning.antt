@@ -1,5 +1,5 @@
 -- Other planning lines in a section.
-use Rattle.std.proofs.Common.{◌≡◌, ◌+◌, ◌≤◌, ℕ, true, false, Option, Some, None, Result, Ok, Err, List, [], ◌∷◌, ◌++◌, length, take, refl, sym, ap, subst, ◌∙◌, append_assoc, inl, inr, arith}
+use Rattle.std.proofs.Common.{◌≡◌, ◌+◌, ℕ, true, false, Option, Some, None, Result, Ok, Err, List, [], ◌∷◌, ◌++◌, length, take, refl, sym, ap, subst, ◌∙◌, append_assoc, inl, inr, arith}
 use Rattle.std.specs.Prelude.{◌⊎◌}
 use Rattle.std.specs.Option.{option_map_or}
 use Rattle.std.proofs.lemmas.Bool.{cases_Bool}
@@ -127,18 +127,35 @@ module _ (section : List ℕ) (slices : Sections) (whole : terminated section �
       let first : (split (lines_of section)).planning ≡ line ∷ lines_of rest = sym (planning_is section slices are) ∙ b.lines in
       ap has_closed_entry first ∙ ap (λ (o : Option PlanningLine). option_map_or (λ p. has_closed p.entries) o false) is
 
-line_shape : (o i c k t : List ℕ) → o ++ i ++ c ++ 32 ∷ [] ++ (k ++ (t ++ 10 ∷ [])) ≡ o ++ ((i ++ (c ++ (32 ∷ (k ++ t)))) ++ 10 ∷ [])
-line_shape o i c k t = simp append_assoc
+line_shape : (i c k t : List ℕ) → i ++ (c ++ 32 ∷ []) ++ (k ++ (t ++ 10 ∷ [])) ≡ (i ++ (c ++ (32 ∷ (k ++ t)))) ++ 10 ∷ []
+line_shape i c k t = simp append_assoc
 
-pub with_closed_bytes : (o0 o1 o2 o3 : List ℕ) (now : CivilMinute) (p : PlanningLine) → o1 ≡ o0 ++ p.indentation → o2 ≡ o1 ++ closed_text now → o3 ≡ o2 ++ 32 ∷ [] → has_others p.entries ≡ true
-    → o3 ++ (kept_text p.entries ++ (p.tail ++ 10 ∷ [])) ≡ o0 ++ (with_closed now p ++ 10 ∷ [])
-with_closed_bytes o0 o1 o2 o3 now p e1 e2 e3 others =
-    let front : o3 ≡ o0 ++ p.indentation ++ closed_text now ++ 32 ∷ [] =
-    e3 ∙ ap (λ (t : List ℕ). t ++ 32 ∷ []) (e2 ∙ ap (λ (t : List ℕ). t ++ closed_text now) e1) in
+pub with_closed_bytes : (o0 o1 o2 : List ℕ) (now : CivilMinute) (p : PlanningLine) → o0 ≡ p.indentation → o1 ≡ o0 ++ (closed_text now ++ 32 ∷ []) → o2 ≡ o1 ++ (kept_text p.entries ++ (p.tail ++ 10 ∷ [])) → has_others p.entries ≡ true
+    → o2 ≡ with_closed now p ++ 10 ∷ []
+with_closed_bytes o0 o1 o2 now p e0 e1 e2 others =
+    let more = kept_text p.entries ++ (p.tail ++ 10 ∷ []) in
     let line : with_closed now p ≡ p.indentation ++ (closed_text now ++ (32 ∷ (kept_text p.entries ++ p.tail))) = rw others refl in
-    ap (λ (t : List ℕ). t ++ (kept_text p.entries ++ (p.tail ++ 10 ∷ []))) front ∙ line_shape o0 p.indentation (closed_text now) (kept_text p.entries) p.tail ∙ ap (λ (t : List ℕ). o0 ++ (t ++ 10 ∷ [])) (sym line)
+    e2 ∙ ap (λ (t : List ℕ). t ++ more) (e1 ∙ ap (λ (t : List ℕ). t ++ (closed_text now ++ 32 ∷ [])) e0) ∙ line_shape p.indentation (closed_text now) (kept_text p.entries) p.tail ∙ ap (λ (t : List ℕ). t ++ 10 ∷ []) (sym line)
+
+pub without_closed_bytes : (o0 o1 : List ℕ) (p : PlanningLine) → o0 ≡ p.indentation → o1 ≡ o0 ++ (kept_text p.entries ++ (p.tail ++ 10 ∷ [])) → has_others p.entries ≡ true → o1 ≡ print_lines (without_closed p)
+without_closed_bytes o0 o1 p e0 e1 others =
+    let shape : p.indentation ++ (kept_text p.entries ++ (p.tail ++ 10 ∷ [])) ≡ (p.indentation ++ (kept_text p.entries ++ p.tail)) ++ 10 ∷ [] = simp append_assoc in
+    let line : without_closed p ≡ (p.indentation ++ (kept_text p.entries ++ p.tail)) ∷ [] = rw others refl in
+    e1 ∙ ap (λ (t : List ℕ). t ++ (kept_text p.entries ++ (p.tail ++ 10 ∷ []))) e0 ∙ shape ∙ ap print_lines (sym line)
 
 -- ---- repetition
+
+repeated_shape : (i r t : List ℕ) → (i ++ r) ++ (t ++ 10 ∷ []) ≡ (i ++ (r ++ t)) ++ 10 ∷ []
+repeated_shape i r t = simp append_assoc
+
+pub same_fault : (now : CivilMinute) (es fs : List PlanningEntry) (fault : PlanningFault) → es ≡ fs → (fault ≡ OutOfMemory) ⊎ AreRepeated es now (Err fault) → (fault ≡ OutOfMemory) ⊎ AreRepeated fs now (Err fault)
+same_fault now es fs fault same wrong = let P : List PlanningEntry → Type 0 = λ es. (fault ≡ OutOfMemory) ⊎ AreRepeated es now (Err fault) in subst P same wrong
+
+pub repeated_bytes : (now : CivilMinute) (p : PlanningLine) (es : List PlanningEntry) (o0 o1 o2 : List ℕ) → es ≡ p.entries → o0 ≡ p.indentation → PutsAllRepeated es now o0 o1 → o2 ≡ o1 ++ (p.tail ++ 10 ∷ [])
+    → (text : List ℕ) × AreRepeated p.entries now (Ok text) × (o2 ≡ repeated_line p text ++ 10 ∷ [])
+repeated_bytes now p es o0 o1 o2 same e0 puts e2 =
+    let Q : List PlanningEntry → Type 0 = λ es. AreRepeated es now (Ok puts.text) in
+    (puts.text, subst Q same puts.are, e2 ∙ ap (λ (t : List ℕ). t ++ (p.tail ++ 10 ∷ [])) (puts.bytes ∙ ap (λ (t : List ℕ). t ++ puts.text) e0) ∙ repeated_shape p.indentation puts.text p.tail)
 
 module _ (section : List ℕ) (slices : Sections) (whole : terminated section ≡ section) (are : AreSections slices (split (lines_of section))) (now : CivilMinute) where
   pub repeat_none : slices.planning.now ≡ [] → HasNoRepeater (split (lines_of section)).planning
@@ -154,29 +171,23 @@ module _ (section : List ℕ) (slices : Sections) (whole : terminated section �
   pub repeat_nothing : (line rest : List ℕ) (plan : PlanningLine) → BeginsWith slices.planning.now line rest → planning_of line ≡ Some plan → has_repeater plan.entries ≡ false → HasNoRepeater (split (lines_of section)).planning
   repeat_nothing line rest plan b is none = subst HasNoRepeater (sym b.lines ∙ planning_is section slices are) (plan, is, none)
 
-  pub repeat_fault : (line rest : List ℕ) (plan : PlanningLine) (es : List PlanningEntry) (fault : PlanningFault) → BeginsWith slices.planning.now line rest → planning_of line ≡ Some plan → es ≡ plan.entries → has_repeater es ≡ true
-      → (fault ≡ OutOfMemory) ⊎ AreRepeated es now (Err fault) → (fault ≡ OutOfMemory) ⊎ FaultRepeated now (split (lines_of section)).planning fault
-  repeat_fault line rest plan es fault b is same some (inl memory) = inl memory
-  repeat_fault line rest plan es fault b is same some (inr wrong) =
+  pub repeat_fault : (line rest : List ℕ) (plan : PlanningLine) (fault : PlanningFault) → BeginsWith slices.planning.now line rest → planning_of line ≡ Some plan → has_repeater plan.entries ≡ true
+      → (fault ≡ OutOfMemory) ⊎ AreRepeated plan.entries now (Err fault) → (fault ≡ OutOfMemory) ⊎ FaultRepeated now (split (lines_of section)).planning fault
+  repeat_fault line rest plan fault b is some (inl memory) = inl memory
+  repeat_fault line rest plan fault b is some (inr wrong) =
       let P : List (List ℕ) → Type 0 = λ ls. FaultRepeated now ls fault in
-      let Q : List PlanningEntry → Type 0 = λ es. AreRepeated es now (Err fault) in
-      inr (subst P (sym b.lines ∙ planning_is section slices are) (inr (plan, is, sym (ap has_repeater same) ∙ some, subst Q same wrong)))
+      inr (subst P (sym b.lines ∙ planning_is section slices are) (inr (plan, is, some, wrong)))
 
-  pub repeat_gives : (e : Edit) (line rest : List ℕ) (plan : PlanningLine) (es : List PlanningEntry) (o1 o2 o3 : List ℕ) → BeginsWith slices.planning.now line rest → planning_of line ≡ Some plan → es ≡ plan.entries → has_repeater es ≡ true
-      → o1 ≡ plan.indentation → PutsAllRepeated es now o1 o2 → o3 ≡ o2 ++ plan.tail → e.at ≡ 0 → e.removed ≡ length slices.planning.now → e.bytes ≡ o3 ++ 10 ∷ []
-      → GivesRepeated now (split (lines_of section)) section (Some e)
-  repeat_gives e line rest plan es o1 o2 o3 b is same some first puts last at removed bytes =
+  pub repeat_gives : (e : Edit) (line rest : List ℕ) (plan : PlanningLine) (text : List ℕ) → BeginsWith slices.planning.now line rest → planning_of line ≡ Some plan → has_repeater plan.entries ≡ true → AreRepeated plan.entries now (Ok text)
+      → e.at ≡ 0 → e.removed ≡ length slices.planning.now → e.bytes ≡ repeated_line plan text ++ 10 ∷ [] → GivesRepeated now (split (lines_of section)) section (Some e)
+  repeat_gives e line rest plan text b is some repeated at removed bytes =
       let p = split (lines_of section) in
-      let Q : List PlanningEntry → Type 0 = λ es. AreRepeated es now (Ok puts.text) in
-      let shape : o1 ++ puts.text ++ plan.tail ++ 10 ∷ [] ≡ (o1 ++ (puts.text ++ plan.tail)) ++ 10 ∷ [] = simp append_assoc in
-      let all : e.bytes ≡ repeated_line plan puts.text ++ 10 ∷ [] =
-      bytes ∙ ap (λ (t : List ℕ). t ++ 10 ∷ []) (last ∙ ap (λ (t : List ℕ). t ++ plan.tail) puts.bytes) ∙ shape ∙ ap (λ (t : List ℕ). (t ++ (puts.text ++ plan.tail)) ++ 10 ∷ []) first in
       let P : List (List ℕ) → Type 0 = λ ls. GivesRepeatedIn now p section e ls in
       subst P (sym b.lines ∙ planning_is section slices are) (record {
         planning = plan;
-        text = puts.text;
+        text = text;
         well_formed = is;
-        repeats = sym (ap has_repeater same) ∙ some;
-        are = subst Q same puts.are;
-        gives = planning_gives e section slices (repeated_line plan puts.text ∷ []) whole are at removed all;
+        repeats = some;
+        are = repeated;
+        gives = planning_gives e section slices (repeated_line plan text ∷ []) whole are at removed bytes;
       })

@@ -5,12 +5,12 @@ ghost use Rattle.org_splice.specs.Lines.{terminated, lines_of};
 ghost use Rattle.org_meta.specs.Edits.{GivesParts, IsPlaceFor};
 ghost use Rattle.org_meta.specs.Sections.{is_end, parts_of};
 ghost use Rattle.org_meta.specs.Clocks.{HasOpenAt};
-ghost use Rattle.org_meta.specs.Clocking.{clock_line, in_logbook, logged, opened, closing_text, Closes, ClosesNot};
+ghost use Rattle.org_meta.specs.Clocking.{in_logbook, logged, opened, closing_text, Closes, ClosesNot};
 
 use crate::clock::{minutes_between, running_clock};
 use crate::fault::ClockFault;
 use crate::lines::{Place, first_line};
-use crate::moments::push_moment;
+use crate::moments::{moment_bytes, push_moment};
 use crate::split::{is_end, is_mark, sections};
 use org_splice::{Bytes, Edit, Span};
 use org_stamp::{Moment, duration};
@@ -54,16 +54,6 @@ fn log_place(text: &[u8]) -> Option<Place<'_>>
     None
 }
 
-/// `CLOCK: [stamp]`, with its newline.
-fn push_clock(out: &mut Vec<u8>, now: Moment) -> Result<(), AllocError>
-    ensures { OnOk result (out.new.items ≡ out.old.items ++ clock_line now ++ 10 ∷ []) }
-{
-    out.extend_from_slice(b"CLOCK: ")?;
-    push_moment(out, now)?;
-    out.push(b'\n')?;
-    Ok(())
-}
-
 /// The edit that puts an open clock line first into the section's LOGBOOK drawer, or into a new one
 /// before the rest (Org manual, "Clocking commands").
 pub fn open_clock(alloc: Global, section: &[u8], now: Moment) -> Result<Edit, AllocError>
@@ -72,22 +62,17 @@ pub fn open_clock(alloc: Global, section: &[u8], now: Moment) -> Result<Edit, Al
         GivesParts edit section.now (opened now (parts_of section.now))) }
 {
     let rest = sections(section).rest;
-    let mut bytes = Vec::new(alloc);
     let Some(place) = log_place(rest) else {
-        bytes.extend_from_slice(b":LOGBOOK:\n")?;
-        push_clock(&mut bytes, now)?;
-        bytes.extend_from_slice(b":END:\n")?;
         return Ok(Edit {
             at: section.len() - rest.len(),
             removed: 0,
-            bytes: Bytes::new(bytes),
+            bytes: Bytes::new(moment_bytes(alloc, b":LOGBOOK:\nCLOCK: ", now, b"\n:END:\n")?),
         });
     };
-    push_clock(&mut bytes, now)?;
     Ok(Edit {
         at: section.len() - place.left.len(),
         removed: place.removed,
-        bytes: Bytes::new(bytes),
+        bytes: Bytes::new(moment_bytes(alloc, b"CLOCK: ", now, b"\n")?),
     })
 }
 
@@ -95,9 +80,7 @@ pub fn open_clock(alloc: Global, section: &[u8], now: Moment) -> Result<Edit, Al
 fn push_closing(out: &mut Vec<u8>, now: Moment, minutes: u64) -> Result<(), AllocError>
     ensures { OnOk result (out.new.items ≡ out.old.items ++ closing_text now minutes) }
 {
-    out.extend_from_slice(b"--")?;
-    push_moment(out, now)?;
-    out.extend_from_slice(b" => ")?;
+    push_moment(out, b"--", now, b" => ")?;
     let duration = duration(*out.allocator(), minutes, 2)?;
     out.extend_from_slice(&duration)
 }

@@ -12,12 +12,13 @@ use org_splice::{Bytes, Edit};
 use org_stamp::Moment;
 use std::alloc::{AllocError, Global};
 
-/// The state in quotes, in 12 columns at least.
-fn push_quoted(out: &mut Vec<u8>, state: &[u8]) -> Result<(), AllocError>
-    ensures { OnOk result (out.new.items ≡ out.old.items ++ quoted state.now) }
+/// The state in quotes, in 12 columns at least, behind a text.
+fn push_quoted(out: &mut Vec<u8>, before: &[u8], state: &[u8]) -> Result<(), AllocError>
+    ensures { OnOk result (out.new.items
+        ≡ out.old.items ++ (before.now ++ quoted state.now)) }
 {
     let blanks = &b"          "[state.len().min(10)..];
-    push_all(out, &[b"\"", state, b"\"", blanks])
+    push_all(out, &[before, b"\"", state, b"\"", blanks])
 }
 
 /// `- State "DONE"       from "TODO"       [stamp]`, with its newline.
@@ -25,14 +26,9 @@ fn push_note(out: &mut Vec<u8>, new: &[u8], old: &[u8], now: Moment) -> Result<(
     ensures { OnOk result (out.new.items
         ≡ out.old.items ++ (note_line new.now old.now now ++ 10 ∷ [])) }
 {
-    out.extend_from_slice(b"- State ")?;
-    push_quoted(out, new)?;
-    out.extend_from_slice(b" from ")?;
-    push_quoted(out, old)?;
-    out.push(b' ')?;
-    push_moment(out, now)?;
-    out.push(b'\n')?;
-    Ok(())
+    push_quoted(out, b"- State ", new)?;
+    push_quoted(out, b" from ", old)?;
+    push_moment(out, b" ", now, b"\n")
 }
 
 /// The edit that puts the note of a repetition first into the rest of the section (Org manual,

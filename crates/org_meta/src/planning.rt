@@ -1,11 +1,11 @@
 // Edits of the planning line (Org manual, "Closing items", "Repeated tasks").
-ghost use Rattle.std.specs.Prelude.{◌≡◌, ◌⊎◌, ◌<◌, ◌≤◌, length, None, Some, Ok, Err, IfOk, IfErr, OnOk, true, false, [], ◌∷◌, ◌++◌};
+ghost use Rattle.std.specs.Prelude.{◌≡◌, ◌⊎◌, ◌<◌, ◌≤◌, ℕ, List, length, None, Some, Ok, Err, IfOk, IfErr, OnOk, true, false, [], ◌∷◌, ◌++◌};
 ghost use Rattle.org_splice.specs.Lines.{terminated, print_lines, lines_of};
 ghost use Rattle.org_meta.specs.Edits.{ChangesNothing};
 ghost use Rattle.org_meta.specs.Sections.{parts_of, split};
 ghost use Rattle.org_meta.specs.declared.fault.PlanningFault.TheVariants.{OddPlanning, OutOfMemory};
 ghost use Rattle.org_meta.specs.Planning.{entries_at, each_once, planning_of, is_closed, has_closed_entry, entry_text, kept_text, closed_text, without_closed, with_closed, clear_closed, set_closed, is_repeating, has_repeater, AreRepeated, IsRepeatedEntry};
-ghost use Rattle.org_meta.specs.Replans.{GivesOk, FaultIn, PutsRepeated, PutsAllRepeated, GivesRepeated, FaultRepeated};
+ghost use Rattle.org_meta.specs.Replans.{GivesOk, FaultIn, PutsRepeated, PutsAllRepeated, GivesRepeated, FaultRepeated, repeated_line};
 
 use crate::entry::{
     Entry, Planning, Word, entry_at, has_closed, has_others, is_closed, is_line_end, is_once,
@@ -13,7 +13,7 @@ use crate::entry::{
 };
 use crate::fault::PlanningFault;
 use crate::lines::first_line;
-use crate::moments::push_moment;
+use crate::moments::{moment_bytes, push_moment};
 use crate::split::sections;
 use crate::texts::push_all;
 use org_splice::{Bytes, Edit};
@@ -108,21 +108,11 @@ fn push_kept(out: &mut Vec<u8>, entries: &[Entry]) -> Result<(), AllocError>
     Ok(())
 }
 
-/// `CLOSED:` and the moment's stamp.
-fn push_closed(out: &mut Vec<u8>, now: Moment) -> Result<(), AllocError>
-    ensures { OnOk result (out.new.items ≡ out.old.items ++ closed_text now) }
-{
-    out.extend_from_slice(b"CLOSED: ")?;
-    push_moment(out, now)
-}
-
 /// `CLOSED:` and the moment's stamp, with a newline.
-fn push_closed_line(out: &mut Vec<u8>, now: Moment) -> Result<(), AllocError>
-    ensures { OnOk result (out.new.items ≡ out.old.items ++ (closed_text now ++ 10 ∷ [])) }
+fn closed_line(alloc: Global, now: Moment) -> Result<Vec<u8>, AllocError>
+    ensures { IfOk result (λ bytes. bytes.items ≡ closed_text now ++ 10 ∷ []) }
 {
-    push_closed(out, now)?;
-    out.push(b'\n')?;
-    Ok(())
+    moment_bytes(alloc, b"CLOSED: ", now, b"\n")
 }
 
 /// The texts of all entries but CLOSED, and the line's end with its newline.
@@ -135,29 +125,28 @@ fn push_others(out: &mut Vec<u8>, planning: &Planning) -> Result<(), AllocError>
 }
 
 /// The planning line without its CLOSED entry, if anything is left of it, with its newline.
-fn push_without_closed(out: &mut Vec<u8>, planning: &Planning) -> Result<(), AllocError>
-    ensures { OnOk result (out.new.items
-        ≡ out.old.items ++ print_lines (without_closed planning.now)) }
+fn without_closed(alloc: Global, planning: &Planning) -> Result<Vec<u8>, AllocError>
+    ensures { IfOk result (λ bytes. bytes.items ≡ print_lines (without_closed planning.now)) }
 {
-    if has_others(&planning.entries) {
-        out.extend_from_slice(planning.indentation)?;
-        push_others(out, planning)?;
+    if !has_others(&planning.entries) {
+        return Ok(Vec::new(alloc));
     }
-    Ok(())
+    let mut bytes = Vec::from_slice(alloc, planning.indentation)?;
+    push_others(&mut bytes, planning)?;
+    Ok(bytes)
 }
 
 /// The planning line with the moment's CLOSED entry first, with its newline.
-fn push_with_closed(out: &mut Vec<u8>, planning: &Planning, now: Moment) -> Result<(), AllocError>
-    ensures { OnOk result (out.new.items
-        ≡ out.old.items ++ (with_closed now planning.now ++ 10 ∷ [])) }
+fn with_closed(alloc: Global, planning: &Planning, now: Moment) -> Result<Vec<u8>, AllocError>
+    ensures { IfOk result (λ bytes. bytes.items ≡ with_closed now planning.now ++ 10 ∷ []) }
 {
     if !has_others(&planning.entries) {
-        return push_closed_line(out, now);
+        return closed_line(alloc, now);
     }
-    out.extend_from_slice(planning.indentation)?;
-    push_closed(out, now)?;
-    out.push(b' ')?;
-    push_others(out, planning)
+    let mut bytes = Vec::from_slice(alloc, planning.indentation)?;
+    push_moment(&mut bytes, b"CLOSED: ", now, b" ")?;
+    push_others(&mut bytes, planning)?;
+    Ok(bytes)
 }
 
 /// Whether the entry has an active SCHEDULED or DEADLINE stamp whose repeater isn't 0.
@@ -198,6 +187,20 @@ fn push_all_repeated(out: &mut Vec<u8>, entries: &[Entry], now: Moment) -> Resul
     Ok(())
 }
 
+/// The planning line with each entry at its next repetition, with its newline.
+fn repeated(alloc: Global, planning: &Planning, now: Moment) -> Result<Vec<u8>, PlanningFault>
+    ensures ok { IfOk result (λ bytes. (text : List ℕ)
+        × AreRepeated planning.now.entries now (Ok text)
+        × (bytes.items ≡ repeated_line planning.now text ++ 10 ∷ [])) }
+    ensures err { IfErr result (λ fault.
+        (fault ≡ OutOfMemory) ⊎ AreRepeated planning.now.entries now (Err fault)) }
+{
+    let mut bytes = Vec::from_slice(alloc, planning.indentation)?;
+    push_all_repeated(&mut bytes, &planning.entries, now)?;
+    push_all(&mut bytes, &[planning.tail, b"\n"])?;
+    Ok(bytes)
+}
+
 /// The edit that changes nothing.
 fn nothing(alloc: Global) -> Edit
     ensures { ChangesNothing result }
@@ -206,6 +209,18 @@ fn nothing(alloc: Global) -> Edit
         at: 0,
         removed: 0,
         bytes: Bytes::new(Vec::new(alloc)),
+    }
+}
+
+/// The edit that puts these bytes in the place of the planning line, or before the drawer where there
+/// is none.
+fn replacing(line: &[u8], bytes: Vec<u8>) -> Edit
+    ensures { result ≡ record { at = 0; removed = length line.now; bytes = bytes.items } }
+{
+    Edit {
+        at: 0,
+        removed: line.len(),
+        bytes: Bytes::new(bytes),
     }
 }
 
@@ -227,13 +242,7 @@ pub fn clear_closed(alloc: Global, section: &[u8]) -> Result<Edit, PlanningFault
     if !has_closed(&planning.entries) {
         return Ok(nothing(alloc));
     }
-    let mut bytes = Vec::new(alloc);
-    push_without_closed(&mut bytes, &planning)?;
-    Ok(Edit {
-        at: 0,
-        removed: line.len(),
-        bytes: Bytes::new(bytes),
-    })
+    Ok(replacing(line, without_closed(alloc, &planning)?))
 }
 
 /// The edit that puts `CLOSED: [stamp]` first in the planning line, in the place of the CLOSED entry
@@ -245,22 +254,11 @@ pub fn set_closed(alloc: Global, section: &[u8], now: Moment) -> Result<Edit, Pl
     ensures err { IfErr result (FaultIn (set_closed now (parts_of section.now))) }
 {
     let line = sections(section).planning;
-    let mut bytes = Vec::new(alloc);
     let Some((text, _rest)) = first_line(line) else {
-        push_closed_line(&mut bytes, now)?;
-        return Ok(Edit {
-            at: 0,
-            removed: 0,
-            bytes: Bytes::new(bytes),
-        });
+        return Ok(replacing(line, closed_line(alloc, now)?));
     };
     let planning = read_planning(alloc, text)?;
-    push_with_closed(&mut bytes, &planning, now)?;
-    Ok(Edit {
-        at: 0,
-        removed: line.len(),
-        bytes: Bytes::new(bytes),
-    })
+    Ok(replacing(line, with_closed(alloc, &planning, now)?))
 }
 
 /// The edit that repeats each SCHEDULED or DEADLINE stamp that has a repeater, and takes the CLOSED
@@ -284,14 +282,8 @@ pub fn repeat_planning(
     if !has_repeater(&planning.entries) {
         return Ok(None);
     }
-    let mut bytes = Vec::from_slice(alloc, planning.indentation)?;
-    push_all_repeated(&mut bytes, &planning.entries, now)?;
-    push_all(&mut bytes, &[planning.tail, b"\n"])?;
-    Ok(Some(Edit {
-        at: 0,
-        removed: line.len(),
-        bytes: Bytes::new(bytes),
-    }))
+    let bytes = repeated(alloc, &planning, now)?;
+    Ok(Some(replacing(line, bytes)))
 }
 
 /// Whether a stamp repeats.

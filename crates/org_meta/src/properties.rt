@@ -1,5 +1,5 @@
 // Properties (Org manual, "Property Syntax").
-ghost use Rattle.std.specs.Prelude.{◌≡◌, ℕ, ◌≤◌, ◌+◌, length, IfOk, OnOk, [], ◌∷◌, ◌++◌};
+ghost use Rattle.std.specs.Prelude.{◌≡◌, ℕ, ◌≤◌, ◌+◌, length, IfOk, [], ◌∷◌, ◌++◌};
 ghost use Rattle.std.specs.Option.{option_map};
 ghost use Rattle.org_splice.specs.Lines.{terminated, lines_of};
 ghost use Rattle.org_meta.specs.Edits.{GivesParts, IsPlaceFor};
@@ -73,16 +73,21 @@ fn place_of<'a>(text: &'a [u8], name: &[u8]) -> Place<'a>
     Place { left, removed: 0 }
 }
 
-/// `:NAME: VALUE`, or `:NAME:` where the value is empty, with its newline.
-fn push_property(out: &mut Vec<u8>, name: &[u8], value: &[u8]) -> Result<(), AllocError>
-    ensures { OnOk result (out.new.items
-        ≡ out.old.items ++ property_line name.now value.now ++ 10 ∷ []) }
+/// `:NAME: VALUE`, or `:NAME:` where the value is empty, with its newline, between two texts.
+fn property_bytes(
+    alloc: Global,
+    before: &[u8],
+    name: &[u8],
+    value: &[u8],
+    after: &[u8],
+) -> Result<Bytes, AllocError>
+    ensures { IfOk result (λ bytes. bytes
+        ≡ before.now ++ (property_line name.now value.now ++ 10 ∷ []) ++ after.now) }
 {
-    if value.is_empty() {
-        push_all(out, &[b":", name, b":\n"])
-    } else {
-        push_all(out, &[b":", name, b": ", value, b"\n"])
-    }
+    let mark: &[u8] = if value.is_empty() { b":" } else { b": " };
+    let mut bytes = Vec::new(alloc);
+    push_all(&mut bytes, &[before, b":", name, mark, value, b"\n", after])?;
+    Ok(Bytes::new(bytes))
 }
 
 /// The edit that puts a property into the section (Org manual, "Property Syntax"): its line in the
@@ -99,22 +104,17 @@ pub fn put_property(
         GivesParts edit section.now (put name.now value.now (parts_of section.now))) }
 {
     let parts = sections(section);
-    let mut bytes = Vec::new(alloc);
     let Some((_start, properties)) = first_line(parts.drawer) else {
-        bytes.extend_from_slice(b":PROPERTIES:\n")?;
-        push_property(&mut bytes, name, value)?;
-        bytes.extend_from_slice(b":END:\n")?;
         return Ok(Edit {
             at: parts.planning.len(),
             removed: 0,
-            bytes: Bytes::new(bytes),
+            bytes: property_bytes(alloc, b":PROPERTIES:\n", name, value, b":END:\n")?,
         });
     };
     let place = place_of(properties, name);
-    push_property(&mut bytes, name, value)?;
     Ok(Edit {
         at: section.len() - parts.rest.len() - place.left.len(),
         removed: place.removed,
-        bytes: Bytes::new(bytes),
+        bytes: property_bytes(alloc, b"", name, value, b"")?,
     })
 }

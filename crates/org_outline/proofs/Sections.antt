@@ -1,5 +1,5 @@
 -- The section of a node in the text.
-use Rattle.std.proofs.Common.{◌≡◌, ℕ, zero, suc, ◌+◌, ◌-◌, ◌<◌, ◌≤◌, List, [], ◌∷◌, ◌++◌, length, drop, take, get_or, Option, Some, None, refl, sym, ap, subst, ◌∙◌, append_assoc, arith, eq-eqb}
+use Rattle.std.proofs.Common.{◌≡◌, ℕ, zero, suc, ◌+◌, ◌-◌, ◌<◌, ◌≤◌, List, [], ◌∷◌, ◌++◌, length, drop, take, get_or, Option, Some, None, refl, sym, ap, subst, ◌∙◌, append_assoc, arith, eq-eqb, add-one}
 use Rattle.std.specs.Prelude.{◌≢◌}
 use Rattle.std.specs.List.{AllByRecursion}
 use Rattle.std.proofs.lemmas.Bool.{eqb-true}
@@ -10,11 +10,11 @@ use Rattle.org_outline.specs.declared.heads.Heading.{Heading}
 use Rattle.org_splice.specs.Lines.{terminated, print_lines, IsLine, lines_of}
 use Rattle.org_outline.specs.Text.{heading_line}
 use Rattle.org_outline.specs.Tree.{Forest, Empty, Tree, Document, Placed, lines, own_lines, print_node, IsForest, IsValid, tree, nodes, nodes_from, node_at, node_count, no_node}
-use Rattle.org_outline.specs.Outline.{headings_of, next_at, start_or, IsSection}
+use Rattle.org_outline.specs.Outline.{heading_of, headings_of, next_at, start_or, IsSection}
 use Rattle.org_outline.specs.Moves.{IsNode}
 use Rattle.org_outline.proofs.Lines.{AllByRecursion-append}
 use Rattle.org_outline.proofs.Trees.{valid-tree_of_lines, IsLine-heading}
-use Rattle.org_outline.proofs.Nodes.{node_of, own_end, subtree_is, AllByRecursion-at, heading_read, later_headings}
+use Rattle.org_outline.proofs.Nodes.{node_of, own_end, subtree_is, AllByRecursion-at, heading_at}
 
 -- each node of a valid forest is a valid tree
 pub nodes-valid : (at : ℕ) (f : Forest) → IsForest f → AllByRecursion (λ (p : Placed). IsNode p.node) (nodes_from at f)
@@ -96,22 +96,20 @@ section_is t i h from c lt e found =
     }
 
 -- the same as the code says it
-pub section_at : (t u : List ℕ) (i j : ℕ) (hs : List Heading) (d : Heading) (from end : ℕ) → u ≡ t → terminated t ≡ t → j ≡ i → hs ≡ headings_of t → i < node_count (tree t)
-    → ((l more : List ℕ) → IsLine l → drop (get_or hs j d).start u ≡ l ++ 10 ∷ more → from ≡ (get_or hs j d).start + length l + 1)
-    → end ≡ start_or (take (length hs - (j + 1)) (drop (j + 1) hs)) (length u)
+pub section_at : (t u : List ℕ) (i : ℕ) (h : Heading) (later : List Heading) (from end : ℕ) → u ≡ t → terminated t ≡ t → i < node_count (tree t) → h ≡ heading_of (node_at (tree t) i) → later ≡ drop (i + 1) (headings_of t)
+    → ((l more : List ℕ) → IsLine l → drop h.start u ≡ l ++ 10 ∷ more → from ≡ h.start + length l + 1)
+    → end ≡ start_or later (length u)
     → IsSection t (node_at (tree t) i) (record { start = from; end = end })
-section_at t u i j hs d from end ue c je he lt found ee =
-    let h = get_or hs j d in
+section_at t u i h later from end ue c lt he le found ee =
     let ends : start_or (drop (suc i) (headings_of t)) (length t) ≡ end =
-    sym (ee ∙ ap (λ xs. start_or xs (length u)) (later_headings t i j hs je he) ∙ ap (λ u. start_or (drop (suc i) (headings_of t)) (length u)) ue) in
+    sym (ee ∙ ap (λ xs. start_or xs (length u)) (le ∙ ap (λ k. drop k (headings_of t)) (add-one i)) ∙ ap (λ u. start_or (drop (suc i) (headings_of t)) (length u)) ue) in
+    let line : (l more : List ℕ) → IsLine l → drop h.start t ≡ l ++ 10 ∷ more → from ≡ h.start + length l + 1 = λ l more is split. found l more is (ap (drop h.start) ue ∙ split) in
     let E : ℕ → Type 0 = λ end. IsSection t (node_at (tree t) i) (record { start = from; end = end }) in
-    let line : (l more : List ℕ) → IsLine l → drop h.start t ≡ l ++ 10 ∷ more → from ≡ h.start + length l + 1 = λ l more p split. found l more p (ap (drop h.start) ue ∙ split) in
-    subst E ends (section_is t i h from c lt (heading_read t i j hs d je he lt) line)
+    subst E ends (section_is t i h from c lt (heading_at t i h lt he) line)
 
-pub start_room : (t u : List ℕ) (i j : ℕ) (hs : List Heading) (d : Heading) → u ≡ t → terminated t ≡ t → j ≡ i → hs ≡ headings_of t → i < node_count (tree t) → (get_or hs j d).start ≤ length u
-start_room t u i j hs d ue c je he lt =
-    let h = get_or hs j d in
-    let m = from_node t i h c lt (heading_read t i j hs d je he lt) in
+pub start_room : (t u : List ℕ) (i : ℕ) (h : Heading) → u ≡ t → terminated t ≡ t → i < node_count (tree t) → h ≡ heading_of (node_at (tree t) i) → h.start ≤ length u
+start_room t u i h ue c lt he =
+    let m = from_node t i h c lt (heading_at t i h lt he) in
     let n = (node_at (tree t) i).node in
     let some : 0 < length (print_node n ++ m.0) = omega (arith, length-append (print_node n) m.0, size-cons (heading_line n.level n.rest) (n.section ++ lines n.children)) in
     omega (arith, some, ap length m.1, length-drop h.start t, ap length ue)

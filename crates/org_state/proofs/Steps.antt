@@ -1,5 +1,5 @@
 -- Edits of a heading's own lines, one after another, are edits of its text.
-use Rattle.std.proofs.Common.{◌≡◌, ℕ, ◌+◌, ◌<◌, ◌≤◌, List, [], ◌∷◌, ◌++◌, length, map, refl, sym, ap, subst, ◌∙◌, arith, append_assoc, replicate, length-append}
+use Rattle.std.proofs.Common.{◌≡◌, ℕ, ◌+◌, ◌-◌, ◌<◌, ◌≤◌, List, [], ◌∷◌, ◌++◌, length, map, refl, sym, ap, subst, ◌∙◌, arith, append_assoc, replicate, length-append}
 use Rattle.std.specs.Prelude.{◌≢◌}
 use Rattle.std.proofs.lemmas.List.{length-replicate, append-nil}
 use Rattle.std.specs.List.{AllByRecursion}
@@ -113,6 +113,27 @@ section_bounds t i s shut lt is =
     let long : length line ≡ n.level + length n.rest = length-append (replicate n.level 42) n.rest ∙ omega (arith, length-replicate {A = ℕ} n.level 42) in
     let own : length (print_lines (line ∷ n.section)) ≡ length line + (1 + length (print_lines n.section)) = length-append line (10 ∷ print_lines n.section) ∙ omega arith in
     (omega (arith, is.start, is.end, own), omega (arith, is.end, own, long, room i n.rest n.section d lt, ap length whole))
+
+-- how long a section is
+pub section_long : (t : List ℕ) (i : ℕ) (s : Span) → IsSection t (node_at (tree t) i) s → s.end ≡ s.start + length (print_lines (node_at (tree t) i).node.section)
+section_long t i s is =
+    let n : Node = (node_at (tree t) i).node in
+    let line : List ℕ = heading_line n.level n.rest in
+    let own : length (print_lines (line ∷ n.section)) ≡ length line + (1 + length (print_lines n.section)) = length-append line (10 ∷ print_lines n.section) ∙ omega arith in
+    omega (arith, is.start, is.end, own)
+
+-- where the rest of the heading line stands before its section
+pub record RestBefore (t : List ℕ) (i : ℕ) (s : Span) (rest : List ℕ) : Type 0 where
+  pub some : 1 ≤ s.start
+  pub room : length rest ≤ s.start - 1
+  pub start : s.start - 1 - length rest ≡ rest_start (tree t) i
+
+pub rest_before : (t : List ℕ) (i : ℕ) (s : Span) (rest : List ℕ) → IsSection t (node_at (tree t) i) s → rest ≡ (node_at (tree t) i).node.rest → RestBefore t i s rest
+rest_before t i s rest is same =
+    let n : Node = (node_at (tree t) i).node in
+    let long : length (heading_line n.level n.rest) ≡ n.level + length n.rest = length-append (replicate n.level 42) n.rest ∙ omega (arith, length-replicate {A = ℕ} n.level 42) in
+    let rest_long : length rest ≡ length n.rest = ap length same in
+    record { some = omega (arith, is.start); room = omega (arith, is.start, long, rest_long); start = omega (arith, is.start, long, rest_long) }
 
 pub section_is_lines : (t : List ℕ) (i : ℕ) → i < node_count (tree t) → AllByRecursion IsLine (node_at (tree t) i).node.section
 section_is_lines t i lt = IsPlain-lines (node_at (tree t) i).node.section (node-valid t i lt).heading.section

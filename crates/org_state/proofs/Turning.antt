@@ -1,6 +1,6 @@
 -- What the edits of a change make is what is defined.
 use Rattle.std.proofs.Common.{◌≡◌, ℕ, ◌+◌, ◌<◌, ◌≤◌, Bool, true, false, true≢false, append_assoc, Option, Some, None, Ok, Err, List, [], ◌∷◌, ◌++◌, length, refl, sym, ap, subst, ◌∙◌, arith, codes, inl, inr}
-use Rattle.std.specs.Prelude.{◌≢◌, ◌⊎◌, Result, Vec}
+use Rattle.std.specs.Prelude.{◌≢◌, ◌⊎◌, IfOk, IfErr, Result, Vec}
 use Rattle.std.specs.Result.{result_map_both}
 use Rattle.std.specs.Str.{bytes_eq}
 use Rattle.std.specs.Global.{Global}
@@ -37,6 +37,12 @@ use Rattle.org_state.proofs.Steps.{repeat_lines, four_made, section_is_lines}
 -- ---- faults
 
 -- a fault of the planning is the change's, unless memory ran out
+pub handed : (IsDefined : Result Own StateFault → Type 0) (t : List ℕ) (i : ℕ) (result : Result (Vec Edit Global) StateFault)
+    → IfOk result (λ edits. (own : Own) × IsDefined (Ok own) × ((edits.items ≢ []) × AreEdits edits.items t (print (with_own_at i (tree t) own)))) → IfErr result (λ fault. fault ≡ OutOfMemory)
+    → AnswersOwn IsDefined t i result
+handed IsDefined t i (Ok edits) ok err = ok
+handed IsDefined t i (Err fault) ok err = let P : StateFault → Type 0 = λ fault. AnswersOwn IsDefined t i (Err fault) in subst P (sym err) tt
+
 pub faulted : (IsDefined : Result Own StateFault → Type 0) (t : List ℕ) (i : ℕ) (fault : PlanningFault) → (fault ≡ planning.OutOfMemory) ⊎ IsDefined (Err (fault_of_planning fault))
     → AnswersOwn IsDefined t i (Err (fault_of_planning fault))
 faulted IsDefined t i planning.OddPlanning (inl e) = absurd cc
@@ -56,19 +62,21 @@ ok_parts (Err fault) section e g = absurd g
 pub replanned_within : (r : Result SectionParts PlanningFault) (section bytes : List ℕ) (e : Edit) → section ≡ bytes → GivesOk r section e → e.at + e.removed ≤ length bytes
 replanned_within r section bytes e is g = let parts = ok_parts r section e g in omega (arith, parts.2.within, ap length is)
 
-pub replanned_made : (plan : SectionParts → Result SectionParts PlanningFault) (states : Keywords) (word t : List ℕ) (i : ℕ) (section : List ℕ) (e : Edit) (items : List Edit)
+pub replanned_refused : (plan : SectionParts → Result SectionParts PlanningFault) (states : Keywords) (word : List ℕ) (own : Own) (section : List ℕ) (fault : PlanningFault) → lines_of section ≡ own.section
+    → FaultIn (plan (parts_of section)) fault → (fault ≡ planning.OutOfMemory) ⊎ (Err (fault_of_planning fault) ≡ changed states word own (plan (split own.section)))
+replanned_refused plan states word own section fault lines (inl memory) = inl memory
+replanned_refused plan states word own section fault lines (inr is) = inr (sym (ap (changed states word own) (ap (λ (ls : List (List ℕ)). plan (split ls)) (sym lines) ∙ is)))
+
+pub replanned_answers : (plan : SectionParts → Result SectionParts PlanningFault) (states : Keywords) (word t : List ℕ) (i : ℕ) (section : List ℕ) (e : Edit) (result : Result (Vec Edit Global) StateFault)
     → section ≡ print_lines (node_at (tree t) i).node.section → lines_of section ≡ (node_at (tree t) i).node.section → GivesOk (plan (parts_of section)) section e
-    → ((new : List (List ℕ)) → Gives e (print_lines (own_at (tree t) i).section) new
-    → (items ≢ []) × AreEdits items t (print (with_own_at i (tree t) (with_lines states word (own_at (tree t) i) new))))
-    → (own : Own) × (Ok own ≡ changed states word (own_at (tree t) i) (plan (split (own_at (tree t) i).section)))
-    × ((items ≢ []) × AreEdits items t (print (with_own_at i (tree t) own)))
-replanned_made plan states word t i section e items bytes lines g made =
-    let d : Document = tree t in
-    let own : Own = own_at d i in
+    → ((new : List (List ℕ)) → Gives e (print_lines (own_at (tree t) i).section) new → AnswersOwn (λ r. r ≡ Ok (with_lines states word (own_at (tree t) i) new)) t i result)
+    → AnswersOwn (λ r. r ≡ changed states word (own_at (tree t) i) (plan (split (own_at (tree t) i).section))) t i result
+replanned_answers plan states word t i section e result bytes lines g made =
+    let own : Own = own_at (tree t) i in
     let parts = ok_parts (plan (parts_of section)) section e g in
     let is : plan (split own.section) ≡ Ok parts.0 = ap (λ (ls : List (List ℕ)). plan (split ls)) (sym lines) ∙ parts.1 in
     let gives : Gives e (print_lines own.section) (joined parts.0) = subst (λ (s : List ℕ). Gives e s (joined parts.0)) bytes parts.2 in
-    (with_lines states word own (joined parts.0), sym (ap (changed states word own) is), made (joined parts.0) gives)
+    subst (λ (x : Result Own StateFault). AnswersOwn (λ r. r ≡ x) t i result) (sym (ap (changed states word own) is)) (made (joined parts.0) gives)
 
 -- ---- repetition
 
@@ -145,24 +153,6 @@ nothing_repeats now ls line made all is gives none =
     let Q : List (List ℕ) → Type 0 = HasNoRepeater in
     none_repeats (split ls).planning (subst Q (planning_is ls line all is) (subst P none gives))
 
-pub closed_refused : (states : Keywords) (state : List ℕ) (now : CivilMinute) (own : Own) (section : List ℕ) (fault : PlanningFault) → lines_of section ≡ own.section
-    → repeating (split own.section).planning ≡ None → FaultIn (set_closed now (parts_of section)) fault
-    → (fault ≡ planning.OutOfMemory) ⊎ TurnsDone states state now own (repeating (split own.section).planning) (Err (fault_of_planning fault))
-closed_refused states state now own section fault lines none (inl memory) = inl memory
-closed_refused states state now own section fault lines none (inr is) =
-    let P : Option PlanningLine → Type 0 = λ o. TurnsDone states state now own o (Err (fault_of_planning fault)) in
-    let same : set_closed now (split own.section) ≡ Err fault = ap (λ (ls : List (List ℕ)). set_closed now (split ls)) (sym lines) ∙ is in
-    inr (subst P (sym none) (sym (ap (changed states state own) same)))
-
-pub closed_made : (states : Keywords) (state : List ℕ) (now : CivilMinute) (t : List ℕ) (i : ℕ) (items : List Edit) → repeating (split (own_at (tree t) i).section).planning ≡ None
-    → (own : Own) × (Ok own ≡ changed states state (own_at (tree t) i) (set_closed now (split (own_at (tree t) i).section)))
-    × ((items ≢ []) × AreEdits items t (print (with_own_at i (tree t) own)))
-    → (own : Own) × TurnsDone states state now (own_at (tree t) i) (repeating (split (own_at (tree t) i).section).planning) (Ok own)
-    × ((items ≢ []) × AreEdits items t (print (with_own_at i (tree t) own)))
-closed_made states state now t i items none made =
-    let P : Option PlanningLine → Type 0 = λ o. TurnsDone states state now (own_at (tree t) i) o (Ok made.0) in
-    (made.0, subst P (sym none) made.1, made.2)
-
 -- the property is put before the rest, and the planning line before that
 pub property_within : (ls : List (List ℕ)) (front bytes : List ℕ) (p : SectionParts) (e : Edit) → front ≡ print_lines (joined (record (split ls) { rest = [] })) → bytes ≡ print_lines ls
     → GivesParts e front p → e.at + e.removed ≤ length bytes
@@ -229,11 +219,12 @@ repeat_made states state now t i section front old stamp active a b c a2 b2 c2 k
 
 -- ---- the keyword alone
 
-pub keyword_alone : (was is : Bool) (states : Keywords) (state : List ℕ) (now : CivilMinute) (own : Own) → was ≡ is → Turns was is states state now own (Ok (with_lines states state own own.section))
-keyword_alone true true states state now own e = refl
-keyword_alone false false states state now own e = refl
-keyword_alone true false states state now own e = absurd (true≢false e)
-keyword_alone false true states state now own e = absurd (true≢false (sym e))
+pub kept : (was is : Bool) (states : Keywords) (state : List ℕ) (now : CivilMinute) (own : Own) (t : List ℕ) (i : ℕ) (result : Result (Vec Edit Global) StateFault)
+    → was ≡ is → AnswersOwn (λ r. r ≡ Ok (with_lines states state own own.section)) t i result → AnswersOwn (Turns was is states state now own) t i result
+kept true true states state now own t i result e answers = answers
+kept false false states state now own t i result e answers = answers
+kept true false states state now own t i result e answers = absurd (true≢false e)
+kept false true states state now own t i result e answers = absurd (true≢false (sym e))
 
 -- ---- an entry that turns
 

@@ -1,17 +1,19 @@
 //! A heading put into another state.
-ghost use Rattle.std.specs.Prelude.{◌≡◌, ◌<◌, ◌≤◌, ◌+◌, [], ◌∷◌, ℕ, List, length, codes, Some, Ok, IfOk};
+ghost use Rattle.std.specs.Prelude.{◌≡◌, ◌<◌, ◌≤◌, ◌+◌, [], ◌∷◌, ℕ, List, length, codes, Some, Ok, IfOk, IfErr};
 ghost use Rattle.org_splice.specs.Lines.{print_lines, terminated};
 ghost use Rattle.org_meta.specs.Edits.{Gives, GivesParts};
 ghost use Rattle.org_meta.specs.Moments.{moment_text};
-ghost use Rattle.org_meta.specs.Planning.{clear_closed};
+ghost use Rattle.org_meta.specs.Planning.{clear_closed, set_closed};
 ghost use Rattle.org_meta.specs.Replans.{GivesRepeated};
-ghost use Rattle.org_meta.specs.Sections.{split, parts_of, put};
+ghost use Rattle.org_meta.specs.Notes.{note_line, with_note};
+ghost use Rattle.org_meta.specs.Sections.{split, parts_of, joined, put};
 ghost use Rattle.org_outline.specs.Tree.{node_at, node_count, tree};
 ghost use Rattle.org_outline.specs.Paths.{titles_of};
-ghost use Rattle.org_state.specs.Answers.{AnswersOwn, AnswersTodo, Makes};
+ghost use Rattle.org_state.specs.Answers.{AnswersOwn, AnswersTodo};
+ghost use Rattle.org_state.specs.declared.fault.StateFault.TheVariants.{OutOfMemory};
 ghost use Rattle.org_state.specs.Edits.{moved, section_start};
 ghost use Rattle.org_state.specs.Keyword.{with_keyword};
-ghost use Rattle.org_state.specs.Todo.{Own, own_at, with_own_at, with_lines, changed, repeating, TurnsDone, IsChanged};
+ghost use Rattle.org_state.specs.Todo.{own_at, with_lines, changed, repeating, TurnsDone, IsChanged};
 
 use crate::fault::StateFault;
 use crate::keyword::is_state;
@@ -29,15 +31,14 @@ fn with_section(
     node: Node,
     edit: Edit,
     word: &[u8],
-) -> Result<Vec<Edit>, AllocError>
+) -> Result<Vec<Edit>, StateFault>
     requires node { node < node_count (tree outline.now.text) }
     requires within { edit.at + edit.removed
         ≤ length (print_lines (node_at (tree outline.now.text) node).node.section) }
     ensures { let d = tree outline.now.text in
         (new : List (List ℕ)) → Gives edit (print_lines (own_at d node).section) new
-        → IfOk result (λ edits. Makes (Some (with_own_at node d
-        (with_lines outline.now.states word.now (own_at d node) new)))
-        outline.now.text edits.items) }
+        → AnswersOwn (λ r. r ≡ Ok (with_lines outline.now.states word.now (own_at d node) new))
+        outline.now.text node result }
 {
     let keyword = keyword_edit(alloc, outline, node, word)?;
     Ok(vec![in alloc; in_section(outline, node, edit), keyword]?)
@@ -56,7 +57,7 @@ fn turn_back(
         (clear_closed (split own.section))) outline.now.text node result }
 {
     let edit = clear_closed(alloc, section_of(outline, node))?;
-    Ok(with_section(alloc, outline, node, edit, state)?)
+    with_section(alloc, outline, node, edit, state)
 }
 
 /// The edit that puts the property LAST_REPEAT into a section.
@@ -79,7 +80,7 @@ fn last_first(
     property: Edit,
     planning: Edit,
     keyword: Edit,
-) -> Result<Vec<Edit>, AllocError>
+) -> Result<Vec<Edit>, StateFault>
     requires node { node < node_count (tree outline.now.text) }
     requires note { note.at + note.removed
         ≤ length (print_lines (node_at (tree outline.now.text) node).node.section) }
@@ -87,9 +88,10 @@ fn last_first(
         ≤ length (print_lines (node_at (tree outline.now.text) node).node.section) }
     requires planning { planning.at + planning.removed
         ≤ length (print_lines (node_at (tree outline.now.text) node).node.section) }
-    ensures { let start = section_start (tree outline.now.text) node in
+    ensures ok { let start = section_start (tree outline.now.text) node in
         IfOk result (λ edits. edits.items
         ≡ moved start note ∷ moved start property ∷ moved start planning ∷ keyword ∷ []) }
+    ensures err { IfErr result (λ fault. fault ≡ OutOfMemory) }
 {
     let edits = [
         in_section(outline, node, note),
@@ -100,6 +102,27 @@ fn last_first(
     Ok(Vec::from_array(alloc, edits)?)
 }
 
+/// The edits of a section that say of a repetition: the note of its two states, and the property
+/// LAST_REPEAT, above the rest.
+fn noted(
+    alloc: Global,
+    section: &[u8],
+    new: &[u8],
+    old: &[u8],
+    now: Moment,
+) -> Result<(Edit, Edit), AllocError>
+    requires { terminated section.now ≡ section.now }
+    ensures { let parts = parts_of section.now in
+        let above = print_lines (joined (record parts { rest = [] })) in
+        IfOk result (λ edits.
+        GivesParts edits.0 section.now (with_note (note_line new.now old.now now) parts)
+        × GivesParts edits.1 above (put (codes "LAST_REPEAT") (moment_text now) (parts_of above))) }
+{
+    let note = add_note(alloc, section, new, old, now)?;
+    let property = last_repeat(alloc, above_rest(section), now)?;
+    Ok((note, property))
+}
+
 /// The edits of a repeated task that turns done, where `planning` repeats its planning line.
 fn repeat(
     alloc: Global,
@@ -108,25 +131,38 @@ fn repeat(
     state: &[u8],
     now: Moment,
     planning: Edit,
-) -> Result<Vec<Edit>, AllocError>
+) -> Result<Vec<Edit>, StateFault>
     requires node { node < node_count (tree outline.now.text) }
     requires planning { let own = own_at (tree outline.now.text) node in
         let line = print_lines (split own.section).planning in
         GivesRepeated now (parts_of line) line (Some planning) }
     ensures { let own = own_at (tree outline.now.text) node in
-        IfOk result (λ edits. (new : Own)
-        × TurnsDone outline.now.states state.now now own (repeating (split own.section).planning)
-        (Ok new)
-        × Makes (Some (with_own_at node (tree outline.now.text) new)) outline.now.text
-        edits.items) }
+        AnswersOwn (TurnsDone outline.now.states state.now now own
+        (repeating (split own.section).planning)) outline.now.text node result }
 {
-    let section = section_of(outline, node);
-    let old = outline.parts(node).keyword;
-    let note = add_note(alloc, section, state, old, now)?;
-    let property = last_repeat(alloc, above_rest(section), now)?;
     let active = outline.states().first_active().as_bytes();
     let keyword = keyword_edit(alloc, outline, node, active)?;
+    let section = section_of(outline, node);
+    let old = outline.parts(node).keyword;
+    let (note, property) = noted(alloc, section, state, old, now)?;
     last_first(alloc, outline, node, note, property, planning, keyword)
+}
+
+/// The edits of an entry that turns done and isn't repeated: it gets a CLOSED entry.
+fn close(
+    alloc: Global,
+    outline: &Outline<'_>,
+    node: Node,
+    state: &[u8],
+    now: Moment,
+) -> Result<Vec<Edit>, StateFault>
+    requires { node < node_count (tree outline.now.text) }
+    ensures { let own = own_at (tree outline.now.text) node in
+        AnswersOwn (λ r. r ≡ changed outline.now.states state.now own
+        (set_closed now (split own.section))) outline.now.text node result }
+{
+    let edit = set_closed(alloc, section_of(outline, node), now)?;
+    with_section(alloc, outline, node, edit, state)
 }
 
 /// The edits of an entry that turns done: its planning is repeated, or else it gets a CLOSED entry.
@@ -142,13 +178,27 @@ fn turn_done(
         AnswersOwn (TurnsDone outline.now.states state.now now own
         (repeating (split own.section).planning)) outline.now.text node result }
 {
-    let section = section_of(outline, node);
-    let line = sections(section).planning;
-    if let Some(planning) = repeat_planning(alloc, line, now)? {
-        return Ok(repeat(alloc, outline, node, state, now, planning)?);
+    let line = sections(section_of(outline, node)).planning;
+    match repeat_planning(alloc, line, now)? {
+        Some(planning) => repeat(alloc, outline, node, state, now, planning),
+        None => close(alloc, outline, node, state, now),
     }
-    let edit = set_closed(alloc, section, now)?;
-    Ok(with_section(alloc, outline, node, edit, state)?)
+}
+
+/// The edits of a heading whose keyword alone changes.
+fn reword(
+    alloc: Global,
+    outline: &Outline<'_>,
+    node: Node,
+    state: &[u8],
+) -> Result<Vec<Edit>, StateFault>
+    requires { node < node_count (tree outline.now.text) }
+    ensures { let own = own_at (tree outline.now.text) node in
+        AnswersOwn (λ r. r ≡ Ok (with_lines outline.now.states state.now own own.section))
+        outline.now.text node result }
+{
+    let keyword = keyword_edit(alloc, outline, node, state)?;
+    Ok(vec![in alloc; keyword]?)
 }
 
 /// The edits of a heading that gets another state than it has.
@@ -172,8 +222,7 @@ fn change(
     if is_done && !was_done {
         return turn_done(alloc, outline, node, state, now);
     }
-    let keyword = keyword_edit(alloc, outline, node, state)?;
-    Ok(vec![in alloc; keyword]?)
+    reword(alloc, outline, node, state)
 }
 
 /// The edits, to be made in this order, that put the heading at `path` into another state, or into

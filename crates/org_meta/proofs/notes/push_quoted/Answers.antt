@@ -14,4 +14,4 @@ returns c =
     let state = c.args.state.now in
     let left = c.min.result in
     put_same c.push_all.result c.push_all.new.out.items _ _
-    (ap (λ (t : List ℕ). old ++ (34 ∷ (state ++ (34 ∷ t)))) (blanks_left (length state) left _ c.min.ensures (take_rest (replicate 10 32) left ∙ drop-replicate left 10 32))) c.push_all.ensures
+    (ap (λ (t : List ℕ). old ++ (c.args.before.now ++ (34 ∷ (state ++ (34 ∷ t))))) (blanks_left (length state) left _ c.min.ensures (take_rest (replicate 10 32) left ∙ drop-replicate left 10 32))) c.push_all.ensures

@@ -1,6 +1,6 @@
-use Rattle.std.proofs.Common.{List, ℕ, [], ◌++◌, refl, sym, ap, Some, ◌∙◌, true, false, ◌≡◌}
+use Rattle.std.proofs.Common.{[], sym, ap, Some, ◌∙◌, true, false, ◌≡◌}
+use Rattle.org_splice.specs.declared.edit.Edit.{Edit}
 use Rattle.std.proofs.lemmas.Result.{err_from_is_err_and}
-use Rattle.org_splice.specs.Lines.{print_lines}
 use Rattle.org_meta.specs.Planning.{PlanningLine, planning_of, without_closed, has_closed}
 use Rattle.std.proofs.lemmas.Bool.{false≢true}
 use Rattle.org_meta.proofs.Replanning.{planning_terminated, plan_line, plan_fault, none_cleared, nothing_cleared, closed_there}
@@ -19,8 +19,8 @@ returns-in_err-planning-clause-err c =
 
 pub returns-clause-ok : goal.returns-clause-ok
 returns-clause-ok c =
-    plan_line c.args.section.now c.sections.result c.requires c.sections.ensures [] without_closed _ c.in-Some.text.now c.in-Some._rest.now c.in_ok-planning.planning c.in-Some.ensures.some c.in_ok-planning.ensures.ok refl refl
-    (c.new.ensures ∙ c.in_ok-push_without_closed.ensures ∙ ap (λ (t : List ℕ). t ++ print_lines (without_closed c.in_ok-planning.planning)) c.new-bytes.ensures.items)
+    plan_line c.args.section.now c.sections.result c.requires c.sections.ensures [] without_closed _ c.in-Some.text.now c.in-Some._rest.now c.in_ok-planning.planning c.in-Some.ensures.some c.in_ok-planning.ensures.ok
+    (ap (λ (e : Edit). e.at) c.replacing.ensures) (ap (λ (e : Edit). e.removed) c.replacing.ensures) (ap (λ (e : Edit). e.bytes) c.replacing.ensures ∙ c.in_ok-without_closed.ensures)
 
 pub returns-then-not-has_closed-clause-ok : goal.returns-then-not-has_closed-clause-ok
 returns-then-not-has_closed-clause-ok c =

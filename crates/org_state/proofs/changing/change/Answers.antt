@@ -1,11 +1,9 @@
 use Rattle.std.proofs.Common.{◌≡◌, ℕ, List, Bool, true≢false, sym, ap, ◌∙◌, true, false}
-use Rattle.org_splice.specs.declared.edit.Edit.{Edit}
 use Rattle.org_outline.specs.States.{Keywords}
 use Rattle.org_outline.specs.Tree.{tree}
 use Rattle.org_state.specs.Keyword.{keyword_in}
-use Rattle.org_state.specs.Todo.{Own, own_at, with_lines, is_done}
-use Rattle.org_state.proofs.Steps.{one_made}
-use Rattle.org_state.proofs.Turning.{keyword_alone, turned}
+use Rattle.org_state.specs.Todo.{Own, own_at, is_done}
+use Rattle.org_state.proofs.Turning.{kept, turned}
 use Rattle.org_state.proofs.changing.change.Goals as goal
 use Rattle.org_state.proofs.changing.change.Goals.{else-was_done-via-then-was_done+else-not-is_done, else-was_done-via-else-was_done, else-is_done-via-then-is_done+else-not-was_done, else-is_done-via-else-is_done}
 
@@ -44,9 +42,4 @@ returns c =
     ] in
     let was_is : was ≡ is_done states (keyword_in states own.rest) = c.is_done-was_done.ensures.value ∙ ap (λ (k : Keywords). is_done k c.parts.result.keyword.now) c.states-states.ensures.value ∙ ap (is_done states) c.parts.ensures.keyword in
     let is_is : is ≡ is_done states state = c.is_done-is_done.ensures.value ∙ ap (λ (k : Keywords). is_done k state) c.states-states.ensures.value in
-    let k : Edit = c.in_ok-keyword.keyword in (
-      with_lines states state own own.section,
-      keyword_alone (is_done states (keyword_in states own.rest)) (is_done states state) states state c.args.now own (sym was_is ∙ same ∙ is_is),
-      one_made c.args.outline.now.text c.args.node k _ _ c.keyword_edit.ensures.terminated c.requires c.in_ok-keyword.ensures.edits
-          c.in_ok-vec.ensures.items,
-    )
+    turned was is states state c.args.now own c.args.outline.now.text c.args.node _ (sym was_is) (sym is_is) (kept was is states state c.args.now own c.args.outline.now.text c.args.node _ same c.reword.ensures)

@@ -5,29 +5,36 @@ use Rattle.org_meta.specs.Moments.{moment_text}
 use Rattle.org_meta.specs.Sections.{split, joined, parts_of, put}
 use Rattle.org_outline.specs.Tree.{tree}
 use Rattle.org_state.specs.Edits.{moved, section_start}
-use Rattle.org_state.specs.Todo.{first_active}
+use Rattle.org_state.specs.Todo.{Own, own_at, first_active, repeating, TurnsDone}
 use Rattle.org_state.proofs.Steps.{section_is_lines}
-use Rattle.org_state.proofs.Turning.{property_within, planning_within, repeat_made}
+use Rattle.org_state.proofs.Turning.{handed, property_within, planning_within, repeat_made}
 use Rattle.org_state.proofs.changing.repeat.Goals as goal
 
 pub last_first-requires-clause-property : goal.last_first-requires-clause-property
 last_first-requires-clause-property c =
-    let front = c.above_rest.ensures.bytes ∙ ap (λ (ls : List (List ℕ)). print_lines (joined (record (split ls) { rest = [] }))) c.section_of-section.ensures.lines in
-    property_within _ c.above_rest.result.now _ (put (codes "LAST_REPEAT") (moment_text c.args.now) (parts_of c.above_rest.result.now)) c.in_ok-property.property front refl c.in_ok-property.ensures
+    let section : List ℕ = c.section_of-section.result.now in
+    let above : List ℕ = print_lines (joined (record (parts_of section) { rest = [] })) in
+    let front = ap (λ (ls : List (List ℕ)). print_lines (joined (record (split ls) { rest = [] }))) c.section_of-section.ensures.lines in
+    property_within _ above _ (put (codes "LAST_REPEAT") (moment_text c.args.now) (parts_of above)) c.in_ok-note.property front refl c.in_ok-note.ensures.1
 
 pub last_first-requires-clause-planning : goal.last_first-requires-clause-planning
 last_first-requires-clause-planning c = planning_within c.args.now _ c.args.planning (section_is_lines c.args.outline.now.text c.args.node c.requires.node) c.requires.planning
 
 pub returns : goal.returns
 returns c =
-    let front = c.above_rest.ensures.bytes ∙ ap (λ (ls : List (List ℕ)). print_lines (joined (record (split ls) { rest = [] }))) c.section_of-section.ensures.lines in
+    let own : Own = own_at (tree c.args.outline.now.text) c.args.node in
+    let section : List ℕ = c.section_of-section.result.now in
+    let above : List ℕ = print_lines (joined (record (parts_of section) { rest = [] })) in
+    let front = ap (λ (ls : List (List ℕ)). print_lines (joined (record (split ls) { rest = [] }))) c.section_of-section.ensures.lines in
     let active = c.as_bytes-active.ensures.value ∙ c.first_active.ensures.value ∙ ap first_active c.states.ensures.value in
     let start : ℕ = section_start (tree c.args.outline.now.text) c.args.node in
-    IfOk-weaker c.last_first.result
-    (λ edits. edits.items ≡ moved start c.in_ok-note.note ∷ moved start c.in_ok-property.property ∷ moved start c.args.planning ∷ c.in_ok-keyword.keyword ∷ []) _
+    handed (TurnsDone c.args.outline.now.states c.args.state.now c.args.now own (repeating (split own.section).planning)) c.args.outline.now.text c.args.node c.last_first.result
+    (IfOk-weaker c.last_first.result
+    (λ edits. edits.items ≡ moved start c.in_ok-note.note ∷ moved start c.in_ok-note.property ∷ moved start c.args.planning ∷ c.in_ok-keyword.keyword ∷ []) _
     (λ edits is.
-    repeat_made c.args.outline.now.states c.args.state.now c.args.now c.args.outline.now.text c.args.node c.section_of-section.result.now c.above_rest.result.now c.parts.result.keyword.now (moment_text c.args.now) c.as_bytes-active.result.now
-    c.in_ok-note.note c.in_ok-property.property c.args.planning _ _ _ c.in_ok-keyword.keyword edits.items
+    repeat_made c.args.outline.now.states c.args.state.now c.args.now c.args.outline.now.text c.args.node section above c.parts.result.keyword.now (moment_text c.args.now) c.as_bytes-active.result.now
+    c.in_ok-note.note c.in_ok-note.property c.args.planning _ _ _ c.in_ok-keyword.keyword edits.items
     c.keyword_edit.ensures.terminated c.requires.node c.section_of-section.ensures.bytes c.section_of-section.ensures.lines front c.parts.ensures.keyword refl active
-    c.in_ok-note.ensures c.in_ok-property.ensures c.requires.planning refl refl refl c.in_ok-keyword.ensures.edits is)
-    c.last_first.ensures
+    c.in_ok-note.ensures.0 c.in_ok-note.ensures.1 c.requires.planning refl refl refl c.in_ok-keyword.ensures.edits is)
+    c.last_first.ensures.ok)
+    c.last_first.ensures.err
