@@ -1,11 +1,14 @@
 -- A line of more fields than a command has is none.
-use Rattle.std.proofs.Common.{◌≡◌, ℕ, ◌<◌, ◌≤◌, ◌==◌, false, nat_lt, List, [], ◌∷◌, length, map, None, refl, arith}
+use Rattle.std.proofs.Common.{◌≡◌, ℕ, ◌<◌, ◌≤◌, ◌==◌, false, nat_lt, List, [], ◌∷◌, length, map, get_or, codes, true, Option, Some, None, refl, arith}
 use Rattle.std.specs.Borrow.{Bor}
 use Rattle.std.specs.List.{slice_split, count_by}
+use Rattle.std.specs.Str.{bytes_eq}
 use Rattle.std.proofs.lemmas.Bool.{ltb-false}
 use Rattle.std.proofs.lemmas.List.{length-map}
 use Rattle.std.proofs.lemmas.List.Splits.{length-slice_split}
-use Rattle.org_serve.specs.Grammar.{command_of, command_of_fields}
+use Rattle.org_store.specs.declared.command.Command.{Command}
+use Rattle.org_store.specs.declared.command.Command.TheVariants.{Settle}
+use Rattle.org_serve.specs.Grammar.{show_of, capture_of, refile_of, todo_of, clock_in_of, clock_out_of, clocked_of, archive_of, command_of, command_of_fields}
 
 more_than_seven : (fields : List (List ℕ)) → 7 < length fields → command_of_fields fields ≡ None
 more_than_seven [] e = absurd (omega arith)
@@ -24,12 +27,110 @@ too_many line e =
     let many : 7 ≤ count_by (λ b. b == 9) line = ltb-false (count_by (λ b. b == 9) line) 7 e in
     more_than_seven (slice_split (λ b. b == 9) line) (omega (arith, split, many))
 
--- the same of fields that are read where they stand
-pub no_field : (fields : List (Bor (List ℕ))) → length fields < 1 → command_of_fields (map (λ s. s.now) fields) ≡ None
-no_field [] e = refl
-no_field (field ∷ fields) e = absurd (omega arith)
+-- Fields that are read where they stand.
+abbrev Fields : Type 0
+Fields = List (Bor (List ℕ))
 
-pub many_fields : (fields : List (Bor (List ℕ))) → 7 < length fields → command_of_fields (map (λ s. s.now) fields) ≡ None
-many_fields fields e =
-    let size : length (map (λ (s : Bor (List ℕ)). s.now) fields) ≡ length fields = length-map fields (λ s. s.now) in
-    more_than_seven (map (λ (s : Bor (List ℕ)). s.now) fields) (omega (arith, size, e))
+-- what they are
+abbrev now_of : Fields → List (List ℕ)
+now_of fields = map (λ s. s.now) fields
+
+-- what is read where no field is
+abbrev nothing : Bor (List ℕ)
+nothing = record { ref_ptr = (0, 0); now = [] }
+
+-- the one at a place
+abbrev at : Fields → ℕ → List ℕ
+at fields i = (get_or fields i nothing).now
+
+no_fields : (fields : Fields) → length fields < 1 → now_of fields ≡ []
+no_fields [] few = refl
+no_fields (a ∷ more) few = absurd (omega arith)
+
+one_field : (fields : Fields) → 1 ≤ length fields → length fields < 2 → now_of fields ≡ at fields 0 ∷ []
+one_field [] some few = absurd (omega arith)
+one_field (a ∷ []) some few = refl
+one_field (a ∷ b ∷ more) some few = absurd (omega arith)
+
+two_fields : (fields : Fields) → 2 ≤ length fields → length fields < 3 → now_of fields ≡ at fields 0 ∷ at fields 1 ∷ []
+two_fields [] some few = absurd (omega arith)
+two_fields (a ∷ []) some few = absurd (omega arith)
+two_fields (a ∷ b ∷ []) some few = refl
+two_fields (a ∷ b ∷ c ∷ more) some few = absurd (omega arith)
+
+three_fields : (fields : Fields) → 3 ≤ length fields → length fields < 4 → now_of fields ≡ at fields 0 ∷ at fields 1 ∷ at fields 2 ∷ []
+three_fields [] some few = absurd (omega arith)
+three_fields (a ∷ []) some few = absurd (omega arith)
+three_fields (a ∷ b ∷ []) some few = absurd (omega arith)
+three_fields (a ∷ b ∷ c ∷ []) some few = refl
+three_fields (a ∷ b ∷ c ∷ e ∷ more) some few = absurd (omega arith)
+
+four_fields : (fields : Fields) → 4 ≤ length fields → length fields < 5 → now_of fields ≡ at fields 0 ∷ at fields 1 ∷ at fields 2 ∷ at fields 3 ∷ []
+four_fields [] some few = absurd (omega arith)
+four_fields (a ∷ []) some few = absurd (omega arith)
+four_fields (a ∷ b ∷ []) some few = absurd (omega arith)
+four_fields (a ∷ b ∷ c ∷ []) some few = absurd (omega arith)
+four_fields (a ∷ b ∷ c ∷ e ∷ []) some few = refl
+four_fields (a ∷ b ∷ c ∷ e ∷ f ∷ more) some few = absurd (omega arith)
+
+-- A command at a place in a file: the fields behind the word are the file, the place and more.
+abbrev Within : List ℕ → List ℕ → List ℕ → Fields → Option Command → Type 0
+Within word name place more read = command_of_fields (word ∷ name ∷ place ∷ now_of more) ≡ read
+
+pub is_time : (word name place : List ℕ) (more : Fields) → length more < 1 → bytes_eq word (codes "time") ≡ true → Within word name place more (clocked_of name place)
+is_time word name place more few is = rw (no_fields more few, is) refl
+
+pub is_archive : (word name place : List ℕ) (more : Fields) → 1 ≤ length more → length more < 2 → bytes_eq word (codes "archive") ≡ true → Within word name place more (archive_of name place (at more 0))
+is_archive word name place more some few is = rw (one_field more some few, is) refl
+
+pub is_clock_in : (word name place : List ℕ) (more : Fields) → 1 ≤ length more → length more < 2 → bytes_eq word (codes "archive") ≡ false → bytes_eq word (codes "clock-in") ≡ true → Within word name place more (clock_in_of name place (at more 0))
+is_clock_in word name place more some few other is = rw (one_field more some few, other, is) refl
+
+pub is_todo : (word name place : List ℕ) (more : Fields) → 2 ≤ length more → length more < 3 → bytes_eq word (codes "todo") ≡ true → Within word name place more (todo_of name place (at more 0) (at more 1))
+is_todo word name place more some few is = rw (two_fields more some few, is) refl
+
+pub is_refile : (word name place : List ℕ) (more : Fields) → 3 ≤ length more → length more < 4 → bytes_eq word (codes "refile") ≡ true → Within word name place more (refile_of name place (at more 0) (at more 1) (at more 2))
+is_refile word name place more some few is = rw (three_fields more some few, is) refl
+
+pub is_capture : (word name place : List ℕ) (more : Fields) → 4 ≤ length more → length more < 5 → bytes_eq word (codes "capture") ≡ true → Within word name place more (capture_of name place (at more 0) (at more 1) (at more 2) (at more 3))
+is_capture word name place more some few is = rw (four_fields more some few, is) refl
+
+-- where the word is none of a command of so many fields
+pub no_time : (word name place : List ℕ) (more : Fields) → length more < 1 → bytes_eq word (codes "time") ≡ false → Within word name place more None
+no_time word name place more few other = rw (no_fields more few, other) refl
+
+pub no_clock : (word name place : List ℕ) (more : Fields) → 1 ≤ length more → length more < 2 → bytes_eq word (codes "archive") ≡ false → bytes_eq word (codes "clock-in") ≡ false → Within word name place more None
+no_clock word name place more some few other next = rw (one_field more some few, other, next) refl
+
+pub no_todo : (word name place : List ℕ) (more : Fields) → 2 ≤ length more → length more < 3 → bytes_eq word (codes "todo") ≡ false → Within word name place more None
+no_todo word name place more some few other = rw (two_fields more some few, other) refl
+
+pub no_refile : (word name place : List ℕ) (more : Fields) → 3 ≤ length more → length more < 4 → bytes_eq word (codes "refile") ≡ false → Within word name place more None
+no_refile word name place more some few other = rw (three_fields more some few, other) refl
+
+pub no_capture : (word name place : List ℕ) (more : Fields) → 4 ≤ length more → length more < 5 → bytes_eq word (codes "capture") ≡ false → Within word name place more None
+no_capture word name place more some few other = rw (four_fields more some few, other) refl
+
+pub no_longer : (word name place : List ℕ) (more : Fields) → 5 ≤ length more → Within word name place more None
+no_longer word name place more many =
+    let size : length (now_of more) ≡ length more = length-map more (λ s. s.now) in
+    more_than_seven (word ∷ name ∷ place ∷ now_of more) (omega (arith, size, many))
+
+-- the same of fewer fields
+pub no_field : (fields : Fields) → length fields < 1 → command_of_fields (now_of fields) ≡ None
+no_field fields few = rw (no_fields fields few) refl
+
+pub is_settle : (fields : Fields) → 1 ≤ length fields → length fields < 2 → bytes_eq (at fields 0) (codes "settle") ≡ true → command_of_fields (now_of fields) ≡ Some Settle
+is_settle fields some few is = rw (one_field fields some few, is) refl
+
+pub is_show : (fields : Fields) → 2 ≤ length fields → length fields < 3 → bytes_eq (at fields 0) (codes "show") ≡ true → command_of_fields (now_of fields) ≡ show_of (at fields 1)
+is_show fields some few is = rw (two_fields fields some few, is) refl
+
+pub is_clock_out : (fields : Fields) → 2 ≤ length fields → length fields < 3 → bytes_eq (at fields 0) (codes "show") ≡ false → bytes_eq (at fields 0) (codes "clock-out") ≡ true → command_of_fields (now_of fields) ≡ clock_out_of (at fields 1)
+is_clock_out fields some few other is = rw (two_fields fields some few, other, is) refl
+
+pub no_settle : (fields : Fields) → 1 ≤ length fields → length fields < 2 → bytes_eq (at fields 0) (codes "settle") ≡ false → command_of_fields (now_of fields) ≡ None
+no_settle fields some few other = rw (one_field fields some few, other) refl
+
+pub no_show : (fields : Fields) → 2 ≤ length fields → length fields < 3 → bytes_eq (at fields 0) (codes "show") ≡ false → bytes_eq (at fields 0) (codes "clock-out") ≡ false → command_of_fields (now_of fields) ≡ None
+no_show fields some few other next = rw (two_fields fields some few, other, next) refl

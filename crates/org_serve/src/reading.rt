@@ -1,5 +1,5 @@
 //! Command lines.
-ghost use Rattle.std.specs.Prelude.{map};
+ghost use Rattle.std.specs.Prelude.{◌∷◌, map};
 ghost use Rattle.std.specs.Option.{option_map, option_and_then};
 ghost use Rattle.org_serve.specs.Grammar.{file_of, path_of, show_of, capture_of, refile_of, todo_of, clock_in_of, clock_out_of, clocked_of, archive_of, command_of, command_of_fields};
 ghost use Rattle.org_serve.specs.Gives.{Gives};
@@ -29,58 +29,35 @@ fn command(alloc: Global, fields: &[&[u8]]) -> Result<Command, LineFault>
     ensures { Gives result (command_of_fields (map (λ s. s.now) fields.now)) }
 {
     match *fields {
-        [word] => {
-            if is(word, "settle") {
-                Ok(Command::Settle)
-            } else {
-                Err(LineFault::BadLine)
-            }
+        [word] if is(word, "settle") => Ok(Command::Settle),
+        [word, name] if is(word, "show") => show(alloc, name),
+        [word, when] if is(word, "clock-out") => clock_out(when),
+        [word, name, titles, ref more @ ..] => command_within(alloc, word, name, titles, more),
+        _ => Err(LineFault::BadLine),
+    }
+}
+
+// A command within a file: its fields are the name, titles or a target, and more.
+fn command_within(
+    alloc: Global,
+    word: &[u8],
+    name: &[u8],
+    titles: &[u8],
+    more: &[&[u8]],
+) -> Result<Command, LineFault>
+    ensures { Gives result
+        (command_of_fields (word.now ∷ name.now ∷ titles.now ∷ map (λ s. s.now) more.now)) }
+{
+    match *more {
+        [] if is(word, "time") => time(alloc, name, titles),
+        [when] if is(word, "archive") => archive(alloc, name, titles, when),
+        [when] if is(word, "clock-in") => clock_in(alloc, name, titles, when),
+        [state, when] if is(word, "todo") => todo(alloc, name, titles, state, when),
+        [to_name, to_titles, at] if is(word, "refile") => {
+            refile(alloc, name, titles, to_name, to_titles, at)
         }
-        [word, field] => {
-            if is(word, "show") {
-                show(alloc, field)
-            } else if is(word, "clock-out") {
-                clock_out(field)
-            } else {
-                Err(LineFault::BadLine)
-            }
-        }
-        [word, name, titles] => {
-            if is(word, "time") {
-                time(alloc, name, titles)
-            } else {
-                Err(LineFault::BadLine)
-            }
-        }
-        [word, name, titles, when] => {
-            if is(word, "archive") {
-                archive(alloc, name, titles, when)
-            } else if is(word, "clock-in") {
-                clock_in(alloc, name, titles, when)
-            } else {
-                Err(LineFault::BadLine)
-            }
-        }
-        [word, name, titles, state, when] => {
-            if is(word, "todo") {
-                todo(alloc, name, titles, state, when)
-            } else {
-                Err(LineFault::BadLine)
-            }
-        }
-        [word, name, titles, to_name, to_titles, at] => {
-            if is(word, "refile") {
-                refile(alloc, name, titles, to_name, to_titles, at)
-            } else {
-                Err(LineFault::BadLine)
-            }
-        }
-        [word, name, to, at, when, template, initial] => {
-            if is(word, "capture") {
-                capture(alloc, name, to, at, when, template, initial)
-            } else {
-                Err(LineFault::BadLine)
-            }
+        [at, when, template, initial] if is(word, "capture") => {
+            capture(alloc, name, titles, at, when, template, initial)
         }
         _ => Err(LineFault::BadLine),
     }
