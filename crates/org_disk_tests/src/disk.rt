@@ -1,4 +1,9 @@
 // What no clause says: which image an outcome picks, which call fails, and that each call can succeed.
+//
+// What owns a disk or a set of files drops it by name: left to the end of a function, each of its parts is dropped there,
+// which the function's proof would have to follow.
+ghost use Rattle.std.specs.Prelude.{◌≡◌, Ok};
+
 mod crashes;
 mod failures;
 mod names;
@@ -11,7 +16,9 @@ use std::test::Fail;
 
 // What a step gives, which has to go well. Where it doesn't the test stops here and lets go of nothing, so a function
 // that owns a disk has no exit for each of its steps, which its proof would have to follow.
-pub fn must<T>(rt: &impl Abort, given: Result<T, Fail>) -> T {
+pub fn must<T>(rt: &impl Abort, given: Result<T, Fail>) -> T
+    ensures { given ≡ Ok result }
+{
     match given {
         Ok(value) => value,
         Err(_) => panic!(rt; "a step of the test failed"),
@@ -28,20 +35,30 @@ pub fn are_texts(names: &[FileName], texts: &[&str]) -> bool {
     names.len() == texts.len()
 }
 
-// The name of the one file that these tests write.
-fn a_org(rt: &impl Abort, alloc: Global) -> FileName {
-    FileName::new(alloc, "a.org").expect(rt, "no name")
+// The name of a file.
+pub fn name_of(rt: &impl Abort, alloc: Global, text: &str) -> FileName
+    ensures { result ≡ text.now }
+{
+    FileName::new(alloc, text).expect(rt, "no name")
 }
 
-fn holds<D: Disk>(disk: &mut D, alloc: Global, name: &FileName, text: &str) -> Result<bool, Fail> {
-    let bytes = bytes_of(alloc, disk, name)?;
-    Ok(bytes.as_slice() == text.as_bytes())
+// Whether a file of the disk holds this text.
+pub fn holds<D: Disk>(
+    rt: &impl Abort,
+    alloc: Global,
+    disk: &mut D,
+    name: &FileName,
+    text: &[u8],
+) -> bool {
+    must(rt, bytes_of(alloc, disk, name)).as_slice() == text
 }
 
 // Whether the disk's image holds this text.
-fn leaves(disk: &MemoryDisk, alloc: Global, name: &FileName, text: &str) -> Result<bool, Fail> {
-    let mut image = disk.image(alloc)?;
-    holds(&mut image, alloc, name, text)
+fn leaves(rt: &impl Abort, alloc: Global, disk: &MemoryDisk, name: &FileName, text: &str) -> bool {
+    let mut image = disk.image(alloc).expect(rt, "memory");
+    let is_held = holds(rt, alloc, &mut image, name, text.as_bytes());
+    drop(image);
+    is_held
 }
 
 // From nothing: `abc` on the disk, then `aXY`, `aX`.

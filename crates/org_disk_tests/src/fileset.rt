@@ -3,13 +3,15 @@ mod commits;
 mod edited;
 mod openings;
 
-use crate::disk::must;
+use crate::disk::{self, must};
 use org_disk::MemoryDisk;
 use org_fileset::{FileSet, OpenFault, OpenRefused};
-use org_fixtures::{NEW, bytes_of, disk_with, file_name, org_names};
+use org_fixtures::{NEW, disk_with, file_name, org_names};
 use std::alloc::Global;
 use std::process::Abort;
-use std::test::Fail;
+
+// The files of most sets.
+const FILES: &[&str] = &["inbox.org", "a.org"];
 
 // A disk with a.org, and a journal of these bytes.
 fn with_journal(rt: &impl Abort, alloc: Global, journal: &[u8]) -> MemoryDisk {
@@ -27,38 +29,30 @@ fn with_gate(gate: u8) -> [u8; 75] {
 }
 
 // Makes a file hold these bytes.
-fn set_file(alloc: Global, disk: &mut MemoryDisk, name: &str, bytes: &[u8]) -> Result<(), Fail> {
-    disk.set(&file_name(alloc, name)?, bytes)?;
-    Ok(())
+fn set_file(rt: &impl Abort, alloc: Global, disk: &mut MemoryDisk, name: &str, bytes: &[u8]) {
+    let name = must(rt, file_name(alloc, name));
+    disk.set(&name, bytes).expect(rt, "memory");
 }
 
 // A disk that crashed while the record was applied: some of the text is there.
 fn crashed(rt: &impl Abort, alloc: Global, gate: u8) -> MemoryDisk {
     let mut disk = with_journal(rt, alloc, &with_gate(gate));
-    must(rt, set_file(alloc, &mut disk, "inbox.org", b"* TO"));
+    set_file(rt, alloc, &mut disk, "inbox.org", b"* TO");
     disk
 }
 
 // Opens a set over these files.
-fn opened_over(
-    alloc: Global,
-    disk: MemoryDisk,
-    names: &[&str],
-) -> Result<Result<FileSet<MemoryDisk>, OpenRefused<MemoryDisk>>, Fail> {
-    Ok(FileSet::open(alloc, disk, org_names(alloc, names)?))
-}
-
-// Opens a set over inbox.org and a.org.
 fn opened(
     rt: &impl Abort,
     alloc: Global,
     disk: MemoryDisk,
+    names: &[&str],
 ) -> Result<FileSet<MemoryDisk>, OpenRefused<MemoryDisk>> {
-    must(rt, opened_over(alloc, disk, &["inbox.org", "a.org"]))
+    FileSet::open(alloc, disk, must(rt, org_names(alloc, names)))
 }
 
-fn open(rt: &impl Abort, alloc: Global, disk: MemoryDisk) -> FileSet<MemoryDisk> {
-    match opened(rt, alloc, disk) {
+fn open(rt: &impl Abort, alloc: Global, disk: MemoryDisk, names: &[&str]) -> FileSet<MemoryDisk> {
+    match opened(rt, alloc, disk, names) {
         Ok(set) => set,
         Err(_) => panic!(rt; "not opened"),
     }
@@ -66,42 +60,59 @@ fn open(rt: &impl Abort, alloc: Global, disk: MemoryDisk) -> FileSet<MemoryDisk>
 
 // Whether the set reads this text of a file, or of the journal.
 fn reads(
+    rt: &impl Abort,
     alloc: Global,
     set: &mut FileSet<MemoryDisk>,
     name: &str,
     text: &[u8],
-) -> Result<bool, Fail> {
-    let read = set.read(&file_name(alloc, name)?)?;
-    Ok(read.as_slice() == text)
+) -> bool {
+    let name = must(rt, file_name(alloc, name));
+    set.read(&name).expect(rt, "not read").as_slice() == text
 }
 
-// Whether it reads this journal, and this text of inbox.org.
-fn reads_record(
+// Whether the set reads these texts of a file, or of the journal, and of inbox.org.
+fn reads_both(
     rt: &impl Abort,
     alloc: Global,
     set: &mut FileSet<MemoryDisk>,
-    journal: &[u8],
+    name: &str,
+    text: &[u8],
     inbox: &[u8],
 ) -> bool {
-    must(rt, reads(alloc, set, "orgstore.journal", journal))
-        && must(rt, reads(alloc, set, "inbox.org", inbox))
+    reads(rt, alloc, set, name, text) && reads(rt, alloc, set, "inbox.org", inbox)
 }
 
-// Whether it reads these texts of the two files.
-fn reads_texts(
+// The disk of a set that is opened over this one, and whether the set reads both texts.
+fn read_once(
     rt: &impl Abort,
     alloc: Global,
-    set: &mut FileSet<MemoryDisk>,
-    a: &[u8],
+    disk: MemoryDisk,
+    name: &str,
+    text: &[u8],
+    inbox: &[u8],
+) -> (MemoryDisk, bool) {
+    let mut set = open(rt, alloc, disk, FILES);
+    let is_read = reads_both(rt, alloc, &mut set, name, text, inbox);
+    (set.into_disk(), is_read)
+}
+
+// Whether a set that is opened over the disk reads both texts.
+fn opens_with(
+    rt: &impl Abort,
+    alloc: Global,
+    disk: MemoryDisk,
+    name: &str,
+    text: &[u8],
     inbox: &[u8],
 ) -> bool {
-    must(rt, reads(alloc, set, "a.org", a)) && must(rt, reads(alloc, set, "inbox.org", inbox))
+    let (disk, is_read) = read_once(rt, alloc, disk, name, text, inbox);
+    drop(disk);
+    is_read
 }
 
 // Whether a file of the disk holds these bytes.
-fn holds(alloc: Global, disk: &mut MemoryDisk, name: &str, bytes: &[u8]) -> Result<bool, Fail> {
-    let held = bytes_of(alloc, disk, &file_name(alloc, name)?)?;
-    Ok(held.as_slice() == bytes)
+fn holds(rt: &impl Abort, alloc: Global, disk: &mut MemoryDisk, name: &str, bytes: &[u8]) -> bool {
+    disk::holds(rt, alloc, disk, &must(rt, file_name(alloc, name)), bytes)
 }
 
 // The disk that an opening leaves, and why it is refused, if it is.
@@ -110,7 +121,7 @@ fn opened_then_closed(
     alloc: Global,
     disk: MemoryDisk,
 ) -> (MemoryDisk, Option<OpenFault>) {
-    match opened(rt, alloc, disk) {
+    match opened(rt, alloc, disk, FILES) {
         Ok(set) => (set.into_disk(), None),
         Err(refused) => (refused.disk, Some(refused.fault)),
     }
@@ -123,6 +134,15 @@ fn opened_disk(rt: &impl Abort, alloc: Global, disk: MemoryDisk) -> MemoryDisk {
 }
 
 // A disk that holds what a crash leaves of this one.
-fn image_of(rt: &impl Abort, alloc: Global, disk: &MemoryDisk) -> MemoryDisk {
-    disk.image(alloc).expect(rt, "memory")
+fn image_of(rt: &impl Abort, alloc: Global, disk: MemoryDisk) -> MemoryDisk {
+    let image = disk.image(alloc).expect(rt, "memory");
+    drop(disk);
+    image
+}
+
+// How many calls were made of a disk.
+fn calls_of(disk: MemoryDisk) -> u64 {
+    let calls = disk.calls();
+    drop(disk);
+    calls
 }

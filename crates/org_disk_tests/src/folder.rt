@@ -1,5 +1,5 @@
 // Real folders, each made for its test where the test runs.
-ghost use Rattle.std.specs.Prelude.{◌≡◌, [], IfOk};
+ghost use Rattle.std.specs.Prelude.{◌≡◌, []};
 ghost use Rattle.org_folder.specs.FolderDisk.{record_of};
 
 mod failures;
@@ -7,13 +7,12 @@ mod files;
 mod listing;
 mod refusals;
 
-use crate::disk::must;
+use crate::disk::name_of;
 use org_disk::{Disk, DiskFault, FileName};
 use org_folder::{FolderDisk, Start, Unknown, lock_folder};
 use std::fs::Permissions;
 use std::os::unix::fs::{PermissionsExt, symlink};
 use std::process::Abort;
-use std::test::Fail;
 use std::{fs, io};
 
 type Folder = FolderDisk<HostRuntime, Unknown>;
@@ -50,41 +49,37 @@ fn make_empty(rt: &HostRuntime, folder: &str) -> io::Result<()> {
 
 // A folder of this name with these in it, each at its path.
 fn make_folder(
-    rt: &HostRuntime,
+    rt: &impl Abort,
+    system: &HostRuntime,
     folder: &str,
     entries: &[(&'static str, Entry)],
-) -> Result<(), Fail> {
-    make_empty(rt, folder)?;
+) {
+    make_empty(system, folder).expect(rt, "no folder");
     for (path, entry) in entries {
-        make(rt, path, entry)?;
+        make(system, path, entry).expect(rt, "not made");
     }
-    Ok(())
 }
 
 fn is_there(rt: &HostRuntime, path: &str) -> bool {
     fs::metadata(rt, path).is_ok()
 }
 
-fn remove(rt: &HostRuntime, folder: &str) -> Result<(), Fail> {
-    Ok(fs::remove_dir_all(rt, folder)?)
+fn remove(rt: &impl Abort, system: &HostRuntime, folder: &str) {
+    fs::remove_dir_all(system, folder).expect(rt, "not removed");
 }
 
 // Whether a file has these bytes.
-fn holds(rt: &HostRuntime, path: &str, bytes: &[u8]) -> Result<bool, Fail> {
-    let text = fs::read(rt, path)?;
-    Ok(text.as_slice() == bytes)
+fn holds(rt: &impl Abort, system: &HostRuntime, path: &str, bytes: &[u8]) -> bool {
+    fs::read(system, path).expect(rt, "not read").as_slice() == bytes
 }
 
 // The disk of a folder, of whose files this is supposed.
-fn disk<S: Start>(rt: &HostRuntime, folder: &str) -> Result<FolderDisk<HostRuntime, S>, Fail>
-    ensures { IfOk result (λ disk. record_of disk ≡ []) }
+fn disk<S: Start>(rt: &impl Abort, system: &HostRuntime, folder: &str) -> FolderDisk<HostRuntime, S>
+    ensures { record_of result ≡ [] }
 {
-    let folder = lock_folder(rt, folder)?;
-    Ok(FolderDisk::new(rt.clone()?, rt.alloc(), &folder)?)
-}
-
-fn name(rt: &impl AllocGlobal, text: &str) -> Result<FileName, Fail> {
-    Ok(FileName::new(rt.alloc(), text)?)
+    let folder = lock_folder(system, folder).expect(rt, "not locked");
+    let own = system.clone().expect(rt, "memory");
+    FolderDisk::new(own, system.alloc(), &folder).expect(rt, "memory")
 }
 
 // A call of a disk on a file.
@@ -96,8 +91,10 @@ enum Call {
     // writes past the four bytes of a file
     Append(&'static [u8]),
     Sync,
-    // each call that does nothing to a file; it answers the length
-    Nothing,
+    // reads no bytes
+    Read,
+    // cuts all
+    Cut,
     // writes, and cuts what it wrote; it answers the length in between
     WriteAndCut,
 }
@@ -115,16 +112,6 @@ enum Step {
     IsAbsent(&'static str),
     // a read of a file fails where another program makes it shorter, at its path
     Shortens(&'static str, &'static str),
-}
-
-// Each call on a file that does nothing to it, and its length.
-fn do_nothing(disk: &mut impl Disk, name: &FileName) -> Result<u64, DiskFault> {
-    let length = disk.length(name)?;
-    disk.read_at(name, 0, &mut [])?;
-    disk.write_at(name, 0, b"")?;
-    disk.cut(name, 0)?;
-    disk.sync(name)?;
-    Ok(length)
 }
 
 // The length after two writes; what a cut leaves is read.
@@ -153,53 +140,53 @@ fn append(disk: &mut impl Disk, name: &FileName, bytes: &[u8]) -> Result<(), Dis
 fn answer(disk: &mut impl Disk, name: &FileName, call: &Call) -> Result<u64, DiskFault> {
     let made = match call {
         Call::Length => return disk.length(name),
-        Call::Nothing => return do_nothing(disk, name),
         Call::WriteAndCut => return write_and_cut(disk, name),
         Call::Write(bytes) => disk.write_at(name, 0, bytes),
         Call::Append(bytes) => append(disk, name, bytes),
         Call::Sync => disk.sync(name),
+        Call::Read => disk.read_at(name, 0, &mut []),
+        Call::Cut => disk.cut(name, 0),
     };
     made.and(Ok(0))
 }
 
 // Whether a read fails where another program makes the file shorter.
 fn fails_shortened(
-    rt: &HostRuntime,
+    rt: &impl Abort,
+    system: &HostRuntime,
     disk: &mut impl Disk,
     name: &FileName,
     path: &str,
-) -> Result<bool, Fail> {
-    disk.write_at(name, 0, b"* A\n* C")?;
-    fs::write(rt, path, b"* A\n* ")?;
-    Ok(disk.read_at(name, 4, &mut [0; 3]).is_err())
+) -> bool {
+    disk.write_at(name, 0, b"* A\n* C")
+        .expect(rt, "not written");
+    fs::write(system, path, b"* A\n* ").expect(rt, "not written");
+    disk.read_at(name, 4, &mut [0; 3]).is_err()
 }
 
 // Whether a step goes as it says.
-fn goes(rt: &HostRuntime, disk: &mut Folder, step: &Step) -> Result<bool, Fail> {
+fn goes(rt: &impl Abort, system: &HostRuntime, disk: &mut Folder, step: &Step) -> bool {
     match step {
-        Step::Other(path, entry) => {
-            make(rt, path, entry)?;
-            Ok(true)
-        }
+        Step::Other(path, entry) => make(system, path, entry).is_ok(),
         Step::Call(file, call, expected, failures) => {
-            let answer = answer(disk, &name(rt, file)?, call);
-            Ok(answer == *expected && disk.failures() == *failures)
+            let answer = answer(disk, &name_of(rt, system.alloc(), file), call);
+            answer == *expected && disk.failures() == *failures
         }
-        Step::Holds(path, bytes) => holds(rt, path, bytes),
-        Step::IsAbsent(path) => Ok(!is_there(rt, path)),
-        Step::Shortens(file, path) => fails_shortened(rt, disk, &name(rt, file)?, path),
+        Step::Holds(path, bytes) => holds(rt, system, path, bytes),
+        Step::IsAbsent(path) => !is_there(system, path),
+        Step::Shortens(file, path) => {
+            fails_shortened(rt, system, disk, &name_of(rt, system.alloc(), file), path)
+        }
     }
 }
 
 // The steps on the disk of a folder.
 fn go_on(rt: &impl Abort, system: &HostRuntime, folder: &str, steps: &[Step]) {
-    let mut disk = must(rt, disk(system, folder));
+    let mut disk = disk(rt, system, folder);
     for (i, step) in steps.iter().enumerate() {
-        assert!(rt;
-            must(rt, goes(system, &mut disk, step)),
-            "{folder}, step {i}"
-        );
+        assert!(rt; goes(rt, system, &mut disk, step), "{folder}, step {i}");
     }
+    drop(disk);
 }
 
 // A folder with these in it, and the steps on its disk.
@@ -210,7 +197,7 @@ fn go(
     entries: &[(&'static str, Entry)],
     steps: &[Step],
 ) {
-    must(rt, make_folder(system, folder, entries));
+    make_folder(rt, system, folder, entries);
     go_on(rt, system, folder, steps);
-    must(rt, remove(system, folder));
+    remove(rt, system, folder);
 }

@@ -4,7 +4,9 @@ mod records;
 
 use org_fixtures::TEXT;
 use org_journal::Record;
-use std::alloc::{AllocError, Global};
+use org_splice::Patch;
+use std::alloc::Global;
+use std::process::Abort;
 
 // A journal of version 2 with its gate open: an entry with a patch of one byte at each of two places.
 const TWO: [u8; 77] = [
@@ -42,33 +44,34 @@ fn behind_gate(journal: &[u8]) -> &[u8] {
     }
 }
 
-fn body_of(alloc: Global, body: &Body) -> Result<Vec<u8>, AllocError> {
+fn body_of(rt: &impl Abort, alloc: Global, body: &Body) -> Vec<u8> {
     let (journal, count, changes, added) = body;
     let worked = behind_gate(journal);
-    let mut bytes = Vec::from_slice(alloc, &worked[..worked.len().min(*count)])?;
+    let worked = &worked[..worked.len().min(*count)];
+    let mut bytes = Vec::from_slice(alloc, worked).expect(rt, "memory");
     for (at, others) in *changes {
         put(&mut bytes, *at, others);
     }
-    bytes.extend_from_slice(added)?;
-    Ok(bytes)
+    bytes.extend_from_slice(added).expect(rt, "memory");
+    bytes
 }
 
-fn joined(alloc: Global, front: &[u8], back: &[u8]) -> Result<Vec<u8>, AllocError> {
-    let mut bytes = Vec::from_slice(alloc, front)?;
-    bytes.extend_from_slice(back)?;
-    Ok(bytes)
+fn joined(rt: &impl Abort, alloc: Global, front: &[u8], back: &[u8]) -> Vec<u8> {
+    let mut bytes = Vec::from_slice(alloc, front).expect(rt, "memory");
+    bytes.extend_from_slice(back).expect(rt, "memory");
+    bytes
+}
+
+// The patch is the whole text of the capture.
+fn is_text(patch: &Patch) -> bool {
+    patch.from == 0 && patch.bytes.as_slice() == TEXT.as_slice()
 }
 
 // The record has the one entry of the capture.
 fn is_capture(record: &Record) -> bool {
     match record.entries() {
         [entry] => match entry.patches.as_slice() {
-            [patch] => {
-                entry.name.as_str() == "inbox.org"
-                    && entry.length == 16
-                    && patch.from == 0
-                    && patch.bytes.as_slice() == TEXT.as_slice()
-            }
+            [patch] => entry.name.as_str() == "inbox.org" && entry.length == 16 && is_text(patch),
             _ => false,
         },
         _ => false,

@@ -1,4 +1,7 @@
 // Lines served over a disk in memory.
+//
+// What owns a disk or a store drops it by name: left to the end of a function, each of its parts is dropped there, which
+// the function's proof would have to follow.
 ghost use Rattle.std.specs.Prelude.{◌≡◌, Ok, All};
 ghost use Rattle.org_disk.specs.Names.{IsOrgFile};
 ghost use Rattle.org_serve.specs.Group.{IsGroup};
@@ -83,6 +86,34 @@ fn run(rt: &(impl Abort + AllocGlobal), disk: MemoryDisk, group: u32, input: &[u
     }
 }
 
+// The disk once this input was served, however it ended.
+fn left_by(
+    rt: &(impl Abort + AllocGlobal),
+    disk: MemoryDisk,
+    group: u32,
+    input: &[u8],
+) -> MemoryDisk
+    requires { IsGroup group }
+{
+    disk_of(run(rt, disk, group, input))
+}
+
+fn disk_of(ended: Ended) -> MemoryDisk {
+    let Ended {
+        written: _,
+        end: _,
+        disk,
+    } = ended;
+    disk
+}
+
+// How many calls were made of a disk.
+fn calls_of(disk: MemoryDisk) -> u64 {
+    let calls = disk.calls();
+    drop(disk);
+    calls
+}
+
 // Serves this input in groups of one over a disk whose files are synced first.
 fn run_synced(rt: &(impl Abort + AllocGlobal), disk: MemoryDisk, input: &[u8]) -> Ended {
     let mut reader = Counted::new(input);
@@ -106,11 +137,8 @@ fn run_synced(rt: &(impl Abort + AllocGlobal), disk: MemoryDisk, input: &[u8]) -
 fn served(rt: &(impl Abort + AllocGlobal), disk: MemoryDisk, group: u32, input: &[u8]) -> Vec<u8>
     requires { IsGroup group }
 {
-    let Ended {
-        written,
-        end,
-        disk: _,
-    } = run(rt, disk, group, input);
+    let Ended { written, end, disk } = run(rt, disk, group, input);
+    drop(disk);
     assert!(rt; matches!(end, Ok(ServeEnd::End)), "another end");
     written
 }

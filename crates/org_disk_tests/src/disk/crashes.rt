@@ -2,11 +2,10 @@
 ghost use Rattle.std.specs.Prelude.{◌≡◌, codes};
 ghost use Rattle.org_disk.specs.Disk.{stable};
 
-use super::{a_org, leaves, must, sync_write_cut};
+use super::{leaves, name_of, sync_write_cut};
 use org_disk::{Disk, DiskFault, FileName, MemoryDisk, Outcome};
-use std::alloc::{AllocError, Global};
+use std::alloc::Global;
 use std::process::Abort;
-use std::test::Fail;
 
 // What is done to a file.
 enum Calls {
@@ -63,19 +62,19 @@ static CRASHES: &[(Calls, u64, Outcome, &str)] = &[
 ];
 
 // Whether the calls fail.
-fn fail(disk: &mut MemoryDisk, name: &FileName, calls: &Calls) -> Result<bool, AllocError> {
+fn fail(rt: &impl Abort, disk: &mut MemoryDisk, name: &FileName, calls: &Calls) -> bool {
     let made = match calls {
         Calls::SyncWriteCut => sync_write_cut(disk, name),
         Calls::WriteCut => {
-            disk.set(name, b"abcdef")?;
+            disk.set(name, b"abcdef").expect(rt, "memory");
             write_cut(disk, name)
         }
         Calls::WriteCutWrite => {
-            disk.set(name, b"abcdef")?;
+            disk.set(name, b"abcdef").expect(rt, "memory");
             write_cut_write(disk, name)
         }
     };
-    Ok(made.is_err())
+    made.is_err()
 }
 
 // Whether a write, a cut and a sync fail.
@@ -85,13 +84,15 @@ fn is_crashed(disk: &mut MemoryDisk, name: &FileName) -> bool {
 
 // Whether the calls fail and leave this text, and nothing counts that follows.
 fn crashes(
+    rt: &(impl Abort + AllocGlobal),
     disk: &mut MemoryDisk,
-    alloc: Global,
     name: &FileName,
     calls: &Calls,
     left: &str,
-) -> Result<bool, Fail> {
-    Ok(fail(disk, name, calls)? && is_crashed(disk, name) && leaves(disk, alloc, name, left)?)
+) -> bool {
+    fail(rt, disk, name, calls)
+        && is_crashed(disk, name)
+        && leaves(rt, rt.alloc(), disk, name, left)
 }
 
 // The same of a disk that crashes so at the k-th call.
@@ -105,12 +106,14 @@ fn crashes_at(
 ) -> bool {
     let mut disk = MemoryDisk::new(rt.alloc());
     disk.crash_at(k, outcome);
-    must(rt, crashes(&mut disk, rt.alloc(), name, calls, left))
+    let crashes = crashes(rt, &mut disk, name, calls, left);
+    drop(disk);
+    crashes
 }
 
 #[test]
 fn crashed_calls(rt: HostRuntime) {
-    let a = a_org(&rt, rt.alloc());
+    let a = name_of(&rt, rt.alloc(), "a.org");
     for (calls, k, outcome, left) in CRASHES {
         let crashes = crashes_at(&rt, &a, calls, *k, *outcome, left);
         assert!(rt; crashes, "crashed at call {k}, {left} is left");
@@ -119,16 +122,17 @@ fn crashed_calls(rt: HostRuntime) {
 
 // Whether the six calls are made and leave `aX`, also after a seventh, which answers this length.
 fn goes_on(
-    disk: &mut MemoryDisk,
+    rt: &impl Abort,
     alloc: Global,
+    disk: &mut MemoryDisk,
     name: &FileName,
     length: Result<u64, DiskFault>,
-) -> Result<bool, Fail> {
-    let made = sync_write_cut(disk, name);
-    if made.is_err() || disk.calls() != 6 || !leaves(disk, alloc, name, "aX")? {
-        return Ok(false);
-    }
-    Ok(disk.length(name) == length && leaves(disk, alloc, name, "aX")?)
+) -> bool {
+    sync_write_cut(disk, name).is_ok()
+        && disk.calls() == 6
+        && leaves(rt, alloc, disk, name, "aX")
+        && disk.length(name) == length
+        && leaves(rt, alloc, disk, name, "aX")
 }
 
 // The same of a disk that is to crash at the k-th call.
@@ -141,7 +145,9 @@ fn goes_on_to(
     let mut disk = MemoryDisk::new(rt.alloc());
     disk.crash_at(1, Outcome::None);
     disk.crash_at(k, Outcome::None);
-    must(rt, goes_on(&mut disk, rt.alloc(), name, length))
+    let goes_on = goes_on(rt, rt.alloc(), &mut disk, name, length);
+    drop(disk);
+    goes_on
 }
 
 // Which call crashes, if any, and the length that the seventh answers.
@@ -149,7 +155,7 @@ const SEVENTH: &[(u64, Result<u64, DiskFault>)] = &[(0, Ok(2)), (7, Err(DiskFaul
 
 #[test]
 fn no_crash(rt: HostRuntime) {
-    let a = a_org(&rt, rt.alloc());
+    let a = name_of(&rt, rt.alloc(), "a.org");
     for (k, length) in SEVENTH {
         assert!(rt; goes_on_to(&rt, &a, *k, *length), "to crash at {k}");
     }

@@ -2,11 +2,10 @@
 ghost use Rattle.std.specs.Prelude.{◌≡◌, List, ℕ, length, take, OnOk};
 ghost use Rattle.org_disk.specs.Disk.{AreImages};
 
-use super::{a_org, holds, must, sync_write_cut};
+use super::{holds, name_of, sync_write_cut};
 use org_disk::{Disk, DiskFault, FileName, Fuse, MemoryDisk};
 use std::alloc::Global;
 use std::process::Abort;
-use std::test::Fail;
 
 // Which of the six calls fails, if any, and what the file then holds.
 const FAILED: &[(u64, &str)] = &[
@@ -20,25 +19,32 @@ const FAILED: &[(u64, &str)] = &[
     (7, "aX"),
 ];
 
+// Whether the file holds this text, and the six calls are made then.
+fn goes_on(
+    rt: &impl Abort,
+    alloc: Global,
+    disk: &mut MemoryDisk,
+    name: &FileName,
+    text: &str,
+) -> bool {
+    holds(rt, alloc, disk, name, text.as_bytes())
+        && sync_write_cut(disk, name).is_ok()
+        && holds(rt, alloc, disk, name, b"aX")
+}
+
 // Whether the k-th of the six calls fails without effect, and that one alone; where there is none, they are made.
 fn fails_once(
+    rt: &(impl Abort + AllocGlobal),
     disk: &mut MemoryDisk,
-    alloc: Global,
     name: &FileName,
     k: u64,
     left: &str,
-) -> Result<bool, Fail> {
-    let fails = k > 0 && k < 7;
+) -> bool {
     let made = sync_write_cut(disk, name);
-    if made.is_err() != fails || disk.calls() != (if fails { k } else { 6 }) {
-        return Ok(false);
+    if k == 0 || k > 6 {
+        return made.is_ok() && disk.calls() == 6;
     }
-    Ok(
-        !fails
-            || holds(disk, alloc, name, left)?
-                && sync_write_cut(disk, name).is_ok()
-                && holds(disk, alloc, name, "aX")?,
-    )
+    made.is_err() && disk.calls() == k && goes_on(rt, rt.alloc(), disk, name, left)
 }
 
 // The same of a disk without files.
@@ -46,26 +52,33 @@ fn fails_at(rt: &(impl Abort + AllocGlobal), name: &FileName, k: u64, left: &str
     let mut disk = MemoryDisk::new(rt.alloc());
     disk.fail_at(1);
     disk.fail_at(k);
-    must(rt, fails_once(&mut disk, rt.alloc(), name, k, left))
+    let fails_once = fails_once(rt, &mut disk, name, k, left);
+    drop(disk);
+    fails_once
 }
 
 #[test]
 fn failed_calls(rt: HostRuntime) {
-    let a = a_org(&rt, rt.alloc());
+    let a = name_of(&rt, rt.alloc(), "a.org");
     for (k, left) in FAILED {
         assert!(rt; fails_at(&rt, &a, *k, left), "call {k}");
     }
 }
 
-// Whether a fuse blows after so many of the six calls, the disk then holding this text.
+// Whether a fuse passes so many of the six calls, and no call behind them.
+fn is_blown(fuse: &mut Fuse<MemoryDisk>, name: &FileName, k: u64) -> bool {
+    sync_write_cut(fuse, name).is_ok() == (k == 6) && fuse.sync(name).is_err()
+}
+
+// The same of a fuse over a disk without files, which then holds this text.
 fn blows(rt: &impl Abort, alloc: Global, name: &FileName, k: u64, held: &str) -> bool {
     let mut fuse = Fuse::new(MemoryDisk::new(alloc), k);
-    let made = sync_write_cut(&mut fuse, name);
-    let after = fuse.sync(name);
+    let is_blown = is_blown(&mut fuse, name, k);
     let mut disk = fuse.into_inner();
     let calls = disk.calls();
-    let is_held = must(rt, holds(&mut disk, alloc, name, held));
-    made.is_ok() == (k == 6) && after.is_err() && calls == k && is_held
+    let is_held = holds(rt, alloc, &mut disk, name, held.as_bytes());
+    drop(disk);
+    is_blown && calls == k && is_held
 }
 
 // After how many calls a fuse blows, and what the file then holds.
@@ -74,7 +87,7 @@ const BLOWN: &[(u64, &str)] = &[(0, ""), (3, "abc"), (4, "aXY"), (6, "aX")];
 #[test]
 fn blown_fuse(rt: HostRuntime) {
     let alloc = rt.alloc();
-    let a = a_org(&rt, alloc);
+    let a = name_of(&rt, alloc, "a.org");
     for (k, held) in BLOWN {
         assert!(rt; blows(&rt, alloc, &a, *k, held), "after {k} calls");
     }
@@ -99,8 +112,9 @@ fn write_sync_write<D: Disk>(
 #[test]
 fn first_write_stays(rt: HostRuntime) {
     let alloc = rt.alloc();
-    let a = a_org(&rt, alloc);
+    let a = name_of(&rt, alloc, "a.org");
     let mut disk = MemoryDisk::new(alloc);
     let made = write_sync_write(&mut disk, &a, b"kept", b" and more");
-    assert!(rt; made.is_ok() && must(&rt, holds(&mut disk, alloc, &a, "kept and more")));
+    assert!(rt; made.is_ok() && holds(&rt, alloc, &mut disk, &a, b"kept and more"));
+    drop(disk);
 }

@@ -1,9 +1,11 @@
 // The names of files.
-use org_disk::{FileName, NameFault};
-use std::alloc::{AllocError, Global};
+use super::name_of;
+use org_disk::FileName;
+use std::alloc::Global;
+use std::process::Abort;
 
-fn is_accepted(alloc: Global, text: &str) -> Result<bool, NameFault> {
-    Ok(FileName::accepts(text) && FileName::new(alloc, text)?.as_str() == text)
+fn is_accepted(rt: &impl Abort, alloc: Global, text: &str) -> bool {
+    FileName::accepts(text) && name_of(rt, alloc, text).as_str() == text
 }
 
 // Texts, and whether each is the name of a file.
@@ -28,19 +30,19 @@ const NAMES: &[(&str, bool)] = &[
 #[test]
 fn accepted_names(rt: HostRuntime) {
     for (text, accepted) in NAMES {
-        assert!(rt; is_accepted(rt.alloc(), text) == Ok(*accepted), "{text}");
+        assert!(rt; is_accepted(&rt, rt.alloc(), text) == *accepted, "{text}");
     }
 }
 
 // A name of so many letters in front of its `.org`, with the end of an archive file's or without.
-fn long_name(alloc: Global, letters: usize, end: &str) -> Result<String, AllocError> {
+fn long_name(rt: &impl Abort, alloc: Global, letters: usize, end: &str) -> String {
     let mut text = String::new(alloc);
     for _ in 0..letters {
-        text.push('a')?;
+        text.push('a').expect(rt, "memory");
     }
-    text.push_str(".org")?;
-    text.push_str(end)?;
-    Ok(text)
+    text.push_str(".org").expect(rt, "memory");
+    text.push_str(end).expect(rt, "memory");
+    text
 }
 
 const LONG_NAMES: &[(usize, &str, bool)] = &[
@@ -53,7 +55,7 @@ const LONG_NAMES: &[(usize, &str, bool)] = &[
 #[test]
 fn long_names(rt: HostRuntime) {
     for (letters, end, accepted) in LONG_NAMES {
-        let text = long_name(rt.alloc(), *letters, end).expect(&rt, "memory");
+        let text = long_name(&rt, rt.alloc(), *letters, end);
         assert!(rt;
             FileName::accepts(text.as_str()) == *accepted,
             "{letters}{end}"
@@ -66,21 +68,22 @@ fn are_apart(inbox: &FileName, archive: &FileName) -> bool {
     archive.is_archive() && !inbox.is_archive() && inbox < archive && archive != inbox
 }
 
-fn has_archive(alloc: Global) -> Result<bool, NameFault> {
-    let inbox = FileName::new(alloc, "inbox.org")?;
-    let archive = inbox.archive()?;
-    Ok(archive.as_str() == "inbox.org_archive" && are_apart(&inbox, &archive))
+fn has_archive(rt: &impl Abort, alloc: Global) -> bool {
+    let inbox = name_of(rt, alloc, "inbox.org");
+    let archive = inbox.archive().expect(rt, "memory");
+    archive.as_str() == "inbox.org_archive" && are_apart(&inbox, &archive)
 }
 
-fn is_copied(alloc: Global) -> Result<bool, NameFault> {
-    let inbox = FileName::new(alloc, "inbox.org")?;
-    Ok(inbox.clone()? == inbox)
+fn is_copied(rt: &impl Abort, alloc: Global) -> bool {
+    let inbox = name_of(rt, alloc, "inbox.org");
+    inbox.clone().expect(rt, "memory") == inbox
 }
 
 #[test]
 fn archives(rt: HostRuntime) {
-    assert!(rt; has_archive(rt.alloc()) == Ok(true));
-    assert!(rt; is_copied(rt.alloc()) == Ok(true));
+    let alloc = rt.alloc();
+    assert!(rt; has_archive(&rt, alloc));
+    assert!(rt; is_copied(&rt, alloc));
 }
 
 #[test]

@@ -1,12 +1,15 @@
 // Commits: whole, crashed and failing ones.
-ghost use Rattle.std.specs.Prelude.{IfOk, OnOk};
+ghost use Rattle.std.specs.Prelude.{◌≤◌, length, Contains, OnOk};
 ghost use Rattle.org_disk.specs.Memory.{memory_files};
 ghost use Rattle.org_journal.specs.Recovered.{contents};
+ghost use Rattle.org_splice.specs.Texts.{IsEditOf};
+ghost use Rattle.org_fileset.specs.Names.{limit};
 ghost use Rattle.org_fileset.specs.Set.{AreCommittable};
 
 use super::edited::Edited;
 use super::{
-    image_of, open, opened, opened_disk, reads_record, reads_texts, with_gate, with_journal,
+    FILES, calls_of, image_of, open, opened, opened_disk, opens_with, read_once, reads_both,
+    with_gate, with_journal,
 };
 use crate::disk::must;
 use org_disk::{FileName, MemoryDisk, Outcome};
@@ -15,7 +18,6 @@ use org_fixtures::{OLD, OUTCOMES, TEXT, bytes_of};
 use org_splice::Editing;
 use std::alloc::Global;
 use std::process::Abort;
-use std::test::Fail;
 
 // Bytes in the place of others: of which file of the set, where, and how many give way.
 #[derive(Clone, Copy)]
@@ -42,50 +44,58 @@ const CAPTURE: Edit = Edit {
     bytes: b"* TODO Call Ann\n",
 };
 
-// Adds an edit of what a file holds to the changes.
-fn put_edit(
-    alloc: Global,
-    set: &mut FileSet<MemoryDisk>,
-    changes: &mut Edited,
-    edit: &Edit,
-) -> Result<Result<(), SetFault>, Fail>
-    requires { AreCommittable set.old.names (contents (memory_files set.old.disk)) changes.old }
-    ensures { IfOk result
-        (λ done. OnOk done
-        (AreCommittable set.new.names (contents (memory_files set.new.disk)) changes.new)) }
+// The text of a file with an edit.
+fn edited(rt: &impl Abort, bytes: Vec<u8>, edit: &Edit) -> Editing
+    ensures small { length result.text.bytes ≤ limit }
+    ensures edit { IsEditOf bytes.items result.text }
 {
-    if edit.file >= set.names().len() {
-        return Err(Fail::from("no such file"));
-    }
-    let name = set.names()[edit.file].clone()?;
-    let bytes = match set.read(&name) {
-        Ok(bytes) => bytes,
-        Err(fault) => return Ok(Err(fault)),
-    };
     let at = edit.at.min(bytes.len());
     let removed = edit.removed.min(bytes.len() - at);
     let mut text = Editing::new(bytes);
-    text.splice(at, removed, edit.bytes)?;
-    if text.bytes().len() > LIMIT {
-        return Err(Fail::from("too long"));
+    text.splice(at, removed, edit.bytes).expect(rt, "memory");
+    assert!(rt; text.bytes().len() <= LIMIT, "too long");
+    text
+}
+
+// The name of one of the set's files.
+fn name_at(rt: &impl Abort, set: &FileSet<MemoryDisk>, index: usize) -> FileName
+    ensures { Contains set.now.names result }
+{
+    if index >= set.names().len() {
+        panic!(rt; "no such file");
     }
-    changes.put(name, text)?;
-    Ok(Ok(()))
+    set.names()[index].clone().expect(rt, "memory")
+}
+
+// Adds an edit of what a file holds to the changes.
+fn put_edit(
+    rt: &impl Abort,
+    set: &mut FileSet<MemoryDisk>,
+    changes: &mut Edited,
+    edit: &Edit,
+) -> Result<(), SetFault>
+    requires { AreCommittable set.old.names (contents (memory_files set.old.disk)) changes.old }
+    ensures { OnOk result
+        (AreCommittable set.new.names (contents (memory_files set.new.disk)) changes.new) }
+{
+    let name = name_at(rt, set, edit.file);
+    let text = edited(rt, set.read(&name)?, edit);
+    changes.put(name, text).expect(rt, "memory");
+    Ok(())
 }
 
 // Commits edits of what the files hold.
 fn commit(
+    rt: &impl Abort,
     alloc: Global,
     set: &mut FileSet<MemoryDisk>,
     edits: &[Edit],
-) -> Result<Result<(), SetFault>, Fail> {
+) -> Result<(), SetFault> {
     let mut changes = Edited::new(alloc);
     for edit in edits {
-        if let Err(fault) = put_edit(alloc, set, &mut changes, edit)? {
-            return Ok(Err(fault));
-        }
+        put_edit(rt, set, &mut changes, edit)?;
     }
-    Ok(set.commit(&changes))
+    set.commit(&changes)
 }
 
 // Opens a set and commits these edits: what that answers, and the disk then.
@@ -95,10 +105,9 @@ fn change(
     disk: MemoryDisk,
     edits: &[Edit],
 ) -> (MemoryDisk, Result<(), SetFault>) {
-    match opened(rt, alloc, disk) {
-        Ok(set) => {
-            let mut set = set;
-            let answer = must(rt, commit(alloc, &mut set, edits));
+    match opened(rt, alloc, disk, FILES) {
+        Ok(mut set) => {
+            let answer = commit(rt, alloc, &mut set, edits);
             (set.into_disk(), answer)
         }
         Err(refused) => (refused.disk, Err(SetFault::Device)),
@@ -116,26 +125,22 @@ const BOTH: [Edit; 2] = [RENAME, CAPTURE];
 
 // How many calls an opening and a commit of these edits make.
 fn calls_with(rt: &impl Abort, alloc: Global, edits: &[Edit]) -> u64 {
-    changed(rt, alloc, with_journal(rt, alloc, b""), edits).calls()
-}
-
-// Whether the set reads the two files as they are before a commit of both edits.
-fn reads_before(rt: &impl Abort, alloc: Global, set: &mut FileSet<MemoryDisk>) -> bool {
-    reads_texts(rt, alloc, set, b"* A\n", b"")
+    calls_of(changed(rt, alloc, with_journal(rt, alloc, b""), edits))
 }
 
 // How many calls an opening and the reading of the two files make, over a journal of these bytes.
 fn calls_before_commit(rt: &impl Abort, alloc: Global, journal: &[u8]) -> u64 {
-    let mut set = open(rt, alloc, with_journal(rt, alloc, journal));
-    assert!(rt; reads_before(rt, alloc, &mut set));
-    set.into_disk().calls()
+    let disk = with_journal(rt, alloc, journal);
+    let (disk, is_before) = read_once(rt, alloc, disk, "a.org", b"* A\n", b"");
+    assert!(rt; is_before);
+    calls_of(disk)
 }
 
 // Whether both files have their new texts; that one of them has it is a failure.
 fn has_changed(rt: &impl Abort, alloc: Global, set: &mut FileSet<MemoryDisk>) -> bool {
-    let is_new = reads_texts(rt, alloc, set, b"* Better\n", &TEXT);
+    let is_new = reads_both(rt, alloc, set, "a.org", b"* Better\n", &TEXT);
     assert!(rt;
-        is_new || reads_before(rt, alloc, set),
+        is_new || reads_both(rt, alloc, set, "a.org", b"* A\n", b""),
         "one file is old and one is new"
     );
     is_new
@@ -143,38 +148,42 @@ fn has_changed(rt: &impl Abort, alloc: Global, set: &mut FileSet<MemoryDisk>) ->
 
 // The same of a disk, once a set is opened over it.
 fn are_changed(rt: &impl Abort, alloc: Global, disk: MemoryDisk) -> bool {
-    let mut set = open(rt, alloc, disk);
-    has_changed(rt, alloc, &mut set)
+    let mut set = open(rt, alloc, disk, FILES);
+    let has_changed = has_changed(rt, alloc, &mut set);
+    drop(set);
+    has_changed
 }
 
 #[test]
 fn a_commit_leaves_its_record(rt: HostRuntime) {
     let alloc = rt.alloc();
     let disk = changed(&rt, alloc, with_journal(&rt, alloc, b""), &[CAPTURE]);
-    let mut set = open(&rt, alloc, disk);
-    assert!(rt; reads_record(&rt, alloc, &mut set, &with_gate(0), &TEXT));
+    assert!(rt; opens_with(&rt, alloc, disk, "orgstore.journal", &with_gate(0), &TEXT));
 }
 
 #[test]
 fn a_commit_of_nothing_makes_no_call(rt: HostRuntime) {
     let alloc = rt.alloc();
     let opened = opened_disk(&rt, alloc, with_journal(&rt, alloc, b""));
-    assert!(rt; calls_with(&rt, alloc, &[]) == opened.calls());
+    assert!(rt; calls_with(&rt, alloc, &[]) == calls_of(opened));
 }
 
 // Opens a set over a record of version 1, open or closed: the disk then, where the record is ended.
 fn end_old(rt: &impl Abort, alloc: Global, disk: MemoryDisk) -> MemoryDisk {
     let mut closed = OLD;
     closed[0] = 0;
-    let mut set = open(rt, alloc, disk);
-    assert!(rt; reads_record(rt, alloc, &mut set, &closed, &TEXT));
-    set.into_disk()
+    let (disk, is_ended) = read_once(rt, alloc, disk, "orgstore.journal", &closed, &TEXT);
+    assert!(rt; is_ended);
+    disk
 }
 
 // Whether the journal has a closed gate and a record of version 2.
-fn is_closed_and_new(alloc: Global, disk: &mut MemoryDisk) -> Result<bool, Fail> {
-    let bytes = bytes_of(alloc, disk, &FileName::journal_name(alloc)?)?;
-    Ok(matches!(bytes.as_slice(), [0, _, _, _, _, 2, ..]))
+fn is_closed_and_new(rt: &impl Abort, alloc: Global, disk: MemoryDisk) -> bool {
+    let mut disk = disk;
+    let journal = FileName::journal_name(alloc).expect(rt, "memory");
+    let bytes = must(rt, bytes_of(alloc, &mut disk, &journal));
+    drop(disk);
+    matches!(bytes.as_slice(), [0, _, _, _, _, 2, ..])
 }
 
 #[test]
@@ -184,8 +193,7 @@ fn an_old_record_is_ended_and_a_new_one_follows(rt: HostRuntime) {
     // opened once more, no file changes
     let disk = end_old(&rt, alloc, disk);
     let disk = changed(&rt, alloc, disk, &[RENAME]);
-    let mut disk = opened_disk(&rt, alloc, disk);
-    assert!(rt; must(&rt, is_closed_and_new(alloc, &mut disk)));
+    assert!(rt; is_closed_and_new(&rt, alloc, opened_disk(&rt, alloc, disk)));
 }
 
 // Whether the gate was opened for what the crash leaves, at the write of the gate and at the sync after it.
@@ -203,7 +211,7 @@ fn crash_commit(rt: &impl Abort, alloc: Global, k: u64, outcome: Outcome, journa
     disk.crash_at(k, outcome);
     let (disk, answer) = change(rt, alloc, disk, &BOTH);
     assert!(rt; answer.is_err(), "it isn't crashed");
-    are_changed(rt, alloc, image_of(rt, alloc, &disk))
+    are_changed(rt, alloc, image_of(rt, alloc, disk))
 }
 
 // Whether both files are changed after a crash at this call, the first of the commit being 1.
@@ -222,9 +230,9 @@ fn a_crashed_commit_changes_both_files_or_none(rt: HostRuntime) {
     let alloc = rt.alloc();
     let before = calls_before_commit(&rt, alloc, b"");
     for k in 1..=calls_with(&rt, alloc, &BOTH) {
-        for outcome in OUTCOMES {
-            let expected = is_done(k.saturating_sub(before), outcome);
-            let changed = crash_commit(&rt, alloc, k, outcome, b"");
+        for outcome in &OUTCOMES {
+            let expected = is_done(k.saturating_sub(before), *outcome);
+            let changed = crash_commit(&rt, alloc, k, *outcome, b"");
             assert!(rt; changed == expected, "crashed at call {k}");
         }
     }
@@ -234,18 +242,18 @@ fn a_crashed_commit_changes_both_files_or_none(rt: HostRuntime) {
 fn a_body_behind_a_short_journal_opens_nothing(rt: HostRuntime) {
     let alloc = rt.alloc();
     let before = calls_before_commit(&rt, alloc, &[1]);
-    for outcome in OUTCOMES {
-        let changed = crash_commit(&rt, alloc, before.saturating_add(1), outcome, &[1]);
+    for outcome in &OUTCOMES {
+        let changed = crash_commit(&rt, alloc, before.saturating_add(1), *outcome, &[1]);
         assert!(rt; !changed);
     }
 }
 
 // A commit at which the disk fails, and one after it.
 fn commit_failing(rt: &impl Abort, alloc: Global, set: &mut FileSet<MemoryDisk>) {
-    let answer = must(rt, commit(alloc, set, &BOTH));
+    let answer = commit(rt, alloc, set, &BOTH);
     assert!(rt; matches!(answer, Err(SetFault::Device)));
     assert!(rt; set.is_broken());
-    let answer = must(rt, commit(alloc, set, &[]));
+    let answer = commit(rt, alloc, set, &[]);
     assert!(rt; matches!(answer, Err(SetFault::Broken)));
 }
 
@@ -260,9 +268,10 @@ fn failing(rt: &impl Abort, alloc: Global, call: u64) -> MemoryDisk {
 #[test]
 fn a_failed_sync_of_the_gate_breaks_the_set(rt: HostRuntime) {
     let alloc = rt.alloc();
-    let mut set = open(&rt, alloc, failing(&rt, alloc, 4));
+    let mut set = open(&rt, alloc, failing(&rt, alloc, 4), FILES);
     commit_failing(&rt, alloc, &mut set);
     let disk = set.into_disk();
-    assert!(rt; are_changed(&rt, alloc, image_of(&rt, alloc, &disk)));
+    let image = disk.image(alloc).expect(&rt, "memory");
+    assert!(rt; are_changed(&rt, alloc, image));
     assert!(rt; are_changed(&rt, alloc, disk));
 }

@@ -1,21 +1,20 @@
 // What opening a set finds, and how it ends a record that a crash left.
 use super::{
-    crashed, holds, image_of, open, opened, opened_disk, opened_over, opened_then_closed, reads,
-    reads_record, reads_texts, set_file, with_gate, with_journal,
+    FILES, crashed, holds, image_of, open, opened_disk, opened_then_closed, opens_with, set_file,
+    with_gate, with_journal,
 };
-use crate::disk::{are_texts, must};
+use crate::disk::{are_texts, must, name_of};
 use org_disk::{FileName, MemoryDisk, Outcome};
 use org_fileset::{FileSet, LIMIT, OpenFault, OpenRefused, SetFault};
 use org_fixtures::{NEW, OLD, OUTCOMES, TEXT, numbered_names};
 use std::alloc::Global;
 use std::process::Abort;
-use std::test::Fail;
 
 #[test]
 fn opening_ends_a_record(rt: HostRuntime) {
     let alloc = rt.alloc();
-    let mut set = open(&rt, alloc, crashed(&rt, alloc, 1));
-    assert!(rt; reads_texts(&rt, alloc, &mut set, b"* A\n", &TEXT));
+    let disk = crashed(&rt, alloc, 1);
+    assert!(rt; opens_with(&rt, alloc, disk, "a.org", b"* A\n", &TEXT));
 }
 
 const IN_ORDER: &[&str] = &["a.org", "a.org_archive", "inbox.org", "inbox.org_archive"];
@@ -23,45 +22,47 @@ const IN_ORDER: &[&str] = &["a.org", "a.org_archive", "inbox.org", "inbox.org_ar
 #[test]
 fn names_are_in_byte_order(rt: HostRuntime) {
     let alloc = rt.alloc();
-    let set = open(&rt, alloc, MemoryDisk::new(alloc));
+    let set = open(&rt, alloc, MemoryDisk::new(alloc), FILES);
     assert!(rt; are_texts(set.names(), IN_ORDER));
-}
-
-// The disk once a set over a.org alone was opened.
-fn opened_beside(rt: &impl Abort, alloc: Global, disk: MemoryDisk) -> MemoryDisk {
-    match must(rt, opened_over(alloc, disk, &["a.org"])) {
-        Ok(set) => set.into_disk(),
-        Err(_) => panic!(rt; "not opened"),
-    }
+    drop(set);
 }
 
 // Whether inbox.org holds this text once a set over a.org alone was opened.
 fn holds_beside(rt: &impl Abort, alloc: Global, gate: u8, text: &[u8]) -> bool {
-    let mut disk = opened_beside(rt, alloc, crashed(rt, alloc, gate));
-    must(rt, holds(alloc, &mut disk, "inbox.org", text))
+    let mut disk = open(rt, alloc, crashed(rt, alloc, gate), &["a.org"]).into_disk();
+    let is_held = holds(rt, alloc, &mut disk, "inbox.org", text);
+    drop(disk);
+    is_held
 }
 
 #[test]
 fn a_record_counts_for_other_files_too(rt: HostRuntime) {
-    assert!(rt; holds_beside(&rt, rt.alloc(), 1, &TEXT));
-    assert!(rt; holds_beside(&rt, rt.alloc(), 0, b"* TO"));
+    let alloc = rt.alloc();
+    assert!(rt; holds_beside(&rt, alloc, 1, &TEXT));
+    assert!(rt; holds_beside(&rt, alloc, 0, b"* TO"));
 }
 
 // Whether an opening leaves a closed record, and the text that a crash left.
 fn leaves_closed(rt: &impl Abort, alloc: Global, gate: u8) -> bool {
-    let mut set = open(rt, alloc, crashed(rt, alloc, gate));
-    reads_record(rt, alloc, &mut set, &with_gate(gate), b"* TO")
+    let disk = crashed(rt, alloc, gate);
+    opens_with(
+        rt,
+        alloc,
+        disk,
+        "orgstore.journal",
+        &with_gate(gate),
+        b"* TO",
+    )
 }
 
 #[test]
 fn a_closed_record_is_left(rt: HostRuntime) {
-    for gate in [0, 2, 0x55, 0xff] {
-        assert!(rt; leaves_closed(&rt, rt.alloc(), gate), "gate {gate}");
+    for gate in &[0, 2, 0x55, 0xff] {
+        assert!(rt; leaves_closed(&rt, rt.alloc(), *gate), "gate {gate}");
     }
 }
 
-// Opens with a crash at the k-th call, and opens what is left: whether inbox.org has this text
-// then.
+// Opens with a crash at the k-th call, and opens what is left: whether inbox.org has this text then, and a.org its own.
 fn has_opened_twice(
     rt: &impl Abort,
     alloc: Global,
@@ -71,9 +72,8 @@ fn has_opened_twice(
 ) -> bool {
     let mut disk = crashed(rt, alloc, gate);
     disk.crash_at(k, outcome);
-    let disk = opened_disk(rt, alloc, disk);
-    let mut set = open(rt, alloc, image_of(rt, alloc, &disk));
-    must(rt, reads(alloc, &mut set, "inbox.org", text))
+    let left = image_of(rt, alloc, opened_disk(rt, alloc, disk));
+    opens_with(rt, alloc, left, "a.org", b"* A\n", text)
 }
 
 // The same in each way in which the call may crash.
@@ -92,30 +92,27 @@ fn crash_opening(rt: &impl Abort, alloc: Global, gate: u8, text: &[u8]) {
 
 #[test]
 fn a_crashed_opening_goes_on(rt: HostRuntime) {
-    crash_opening(&rt, rt.alloc(), 1, &TEXT);
-    crash_opening(&rt, rt.alloc(), 0x55, b"* TO");
+    let alloc = rt.alloc();
+    crash_opening(&rt, alloc, 1, &TEXT);
+    crash_opening(&rt, alloc, 0x55, b"* TO");
 }
 
-// The disk that is handed back where a journal of these bytes is bad, over a.org and an absent inbox.org.
-fn refused(rt: &impl Abort, alloc: Global, journal: &[u8]) -> MemoryDisk {
-    match opened(rt, alloc, with_journal(rt, alloc, journal)) {
-        Err(
-            OpenRefused {
-                disk,
-                fault: OpenFault::BadJournal,
-            },
-        ) => disk,
-        _ => panic!(rt; "not refused as a bad journal"),
-    }
+// Whether a disk holds this journal beside a.org, and no inbox.org.
+fn holds_journal(rt: &impl Abort, alloc: Global, disk: &mut MemoryDisk, journal: &[u8]) -> bool {
+    holds(rt, alloc, disk, "orgstore.journal", journal)
+        && holds(rt, alloc, disk, "a.org", b"* A\n")
+        && holds(rt, alloc, disk, "inbox.org", b"")
 }
 
 // A journal of these bytes is refused, and the disk is handed back as it was.
 fn refuse(rt: &impl Abort, alloc: Global, journal: &[u8]) {
-    let mut disk = refused(rt, alloc, journal);
-    let is_left = must(rt, holds(alloc, &mut disk, "orgstore.journal", journal))
-        && must(rt, holds(alloc, &mut disk, "a.org", b"* A\n"))
-        && must(rt, holds(alloc, &mut disk, "inbox.org", b""));
-    assert!(rt; is_left);
+    let (mut disk, fault) = opened_then_closed(rt, alloc, with_journal(rt, alloc, journal));
+    assert!(rt;
+        matches!(fault, Some(OpenFault::BadJournal)),
+        "not refused as a bad journal"
+    );
+    assert!(rt; holds_journal(rt, alloc, &mut disk, journal));
+    drop(disk);
 }
 
 // A journal whose patch is from the second byte on, past the end of an absent file.
@@ -166,10 +163,12 @@ fn is_taken(
 }
 
 // The same of a set that is opened over so many files.
-fn takes(alloc: Global, count: u32, names: Option<usize>) -> Result<bool, Fail> {
-    let given = numbered_names(alloc, count)?;
+fn takes(rt: &impl Abort, alloc: Global, count: u32, names: Option<usize>) -> bool {
+    let given = must(rt, numbered_names(alloc, count));
     let opened = FileSet::open(alloc, MemoryDisk::new(alloc), given);
-    Ok(is_taken(&opened, names))
+    let is_taken = is_taken(&opened, names);
+    drop(opened);
+    is_taken
 }
 
 const MANY: &[(u32, Option<usize>)] = &[(256, Some(512)), (257, None)];
@@ -177,14 +176,14 @@ const MANY: &[(u32, Option<usize>)] = &[(256, Some(512)), (257, None)];
 #[test]
 fn too_many_names_are_refused(rt: HostRuntime) {
     for (count, names) in MANY {
-        assert!(rt; must(&rt, takes(rt.alloc(), *count, *names)), "{count}");
+        assert!(rt; takes(&rt, rt.alloc(), *count, *names), "{count}");
     }
 }
 
 // Makes a.org this long.
-fn make_large(alloc: Global, disk: &mut MemoryDisk, length: usize) -> Result<(), Fail> {
-    let text = vec![in alloc; b'*'; length]?;
-    set_file(alloc, disk, "a.org", &text)
+fn make_large(rt: &impl Abort, alloc: Global, disk: &mut MemoryDisk, length: usize) {
+    let text = vec![in alloc; b'*'; length].expect(rt, "memory");
+    set_file(rt, alloc, disk, "a.org", &text);
 }
 
 // Whether a file is refused as too large, or none where it is none.
@@ -199,17 +198,19 @@ fn is_refusal(fault: &Option<OpenFault>, file: Option<&str>) -> bool {
 // Opens over an a.org of this length and what a crash left: the file that is refused as too large, if one is.
 fn open_large(rt: &impl Abort, alloc: Global, length: usize, file: Option<&str>) {
     let mut disk = crashed(rt, alloc, 1);
-    must(rt, make_large(alloc, &mut disk, length));
+    make_large(rt, alloc, &mut disk, length);
     let (mut disk, fault) = opened_then_closed(rt, alloc, disk);
     assert!(rt; is_refusal(&fault, file));
-    assert!(rt; must(rt, holds(alloc, &mut disk, "inbox.org", &TEXT)));
+    assert!(rt; holds(rt, alloc, &mut disk, "inbox.org", &TEXT));
+    drop(disk);
 }
 
 // What the crash had cut short is brought to an end, also where the opening is refused.
 #[test]
 fn files_up_to_the_limit_are_taken(rt: HostRuntime) {
-    open_large(&rt, rt.alloc(), LIMIT, None);
-    open_large(&rt, rt.alloc(), LIMIT + 1, Some("a.org"));
+    let alloc = rt.alloc();
+    open_large(&rt, alloc, LIMIT, None);
+    open_large(&rt, alloc, LIMIT + 1, Some("a.org"));
 }
 
 // Why a.org isn't read, if it isn't.
@@ -219,7 +220,7 @@ fn fault_of_read(set: &mut FileSet<MemoryDisk>, name: &FileName) -> Option<SetFa
 
 // One of the reads fails, and each that follows.
 fn read_failing(rt: &impl Abort, alloc: Global, set: &mut FileSet<MemoryDisk>) {
-    let name = FileName::new(alloc, "a.org").expect(rt, "a name");
+    let name = name_of(rt, alloc, "a.org");
     let mut failed = false;
     for _ in 0..8 {
         failed |= fault_of_read(set, &name) == Some(SetFault::Device);
@@ -233,6 +234,7 @@ fn a_failed_read_breaks_the_set(rt: HostRuntime) {
     let alloc = rt.alloc();
     let mut disk = opened_disk(&rt, alloc, crashed(&rt, alloc, 1));
     disk.fail_at(12);
-    let mut set = open(&rt, alloc, disk);
+    let mut set = open(&rt, alloc, disk, FILES);
     read_failing(&rt, alloc, &mut set);
+    drop(set);
 }

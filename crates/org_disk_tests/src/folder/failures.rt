@@ -1,6 +1,6 @@
 // Calls of the system of which one fails.
-use super::{holds, make_folder, name, remove};
-use crate::disk::must;
+use super::{holds, make_folder, remove};
+use crate::disk::name_of;
 use org_disk::{Disk, DiskFault, FileName};
 use org_folder::{FolderDisk, Unknown, lock_folder};
 use std::alloc::{Alloc, Allocator, Global};
@@ -9,8 +9,8 @@ use std::fs::{File, FileTimes, Files, Metadata, OpenFile, OpenOptions, Permissio
 use std::io::{Error, ErrorKind, Read, Seek, SeekFrom, Write};
 use std::os::unix::fs::FileExt;
 use std::path::PathBuf;
+use std::process::Abort;
 use std::rc::Rc;
-use std::test::Fail;
 use std::{fs, io};
 
 // Counts a call of the system, which may be the one that fails.
@@ -173,13 +173,17 @@ fn work<D: Disk>(disk: &mut D, name: &FileName) -> Result<(), DiskFault> {
 }
 
 // A folder's disk, of which the call of the system with this number fails.
-fn failing_disk(rt: &HostRuntime, fails_in: u64) -> Result<FolderDisk<Failing, Unknown>, Fail> {
+fn failing_disk(
+    rt: &impl Abort,
+    system: &HostRuntime,
+    fails_in: u64,
+) -> FolderDisk<Failing, Unknown> {
     let failing = Failing {
-        rt: rt.clone()?,
-        fails_in: Rc::new(rt.alloc(), Cell::new(fails_in))?,
+        rt: system.clone().expect(rt, "memory"),
+        fails_in: Rc::new(system.alloc(), Cell::new(fails_in)).expect(rt, "memory"),
     };
-    let folder = lock_folder(rt, "one_fails")?;
-    Ok(FolderDisk::new(failing, rt.alloc(), &folder)?)
+    let folder = lock_folder(system, "one_fails").expect(rt, "not locked");
+    FolderDisk::new(failing, system.alloc(), &folder).expect(rt, "memory")
 }
 
 // Whether the disk counts one failure over the work, in which a call of the system fails, and over the work once more.
@@ -187,17 +191,24 @@ fn fails_once(disk: &mut FolderDisk<Failing, Unknown>, a: &FileName) -> bool {
     work(disk, a).is_err() && disk.failures() == 1 && work(disk, a).is_ok() && disk.failures() == 1
 }
 
+// The same of a disk at which the call of the system with this number fails.
+fn fails_at(rt: &impl Abort, system: &HostRuntime, a: &FileName, fails_in: u64) -> bool {
+    let mut disk = failing_disk(rt, system, fails_in);
+    let fails_once = fails_once(&mut disk, a);
+    drop(disk);
+    fails_once
+}
+
 // The work makes 12 calls of the system: the file is made, seen to be empty and written; its folder is looked for, opened and
 // synced, and the file synced; it is cut, written, synced, read and measured.
 #[test]
 fn each_call_of_the_system_fails_once(rt: HostRuntime) {
-    let a = must(&rt, name(&rt, "a.org"));
+    let a = name_of(&rt, rt.alloc(), "a.org");
     for fails_in in 1..13u64 {
-        must(&rt, make_folder(&rt, "one_fails", &[]));
-        let mut disk = must(&rt, failing_disk(&rt, fails_in));
-        assert!(rt; fails_once(&mut disk, &a), "call {fails_in}");
-        let held = must(&rt, holds(&rt, "one_fails/a.org", b"* A\n* C\n"));
+        make_folder(&rt, &rt, "one_fails", &[]);
+        assert!(rt; fails_at(&rt, &rt, &a, fails_in), "call {fails_in}");
+        let held = holds(&rt, &rt, "one_fails/a.org", b"* A\n* C\n");
         assert!(rt; held, "call {fails_in}");
     }
-    must(&rt, remove(&rt, "one_fails"));
+    remove(&rt, &rt, "one_fails");
 }

@@ -1,13 +1,17 @@
 // What calls of a disk do to the files of a folder.
-use super::{Call, Entry, Step, disk, go, is_there, make_folder, name, remove};
-use crate::disk::must;
+use super::{Call, Entry, Step, disk, go, is_there, make_folder, remove};
+use crate::disk::name_of;
 use org_disk::{Disk, DiskFault, FileName};
 use org_folder::{FolderDisk, Start};
-use std::test::Fail;
+use std::process::Abort;
 
 // What a disk does to no file makes none.
 const ABSENT: &[Step] = &[
-    Step::Call("a.org", Call::Nothing, Ok(0), 0),
+    Step::Call("a.org", Call::Length, Ok(0), 0),
+    Step::Call("a.org", Call::Read, Ok(0), 0),
+    Step::Call("a.org", Call::Write(b""), Ok(0), 0),
+    Step::Call("a.org", Call::Cut, Ok(0), 0),
+    Step::Call("a.org", Call::Sync, Ok(0), 0),
     Step::IsAbsent("absent/a.org"),
 ];
 
@@ -92,23 +96,24 @@ impl Start for OneByte {
 }
 
 // Whether a cut or a read of that byte fails.
-fn fails(rt: &HostRuntime, cuts: bool) -> Result<bool, Fail> {
-    let name = name(rt, "a.org")?;
-    let mut disk: FolderDisk<HostRuntime, OneByte> = disk(rt, "supposed")?;
+fn fails(rt: &impl Abort, system: &HostRuntime, cuts: bool) -> bool {
+    let name = name_of(rt, system.alloc(), "a.org");
+    let mut disk: FolderDisk<HostRuntime, OneByte> = disk(rt, system, "supposed");
     let made = if cuts {
         disk.cut(&name, 1)
     } else {
         disk.read_at(&name, 0, &mut [0])
     };
-    Ok(made.is_err())
+    drop(disk);
+    made.is_err()
 }
 
 // A call that goes past the end of a file fails: the file isn't what it was supposed to be.
 #[test]
 fn absent_where_a_byte_is_supposed(rt: HostRuntime) {
-    must(&rt, make_folder(&rt, "supposed", &[]));
-    assert!(rt; must(&rt, fails(&rt, true)));
-    assert!(rt; must(&rt, fails(&rt, false)));
+    make_folder(&rt, &rt, "supposed", &[]);
+    assert!(rt; fails(&rt, &rt, true));
+    assert!(rt; fails(&rt, &rt, false));
     assert!(rt; !is_there(&rt, "supposed/a.org"));
-    must(&rt, remove(&rt, "supposed"));
+    remove(&rt, &rt, "supposed");
 }

@@ -1,15 +1,21 @@
 // The Org files of a folder.
 use super::{Entry, make_folder, remove};
-use crate::disk::{are_texts, must};
+use crate::disk::are_texts;
 use org_disk::{FileName, NameFault};
 use org_folder::{lock_folder, org_file, org_files};
-use std::test::Fail;
+use std::alloc::Global;
+use std::process::Abort;
+
+// Why a text isn't the name of an Org file, if it isn't.
+fn fault_of(alloc: Global, text: &str) -> Option<NameFault> {
+    org_file(alloc, text).err()
+}
 
 #[test]
 fn names_of_org_files(rt: HostRuntime) {
-    assert!(rt; org_file(rt.alloc(), "a.org").is_ok());
-    for text in ["a.txt", "a.org_archive"] {
-        assert!(rt; org_file(rt.alloc(), text).err() == Some(NameFault::BadName));
+    assert!(rt; fault_of(rt.alloc(), "a.org").is_none());
+    for text in &["a.txt", "a.org_archive"] {
+        assert!(rt; fault_of(rt.alloc(), text) == Some(NameFault::BadName));
     }
 }
 
@@ -25,21 +31,22 @@ const LISTED: &[(&str, Entry)] = &[
 ];
 
 // The Org files of a folder, in order.
-fn listed(rt: &HostRuntime, folder: &str) -> Result<Vec<FileName>, Fail> {
-    let mut names = org_files(rt, &lock_folder(rt, folder)?)?;
-    names.sort()?;
-    Ok(names)
+fn listed(rt: &impl Abort, system: &HostRuntime, folder: &str) -> Vec<FileName> {
+    let folder = lock_folder(system, folder).expect(rt, "not locked");
+    let mut names = org_files(system, &folder).expect(rt, "not listed");
+    names.sort().expect(rt, "memory");
+    names
 }
 
-fn fails_listed(rt: &HostRuntime, folder: &str) -> Result<bool, Fail> {
-    Ok(org_files(rt, &lock_folder(rt, folder)?).is_err())
+fn fails_listed(rt: &impl Abort, system: &HostRuntime, folder: &str) -> bool {
+    let folder = lock_folder(system, folder).expect(rt, "not locked");
+    org_files(system, &folder).is_err()
 }
 
 #[test]
 fn files_of_a_folder(rt: HostRuntime) {
-    must(&rt, make_folder(&rt, "listed", LISTED));
-    let names = must(&rt, listed(&rt, "listed"));
-    assert!(rt; are_texts(&names, &["a.org", "link.org"]));
-    assert!(rt; must(&rt, fails_listed(&rt, "listed/nowhere")));
-    must(&rt, remove(&rt, "listed"));
+    make_folder(&rt, &rt, "listed", LISTED);
+    assert!(rt; are_texts(&listed(&rt, &rt, "listed"), &["a.org", "link.org"]));
+    assert!(rt; fails_listed(&rt, &rt, "listed/nowhere"));
+    remove(&rt, &rt, "listed");
 }

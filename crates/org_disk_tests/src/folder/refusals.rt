@@ -1,6 +1,5 @@
 // Calls that the system refuses.
 use super::{Call, Entry, Step, go, go_on, is_there, make_folder, remove};
-use crate::disk::must;
 use org_disk::DiskFault;
 use std::fs::File;
 
@@ -92,9 +91,9 @@ fn may_write(rt: &HostRuntime, path: &str) -> bool {
 // Whoever may do all may open each file; then these are none that can't be read or written.
 #[test]
 fn files_without_permission(rt: HostRuntime) {
-    must(&rt, make_folder(&rt, "closed", CLOSED));
+    make_folder(&rt, &rt, "closed", CLOSED);
     let may_read = File::open(&rt, "closed/a.org").is_ok();
     let may_write = may_write(&rt, "closed/b.org");
     go_on(&rt, &rt, "closed", &permitted(may_read, may_write));
-    must(&rt, remove(&rt, "closed"));
+    remove(&rt, &rt, "closed");
 }

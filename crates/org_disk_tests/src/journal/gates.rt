@@ -3,7 +3,7 @@ ghost use Rattle.std.specs.Prelude.{◌≡◌, ◌≤◌, length, OnOk};
 ghost use Rattle.org_disk.specs.Disk.{IsStable};
 ghost use Rattle.org_disk.specs.Names.{journal_name};
 
-use super::{ALL, Body, TWO, body_of, is_capture, joined};
+use super::{ALL, Body, TWO, behind_gate, body_of, is_capture, joined};
 use crate::disk::must;
 use org_disk::{Disk, DiskFault, FileName, MemoryDisk};
 use org_fixtures::{NEW, OLD, disk_with};
@@ -21,10 +21,10 @@ enum Answer {
     Fault,
 }
 
-fn answer_in(found: &Result<Found, FindFault>) -> Answer {
+fn answer_in(found: Result<Found, FindFault>) -> Answer {
     match found {
         Ok(Found::Closed) => Answer::Closed,
-        Ok(Found::Armed(record)) => if is_capture(record) {
+        Ok(Found::Armed(record)) => if is_capture(&record) {
             Answer::Capture
         } else {
             Answer::Other
@@ -42,11 +42,12 @@ fn with_journal(alloc: Global, journal: &[u8], text: &[u8]) -> Result<MemoryDisk
 // What `find` says over a journal of this gate and these bytes behind it.
 fn answer_of(rt: &(impl Abort + AllocGlobal), gate: u8, body: &Body, text: &[u8]) -> Answer {
     let alloc = rt.alloc();
-    let body = body_of(alloc, body).expect(rt, "memory");
-    let bytes = joined(alloc, &[gate], &body).expect(rt, "memory");
+    let bytes = joined(rt, alloc, &[gate], &body_of(rt, alloc, body));
     let mut disk = must(rt, with_journal(alloc, &bytes, text));
     let journal = FileName::journal_name(alloc).expect(rt, "memory");
-    answer_in(&find(alloc, &mut disk, &journal))
+    let answer = answer_in(find(alloc, &mut disk, &journal));
+    drop(disk);
+    answer
 }
 
 // A patch that begins past the end of a file that is absent, and at the end of one of one byte.
@@ -115,16 +116,18 @@ fn opened_and_closed<D: Disk>(
     requires { journal.now ≡ journal_name }
 {
     open(disk, journal, body)?;
-    let opened = answer_in(&find(alloc, disk, journal));
+    let opened = answer_in(find(alloc, disk, journal));
     close_gate(disk, journal)?;
-    let closed = answer_in(&find(alloc, disk, journal));
+    let closed = answer_in(find(alloc, disk, journal));
     Ok(opened == Answer::Capture && closed == Answer::Closed)
 }
 
 #[test]
 fn the_gate_opens_and_closes(rt: HostRuntime) {
-    let journal = FileName::journal_name(rt.alloc()).expect(&rt, "memory");
-    let mut disk = MemoryDisk::new(rt.alloc());
-    let both = opened_and_closed(rt.alloc(), &mut disk, &journal, &NEW[1..]);
+    let alloc = rt.alloc();
+    let journal = FileName::journal_name(alloc).expect(&rt, "memory");
+    let mut disk = MemoryDisk::new(alloc);
+    let both = opened_and_closed(alloc, &mut disk, &journal, behind_gate(&NEW));
+    drop(disk);
     assert!(rt; both == Ok(true));
 }

@@ -1,11 +1,9 @@
 // Which bytes are a record, and how a record is written.
-use super::{ALL, Body, TWO, body_of, is_capture, joined, put};
-use crate::disk::must;
+use super::{ALL, Body, TWO, behind_gate, body_of, is_capture, joined, put};
 use org_fixtures::{NEW, OLD};
 use org_journal::{RecordFault, decode, well_formed};
-use std::alloc::{AllocError, Global};
+use std::alloc::Global;
 use std::process::Abort;
-use std::test::Fail;
 
 fn is_refused(alloc: Global, bytes: &[u8]) -> bool {
     !well_formed(bytes) && matches!(decode(alloc, bytes), Err(RecordFault::Malformed))
@@ -16,29 +14,30 @@ fn is_read(alloc: Global, bytes: &[u8]) -> bool {
 }
 
 // Whether the bytes are no record's, and neither are they with one more behind them.
-fn refuses(alloc: Global, bytes: &[u8]) -> Result<bool, AllocError> {
-    let longer = joined(alloc, bytes, &[0x2a])?;
-    Ok(is_refused(alloc, bytes) && is_refused(alloc, &longer))
+fn refuses(rt: &impl Abort, alloc: Global, bytes: &[u8]) -> bool {
+    let longer = joined(rt, alloc, bytes, &[0x2a]);
+    is_refused(alloc, bytes) && is_refused(alloc, &longer)
 }
 
-fn refuses_body(alloc: Global, body: &Body) -> Result<bool, AllocError> {
-    refuses(alloc, &body_of(alloc, body)?)
+fn refuses_body(rt: &impl Abort, alloc: Global, body: &Body) -> bool {
+    refuses(rt, alloc, &body_of(rt, alloc, body))
 }
 
-fn is_formed(alloc: Global, body: &Body) -> Result<bool, AllocError> {
-    Ok(well_formed(&body_of(alloc, body)?))
+fn is_formed(rt: &impl Abort, alloc: Global, body: &Body) -> bool {
+    well_formed(&body_of(rt, alloc, body))
 }
 
 // The bytes are the capture's, and so are they with others behind them.
 fn accept(rt: &impl Abort, alloc: Global, bytes: &[u8]) {
-    let longer = joined(alloc, bytes, &OLD[1..]).expect(rt, "memory");
+    let longer = joined(rt, alloc, bytes, behind_gate(&OLD));
     assert!(rt; is_read(alloc, bytes) && is_read(alloc, &longer));
 }
 
 #[test]
 fn both_versions_are_read(rt: HostRuntime) {
-    accept(&rt, rt.alloc(), &OLD[1..]);
-    accept(&rt, rt.alloc(), &NEW[1..]);
+    let alloc = rt.alloc();
+    accept(&rt, alloc, behind_gate(&OLD));
+    accept(&rt, alloc, behind_gate(&NEW));
 }
 
 static MALFORMED: &[Body] = &[
@@ -70,7 +69,7 @@ static MALFORMED: &[Body] = &[
 #[test]
 fn malformed_journals(rt: HostRuntime) {
     for (i, body) in MALFORMED.iter().enumerate() {
-        assert!(rt; refuses_body(rt.alloc(), body) == Ok(true), "row {i}");
+        assert!(rt; refuses_body(&rt, rt.alloc(), body), "row {i}");
     }
 }
 
@@ -90,29 +89,30 @@ const FORMED: &[(Body, bool)] = &[
 #[test]
 fn well_formed_journals(rt: HostRuntime) {
     for (i, (body, expected)) in FORMED.iter().enumerate() {
-        assert!(rt; is_formed(rt.alloc(), body) == Ok(*expected), "row {i}");
+        assert!(rt; is_formed(&rt, rt.alloc(), body) == *expected, "row {i}");
     }
 }
 
 #[test]
 fn two_equal_names(rt: HostRuntime) {
-    let mut twice = joined(rt.alloc(), &OLD[1..], &OLD[20..]).expect(&rt, "memory");
+    let alloc = rt.alloc();
+    let mut twice = joined(&rt, alloc, behind_gate(&OLD), &OLD[20..]);
     put(&mut twice, 14, &[106, 0, 0, 0, 2]);
-    assert!(rt; refuses(rt.alloc(), &twice) == Ok(true));
+    assert!(rt; refuses(&rt, alloc, &twice));
     // Another name.
     put(&mut twice, 72, b"j");
     assert!(rt; well_formed(&twice));
 }
 
 // Whether the record of these bytes is written as those.
-fn is_written(alloc: Global, bytes: &[u8], expected: &[u8]) -> Result<bool, Fail> {
-    let record = decode(alloc, bytes)?;
-    let written = record.encode(alloc)?;
-    Ok(written.as_slice() == expected)
+fn is_written(rt: &impl Abort, alloc: Global, bytes: &[u8], expected: &[u8]) -> bool {
+    let record = decode(alloc, bytes).expect(rt, "no record");
+    record.encode(alloc).expect(rt, "memory").as_slice() == expected
 }
 
 #[test]
 fn version_2_is_written(rt: HostRuntime) {
-    assert!(rt; must(&rt, is_written(rt.alloc(), &OLD[1..], &NEW[1..])));
-    assert!(rt; must(&rt, is_written(rt.alloc(), &TWO[1..], &TWO[1..])));
+    let alloc = rt.alloc();
+    assert!(rt; is_written(&rt, alloc, behind_gate(&OLD), behind_gate(&NEW)));
+    assert!(rt; is_written(&rt, alloc, behind_gate(&TWO), behind_gate(&TWO)));
 }

@@ -1,7 +1,7 @@
 // Crashes of the disk, and what opening it again finds.
 ghost use Rattle.org_serve.specs.Group.{IsGroup};
 
-use super::{image, run, served, two};
+use super::{calls_of, image, left_by, run, served, two};
 use org_disk::{MemoryDisk, Outcome};
 use org_fixtures::OUTCOMES;
 use std::process::Abort;
@@ -95,7 +95,9 @@ pub fn crashed(
     let mut disk = disk;
     disk.crash_at(call, outcome);
     let ended = run(rt, disk, group, lines);
-    (safe_in(&ended.written), image(rt, &ended.disk))
+    let crashed = (safe_in(&ended.written), image(rt, &ended.disk));
+    drop(ended);
+    crashed
 }
 
 // What a crash at this call of the disk leaves, as these lines are served in groups of one.
@@ -123,7 +125,7 @@ pub fn done_stopped(
 pub fn calls(rt: &(impl Abort + AllocGlobal), disk: MemoryDisk, group: u32, lines: &[u8]) -> u64
     requires { IsGroup group }
 {
-    run(rt, disk, group, lines).disk.calls()
+    calls_of(left_by(rt, disk, group, lines))
 }
 
 // How many calls an opening takes over what a disk left.
@@ -164,6 +166,7 @@ fn crash_at(rt: &(impl Abort + AllocGlobal), group: u32, step: &Step, at: (u64, 
         at.0
     );
     crash_each_opening(rt, &left, step, done);
+    drop(left);
 }
 
 fn crash_in_each_way(rt: &(impl Abort + AllocGlobal), group: u32, step: &Step, call: u64)
@@ -178,12 +181,12 @@ fn crash_in_each_way(rt: &(impl Abort + AllocGlobal), group: u32, step: &Step, c
 fn crash_at_every_call(rt: &(impl Abort + AllocGlobal), group: u32, step: &Step)
     requires { IsGroup group }
 {
-    let ended = run(rt, files(rt, step), group, step.lines);
-    let all = ended.disk.calls();
+    let disk = left_by(rt, files(rt, step), group, step.lines);
+    let all = disk.calls();
     for call in 0..all {
         crash_in_each_way(rt, group, step, call + 1);
     }
-    assert!(rt; done_in(rt, ended.disk, step) == all_of(step));
+    assert!(rt; done_in(rt, disk, step) == all_of(step));
 }
 
 // Each step crashes at every call, its lines settled in groups of this size.

@@ -4,7 +4,7 @@ ghost use Rattle.org_serve.specs.Group.{IsGroup};
 use super::crashes::{
     CAPTURE, CAPTURES, Step, calls, done_in, done_stopped, files, may_be_done, safe_in,
 };
-use super::{Ended, image, must, run};
+use super::{Ended, disk_of, image, must, run};
 use org_disk::Outcome;
 use org_fixtures::OUTCOMES;
 use org_serve::ServeEnd;
@@ -164,14 +164,16 @@ const GATE_SYNC: u64 = 6;
 
 // How many of the captures are in what a crash leaves, once this call failed in a capture.
 fn done_in_image(rt: &(impl Abort + AllocGlobal), call: u64) -> u64 {
-    let ended = serve_failing(rt, 1, CAPTURES, CAPTURE, call);
-    done_in(rt, image(rt, &ended.disk), CAPTURES)
+    let disk = disk_of(serve_failing(rt, 1, CAPTURES, CAPTURE, call));
+    let image = image(rt, &disk);
+    drop(disk);
+    done_in(rt, image, CAPTURES)
 }
 
 // The same once the next call was stopped.
 fn done_in_stopped(rt: &(impl Abort + AllocGlobal), call: u64, outcome: Outcome) -> u64 {
-    let ended = serve_failing(rt, 1, CAPTURES, CAPTURE, call);
-    done_stopped(rt, ended.disk, outcome, CAPTURES)
+    let disk = disk_of(serve_failing(rt, 1, CAPTURES, CAPTURE, call));
+    done_stopped(rt, disk, outcome, CAPTURES)
 }
 
 // Once the gate was written, the capture may be done or not, in every image.

@@ -90,7 +90,11 @@ fn serve_over<D: Disk + Drop>(
 ) -> (ServeEnd, u64, u64) {
     match opened(rt, disk) {
         Err(_) => (ServeEnd::Device, 0, 0),
-        Ok(mut store) => serve_lines(rt, &mut store, lines),
+        Ok(mut store) => {
+            let served = serve_lines(rt, &mut store, lines);
+            drop(store);
+            served
+        }
     }
 }
 

@@ -1,6 +1,6 @@
 // Journals that a crash or an older program left.
 use super::crashes::{CAPTURE, CAPTURES, calls_of_opening, done_in, files, left};
-use super::{Ended, image, must, run, served};
+use super::{Ended, image, left_by, must, run, served};
 use org_disk::{FileName, MemoryDisk, Outcome};
 use org_fixtures::{OLD, OUTCOMES, bytes_of, file_name};
 use org_store::OpenFault;
@@ -46,12 +46,13 @@ fn gate_and_version(journal: &[u8]) -> (u8, u8) {
 fn journal_in(rt: &(impl Abort + AllocGlobal), disk: MemoryDisk) -> (u8, u8) {
     let mut disk = disk;
     let journal = must(rt, bytes_in(rt.alloc(), &mut disk, "orgstore.journal"));
+    drop(disk);
     gate_and_version(&journal)
 }
 
 // The gate once a disk was opened.
 pub fn gate_opened(rt: &(impl Abort + AllocGlobal), disk: MemoryDisk) -> u8 {
-    journal_in(rt, run(rt, disk, 1, b"").disk).0
+    journal_in(rt, left_by(rt, disk, 1, b"")).0
 }
 
 #[test]
@@ -78,6 +79,7 @@ fn another_byte_goes_out(rt: HostRuntime) {
     for call in 0..opening {
         keeps_gate(&rt, &left, call + 1);
     }
+    drop(left);
 }
 
 // Gives a disk a journal of these bytes.
@@ -100,11 +102,12 @@ fn a_journal_of_one_byte(rt: HostRuntime) {
         let left = left_behind(&rt, &disk, RECORD, *outcome);
         assert!(rt; done_in(&rt, left, CAPTURES) == 0);
     }
+    drop(disk);
 }
 
 // The gate and the version of the old journal once these lines were served.
 fn journal_behind(rt: &(impl Abort + AllocGlobal), lines: &[u8]) -> (u8, u8) {
-    journal_in(rt, run(rt, with_journal(rt, &OLD), 1, lines).disk)
+    journal_in(rt, left_by(rt, with_journal(rt, &OLD), 1, lines))
 }
 
 #[test]
@@ -131,4 +134,5 @@ fn a_bad_journal(rt: HostRuntime) {
     let mut disk = disk;
     assert!(rt; holds(&rt, &mut disk, "orgstore.journal", BAD));
     assert!(rt; holds(&rt, &mut disk, "a.org", b"* A\n"));
+    drop(disk);
 }

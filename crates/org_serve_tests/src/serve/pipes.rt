@@ -122,7 +122,8 @@ fn end_of(
     writer: &mut Page,
     turns: u64,
 ) -> ServeEnd {
-    let (end, _) = pipe(rt, two(rt, b"", b"* Z\n"), 1, reader, writer, turns);
+    let (end, disk) = pipe(rt, two(rt, b"", b"* Z\n"), 1, reader, writer, turns);
+    drop(disk);
     end
 }
 

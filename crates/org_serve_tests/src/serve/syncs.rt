@@ -1,5 +1,5 @@
 // Files that were written and not synced, and a store that syncs them before it is opened.
-use super::{Ended, image, must, run_synced, served, two};
+use super::{Ended, calls_of, disk_of, image, must, run_synced, served, two};
 use org_disk::{Disk, MemoryDisk, Outcome};
 use org_fixtures::{OUTCOMES, file_name};
 use org_store::OpenFault;
@@ -47,11 +47,12 @@ fn crash_at(rt: &(impl Abort + AllocGlobal), call: u64, outcome: Outcome) {
     let ended = run_synced(rt, disk, CAPTURE);
     let shown = shown(rt, &ended.disk);
     assert!(rt; is_right(call, &ended.written, &shown), "after {call}");
+    drop(ended);
 }
 
 #[test]
 fn crashed_over_files_that_were_not_synced(rt: HostRuntime) {
-    let all = run_synced(&rt, unsynced(&rt), CAPTURE).disk.calls();
+    let all = calls_of(disk_of(run_synced(&rt, unsynced(&rt), CAPTURE)));
     for outcome in &OUTCOMES {
         // the write that wasn't synced is the first call of the disk
         for call in 1..all {
@@ -67,6 +68,7 @@ fn fail_at(rt: &(impl Abort + AllocGlobal), call: u64) {
     let Ended { written, end, disk } = run_synced(rt, disk, CAPTURE);
     assert!(rt; matches!(end, Err(OpenFault::Device)) && written.is_empty());
     let is_kept = shown(rt, &disk).starts_with(b"text 8\n* A\n* B\n\n");
+    drop(disk);
     assert!(rt; call == 1 || is_kept);
 }
 

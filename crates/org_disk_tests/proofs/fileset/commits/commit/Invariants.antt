@@ -4,4 +4,4 @@ use Rattle.org_fileset.specs.Set.{AreCommittable}
 use Rattle.org_disk_tests.proofs.fileset.commits.commit.Given as goal
 
 abbrev pub invariant-loop-edit : goal.invariant-loop-edit
-invariant-loop-edit l = AreCommittable l.set.names (contents (memory_files l.set.disk)) l.changes
+invariant-loop-edit g l = AreCommittable l.set.names (contents (memory_files l.set.disk)) l.changes

@@ -1,13 +1,13 @@
-use Rattle.std.proofs.Common.{◌≡◌, inl, inr, ◌≤◌, ℕ, ◌<◌, List, [], ◌∷◌, length, get_or, true, false, refl, sym, ◌∙◌, ap, subst, arith}
+use Rattle.std.proofs.Common.{◌≡◌, inl, inr, ◌≤◌, ℕ, List, [], ◌∷◌, length, true, false, sym, subst}
+use Rattle.std.specs.Prelude.{Result, Ok, OnOk}
 use Rattle.std.specs.List.{All, AllByRecursion, Contains}
 use Rattle.std.specs.Str.{bytes_eq}
 use Rattle.std.proofs.lemmas.List.Elements.{All-from_recursion, recursion_from_All}
-use Rattle.std.proofs.lemmas.List.{get_or_default}
 use Rattle.org_disk.specs.Disk.{FileState}
 use Rattle.org_disk.specs.Memory.{memory_files}
 use Rattle.org_disk.proofs.Names.{name_cases}
 use Rattle.org_disk_tests.specs.Edited.{with_text}
-use Rattle.org_splice.specs.Texts.{EditedText, IsEditOf, settled}
+use Rattle.org_splice.specs.Texts.{EditedText, IsEditOf}
 use Rattle.org_journal.specs.Recovered.{contents}
 use Rattle.org_fileset.specs.Names.{limit}
 use Rattle.org_fileset.specs.Set.{AreCommittable}
@@ -28,29 +28,26 @@ module _ (P : Change → Type 0) (name : List ℕ) (text : EditedText) (this : P
   all_with changes all = All-from_recursion P (with_text changes name text) (each_with changes (recursion_from_All P changes all))
 
 -- one change more, after a read
-one_more : (names after shown : List (List ℕ)) (files now : List ℕ → FileState) (changes new : List Change) (k : ℕ) (name found : List ℕ) (text : EditedText) → AreCommittable names (contents files) changes
-    → after ≡ names → now ≡ files → new ≡ with_text changes name text → shown ≡ names → k < length shown → found ≡ get_or shown k found → name ≡ found
-    → length text.bytes ≤ limit → IsEditOf (contents files name) text → AreCommittable after (contents now) new
-one_more names after shown files now changes new k name found text can same_names same_files put is_shown within found_is name_is small edit =
-    let at : get_or shown k name ≡ name = get_or_default shown k name found within ∙ sym found_is ∙ sym name_is in
+one_more : (names after : List (List ℕ)) (files now : List ℕ → FileState) (changes new : List Change) (name : List ℕ) (text : EditedText) → AreCommittable names (contents files) changes
+    → after ≡ names → now ≡ files → new ≡ with_text changes name text → Contains names name → length text.bytes ≤ limit → IsEditOf (contents files name) text → AreCommittable after (contents now) new
+one_more names after files now changes new name text can same_names same_files put named small edit =
     subst (λ (n : List (List ℕ)). AreCommittable n (contents now) new) (sym same_names)
     (subst (λ (f : List ℕ → FileState). AreCommittable names (contents f) new) (sym same_files)
     (subst (λ (l : List Change). AreCommittable names (contents files) l) (sym put) (record {
-      named = all_with (λ (change : Change). Contains names change.0) name text (subst (λ (l : List (List ℕ)). Contains l name) is_shown (k, within, at)) changes can.named;
+      named = all_with (λ (change : Change). Contains names change.0) name text named changes can.named;
       small = all_with (λ (change : Change). length change.1.bytes ≤ limit) name text small changes can.small;
       edits = all_with (λ (change : Change). IsEditOf (contents files change.0) change.1) name text edit changes can.edits;
     })))
 
--- a text that was read is made of what was read
-unedited_is : (bytes : List ℕ) → IsEditOf bytes (settled bytes)
-unedited_is bytes = record { same = λ i within unchanged. refl }
+-- what is said of a result that is Ok
+of_ok : {A E P : Type 0} (result : Result A E) (value : A) → result ≡ Ok value → OnOk result P → P
+of_ok {A} {E} {P} result value is held = subst (λ (r : Result A E). OnOk r P) is held
 
 pub returns : goal.returns
-returns c =
+returns g c =
     let files = memory_files c.args.set.now.disk in
-    let name = c.in_ok-name.name in
-    let read : IsEditOf (contents files name) c.new-text.result.text = rw (c.new-text.ensures, c.in-Ok.ensures.text tt) (unedited_is (contents files name)) in
-    let edit = c.in_ok-splice.ensures.edit (contents files name) read in
-    let small : length c.splice.new.self.text.bytes ≤ limit = omega (arith, c.if-bytes-gt-LIMIT.false, ap length c.bytes.ensures.bytes) in
-    one_more c.args.set.now.names c.read.new.self.names c.names-2.result.now files (memory_files c.read.new.self.disk) c.args.changes.now c.put.new.self c.args.edit.now.file name
-    c.index-names-edit.result c.splice.new.self.text c.requires c.read.ensures.set.same_names (c.read.ensures.looks tt).same c.in_ok-put.ensures c.names-2.ensures (omega (arith, c.if-edit-names.false, ap length c.names.ensures, ap length c.names-2.ensures)) c.index-names-edit.is c.in_ok-name.ensures.cases small edit
+    let name = c.name_at-name.result in
+    let text = c.edited-text.result.text in
+    let edit : IsEditOf (contents files name) text = subst (λ (bytes : List ℕ). IsEditOf bytes text) (c.in_ok-read.ensures.text tt) c.edited-text.ensures.edit in
+    one_more c.args.set.now.names c.read.new.self.names files (memory_files c.read.new.self.disk) c.args.changes.now c.put.new.self name text
+    c.requires c.read.ensures.set.same_names (c.read.ensures.looks tt).same (of_ok c.put.result c.expect.result c.expect.ensures c.put.ensures) c.name_at-name.ensures c.edited-text.ensures.small edit
