@@ -35,9 +35,18 @@ pub fn run(rt: &HostRuntime) -> Result<(), Fault>
     let _streams = fill_streams(rt, &arguments.folder)?;
     // The folder is locked until all is served.
     let (setup, folder) = setup(rt, &arguments)?;
+    serve(rt, setup, &folder)
+}
+
+// Serves the command lines of standard input over the files of a locked folder.
+fn serve(rt: &HostRuntime, setup: Setup, folder: &LockedFolder<'_>) -> Result<(), Fault>
+    requires names { All IsOrgFile setup.names.items }
+    requires group { IsGroup setup.group }
+    ensures { IfErr result IsFaultOfRun }
+{
     let mut reader = Counted::new(rt.stdin());
     let mut writer = Counted::new(stdout(rt)?);
-    let disk: FolderDisk<HostRuntime, Unknown> = FolderDisk::new(rt.clone()?, rt.alloc(), &folder)?;
+    let disk: FolderDisk<HostRuntime, Unknown> = FolderDisk::new(rt.clone()?, rt.alloc(), folder)?;
     let Served { disk: _, end } = serve_folder(rt.alloc(), disk, setup, &mut reader, &mut writer);
     told(end)
 }

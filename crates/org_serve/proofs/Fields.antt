@@ -1,4 +1,4 @@
--- A line of more fields than a command has is none.
+-- How many fields a line has, and what its first one says: the command that it is, or none.
 use Rattle.std.proofs.Common.{◌≡◌, ℕ, ◌<◌, ◌≤◌, ◌==◌, false, nat_lt, List, [], ◌∷◌, length, map, get_or, codes, true, Option, Some, None, refl, arith}
 use Rattle.std.specs.Borrow.{Bor}
 use Rattle.std.specs.List.{slice_split, count_by}

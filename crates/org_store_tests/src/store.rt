@@ -1,4 +1,7 @@
 // A store over a disk in memory.
+//
+// What owns a store or a command drops it by name: left to the end of a function, each of its parts is dropped there,
+// which the function's proof would have to follow.
 ghost use Rattle.std.specs.Prelude.{◌≡◌, Ok};
 
 mod crashes;
@@ -90,7 +93,9 @@ fn answer(store: &mut Store<MemoryDisk>, command: &Command) -> Result<Reply, Run
 }
 
 fn run(store: &mut Store<MemoryDisk>, command: Command) -> Result<Reply, RunFault> {
-    answer(store, &command)
+    let answer = answer(store, &command);
+    drop(command);
+    answer
 }
 
 fn is_text(answer: Result<Reply, RunFault>, text: &[u8]) -> bool {
@@ -129,7 +134,9 @@ fn shown(
 // Which of these texts are left on a disk, as a store over it shows them.
 fn left_on(rt: &impl Abort, alloc: Global, disk: MemoryDisk, rows: &[Texts]) -> Option<usize> {
     let mut store = open(rt, alloc, disk);
-    shown(rt, alloc, &mut store, rows)
+    let found = shown(rt, alloc, &mut store, rows);
+    drop(store);
+    found
 }
 
 // What a command that changes files is answered: its number, or why there is none.

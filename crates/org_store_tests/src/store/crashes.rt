@@ -49,7 +49,9 @@ fn crashed(
         Err(refused) => (0, 0, refused.disk),
         Ok(store) => captured_twice(rt, alloc, store, group),
     };
-    (acknowledged, accepted, prefix_in(rt, alloc, &disk))
+    let prefix = prefix_in(rt, alloc, &disk);
+    drop(disk);
+    (acknowledged, accepted, prefix)
 }
 
 // The texts of both files with none, one and two of the captures.
