@@ -131,17 +131,13 @@ pub(crate) fn date_title(
     ensures { IfOk result (λ title. title.items ≡ date_title kind moment.day) }
 {
     let mut title = key_on(alloc, kind, moment)?;
-    match kind {
-        DateKind::Year => {}
-        DateKind::Month => {
-            title.push(b' ')?;
-            title.extend_from_slice(month_name(moment.month()))?;
-        }
-        DateKind::Day => {
-            title.push(b' ')?;
-            title.extend_from_slice(weekday_name(moment.weekday()))?;
-        }
-    }
+    let name = match kind {
+        DateKind::Year => return Ok(title),
+        DateKind::Month => month_name(moment.month()),
+        DateKind::Day => weekday_name(moment.weekday()),
+    };
+    title.push(b' ')?;
+    title.extend_from_slice(name)?;
     Ok(title)
 }
 

@@ -11,7 +11,7 @@ use indexmap::IndexMap;
 use std::alloc::{AllocError, Global};
 
 /// What a crash leaves of each file, one of its images.
-#[derive(Clone, Copy, Debug)]
+#[derive(Clone, Copy)]
 pub enum Outcome {
     /// Every write and cut so far took place, the crashed one too.
     All,

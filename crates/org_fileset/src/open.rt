@@ -20,7 +20,7 @@ use std::alloc::{AllocError, Global};
 const MOST_NAMES: usize = 256;
 
 /// Why a set of files wasn't opened.
-#[derive(Debug, Drop)]
+#[derive(Drop)]
 pub enum OpenFault {
     /// More than 256 different names were given. The disk wasn't called.
     TooManyFiles,

@@ -57,7 +57,7 @@ impl<T: Drop> From<AllocFailed<T>> for ApartFault {
 }
 
 /// A file as the system tells it from others: its device, and its number there.
-#[derive(Clone, Copy, Debug)]
+#[derive(Clone, Copy)]
 pub struct Node {
     device: u64,
     number: u64,

@@ -60,8 +60,9 @@ fn name_of(alloc: Global, text: &str) -> Result<FileName, RecordFault>
 fn old_entry_of(alloc: Global, bytes: &[u8]) -> Result<(Entry, &[u8]), RecordFault>
     ensures { Gives (λ x. (x.0, x.1.now)) result (entry_at One bytes.now) }
 {
-    let (entry, rest) = old_entry_at(bytes).ok_or(RecordFault::Malformed)?;
-    let name = name_of(alloc, entry.name)?;
+    let Some((entry, rest)) = old_entry_at(bytes) else {
+        return Err(RecordFault::Malformed);
+    };
     let bytes = Bytes::new(Vec::from_slice(alloc, entry.patch.bytes)?);
     let mut patches = Vec::new(alloc);
     patches.push(Patch {
@@ -69,6 +70,7 @@ fn old_entry_of(alloc: Global, bytes: &[u8]) -> Result<(Entry, &[u8]), RecordFau
         bytes,
     })?;
     let patches = Patches::new(patches);
+    let name = name_of(alloc, entry.name)?;
     Ok((
         Entry {
             name,
@@ -84,10 +86,12 @@ fn old_entry_of(alloc: Global, bytes: &[u8]) -> Result<(Entry, &[u8]), RecordFau
 fn new_entry_of(alloc: Global, bytes: &[u8]) -> Result<(Entry, &[u8]), RecordFault>
     ensures { Gives (λ x. (x.0, x.1.now)) result (entry_at Two bytes.now) }
 {
-    let (head, rest) = head_at(bytes).ok_or(RecordFault::Malformed)?;
-    let name = name_of(alloc, head.name)?;
+    let Some((head, rest)) = head_at(bytes) else {
+        return Err(RecordFault::Malformed);
+    };
     let (patches, rest) = patches_of(alloc, head.length, head.count, rest)?;
     let patches = Patches::new(patches);
+    let name = name_of(alloc, head.name)?;
     Ok((
         Entry {
             name,

@@ -6,7 +6,7 @@ use std::alloc::{AllocError, AllocFailed};
 use thiserror::Error;
 
 /// Why bytes gave no record.
-#[derive(Clone, Copy, Debug, PartialEq, Eq, Error)]
+#[derive(Clone, Copy, Debug, Error)]
 pub enum RecordFault {
     /// The bytes don't begin with those of a well-formed record.
     #[error("malformed record")]
@@ -37,7 +37,7 @@ impl<T: Drop> From<AllocFailed<T>> for RecordFault {
 }
 
 /// Why nothing can be said of a journal on a disk.
-#[derive(Clone, Copy, Debug, PartialEq, Eq, Error)]
+#[derive(Clone, Copy, Debug, Error)]
 pub enum FindFault {
     /// The gate is open, but no well-formed record that fits its files stands behind it.
     #[error("bad journal")]

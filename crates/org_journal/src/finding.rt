@@ -26,7 +26,7 @@ use std::alloc::Global;
 pub const FRONT: u64 = 16;
 
 /// What stands in a journal.
-#[derive(Debug, Drop)]
+#[derive(Drop)]
 pub enum Found {
     /// The gate is closed.
     Closed,

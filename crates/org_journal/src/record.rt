@@ -6,7 +6,7 @@ use org_splice::Patch;
 use std::marker::Model;
 
 /// The patches of one file, which a clause sees as a list.
-#[derive(Debug, Drop)]
+#[derive(Drop)]
 pub struct Patches {
     patches: Vec<Patch>,
 }
@@ -38,7 +38,7 @@ impl Patches {
 
 /// What becomes of one file: its patches are applied to it in order, and it has `length` bytes
 /// then.
-#[derive(Debug, Drop)]
+#[derive(Drop)]
 pub struct Entry {
     /// The name of the file.
     pub name: FileName,
@@ -49,7 +49,7 @@ pub struct Entry {
 }
 
 /// The entries of all files of a commit. A clause sees it as their list.
-#[derive(Debug, Drop)]
+#[derive(Drop)]
 pub struct Record {
     entries: Vec<Entry>,
 }
@@ -80,7 +80,7 @@ impl Record {
 }
 
 /// The version of a journal's format.
-#[derive(Clone, Copy, Debug, PartialEq, Eq)]
+#[derive(Clone, Copy)]
 pub enum Version {
     /// An entry has one patch, and its file at most 16,777,216 bytes. It is read, and never written.
     One,

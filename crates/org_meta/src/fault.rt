@@ -25,7 +25,7 @@ pub enum PlanningFault {
 }
 
 /// Why a clock can't be closed.
-#[derive(Clone, Copy, Debug, PartialEq, Eq, Error)]
+#[derive(Clone, Copy, Debug, Error)]
 pub enum ClockFault {
     /// The moment is before the clock's start.
     #[error("the clock would run backwards")]

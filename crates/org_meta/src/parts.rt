@@ -2,7 +2,7 @@
 
 /// The parts of a section, each a terminated text that begins where the one before ends (Org
 /// Syntax, "Headings").
-#[derive(Clone, Copy, Debug)]
+#[derive(Clone, Copy)]
 pub struct Sections<'a> {
     /// The planning line, or nothing.
     pub planning: &'a [u8],

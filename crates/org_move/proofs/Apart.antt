@@ -1,5 +1,5 @@
 -- A heading that neither lies in an entry nor above it.
-use Rattle.std.proofs.Common.{◌≡◌, ℕ, Bool, true, false, Option, Some, None, Ok, Err, refl, ap, subst, ◌∙◌}
+use Rattle.std.proofs.Common.{◌≡◌, ℕ, Bool, true, false, Option, Some, None, Ok, Err, refl, subst, ◌∙◌}
 use Rattle.std.specs.Prelude.{IsTrue, ◌↔◌, Result, if◌then◌else◌}
 use Rattle.org_outline.specs.Tree.{Document}
 use Rattle.org_outline.specs.Numbers.{LiesIn}

@@ -3,9 +3,9 @@ use Rattle.std.proofs.Common.{◌≡◌, ℕ, zero, suc, ◌+◌, ◌<◌, ◌�
 use Rattle.std.specs.Borrow.{Bor}
 use Rattle.std.specs.List.{AllByRecursion}
 use Rattle.std.proofs.lemmas.List.{take_all, take_more}
-use Rattle.org_meta.specs.Sections.{NodeProperty, SectionParts}
+use Rattle.org_meta.specs.Sections.{NodeProperty, SectionParts, put}
 use Rattle.org_move.specs.declared.properties.Property.{Property}
-use Rattle.org_move.specs.Archive.{put_each}
+use Rattle.org_move.specs.Archive.{named, put_each}
 use Rattle.org_move.specs.Given.{IsGood, given, with_given}
 
 -- the properties that one of the code's is
@@ -33,11 +33,24 @@ good_at [] k d all lt = absurd (omega (arith, lt))
 good_at (p ∷ ps) zero d all lt = (first_good p.name.now p.value (given ps) all).0
 good_at (p ∷ ps) (suc k) d all lt = good_at ps k d (first_good p.name.now p.value (given ps) all).1 (omega (arith, lt))
 
+-- one that has a value
+pub good_value : (ps : List Property) (k : ℕ) (d : Property) (value : Bor (List ℕ)) → (get_or ps k d).value ≡ Some value → AllByRecursion IsGood (given ps) → k < length ps → IsGood (named (get_or ps k d).name.now value.now)
+good_value ps k d value is all lt = (rw is at (good_at ps k d all lt)).0
+
 pub each_more : (ps : List Property) (k : ℕ) (d : Property) (start old new : SectionParts) → old ≡ put_each (given (take k ps)) start → k < length ps
     → new ≡ put_each (alone (get_or ps k d)) old → new ≡ put_each (given (take (k + 1) ps)) start
 each_more ps k d start old new old_is lt new_is =
     let more : given (take (k + 1) ps) ≡ given (take k ps) ++ alone (get_or ps k d) = ap given (take_more ps k d lt) ∙ given-append (take k ps) (get_or ps k d ∷ []) in
     new_is ∙ ap (put_each (alone (get_or ps k d))) old_is ∙ sym (each-append (given (take k ps)) (alone (get_or ps k d)) start) ∙ ap (λ (qs : List NodeProperty). put_each qs start) (sym more)
+
+-- the same where it has a value, and where it has none
+pub value_more : (ps : List Property) (k : ℕ) (d : Property) (value : Bor (List ℕ)) (start old new : SectionParts) → old ≡ put_each (given (take k ps)) start → k < length ps → (get_or ps k d).value ≡ Some value
+    → new ≡ put (get_or ps k d).name.now value.now old → new ≡ put_each (given (take (k + 1) ps)) start
+value_more ps k d value start old new old_is lt is new_is = each_more ps k d start old new old_is lt (rw is new_is)
+
+pub none_more : (ps : List Property) (k : ℕ) (d : Property) (start old : SectionParts) → old ≡ put_each (given (take k ps)) start → k < length ps → (get_or ps k d).value ≡ None
+    → old ≡ put_each (given (take (k + 1) ps)) start
+none_more ps k d start old old_is lt is = each_more ps k d start old old old_is lt (rw is refl)
 
 pub each_all : (ps : List Property) (k : ℕ) (start old : SectionParts) → old ≡ put_each (given (take k ps)) start → length ps ≤ k → old ≡ put_each (given ps) start
 each_all ps k start old old_is le = old_is ∙ ap (λ qs. put_each (given qs) start) (take_all k ps le)

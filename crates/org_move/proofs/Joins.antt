@@ -1,11 +1,12 @@
 -- Texts joined, and tags each once.
-use Rattle.std.proofs.Common.{◌≡◌, ℕ, ◌+◌, ◌-◌, ◌<◌, ◌≤◌, true, false, Bool, eqb, ◌||◌, List, [], ◌∷◌, ◌++◌, length, take, get_or, map, append_assoc, refl, sym, ap, ◌∙◌, arith, inl, inr, length-append}
+use Rattle.std.proofs.Common.{◌≡◌, ℕ, ◌+◌, ◌-◌, ◌<◌, ◌≤◌, true, false, Bool, eqb, ◌||◌, List, [], ◌∷◌, ◌++◌, length, take, get_or, map, append_assoc, refl, sym, ap, ◌∙◌, arith, inl, inr, length-append, Some}
 use Rattle.std.specs.Borrow.{Bor}
 use Rattle.std.specs.List.{flat_map, join_with_byte, list_any, slice_split}
 use Rattle.std.specs.Str.{bytes_eq}
 use Rattle.std.proofs.lemmas.Bool.{cases_Bool}
 use Rattle.std.proofs.lemmas.List.{append-nil, map-append, take_all, take_at, take_more}
 use Rattle.org_move.specs.Inherited.{first_ones, is_colon, nonempty_only, tag_list, with_first}
+use Rattle.org_move.specs.Archive.{joined_if_any}
 
 abbrev pub read : Bor (List ℕ) → List ℕ
 read text = text.now
@@ -52,6 +53,10 @@ joined_all b texts k size made new made_is le size_is new_is =
     let all : firsts texts k ≡ map read texts = ap (map read) (take_all k texts le) in
     let is : made ≡ ended b (map read texts) = made_is ∙ ap (ended b) all in
     new_is ∙ ap (λ n. take (n - 1) made) (sym size_is) ∙ ap (λ (t : List ℕ). take (length t - 1) t) is ∙ without_last b (map read texts)
+
+pub some_joined : (b : ℕ) (texts : List (Bor (List ℕ))) (made : List ℕ) → eqb (length texts) 0 ≡ false → made ≡ join_with_byte b (map read texts) → Some made ≡ joined_if_any b (map read texts)
+some_joined b [] made some is = absurd cc
+some_joined b (text ∷ texts) made some is = ap (λ (m : List ℕ). Some m) is
 
 -- ---- each once
 

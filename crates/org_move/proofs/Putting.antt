@@ -1,12 +1,12 @@
 -- What is put last below a heading, or at the end.
-use Rattle.std.proofs.Common.{◌≡◌, ℕ, ◌+◌, ◌-◌, ◌<◌, Bool, List, [], ◌∷◌, ◌++◌, length, Option, None, refl, sym, ap, subst, ◌∙◌, arith, inl, inr, length-append}
+use Rattle.std.proofs.Common.{◌≡◌, ℕ, ◌+◌, ◌-◌, ◌<◌, List, [], ◌∷◌, ◌++◌, length, Option, None, refl, sym, ap, subst, ◌∙◌, arith, inl, inr, length-append}
 use Rattle.std.specs.Prelude.{◌==◌}
 use Rattle.std.specs.Option.{option_map}
 use Rattle.std.proofs.lemmas.Bool.{cases_Bool}
 use Rattle.std.proofs.lemmas.List.{append-nil}
 use Rattle.org_outline.specs.declared.moves.Place.TheVariants.{Last}
 use Rattle.org_outline.specs.Tree.{Document, IsValid, Node, node_at, node_count, print, print_node, tree}
-use Rattle.org_outline.specs.Moves.{InsertsAt, insert, shift_node, take}
+use Rattle.org_outline.specs.Moves.{InsertsAt, shift_node, take}
 use Rattle.org_outline.proofs.Changes.{take_local, take_valid}
 use Rattle.org_outline.specs.Numbers.{heading_over, parent_without, size_of}
 use Rattle.org_outline.specs.Outline.{IsSubtree}

@@ -5,7 +5,7 @@ use std::marker::Model;
 
 /// Where an archived subtree goes: a file, and the heading in it below which the subtree is put, which need not be
 /// there; or the file's top level (Org manual, "Moving a tree to an archive file").
-#[derive(Debug, Drop)]
+#[derive(Drop)]
 pub struct Location {
     pub(crate) file: FileName,
     pub(crate) level: usize,

@@ -4,7 +4,7 @@ use std::alloc::AllocError;
 use thiserror::Error;
 
 /// Why a subtree can't be moved or archived.
-#[derive(Clone, Copy, Debug, PartialEq, Eq, Error)]
+#[derive(Clone, Copy, Debug, Error)]
 pub enum MoveFault {
     /// A path is empty, or leads to no heading.
     #[error("not found")]

@@ -1,7 +1,7 @@
 //! What an entry has of the headings above it.
 ghost use Rattle.std.specs.Prelude.{◌≡◌, ◌<◌, [], ◌∷◌, IfOk, OnOk, map};
 ghost use Rattle.std.specs.Option.{option_map};
-ghost use Rattle.std.specs.List.{flat_map, join_with_byte};
+ghost use Rattle.std.specs.List.{flat_map};
 ghost use Rattle.org_outline.specs.Tree.{node_count, tree};
 ghost use Rattle.org_move.specs.Inherited.{first_ones, nearest, own_value, nonempty, nonempty_only, tag_list, with_first, tags_above, titles_above};
 
@@ -74,20 +74,6 @@ pub(crate) fn titles_and_tags<'a>(
     titles.reverse();
     tags.reverse();
     Ok(Above { titles, tags })
-}
-
-/// The texts with a byte between each two.
-pub(crate) fn joined(alloc: Global, texts: &[&[u8]], byte: u8) -> Result<Vec<u8>, AllocError>
-    ensures { IfOk result
-        (λ made. made.items ≡ join_with_byte byte (map (λ text. text.now) texts.now)) }
-{
-    let mut made = Vec::new(alloc);
-    for text in texts {
-        made.extend_from_slice(text)?;
-        made.push(byte)?;
-    }
-    made.pop();
-    Ok(made)
 }
 
 /// Puts the tag at the end, unless it is empty or is there.

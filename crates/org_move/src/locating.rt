@@ -1,8 +1,7 @@
 //! Finding the place to which a subtree is archived.
-ghost use Rattle.std.specs.Prelude.{◌≡◌, ◌<◌, ◌^◌, ◌+◌, true, false, IfOk, IfSome, MatchOption, take, drop};
+ghost use Rattle.std.specs.Prelude.{◌≡◌, ◌<◌, ◌^◌, ◌+◌, IfOk, IfSome, take, drop};
 ghost use Rattle.std.specs.List.{find};
 ghost use Rattle.std.specs.Option.{option_map};
-ghost use Rattle.std.specs.Str.{is_utf8};
 ghost use Rattle.org_splice.specs.Lines.{terminated, lines_of};
 ghost use Rattle.org_outline.specs.Parts.{AreParts, Parts};
 ghost use Rattle.org_outline.specs.Paths.{titles_of};
@@ -137,22 +136,12 @@ fn file_text(alloc: Global, name: &[u8], text: &[u8]) -> Result<Vec<u8>, AllocEr
     with_name(alloc, name, text)
 }
 
-#[tactic(auto, using(crate::proofs::Utf8::is_no_utf8, crate::proofs::Utf8::is_some_utf8))]
-fn utf8(bytes: &[u8]) -> Option<&str>
-    ensures { MatchOption result (is_utf8 bytes.now ≡ false)
-        (λ text. (is_utf8 bytes.now ≡ true) × (text.now ≡ bytes.now)) }
-{
-    match str::from_utf8(bytes) {
-        Ok(text) => Some(text),
-        Err(_) => None,
-    }
-}
-
 /// The name that the bytes are.
+#[tactic(auto, using(crate::proofs::Utf8::is_no_utf8))]
 fn file_name(alloc: Global, bytes: &[u8]) -> Result<FileName, MoveFault>
     ensures { GivesName bytes.now result }
 {
-    let Some(text) = utf8(bytes) else {
+    let Ok(text) = str::from_utf8(bytes) else {
         return Err(MoveFault::NoSuchFile);
     };
     match FileName::new(alloc, text) {
@@ -205,7 +194,11 @@ pub fn location(
     if name.is_archive() {
         return Err(MoveFault::AlreadyArchive);
     }
-    let (file, line) = halves(value_for(outline, node)).ok_or(MoveFault::BadLocation)?;
-    let (level, title) = heading(outline.states(), line).ok_or(MoveFault::BadLocation)?;
+    let Some((file, line)) = halves(value_for(outline, node)) else {
+        return Err(MoveFault::BadLocation);
+    };
+    let Some((level, title)) = heading(outline.states(), line) else {
+        return Err(MoveFault::BadLocation);
+    };
     place(alloc, name, file, level, title)
 }

@@ -1,5 +1,5 @@
 //! The properties of an archived entry.
-ghost use Rattle.std.specs.Prelude.{◌≡◌, ◌<◌, ◌++◌, ℕ, [], true, IfOk, OnOk, map};
+ghost use Rattle.std.specs.Prelude.{◌≡◌, ◌<◌, ◌++◌, ℕ, true, IfOk, map};
 ghost use Rattle.std.specs.List.{AllByRecursion};
 ghost use Rattle.std.specs.Option.{option_map};
 ghost use Rattle.org_disk.specs.Names.{IsDiskName};
@@ -11,9 +11,9 @@ ghost use Rattle.org_stamp.specs.Calendar.{CivilMinute};
 ghost use Rattle.org_meta.specs.Sections.{is_property_name, parts_of, property_line, put};
 ghost use Rattle.org_move.specs.Archive.{archive_properties, archived_section, category_of, joined_if_any, put_each, time_text, without_org};
 ghost use Rattle.org_move.specs.Inherited.{inherited_tags, titles_above};
-ghost use Rattle.org_move.specs.Given.{IsGood, given, with_given};
+ghost use Rattle.org_move.specs.Given.{IsGood, given};
 
-use crate::inherited::{first_tags, joined, nearest, nonempty, titles_and_tags};
+use crate::inherited::{first_tags, nearest, nonempty, titles_and_tags};
 use org_meta::put_property;
 use org_outline::{Node, Outline};
 use org_stamp::{Moment, Stamp};
@@ -69,21 +69,6 @@ struct Property<'a> {
     value: Option<&'a [u8]>,
 }
 
-/// Puts a property into a section, if it has a value.
-fn put_given(section: &mut Vec<u8>, property: Property<'_>) -> Result<(), AllocError>
-    requires terminated { terminated section.old.items ≡ section.old.items }
-    requires good { AllByRecursion IsGood (with_given property.name.now property.value []) }
-    ensures parts { OnOk result (parts_of section.new.items
-        ≡ put_each (with_given property.entry.name.now property.entry.value [])
-        (parts_of section.old.items)) }
-    ensures terminated { OnOk result (terminated section.new.items ≡ section.new.items) }
-{
-    if let Some(value) = property.value {
-        *section = with_property(*section.allocator(), section, property.name, value)?;
-    }
-    Ok(())
-}
-
 /// A section with properties put into it, in their order.
 fn with_properties(
     alloc: Global,
@@ -98,7 +83,9 @@ fn with_properties(
 {
     let mut new = Vec::from_slice(alloc, section)?;
     for property in properties {
-        put_given(&mut new, *property)?;
+        if let Some(value) = property.value {
+            new = with_property(alloc, &new, property.name, value)?;
+        }
     }
     Ok(new)
 }
@@ -111,7 +98,13 @@ fn joined_if_any(alloc: Global, texts: &[&[u8]], byte: u8) -> Result<Option<Vec<
     if texts.is_empty() {
         return Ok(None);
     }
-    Ok(Some(joined(alloc, texts, byte)?))
+    let mut made = Vec::new(alloc);
+    for text in texts {
+        made.extend_from_slice(text)?;
+        made.push(byte)?;
+    }
+    made.pop();
+    Ok(Some(made))
 }
 
 /// What an archived entry has of its ancestors: the path to it, and their tags.

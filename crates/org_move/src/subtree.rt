@@ -55,19 +55,17 @@ fn archived_subtree(
     with_section(alloc, outline, node, &section)
 }
 
-/// The line of the heading of a place.
-fn heading_line(alloc: Global, to: &Location) -> Result<Vec<u8>, AllocError>
-    ensures { IfOk result
-        (λ line. line.items ≡ heading_line to.now.level (32 ∷ to.now.title) ++ 10 ∷ []) }
+/// The line of the heading of a place, with others below it.
+fn with_heading(alloc: Global, to: &Location, below: &[u8]) -> Result<Vec<u8>, AllocError>
+    ensures { IfOk result (λ made. made.items
+        ≡ (heading_line to.now.level (32 ∷ to.now.title) ++ 10 ∷ []) ++ below.now) }
 {
-    let mut line = Vec::new(alloc);
-    for _ in 0..to.level() {
-        line.push(b'*')?;
-    }
-    line.push(b' ')?;
-    line.extend_from_slice(to.title())?;
-    line.push(b'\n')?;
-    Ok(line)
+    let mut made = vec![in alloc; b'*'; to.level()]?;
+    made.push(b' ')?;
+    made.extend_from_slice(to.title())?;
+    made.push(b'\n')?;
+    made.extend_from_slice(below)?;
+    Ok(made)
 }
 
 /// What goes in of a subtree: its lines, below a heading of a level, or below the heading of the place, which is made.
@@ -88,10 +86,8 @@ fn filled(
     if to.level() == 0 {
         return shift(alloc, subtree, 1);
     }
-    let mut made = heading_line(alloc, to)?;
     let below = shift(alloc, subtree, to.level() + 1)?;
-    made.extend_from_slice(&below)?;
-    Ok(made)
+    with_heading(alloc, to, &below)
 }
 
 /// What goes in of an archived entry of the file with this name: its subtree, whose root has the properties, below a

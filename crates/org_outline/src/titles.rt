@@ -8,7 +8,7 @@ use std::alloc::AllocError;
 use std::marker::Model;
 
 /// A path: a list of titles, which a clause sees as a list of lists of bytes.
-#[derive(Debug, Drop)]
+#[derive(Drop)]
 pub struct Titles {
     titles: Vec<Vec<u8>>,
 }

@@ -129,12 +129,12 @@ unfolding show_of file_of
 shows utf8 = rw utf8 refl
 
 captures : is_utf8 (codes "inbox.org") ≡ true → command_of (codes "capture\tinbox.org\ttop\tlast\t2026-07-01 10:00\t* TODO Call Ann\t")
-    ≡ Some (Capture (codes "inbox.org") Top Last (at_minute (civil_day 2026 7 1) 600) (codes "* TODO Call Ann") [])
+    ≡ Some (Capture (record { file = codes "inbox.org"; target = Top; place = Last; moment = at_minute (civil_day 2026 7 1) 600; template = codes "* TODO Call Ann"; initial = [] }))
 unfolding capture_of file_of target_of place_of moment_of
 captures utf8 = rw utf8 refl
 
 refiles : is_utf8 (codes "a.org") ≡ true → is_utf8 (codes "b.org") ≡ true → command_of (codes "refile\ta.org\tA/B\tb.org\tT\tfirst")
-    ≡ Some (Refile (codes "a.org") (codes "A" ∷ codes "B" ∷ []) (codes "b.org") (codes "T" ∷ []) First)
+    ≡ Some (Refile (record { file = codes "a.org"; path = codes "A" ∷ codes "B" ∷ []; to_file = codes "b.org"; to_path = codes "T" ∷ []; place = First }))
 unfolding refile_of file_of path_of place_of
 refiles a b = rw (a, b) refl
 

@@ -122,34 +122,36 @@ show_of file = option_map Show (file_of file)
 unfoldable pub capture_of : List ℕ → List ℕ → List ℕ → List ℕ → List ℕ → List ℕ → Option Command
 capture_of file target place moment template initial =
     option_and_then (λ f. option_and_then (λ t. option_and_then (λ p. option_and_then (λ m. option_and_then (λ e. option_map (λ i.
-    Capture f t p m e i)
+    Capture (record { file = f; target = t; place = p; moment = m; template = e; initial = i }))
     (unescaped initial)) (unescaped template)) (moment_of moment)) (place_of place)) (target_of target)) (file_of file)
 
 -- `refile` FILE PATH FILE PATH PLACE
 unfoldable pub refile_of : List ℕ → List ℕ → List ℕ → List ℕ → List ℕ → Option Command
 refile_of file path to_file to_path place =
     option_and_then (λ f. option_and_then (λ p. option_and_then (λ g. option_and_then (λ q. option_map (λ l.
-    Refile f p g q l)
+    Refile (record { file = f; path = p; to_file = g; to_path = q; place = l }))
     (place_of place)) (path_of to_path)) (file_of to_file)) (path_of path)) (file_of file)
 
 -- `todo` FILE PATH STATE MOMENT
 unfoldable pub todo_of : List ℕ → List ℕ → List ℕ → List ℕ → Option Command
 todo_of file path state moment =
     option_and_then (λ f. option_and_then (λ p. option_and_then (λ s. option_map (λ m.
-    Todo f p s m)
+    Todo (record { file = f; path = p; state = s; moment = m }))
     (moment_of moment)) (unescaped state)) (path_of path)) (file_of file)
 
 -- `archive` FILE PATH MOMENT
 unfoldable pub archive_of : List ℕ → List ℕ → List ℕ → Option Command
 archive_of file path moment =
     option_and_then (λ f. option_and_then (λ p. option_map (λ m.
-    Archive f p m)
+    Archive (record { file = f; path = p; moment = m }))
     (moment_of moment)) (path_of path)) (file_of file)
 
 -- `clock-in` FILE PATH MOMENT
 unfoldable pub clock_in_of : List ℕ → List ℕ → List ℕ → Option Command
 clock_in_of file path moment =
-    option_and_then (λ f. option_and_then (λ p. option_map (λ m. ClockIn f p m) (moment_of moment)) (path_of path)) (file_of file)
+    option_and_then (λ f. option_and_then (λ p. option_map (λ m.
+    ClockIn (record { file = f; path = p; moment = m }))
+    (moment_of moment)) (path_of path)) (file_of file)
 
 -- `clock-out` MOMENT
 unfoldable pub clock_out_of : List ℕ → Option Command

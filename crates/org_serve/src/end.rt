@@ -1,6 +1,6 @@
 //! How serving ends.
 /// How serving ended.
-#[derive(Clone, Copy, Debug, PartialEq, Eq)]
+#[derive(Clone, Copy, Debug)]
 pub enum ServeEnd {
     /// The input ended, and every accepted command is settled.
     End,

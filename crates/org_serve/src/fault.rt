@@ -5,7 +5,7 @@ ghost use Rattle.org_serve.specs.declared.fault.LineFault.TheVariants.{OutOfMemo
 use std::alloc::{AllocError, AllocFailed};
 
 /// Why a line is not run.
-#[derive(Clone, Copy, Debug, PartialEq, Eq)]
+#[derive(Clone, Copy)]
 pub enum LineFault {
     /// It is no command line, or longer than 1,048,576 bytes, or its newline is missing.
     BadLine,

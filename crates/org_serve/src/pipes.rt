@@ -6,7 +6,7 @@ ghost use Rattle.org_disk.specs.Disk.{IsCounted};
 ghost use Rattle.org_serve.specs.Parts.{AppendsSome};
 
 /// A read, a write or a flush failed. It is the only fault.
-#[derive(Clone, Copy, Debug, PartialEq, Eq)]
+#[derive(Clone, Copy)]
 pub struct PipeFault;
 
 /// Gives bytes, and counts its reads and its failures. A count that has reached 2^64 - 1 stays there.

@@ -9,7 +9,7 @@ use crate::field::{fields, file, has_few_fields, is, path, place, target, text};
 use crate::moment::moment;
 use org_disk::FileName;
 use org_outline::Titles;
-use org_store::Command;
+use org_store::{Archive, Capture, ClockIn, Command, Refile, Todo};
 use std::alloc::Global;
 
 /// The command that a line is, given without its newline. `BadLine` comes only where it is none; `OutOfMemory` where
@@ -99,14 +99,14 @@ fn capture(
     let target = target(alloc, to)?;
     let template = text(alloc, template)?;
     let initial = text(alloc, initial)?;
-    Ok(Command::Capture {
+    Ok(Command::Capture(Capture {
         file,
         target,
         place,
         moment,
         template,
         initial,
-    })
+    }))
 }
 
 #[tactic(auto, unfolding(crate::specs::Grammar::refile_of))]
@@ -123,13 +123,13 @@ fn refile(
     let place = place(at).ok_or(LineFault::BadLine)?;
     let (file, path) = node(alloc, name, titles)?;
     let (to_file, to_path) = node(alloc, to_name, to_titles)?;
-    Ok(Command::Refile {
+    Ok(Command::Refile(Refile {
         file,
         path,
         to_file,
         to_path,
         place,
-    })
+    }))
 }
 
 #[tactic(auto, unfolding(crate::specs::Grammar::todo_of))]
@@ -145,12 +145,12 @@ fn todo(
     let moment = moment(when).ok_or(LineFault::BadLine)?;
     let (file, path) = node(alloc, name, titles)?;
     let state = text(alloc, state)?;
-    Ok(Command::Todo {
+    Ok(Command::Todo(Todo {
         file,
         path,
         state,
         moment,
-    })
+    }))
 }
 
 #[tactic(auto, unfolding(crate::specs::Grammar::archive_of))]
@@ -159,7 +159,7 @@ fn archive(alloc: Global, name: &[u8], titles: &[u8], when: &[u8]) -> Result<Com
 {
     let moment = moment(when).ok_or(LineFault::BadLine)?;
     let (file, path) = node(alloc, name, titles)?;
-    Ok(Command::Archive { file, path, moment })
+    Ok(Command::Archive(Archive { file, path, moment }))
 }
 
 #[tactic(auto, unfolding(crate::specs::Grammar::clock_in_of))]
@@ -168,7 +168,7 @@ fn clock_in(alloc: Global, name: &[u8], titles: &[u8], when: &[u8]) -> Result<Co
 {
     let moment = moment(when).ok_or(LineFault::BadLine)?;
     let (file, path) = node(alloc, name, titles)?;
-    Ok(Command::ClockIn { file, path, moment })
+    Ok(Command::ClockIn(ClockIn { file, path, moment }))
 }
 
 #[tactic(auto, unfolding(crate::specs::Grammar::clock_out_of))]

@@ -29,12 +29,12 @@ pub fn write_answer<W: Sink>(
     ensures err { OnErr result (IsCounted (W.failures writer.old) (W.failures writer.new)) }
 {
     match answer {
-        Ok(Reply::Done(n)) => write_done(writer, *n, before, safe)?,
-        Ok(Reply::Safe(n)) => write_safe(writer, *n)?,
-        Ok(Reply::Text(bytes)) => write_text(writer, bytes.as_slice())?,
-        Ok(Reply::Time(minutes)) => write_time(writer, *minutes)?,
-        Err(fault) => write_fault(writer, *fault)?,
-    }
+        Ok(Reply::Done(n)) => write_done(writer, *n, before, safe),
+        Ok(Reply::Safe(n)) => write_safe(writer, *n),
+        Ok(Reply::Text(bytes)) => write_text(writer, bytes.as_slice()),
+        Ok(Reply::Time(minutes)) => write_time(writer, *minutes),
+        Err(fault) => write_fault(writer, *fault),
+    }?;
     writer.flush()
 }
 
@@ -68,9 +68,9 @@ pub fn write_settled<W: Sink>(
     ensures err { OnErr result (IsCounted (W.failures writer.old) (W.failures writer.new)) }
 {
     match answer {
-        Ok(()) => write_safe(writer, safe)?,
-        Err(fault) => write_fault(writer, fault)?,
-    }
+        Ok(()) => write_safe(writer, safe),
+        Err(fault) => write_fault(writer, fault),
+    }?;
     writer.flush()
 }
 

@@ -136,7 +136,9 @@ fn answer<D: Disk, W: Sink>(
     pending.add(last);
     let read = read_line(alloc, pending);
     pending.clear();
-    answer_read(store, &read, writer)
+    let answered = answer_read(store, &read, writer);
+    drop(read);
+    answered
 }
 
 // What a line that was kept is read as.

@@ -5,7 +5,7 @@ ghost use Rattle.org_splice.specs.Edits.{CanApply, applied_each};
 use crate::bytes::Bytes;
 
 /// `removed` bytes from the byte position `at` on give way to `bytes`.
-#[derive(Debug, Drop)]
+#[derive(Drop)]
 pub struct Edit {
     pub at: usize,
     pub removed: usize,

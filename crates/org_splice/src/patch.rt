@@ -10,7 +10,7 @@ use crate::bytes::Bytes;
 use std::alloc::{AllocError, Global};
 
 /// Bytes of a text, and the byte position from which on they stand there.
-#[derive(Debug, PartialEq, Eq, Drop)]
+#[derive(Drop)]
 pub struct Patch {
     pub from: u64,
     pub bytes: Bytes,

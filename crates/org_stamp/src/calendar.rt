@@ -8,7 +8,7 @@ use jiff_core::civil::{self, Date};
 use std::marker::Model;
 
 /// A day of the calendar, in a year from 0001 to 9999.
-#[derive(Clone, Copy, Debug)]
+#[derive(Clone, Copy)]
 pub struct Day {
     year: u16,
     month: u8,

@@ -1,7 +1,7 @@
 // Why a timestamp can't be repeated.
 
 /// Why a timestamp can't be repeated.
-#[derive(Clone, Copy, Debug, PartialEq, Eq, thiserror::Error)]
+#[derive(Clone, Copy, Debug, thiserror::Error)]
 pub enum RepeatFault {
     /// A repeater of hours on a timestamp without a time, or with a range.
     #[error("a repeater of hours needs one time")]

@@ -10,7 +10,7 @@ use std::marker::Model;
 /// A minute of the civil calendar, in no time zone, from 0001-01-01 0:00 to 9999-12-31 23:59.
 ///
 /// A clause sees a `CivilMinute`: its day and the minute of the day.
-#[derive(Clone, Copy, Debug)]
+#[derive(Clone, Copy)]
 pub struct Moment {
     day: Day,
     minute: u16,

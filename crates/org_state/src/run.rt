@@ -3,7 +3,7 @@ use org_outline::Node;
 use org_splice::Span;
 
 /// A clock that runs in a text.
-#[derive(Clone, Copy, Debug)]
+#[derive(Clone, Copy)]
 pub struct Running {
     /// The heading in whose section its line stands.
     pub heading: Node,

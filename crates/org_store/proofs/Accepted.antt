@@ -178,11 +178,11 @@ time_none s path None touched files accepts = absurd (cc)
 time_none s path (Some text) touched files accepts = minutes_none (clocked_at s.states path (tree text)) touched files accepts
 
 pub command_changes : (s : Session) (command : Command) → IsChanging s (outcome s command)
-command_changes s (Capture file target place moment template initial) = capture_changes s file target place moment template initial (text_at s.names s.files file) refl
-command_changes s (Refile file path to_file to_path place) = refile_changes s file path to_file to_path place (text_at s.names s.files file) (text_at s.names s.files to_file) refl refl
-command_changes s (Todo file path state moment) = todo_changes s file path state moment (text_at s.names s.files file) refl
-command_changes s (Archive file path moment) = archive_changes s file path moment (text_at s.names s.files file) refl
-command_changes s (ClockIn file path moment) = clock_in_changes s file path moment (text_at s.names s.files file) refl
+command_changes s (Capture c) = capture_changes s c.file c.target c.place c.moment c.template c.initial (text_at s.names s.files c.file) refl
+command_changes s (Refile c) = refile_changes s c.file c.path c.to_file c.to_path c.place (text_at s.names s.files c.file) (text_at s.names s.files c.to_file) refl refl
+command_changes s (Todo c) = todo_changes s c.file c.path c.state c.moment (text_at s.names s.files c.file) refl
+command_changes s (Archive c) = archive_changes s c.file c.path c.moment (text_at s.names s.files c.file) refl
+command_changes s (ClockIn c) = clock_in_changes s c.file c.path c.moment (text_at s.names s.files c.file) refl
 command_changes s (ClockOut moment) = clock_out_changes s moment (running_over s.names s.files) refl
 command_changes s (Time file path) = inr (time_none s path (text_at s.names s.files file))
 command_changes s (Show file) = inr (shows_none (text_at s.names s.files file))

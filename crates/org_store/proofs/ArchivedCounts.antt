@@ -18,6 +18,7 @@ use Rattle.org_move.specs.Refile.{Moved}
 use Rattle.org_move.proofs.Archives.{across_keeps, across_stays_valid, within_keeps, within_stays_valid}
 use Rattle.org_move.proofs.Moving.{found_of}
 use Rattle.org_move.proofs.Values.{name_line, place_line}
+use Rattle.org_store.specs.declared.command.Archive.{Archive as Archiving}
 use Rattle.org_store.specs.declared.command.Command.TheVariants.{Archive}
 use Rattle.org_store.specs.InOrder.{text_at, with_text}
 use Rattle.org_store.specs.OnePlace.{ArchivesOne}
@@ -113,5 +114,6 @@ module _ (s : Session) (apart : IsDistinct bytes_eq s.names) (each : length s.fi
   in_archives None files at accepts = absurd (cc)
   in_archives (Some text) files at accepts = at_archives text (location s.states file path text) files at refl accepts
 
-  pub archive_keeps : {touched : List (List ℕ)} (files : List (List ℕ)) → outcome s (Archive file path now) ≡ Accepts touched files → ArchivesOne s file path now files
-  archive_keeps files accepts = in_archives (text_at s.names s.files file) files refl accepts
+pub archive_keeps : (s : Session) → IsDistinct bytes_eq s.names → length s.files ≡ length s.names → (it : Archiving) → IsDiskName it.file → {touched : List (List ℕ)} (files : List (List ℕ)) → outcome s (Archive it) ≡ Accepts touched files
+    → ArchivesOne s it.file it.path it.moment files
+archive_keeps s apart each it named files accepts = in_archives s apart each it.file named it.path it.moment (text_at s.names s.files it.file) files refl accepts

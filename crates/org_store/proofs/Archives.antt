@@ -25,7 +25,7 @@ use Rattle.org_move.specs.Location.{Destination, location}
 use Rattle.org_move.specs.Refile.{Moved}
 use Rattle.org_store.specs.declared.command.Refusal.TheVariants.{NoSuchFile}
 use Rattle.org_store.specs.declared.tally.Tally.{Tally}
-use Rattle.org_store.specs.Files.{AreReady, IsPlanFor, IsReady, OpenFiles, new_texts}
+use Rattle.org_store.specs.Files.{AreReady, IsPlanFor, OpenFiles, new_texts}
 use Rattle.org_store.specs.InOrder.{is_name, text_at}
 use Rattle.org_store.specs.Keeping.{fault_of_move}
 use Rattle.org_store.specs.Outcome.{Outcome, Refuses, archive, archive_at, archive_to, refusal_of_move, with_moved}
@@ -44,9 +44,6 @@ held_bytes held file = bytes_or [] (text_of held.now file)
 the_text : (o : Option EditedText) → IsSome o → (text : EditedText) × (o ≡ Some text) × (bytes_or [] o ≡ text.bytes)
 the_text None some = absurd (false≢true some)
 the_text (Some text) some = (text, refl, refl)
-
-pub is_ready : (ready : List (List ℕ)) (held : Holding) (file : List ℕ) → AreReady ready held → is_name ready file ≡ true → IsReady file held
-is_ready ready held file are there = record { held = now_held ready held file are there; ready = are.ready file there }
 
 -- what is held is the store's text of the file, terminated
 pub store_text : {D : Type 0} (texts : D → Image) (states : Keywords) (files : OpenFiles D) (tally : Tally) (s : Session) (ready : List (List ℕ)) (file : List ℕ) → session_over texts states files tally ≡ s → AreReady ready files.held

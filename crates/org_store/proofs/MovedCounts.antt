@@ -16,6 +16,7 @@ use Rattle.org_outline.specs.Tree.{Node, node_at, tree}
 use Rattle.org_move.specs.Archive.{archived_section}
 use Rattle.org_move.specs.Counts.{count_over, made_count, one_of}
 use Rattle.org_move.specs.Location.{Destination}
+use Rattle.org_store.specs.declared.command.Archive.{Archive as Archiving}
 use Rattle.org_store.specs.declared.command.Command.{Command}
 use Rattle.org_store.specs.declared.command.Command.TheVariants.{Archive}
 use Rattle.org_store.specs.Calls.{Call, CallsPast}
@@ -61,7 +62,8 @@ accepted_changes : (s : Session) (command : Command) (files : List (List ℕ)) �
 accepted_changes s command files apart small (inl is) accepts =
     record { roots = []; made = []; few_roots = omega arith; few_made = omega arith; counts = λ rest section. omega (arith, accepted_keeps s command files apart small is accepts rest section) }
 accepted_changes s command files apart small (inr is) accepts =
-    archived_changes s is.0 is.1 is.2 files (archive_keeps s apart small.one_each is.0 is.3 is.1 is.2 files (subst (λ (c : Command). outcome s c ≡ Accepts accepts.0 files) is.4 accepts.1))
+    let it = is.0 in
+    archived_changes s it.file it.path it.moment files (archive_keeps s apart small.one_each it is.1 files (subst (λ (c : Command). outcome s c ≡ Accepts accepts.0 files) is.2 accepts.1))
 
 -- ---- commands, one after another
 
@@ -145,15 +147,15 @@ module _ {D : Type 0} (files : D → List ℕ → FileState) (moment : D → ℕ
       files moment left_since first last calls only run (record { same_names = refl; lists = lists; has = (small, moved_first base first.texts lists.size) })).1
 
 -- what an archiving adds to the list
-pub archive_moves : {D : Type 0} (first last : Past D) → Lists first.store.session first.texts → IsDistinct bytes_eq first.store.session.names → (file : List ℕ) (path : List (List ℕ)) (now : CivilMinute)
-    → IsDiskName file → length first.store.session.files ≡ length first.store.session.names → first.store.session.broken ≡ false
-    → Adds (outcome first.store.session (Archive file path now)) first.store.session.accepted last.store.session.accepted first.texts last.texts
-    → (k : ℕ) (texts : List (List ℕ)) → first.store.session.accepted ≤ k → slice_get last.texts k ≡ Some texts → (texts ≡ first.store.session.files) ⊎ ArchivesOne first.store.session file path now texts
-archive_moves first last lists apart file path now named each sound added k texts low at = ⊎_elim
+pub archive_moves : {D : Type 0} (first last : Past D) → Lists first.store.session first.texts → IsDistinct bytes_eq first.store.session.names → (it : Archiving)
+    → IsDiskName it.file → length first.store.session.files ≡ length first.store.session.names → first.store.session.broken ≡ false
+    → Adds (outcome first.store.session (Archive it)) first.store.session.accepted last.store.session.accepted first.texts last.texts
+    → (k : ℕ) (texts : List (List ℕ)) → first.store.session.accepted ≤ k → slice_get last.texts k ≡ Some texts → (texts ≡ first.store.session.files) ⊎ ArchivesOne first.store.session it.file it.path it.moment texts
+archive_moves first last lists apart it named each sound added k texts low at = ⊎_elim
     (λ none. inl (as_first (subst (λ (l : Texts). slice_get l k ≡ Some texts) none.1 at)))
     (λ one. ⊎_elim
     (λ old. inl (as_first old))
-    (λ end. inr (subst (ArchivesOne first.store.session file path now) (sym end.1) (archive_keeps first.store.session apart each file named path now one.1.0 one.1.1.1)))
+    (λ end. inr (subst (ArchivesOne first.store.session it.file it.path it.moment) (sym end.1) (archive_keeps first.store.session apart each it named one.1.0 one.1.1.1)))
     (before_end first.texts one.1.0 k texts (subst (λ (l : Texts). slice_get l k ≡ Some texts) one.1.2 at)))
     added
   where

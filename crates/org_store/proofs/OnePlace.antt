@@ -79,8 +79,9 @@ module _ (given : List (List ℕ)) (s : Session) (of : IsSessionOf given s) wher
 pub accepted_keeps : (s : Session) (command : Command) (files : List (List ℕ)) → IsDistinct bytes_eq s.names → AreSmall s.names s.files → IsRefile command → IsAccepted (outcome s command) files
     → HaveSameNodes files s.files
 accepted_keeps s command files apart small is accepts rest section =
-    let told = subst (λ (c : Command). outcome s c ≡ Accepts accepts.0 files) is.5 accepts.1 in
-    refile_keeps s apart small.one_each rest section is.0 is.1 is.2 is.3 is.4 (text_at s.names s.files is.0) (text_at s.names s.files is.2) files refl refl told
+    let it = is.0 in
+    let told = subst (λ (c : Command). outcome s c ≡ Accepts accepts.0 files) is.1 accepts.1 in
+    refile_keeps s apart small.one_each rest section it.file it.path it.to_file it.to_path it.place (text_at s.names s.files it.file) (text_at s.names s.files it.to_file) files refl refl told
 
 then_keeps : (old mid new : Session) → HaveSameNodes new.files mid.files → HaveSameNodes mid.files old.files → HaveSameNodes new.files old.files
 then_keeps old mid new later first rest section = later rest section ∙ first rest section

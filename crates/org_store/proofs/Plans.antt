@@ -20,7 +20,7 @@ use Rattle.org_texts.specs.Texts.{Holding, TextSet, bytes_or, held_over, text_of
 use Rattle.org_texts.proofs.Heads.{terminated_text-bytes}
 use Rattle.org_texts.proofs.Looking.{change_other, change_this}
 use Rattle.org_texts.proofs.Standing.{CanEdit-second}
-use Rattle.org_store.specs.Files.{AreReady, IsPlanFor, files_of, new_texts, second_file, texts_in}
+use Rattle.org_store.specs.Files.{AreReady, IsPlanFor, IsReady, files_of, new_texts, second_file, texts_in}
 use Rattle.org_store.specs.InOrder.{is_name, text_at, texts_of}
 use Rattle.org_store.proofs.InOrder.{some_at}
 
@@ -83,6 +83,9 @@ now_held names held file ready there = subst (λ (o : Option EditedText). IsSome
     mapped : (o : Option EditedText) → IsSome o → IsSome (option_map terminated_text o)
     mapped None some = absurd (false≢true some)
     mapped (Some text) some = refl
+
+pub is_ready : (names : List (List ℕ)) (held : Holding) (file : List ℕ) → AreReady names held → is_name names file ≡ true → IsReady file held
+is_ready names held file are there = record { held = now_held names held file are there; ready = are.ready file there }
 
 -- a text that is held is found
 pub not_missing : {X : Type 0} (text : X → EditedText) (found : Option X) (o : Option EditedText) → option_map text found ≡ o → IsSome o → ((x : X) → found ≡ Some x → ⊥) → ⊥

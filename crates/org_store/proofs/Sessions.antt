@@ -1,6 +1,6 @@
 -- What the calls of a store's files do to its session.
-use Rattle.std.proofs.Common.{◌≡◌, inl, inr, ⊎_elim, ℕ, false, true, List, Result, Err, refl, sym, ◌∙◌, ap, subst}
-use Rattle.std.specs.Prelude.{◌↔◌, IsErrOf, IsTrue}
+use Rattle.std.proofs.Common.{◌≡◌, inl, inr, ⊎_elim, ℕ, false, true, List, Option, Some, Result, Ok, Err, refl, sym, ◌∙◌, ap, subst}
+use Rattle.std.specs.Prelude.{◌↔◌, IsErrOf, IsOkAnd, IsTrue, MatchResult}
 use Rattle.org_disk.specs.Disk.{FileState, AreImages, LeavesOnly}
 use Rattle.org_outline.specs.States.{Keywords}
 use Rattle.org_journal.specs.Recovered.{Image, IsRecoverable, contents}
@@ -9,7 +9,8 @@ use Rattle.org_fileset.specs.declared.fault.SetFault.TheVariants as set
 use Rattle.org_fileset.specs.Replay.{IsAtRest}
 use Rattle.org_fileset.specs.Writes.{LeavesAlone, IsOther}
 use Rattle.org_fileset.proofs.Writes.{alone_fewer}
-use Rattle.org_texts.specs.Texts.{held_over}
+use Rattle.org_texts.specs.declared.plan.Plan.{Plan}
+use Rattle.org_texts.specs.Texts.{Holding, held_over}
 use Rattle.org_store.specs.declared.command.Reply.{Reply}
 use Rattle.org_store.specs.declared.command.RunFault.{RunFault}
 use Rattle.org_store.specs.declared.command.RunFault.TheVariants.{Refused, OutOfMemory, Device, Broken}
@@ -20,7 +21,7 @@ use Rattle.org_store.specs.Session.{Session, Kept, kept_over, session_over}
 use Rattle.org_store.specs.Outcome.{Outcome, AsksToSettle}
 use Rattle.org_store.specs.Step.{Does, Settles, failed_in_read}
 use Rattle.org_store.specs.Left.{IsLeft, IsLeftAlone}
-use Rattle.org_store.specs.Keeping.{Reads, fault_of_set}
+use Rattle.org_store.specs.Keeping.{Plans, PlansOrStays, Reads, fault_of_set}
 use Rattle.org_store.specs.Runs.{LeavesDisk}
 use Rattle.org_store.proofs.Committing.{leaves_as}
 use Rattle.org_store.proofs.InOrder.{texts_same}
@@ -130,3 +131,10 @@ reads_fault {A} {B} old new result given fault was is reads =
     go Device r = r
     go Broken r = r
     go (Refused why) r = r
+
+-- a planner that always has a plan is one of those that may have none
+pub some_planned : (s : Session) (told : Outcome) (first : Result Plan RunFault) (held : Holding) (new : Session) (answer : Result (Option Plan) RunFault)
+    → MatchResult first (λ plan. IsOkAnd answer (λ given. given ≡ Some plan)) (λ fault. answer ≡ Err fault) → Plans s told first held new → PlansOrStays s told answer held new
+some_planned s told (Ok plan) held new (Ok given) is plans = subst (λ (o : Option Plan). PlansOrStays s told (Ok o) held new) (sym is) plans
+some_planned s told (Ok plan) held new (Err fault) is plans = absurd is
+some_planned s told (Err fault) held new answer is plans = subst (λ (r : Result (Option Plan) RunFault). PlansOrStays s told r held new) (sym is) plans

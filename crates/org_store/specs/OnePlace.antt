@@ -3,7 +3,6 @@ use Rattle.std.specs.Prelude.{◌≡◌, ◌⊎◌, ℕ, ◌+◌, ◌≤◌, Lis
 use Rattle.std.specs.List.{All, sum_by}
 use Rattle.org_disk.specs.Names.{IsDiskName, IsOrgFile}
 use Rattle.org_stamp.specs.Calendar.{CivilMinute}
-use Rattle.org_outline.specs.declared.moves.Place.{Place}
 use Rattle.org_outline.specs.Paths.{find_path}
 use Rattle.org_outline.specs.Tree.{node_at, tree}
 use Rattle.org_journal.specs.Recovered.{Image, recovered}
@@ -11,6 +10,8 @@ use Rattle.org_fileset.specs.Names.{with_archives, AreSorted}
 use Rattle.org_move.specs.Archive.{archived_section, target_heading}
 use Rattle.org_move.specs.Counts.{count_over, made_count, one_of}
 use Rattle.org_move.specs.Location.{Destination, location}
+use Rattle.org_store.specs.declared.command.Archive.{Archive as Archiving}
+use Rattle.org_store.specs.declared.command.Refile.{Refile as Refiling}
 use Rattle.org_store.specs.declared.command.Command.{Command}
 use Rattle.org_store.specs.declared.command.Command.TheVariants.{Archive, Refile}
 use Rattle.org_store.specs.declared.command.Reply.{Reply}
@@ -45,8 +46,7 @@ pub record IsSessionOf (given : List (List ℕ)) (s : Session) : Type 0 where
   pub files : AreSmall s.names s.files
 
 abbrev pub IsRefile : Command → Type 0
-IsRefile command =
-    (file : List ℕ) × (path : List (List ℕ)) × (to_file : List ℕ) × (to : List (List ℕ)) × (place : Place) × (command ≡ Refile file path to_file to place)
+IsRefile command = (it : Refiling) × (command ≡ Refile it)
 
 -- A command that got this answer is accepted, or, where the disk failed, may be.
 abbrev pub MayBeAccepted : Result Reply RunFault → Type 0
@@ -93,7 +93,7 @@ pub record ArchivesOne (s : Session) (file : List ℕ) (path : List (List ℕ)) 
 
 -- an archiving from a file with a name that a store's files have
 abbrev pub IsArchiving : Command → Type 0
-IsArchiving command = (file : List ℕ) × (path : List (List ℕ)) × (now : CivilMinute) × IsDiskName file × (command ≡ Archive file path now)
+IsArchiving command = (it : Archiving) × IsDiskName it.file × (command ≡ Archive it)
 
 -- A call that changes files as a refile or an archiving alone, where it may be accepted.
 abbrev pub MayMove : Call → Type 0

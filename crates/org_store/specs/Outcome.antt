@@ -205,13 +205,12 @@ show None = Refuses NoSuchFile
 show (Some text) = Shows text
 
 abbrev pub outcome : Session → Command → Outcome
-outcome s (Capture file target place moment template initial) =
-    capture s file target place moment template initial (text_at s.names s.files file)
-outcome s (Refile file path to_file to_path place) =
-    refile s file path to_file to_path place (text_at s.names s.files file) (text_at s.names s.files to_file)
-outcome s (Todo file path state moment) = todo s file path state moment (text_at s.names s.files file)
-outcome s (Archive file path moment) = archive s file path moment (text_at s.names s.files file)
-outcome s (ClockIn file path moment) = clock_in s file path moment (text_at s.names s.files file)
+outcome s (Capture c) = capture s c.file c.target c.place c.moment c.template c.initial (text_at s.names s.files c.file)
+outcome s (Refile c) =
+    refile s c.file c.path c.to_file c.to_path c.place (text_at s.names s.files c.file) (text_at s.names s.files c.to_file)
+outcome s (Todo c) = todo s c.file c.path c.state c.moment (text_at s.names s.files c.file)
+outcome s (Archive c) = archive s c.file c.path c.moment (text_at s.names s.files c.file)
+outcome s (ClockIn c) = clock_in s c.file c.path c.moment (text_at s.names s.files c.file)
 outcome s (ClockOut moment) = clock_out s moment (running_over s.names s.files)
 outcome s (Time file path) = time s path (text_at s.names s.files file)
 outcome s (Show file) = show (text_at s.names s.files file)
@@ -219,11 +218,11 @@ outcome s Settle = AsksToSettle
 
 -- a command that changes files
 abbrev pub IsChange : Command → Type 0
-IsChange (Capture file target place moment template initial) = Unit {0}
-IsChange (Refile file path to_file to_path place) = Unit {0}
-IsChange (Todo file path state moment) = Unit {0}
-IsChange (Archive file path moment) = Unit {0}
-IsChange (ClockIn file path moment) = Unit {0}
+IsChange (Capture c) = Unit {0}
+IsChange (Refile c) = Unit {0}
+IsChange (Todo c) = Unit {0}
+IsChange (Archive c) = Unit {0}
+IsChange (ClockIn c) = Unit {0}
 IsChange (ClockOut moment) = Unit {0}
 IsChange (Time file path) = ⊥
 IsChange (Show file) = ⊥

@@ -179,42 +179,11 @@ fn plan<D: Disk>(
         files.old files.new result }
 {
     match command {
-        Command::Capture {
-            file,
-            target,
-            place,
-            moment,
-            template,
-            initial,
-        } => {
-            let plan = plan_capture(
-                files, states, file, target, *place, *moment, template, initial,
-            )?;
-            Ok(Some(plan))
-        }
-        Command::Refile {
-            file,
-            path,
-            to_file,
-            to_path,
-            place,
-        } => {
-            let plan = plan_refile(files, states, file, path, to_file, to_path, *place)?;
-            Ok(Some(plan))
-        }
-        Command::Todo {
-            file,
-            path,
-            state,
-            moment,
-        } => plan_todo(files, states, file, path, state, *moment),
-        Command::Archive { file, path, moment } => {
-            let plan = plan_archive(files, states, file, path, *moment)?;
-            Ok(Some(plan))
-        }
-        Command::ClockIn { file, path, moment } => {
-            plan_clock_in(files, states, file, path, *moment)
-        }
+        Command::Capture(command) => plan_capture(files, states, command).map(Some),
+        Command::Refile(command) => plan_refile(files, states, command).map(Some),
+        Command::Todo(command) => plan_todo(files, states, command),
+        Command::Archive(command) => plan_archive(files, states, command).map(Some),
+        Command::ClockIn(command) => plan_clock_in(files, states, command),
         Command::ClockOut { moment } => plan_clock_out(files, states, *moment),
         Command::Time { .. } | Command::Show { .. } | Command::Settle => unreachable!(),
     }

@@ -13,73 +13,91 @@ use org_stamp::Moment;
 use org_state::StateFault;
 use std::alloc::AllocError;
 
+/// A new entry for a file: the expanded template (Org manual, "Capture templates").
+#[derive(Drop)]
+pub struct Capture {
+    /// The file that the entry goes into.
+    pub file: FileName,
+    /// What the entry goes below.
+    pub target: Target,
+    /// Where it goes among the headings there.
+    pub place: Place,
+    /// The moment of the capture.
+    pub moment: Moment,
+    /// The template as it was given, not expanded yet.
+    pub template: Bytes,
+    /// The text that was selected when the capture began.
+    pub initial: Bytes,
+}
+
+/// A subtree that becomes a child of another heading, of its file or of another one (Org manual, "Refile and Copy").
+#[derive(Drop)]
+pub struct Refile {
+    /// The file that the subtree leaves.
+    pub file: FileName,
+    /// The path of its heading there.
+    pub path: Titles,
+    /// The file that it goes into.
+    pub to_file: FileName,
+    /// The path of the heading there that it goes below.
+    pub to_path: Titles,
+    /// Where it goes among the children of that heading.
+    pub place: Place,
+}
+
+/// Another TODO state of a heading (Org manual, "Basic TODO functionality", "Closing items", "Repeated tasks").
+#[derive(Drop)]
+pub struct Todo {
+    /// The file of the heading.
+    pub file: FileName,
+    /// Its path there.
+    pub path: Titles,
+    /// The state, one of the store's, or no byte for none.
+    pub state: Bytes,
+    /// The moment of the change.
+    pub moment: Moment,
+}
+
+/// A subtree that moves to its archive (Org manual, "Moving a tree to an archive file").
+#[derive(Drop)]
+pub struct Archive {
+    /// The file that the subtree leaves.
+    pub file: FileName,
+    /// The path of its heading there.
+    pub path: Titles,
+    /// The moment of the archiving.
+    pub moment: Moment,
+}
+
+/// A clock that starts at a heading (Org manual, "Clocking commands").
+#[derive(Drop)]
+pub struct ClockIn {
+    /// The file of the heading.
+    pub file: FileName,
+    /// Its path there.
+    pub path: Titles,
+    /// The moment from which the clock runs.
+    pub moment: Moment,
+}
+
 /// What a store is asked to do.
 #[derive(Drop)]
 pub enum Command {
-    /// Puts a new entry into a file: the expanded template (Org manual, "Capture templates").
-    Capture {
-        /// The file that the entry goes into.
-        file: FileName,
-        /// What the entry goes below.
-        target: Target,
-        /// Where it goes among the headings there.
-        place: Place,
-        /// The moment of the capture.
-        moment: Moment,
-        /// The template as it was given, not expanded yet.
-        template: Bytes,
-        /// The text that was selected when the capture began.
-        initial: Bytes,
-    },
-    /// Makes a subtree a child of another heading, of its file or of another one (Org manual, "Refile and Copy"). The
-    /// two paths are looked up before anything moves, and the place among the children is that behind the move. A
-    /// refile changes its files, also where it leaves their bytes.
-    Refile {
-        /// The file that the subtree leaves.
-        file: FileName,
-        /// The path of its heading there.
-        path: Titles,
-        /// The file that it goes into.
-        to_file: FileName,
-        /// The path of the heading there that it goes below.
-        to_path: Titles,
-        /// Where it goes among the children of that heading.
-        place: Place,
-    },
-    /// Puts a heading into another TODO state (Org manual, "Basic TODO functionality", "Closing items", "Repeated tasks").
-    /// Where it has that state already, all bytes stay.
-    Todo {
-        /// The file of the heading.
-        file: FileName,
-        /// Its path there.
-        path: Titles,
-        /// The state, one of the store's, or no byte for none.
-        state: Bytes,
-        /// The moment of the change.
-        moment: Moment,
-    },
-    /// Moves a subtree to its archive (Org manual, "Moving a tree to an archive file"): to the location that the nearest
-    /// nonempty property ARCHIVE of it or a heading above it names, else the file's first line `#+ARCHIVE:`, else to the
-    /// top level of the file's archive file. Its root gets properties that tell when it was archived, and where it was.
-    Archive {
-        /// The file that the subtree leaves.
-        file: FileName,
-        /// The path of its heading there.
-        path: Titles,
-        /// The moment of the archiving.
-        moment: Moment,
-    },
-    /// Starts a clock at a heading, and stops the one that runs elsewhere, at the same moment (Org manual, "Clocking
-    /// commands"). The clock that runs is the first open one of all files, in byte order of their names. Where it is the
-    /// heading's own, all bytes stay, whatever the moment.
-    ClockIn {
-        /// The file of the heading.
-        file: FileName,
-        /// Its path there.
-        path: Titles,
-        /// The moment from which the clock runs.
-        moment: Moment,
-    },
+    /// Puts a new entry into a file.
+    Capture(Capture),
+    /// Makes a subtree a child of another heading. The two paths are looked up before anything moves, and the place among
+    /// the children is that behind the move. A refile changes its files, also where it leaves their bytes.
+    Refile(Refile),
+    /// Puts a heading into another TODO state. Where it has that state already, all bytes stay.
+    Todo(Todo),
+    /// Moves a subtree to its archive: to the location that the nearest nonempty property ARCHIVE of it or a heading above
+    /// it names, else the file's first line `#+ARCHIVE:`, else to the top level of the file's archive file. Its root gets
+    /// properties that tell when it was archived, and where it was.
+    Archive(Archive),
+    /// Starts a clock at a heading, and stops the one that runs elsewhere, at the same moment. The clock that runs is the
+    /// first open one of all files, in byte order of their names. Where it is the heading's own, all bytes stay, whatever
+    /// the moment.
+    ClockIn(ClockIn),
     /// Stops the clock that runs (Org manual, "Clocking commands").
     ClockOut {
         /// The moment up to which it ran.
@@ -115,7 +133,7 @@ pub enum Reply {
 }
 
 /// Why a command is refused. It then changed nothing.
-#[derive(Clone, Copy, Debug, PartialEq, Eq)]
+#[derive(Clone, Copy, PartialEq, Eq)]
 pub enum Refusal {
     /// The file is none of the store's, whose archive files count too.
     NoSuchFile,
@@ -198,7 +216,7 @@ impl Refusal {
 }
 
 /// Why a call didn't do what was asked.
-#[derive(Clone, Copy, Debug, PartialEq, Eq)]
+#[derive(Clone, Copy, PartialEq, Eq)]
 pub enum RunFault {
     /// The command asks for what can't be done. All is as before.
     Refused(Refusal),

@@ -16,7 +16,7 @@ ghost use Rattle.org_outline.specs.States.{Keywords};
 ghost use Rattle.org_texts.specs.Texts.{bytes_or, held_over, nothing_held, text_of};
 ghost use Rattle.org_store.specs.declared.tally.Tally.{Tally};
 ghost use Rattle.org_store.specs.Clocks.{RunsIn};
-ghost use Rattle.org_store.specs.Files.{AreReady, AreSmallToWrite, CommitsTexts, IsPlanFor, KeepsHeld, PutsPlan, StaysInMemory, files_of, has_large, texts_in};
+ghost use Rattle.org_store.specs.Files.{AreReady, AreSmallToWrite, CommitsTexts, IsPlanFor, IsReady, KeepsHeld, PutsPlan, StaysInMemory, files_of, has_large, texts_in};
 ghost use Rattle.org_store.specs.InOrder.{is_name, texts_of};
 ghost use Rattle.org_store.specs.Keeping.{Reads};
 ghost use Rattle.org_store.specs.Quiet.{Forgets};
@@ -147,6 +147,18 @@ impl<D: Disk> Files<D> {
             ≡ lookup (bytes_eq name.now) self.now.held.ready }
     {
         self.texts.get(name)
+    }
+
+    /// What is held of one of the files, whose text is ready. Takes no memory.
+    pub(crate) fn held(&self, name: &FileName) -> &Held
+        requires { IsReady name.now self.now.held }
+        ensures text { text_of self.now.held.now name.now ≡ Some result.now.text }
+        ensures ready { result.now.ready ≡ true }
+    {
+        match self.texts.get(name) {
+            Some(held) => held,
+            None => unreachable!(),
+        }
     }
 
     /// The allocator that the texts were made with.

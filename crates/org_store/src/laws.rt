@@ -12,10 +12,10 @@ ghost use Rattle.org_fileset.specs.Replay.{IsAtRest};
 ghost use Rattle.org_fileset.specs.Writes.{LeavesAlone};
 ghost use Rattle.org_fileset.specs.declared.open.OpenFault.{OpenFault};
 ghost use Rattle.org_fileset.specs.declared.open.OpenFault.TheVariants.{OutOfMemory, Device};
-ghost use Rattle.org_stamp.specs.Calendar.{CivilMinute};
-ghost use Rattle.org_outline.specs.declared.moves.Place.{Place};
 ghost use Rattle.org_outline.specs.States.{Keywords};
 ghost use Rattle.org_move.specs.Counts.{count_over};
+ghost use Rattle.org_store.specs.declared.command.Archive.{Archive as Archiving};
+ghost use Rattle.org_store.specs.declared.command.Refile.{Refile as Refiling};
 ghost use Rattle.org_store.specs.declared.command.Command.{Command};
 ghost use Rattle.org_store.specs.declared.command.Command.TheVariants.{Archive, Refile};
 ghost use Rattle.org_store.specs.declared.command.Reply.{Reply};
@@ -189,14 +189,14 @@ pub fn one_place<D: Disk>()
         × (HaveSameNodes old.settled old.files → HaveSameNodes new.settled new.files) }
     // One archiving: what may be on the disk then is as before, or each node of its subtree is in the old place or the
     // new, the root there with its properties.
-    ensures archive { (given : List (List ℕ)) (first last : Past D) (file : List ℕ)
-        (path : List (List ℕ)) (now : CivilMinute) (answer : Result Reply RunFault)
+    ensures archive { (given : List (List ℕ)) (first last : Past D) (it : Archiving)
+        (answer : Result Reply RunFault)
         → IsSessionOf given first.store.session → IsFalse first.store.session.broken
-        → Lists first.store.session first.texts → IsDiskName file
-        → CallPast D.files D.moment D.left_since first (Ran (Archive file path now) answer) last
+        → Lists first.store.session first.texts → IsDiskName it.file
+        → CallPast D.files D.moment D.left_since first (Ran (Archive it) answer) last
         → (k : ℕ) (texts : List (List ℕ)) → first.store.session.accepted ≤ k
         → slice_get last.texts k ≡ Some texts → (texts ≡ first.store.session.files)
-        ⊎ ArchivesOne first.store.session file path now texts }
+        ⊎ ArchivesOne first.store.session it.file it.path it.moment texts }
     // Where none but refiles and archivings are accepted: from one text of the list to another, which is k commands
     // later, as often, but that for each of these at most one node has another section under the same heading line, and
     // at most one heading is made.
@@ -226,9 +226,9 @@ pub fn texts_stay_small()
 /// A refile that is accepted keeps how often each node is there over all files, by its heading line without the stars and
 /// by the lines of its section: none is lost, none doubled. No name of a store's files stands twice, and each has a text.
 pub fn refiles_keep_counts()
-    ensures { (s : Session) (file to_file : List ℕ) (path to : List (List ℕ)) (place : Place)
+    ensures { (s : Session) (it : Refiling)
         (files : List (List ℕ)) → IsDistinct bytes_eq s.names → length s.files ≡ length s.names
-        → IsAccepted (outcome s (Refile file path to_file to place)) files
+        → IsAccepted (outcome s (Refile it)) files
         → (rest : List ℕ) (section : List (List ℕ))
         → count_over rest section files ≡ count_over rest section s.files }
 {}
@@ -237,10 +237,10 @@ pub fn refiles_keep_counts()
 /// same rest of the heading line and with the section that has the archive's properties, and that a heading is made where
 /// the location's isn't there: the nodes below the entry, and all others, are as often there as before.
 pub fn archives_keep_counts()
-    ensures { (s : Session) (file : List ℕ) (path : List (List ℕ)) (now : CivilMinute)
+    ensures { (s : Session) (it : Archiving)
         (files : List (List ℕ)) → IsDistinct bytes_eq s.names → length s.files ≡ length s.names
-        → IsDiskName file → IsAccepted (outcome s (Archive file path now)) files
-        → ArchivesOne s file path now files }
+        → IsDiskName it.file → IsAccepted (outcome s (Archive it)) files
+        → ArchivesOne s it.file it.path it.moment files }
 {}
 
 /// Every image of a store's disk opens again, with the names that the store was opened with: over a disk that holds

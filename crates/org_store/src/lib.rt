@@ -16,6 +16,6 @@ pub mod laws;
 mod store;
 mod tally;
 
-pub use command::{Command, Refusal, Reply, RunFault};
+pub use command::{Archive, Capture, ClockIn, Command, Refile, Refusal, Reply, RunFault, Todo};
 pub use org_fileset::{OpenFault, OpenRefused};
 pub use store::Store;

@@ -241,11 +241,11 @@ impl<D: Disk> Store<D> {
             }
             Command::Time { file, path } => time(&mut self.files, &self.states, file, path),
             Command::Show { file } => show(&mut self.files, file),
-            Command::Capture { .. }
-            | Command::Refile { .. }
-            | Command::Todo { .. }
-            | Command::Archive { .. }
-            | Command::ClockIn { .. }
+            Command::Capture(_)
+            | Command::Refile(_)
+            | Command::Todo(_)
+            | Command::Archive(_)
+            | Command::ClockIn(_)
             | Command::ClockOut { .. } => {
                 change(&mut self.files, &self.states, &mut self.tally, command)
             }

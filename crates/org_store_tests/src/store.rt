@@ -15,7 +15,7 @@ use org_fixtures::{org_names, two_files};
 use org_outline::{Place, States};
 use org_splice::Bytes;
 use org_stamp::Moment;
-use org_store::{Command, OpenRefused, Reply, RunFault, Store};
+use org_store::{Capture, Command, OpenRefused, Reply, RunFault, Store};
 use std::alloc::Global;
 use std::process::Abort;
 use std::test::Fail;
@@ -71,14 +71,14 @@ fn now(rt: &impl Abort) -> Moment {
 
 // A capture at the end of what a file has there.
 fn capture(rt: &impl Abort, alloc: Global, name: &str, target: Target, template: &[u8]) -> Command {
-    Command::Capture {
+    Command::Capture(Capture {
         file: file(rt, alloc, name),
         target,
         place: Place::Last,
         moment: now(rt),
         template: bytes(rt, alloc, template),
         initial: bytes(rt, alloc, b""),
-    }
+    })
 }
 
 fn show(rt: &impl Abort, alloc: Global, name: &str) -> Command {

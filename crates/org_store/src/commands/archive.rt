@@ -14,14 +14,13 @@ ghost use Rattle.org_store.specs.Reading.{OnlyReads};
 ghost use Rattle.org_store.specs.Refile.{MakesDocument, MakesDocuments};
 ghost use Rattle.org_store.specs.Session.{kept_over};
 
-use crate::command::{Refusal, RunFault};
+use crate::command::{Archive, Refusal, RunFault};
 use crate::commands::edits::{plan_of_one, plan_of_two};
 use crate::commands::outline::outline_of;
 use crate::files::Files;
 use org_disk::{Disk, FileName};
 use org_move::{Location, MoveFault, archive, archive_within, location};
-use org_outline::{Outline, States, Titles};
-use org_stamp::Moment;
+use org_outline::{Outline, States};
 use org_texts::Plan;
 
 /// The outline of one of the files, whose text is ready. Takes no memory.
@@ -30,74 +29,79 @@ fn outline_in<'a, D: Disk>(files: &'a Files<D>, states: &'a States, file: &FileN
     ensures { (result.text ≡ bytes_or [] (text_of files.now.held.now file.now))
         × (result.states ≡ states.now) }
 {
-    match files.get(file) {
-        Some(held) => outline_of(held, states),
-        None => unreachable!(),
-    }
+    outline_of(files.held(file), states)
 }
 
 /// Where a subtree of one of the files, whose text is ready, goes: see `location`.
 fn find_location<D: Disk>(
     files: &Files<D>,
     states: &States,
-    file: &FileName,
-    path: &Titles,
+    command: &Archive,
 ) -> Result<Location, MoveFault>
-    requires { IsReady file.now files.now.held }
-    ensures { let seen = bytes_or [] (text_of files.now.held.now file.now) in
-        GivesPlace (location states.now file.now path.now seen) result }
+    requires { IsReady command.now.file files.now.held }
+    ensures { let seen = bytes_or [] (text_of files.now.held.now command.now.file) in
+        GivesPlace (location states.now command.now.file command.now.path seen) result }
 {
-    let outline = outline_in(files, states, file);
-    location(files.alloc(), &outline, file, path.as_slice())
+    let outline = outline_in(files, states, &command.file);
+    location(
+        files.alloc(),
+        &outline,
+        &command.file,
+        command.path.as_slice(),
+    )
 }
 
 /// The edits of one of the files, whose text is ready, that archive a subtree within it.
 fn plan_within<D: Disk>(
     files: &Files<D>,
     states: &States,
-    file: &FileName,
-    path: &Titles,
-    moment: Moment,
+    command: &Archive,
     to: &Location,
 ) -> Result<Plan, MoveFault>
-    requires { IsReady file.now files.now.held }
-    ensures { let seen = bytes_or [] (text_of files.now.held.now file.now) in
-        Gives (archive_within states.now file.now path.now moment to.now (tree seen))
-        (MakesDocument file.now seen) result }
+    requires { IsReady command.now.file files.now.held }
+    ensures { let seen = bytes_or [] (text_of files.now.held.now command.now.file) in
+        Gives (archive_within states.now command.now.file command.now.path command.now.moment
+        to.now (tree seen)) (MakesDocument command.now.file seen) result }
 {
     let alloc = files.alloc();
-    let outline = outline_in(files, states, file);
-    let edits = archive_within(alloc, &outline, file, path.as_slice(), moment, to)?;
-    Ok(plan_of_one(alloc, file, edits)?)
+    let outline = outline_in(files, states, &command.file);
+    let edits = archive_within(
+        alloc,
+        &outline,
+        &command.file,
+        command.path.as_slice(),
+        command.moment,
+        to,
+    )?;
+    Ok(plan_of_one(alloc, &command.file, edits)?)
 }
 
 /// The edits of two files, whose texts are ready, that archive a subtree of the first in the second, the location's file.
 fn plan_across<D: Disk>(
     files: &Files<D>,
     states: &States,
-    file: &FileName,
-    path: &Titles,
-    moment: Moment,
+    command: &Archive,
     to: &Location,
 ) -> Result<Plan, MoveFault>
-    requires source { IsReady file.now files.now.held }
+    requires source { IsReady command.now.file files.now.held }
     requires target { IsReady to.now.file files.now.held }
-    ensures { let seen = bytes_or [] (text_of files.now.held.now file.now) in
+    ensures { let seen = bytes_or [] (text_of files.now.held.now command.now.file) in
         let target = bytes_or [] (text_of files.now.held.now to.now.file) in
-        Gives (archive_across states.now file.now path.now moment (tree seen) states.now to.now
-        (tree target)) (MakesDocuments file.now to.now.file seen target) result }
+        Gives (archive_across states.now command.now.file command.now.path command.now.moment
+        (tree seen) states.now to.now (tree target))
+        (MakesDocuments command.now.file to.now.file seen target) result }
 {
     let alloc = files.alloc();
     let (goes_out, goes_in) = archive(
         alloc,
-        &outline_in(files, states, file),
+        &outline_in(files, states, &command.file),
         &outline_in(files, states, to.file()),
-        file,
-        path.as_slice(),
-        moment,
+        &command.file,
+        command.path.as_slice(),
+        command.moment,
         to,
     )?;
-    Ok(plan_of_two(alloc, file, goes_out, to.file(), goes_in)?)
+    Ok(plan_of_two(alloc, &command.file, goes_out, to.file(), goes_in)?)
 }
 
 /// What an archiving to this location is to change, from a file that is ready. It is refused for the location's file first,
@@ -105,33 +109,31 @@ fn plan_across<D: Disk>(
 fn plan_archive_to<D: Disk>(
     files: &mut Files<D>,
     states: &States,
-    file: &FileName,
-    path: &Titles,
-    moment: Moment,
+    command: &Archive,
     to: &Location,
 ) -> Result<Plan, RunFault>
     requires unbroken { files.old.broken ≡ false }
-    requires name { is_name files.old.names file.now ≡ true }
-    requires ready { AreReady (file.now ∷ []) files.old.held }
+    requires name { is_name files.old.names command.now.file ≡ true }
+    requires ready { AreReady (command.now.file ∷ []) files.old.held }
     ensures plan { IfOk result (λ plan. IsPlanFor files.new.names files.new.held plan) }
     ensures plans { (tally : Tally) (text : List ℕ) → D.honest files.new.disk
         → let session = (kept_over D.files states.now files.old tally).session in
-        text_at session.names session.files file.now ≡ Some text
-        → Plans session (outcome_to session file.now path.now moment text to.now
-        (text_at session.names session.files to.now.file)) result
+        text_at session.names session.files command.now.file ≡ Some text
+        → Plans session (outcome_to session command.now.file command.now.path command.now.moment
+        text to.now (text_at session.names session.files to.now.file)) result
         files.new.held (kept_over D.files states.now files.new tally).session }
     ensures disk { OnlyReads D.steady D.honest D.failures D.files D.moment D.left_since
         files.old files.new result }
 {
     let to_file = to.file();
-    if file == to_file {
-        return Ok(plan_within(files, states, file, path, moment, to)?);
+    if command.file == *to_file {
+        return Ok(plan_within(files, states, command, to)?);
     }
     if !files.has(to_file) {
         return Err(RunFault::Refused(Refusal::NoSuchFile));
     }
     files.ready(to_file)?;
-    Ok(plan_across(files, states, file, path, moment, to)?)
+    Ok(plan_across(files, states, command, to)?)
 }
 
 /// What an archiving is to change. It is refused for its file first, then for its path, then where the file is an archive
@@ -139,24 +141,22 @@ fn plan_archive_to<D: Disk>(
 pub(crate) fn plan_archive<D: Disk>(
     files: &mut Files<D>,
     states: &States,
-    file: &FileName,
-    path: &Titles,
-    moment: Moment,
+    command: &Archive,
 ) -> Result<Plan, RunFault>
     requires between { AreBetweenCommands files.old }
     ensures plan { IfOk result (λ plan. IsPlanFor files.new.names files.new.held plan) }
     ensures plans { (tally : Tally) → D.honest files.new.disk
         → let session = (kept_over D.files states.now files.old tally).session in
-        Plans session (outcome session file.now path.now moment
-        (text_at session.names session.files file.now)) result
+        Plans session (outcome session command.now.file command.now.path command.now.moment
+        (text_at session.names session.files command.now.file)) result
         files.new.held (kept_over D.files states.now files.new tally).session }
     ensures disk { OnlyReads D.steady D.honest D.failures D.files D.moment D.left_since
         files.old files.new result }
 {
-    if !files.has(file) {
+    if !files.has(&command.file) {
         return Err(RunFault::Refused(Refusal::NoSuchFile));
     }
-    files.ready(file)?;
-    let to = find_location(files, states, file, path)?;
-    plan_archive_to(files, states, file, path, moment, &to)
+    files.ready(&command.file)?;
+    let to = find_location(files, states, command)?;
+    plan_archive_to(files, states, command, &to)
 }

@@ -13,29 +13,23 @@ ghost use Rattle.org_store.specs.Outcome.{capture as outcome, with_entry};
 ghost use Rattle.org_store.specs.Reading.{OnlyReads};
 ghost use Rattle.org_store.specs.Session.{kept_over};
 
-use crate::command::{Refusal, RunFault};
+use crate::command::{Capture, Refusal, RunFault};
 use crate::commands::edits::plan_of_one;
 use crate::commands::outline::outline_of;
 use crate::files::Files;
-use org_capture::{CaptureFault, Target, capture, entry, expand};
-use org_disk::{Disk, FileName};
-use org_outline::{Place, States};
-use org_splice::Bytes;
-use org_stamp::Moment;
+use org_capture::{CaptureFault, capture, entry, expand};
+use org_disk::Disk;
+use org_outline::States;
 use org_texts::{Held, Plan};
 use std::alloc::Global;
 
-/// The entry that a template stands for.
-fn new_entry(
-    alloc: Global,
-    states: &States,
-    moment: Moment,
-    template: &[u8],
-    initial: &[u8],
-) -> Result<Vec<u8>, CaptureFault>
-    ensures { MakesEntry (new_entry moment template.now initial.now) result }
+/// The entry that the template of a capture stands for.
+fn new_entry(alloc: Global, states: &States, command: &Capture) -> Result<Vec<u8>, CaptureFault>
+    ensures { MakesEntry
+        (new_entry command.now.moment command.now.template command.now.initial) result }
 {
-    let text = expand(alloc, template, moment, initial)?;
+    let template = command.template.as_slice();
+    let text = expand(alloc, template, command.moment, command.initial.as_slice())?;
     entry(alloc, text.as_slice(), states)
 }
 
@@ -44,52 +38,52 @@ fn plan_insertion(
     alloc: Global,
     states: &States,
     held: &Held,
-    file: &FileName,
-    target: &Target,
-    place: Place,
-    moment: Moment,
+    command: &Capture,
     entry: &[u8],
 ) -> Result<Plan, CaptureFault>
     requires ready { held.now.ready ≡ true }
     requires entry { (node : Node) × IsEntry entry.now node }
     ensures { (node : Node) → IsEntry entry.now node
-        → PlansDocument file.now held.now.text.bytes
-        (captured states.now target.now place moment node (tree held.now.text.bytes)) result }
+        → PlansDocument command.now.file held.now.text.bytes
+        (captured states.now command.now.target command.now.place command.now.moment node
+        (tree held.now.text.bytes)) result }
 {
     let outline = outline_of(held, states);
-    let edit = capture(alloc, &outline, target, place, moment, entry)?;
-    Ok(plan_of_one(alloc, file, [edit])?)
+    let edit = capture(
+        alloc,
+        &outline,
+        &command.target,
+        command.place,
+        command.moment,
+        entry,
+    )?;
+    Ok(plan_of_one(alloc, &command.file, [edit])?)
 }
 
 /// What a capture of this entry into one of the files is to change.
 fn plan_entry<D: Disk>(
     files: &mut Files<D>,
     states: &States,
-    file: &FileName,
-    target: &Target,
-    place: Place,
-    moment: Moment,
+    command: &Capture,
     entry: &[u8],
 ) -> Result<Plan, RunFault>
-    requires file { is_name files.old.names file.now ≡ true }
+    requires file { is_name files.old.names command.now.file ≡ true }
     requires between { AreBetweenCommands files.old }
     requires entry { (node : Node) × IsEntry entry.now node }
     ensures plan { IfOk result (λ plan. IsPlanFor files.new.names files.new.held plan) }
     ensures plans { (tally : Tally) (node : Node) → IsEntry entry.now node
         → D.honest files.new.disk
         → let session = (kept_over D.files states.now files.old tally).session in
-        let text = unwrap_or (text_at session.names session.files file.now) [] in
-        Plans session (with_entry session file.now target.now place moment (Ok node) text) result
+        let text = unwrap_or (text_at session.names session.files command.now.file) [] in
+        Plans session (with_entry session command.now.file command.now.target
+        command.now.place command.now.moment (Ok node) text) result
         files.new.held (kept_over D.files states.now files.new tally).session }
     ensures disk { OnlyReads D.steady D.honest D.failures D.files D.moment D.left_since
         files.old files.new result }
 {
-    files.ready(file)?;
-    let Some(held) = files.get(file) else {
-        unreachable!();
-    };
-    let alloc = files.alloc();
-    Ok(plan_insertion(alloc, states, held, file, target, place, moment, entry)?)
+    files.ready(&command.file)?;
+    let held = files.held(&command.file);
+    Ok(plan_insertion(files.alloc(), states, held, command, entry)?)
 }
 
 /// What a capture into a file is to change. It is refused for its file first, then for its template, then for its entry,
@@ -97,34 +91,24 @@ fn plan_entry<D: Disk>(
 pub(crate) fn plan_capture<D: Disk>(
     files: &mut Files<D>,
     states: &States,
-    file: &FileName,
-    target: &Target,
-    place: Place,
-    moment: Moment,
-    template: &Bytes,
-    initial: &Bytes,
+    command: &Capture,
 ) -> Result<Plan, RunFault>
     requires between { AreBetweenCommands files.old }
     ensures plan { IfOk result (λ plan. IsPlanFor files.new.names files.new.held plan) }
     ensures plans { (tally : Tally) → D.honest files.new.disk
         → Plans (kept_over D.files states.now files.old tally).session
-        (outcome (kept_over D.files states.now files.old tally).session file.now target.now place
-        moment template.now initial.now
+        (outcome (kept_over D.files states.now files.old tally).session command.now.file
+        command.now.target command.now.place command.now.moment command.now.template
+        command.now.initial
         (text_at (kept_over D.files states.now files.old tally).session.names
-        (kept_over D.files states.now files.old tally).session.files file.now)) result
+        (kept_over D.files states.now files.old tally).session.files command.now.file)) result
         files.new.held (kept_over D.files states.now files.new tally).session }
     ensures disk { OnlyReads D.steady D.honest D.failures D.files D.moment D.left_since
         files.old files.new result }
 {
-    if !files.has(file) {
+    if !files.has(&command.file) {
         return Err(RunFault::Refused(Refusal::NoSuchFile));
     }
-    let entry = new_entry(
-        files.alloc(),
-        states,
-        moment,
-        template.as_slice(),
-        initial.as_slice(),
-    )?;
-    plan_entry(files, states, file, target, place, moment, &entry)
+    let entry = new_entry(files.alloc(), states, command)?;
+    plan_entry(files, states, command, &entry)
 }

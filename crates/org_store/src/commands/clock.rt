@@ -11,32 +11,32 @@ ghost use Rattle.org_store.specs.Clocking.{PlansClocks, clock_moved, clocked_in,
 ghost use Rattle.org_store.specs.Clocks.{RunsHeld, running_over};
 ghost use Rattle.org_store.specs.Files.{AreBetweenCommands, IsPlanFor};
 ghost use Rattle.org_store.specs.InOrder.{is_name, text_at};
-ghost use Rattle.org_store.specs.Keeping.{LooksUp, Plans, PlansOrStays};
+ghost use Rattle.org_store.specs.Keeping.{LooksUp, PlansOrStays};
 ghost use Rattle.org_store.specs.Outcome.{clock_in as outcome_in, clock_out as outcome_out, with_clock_moved, with_state};
 ghost use Rattle.org_store.specs.Reading.{OnlyReads};
 ghost use Rattle.org_store.specs.Session.{kept_over};
 ghost use Rattle.org_store.specs.Todo.{PlansState};
 
-use crate::command::{Refusal, RunFault};
+use crate::command::{ClockIn, Refusal, RunFault};
 use crate::commands::edits::{plan_of, plan_of_one, plan_of_two};
 use crate::commands::outline::outline_of;
 use crate::commands::refile::both_ready;
 use crate::commands::running::{Clock, running_clock};
 use crate::files::Files;
-use org_disk::{Disk, FileName};
-use org_outline::{States, Titles};
+use org_disk::Disk;
+use org_outline::States;
 use org_stamp::Moment;
 use org_state::{Running, StateFault, clock_in, clock_out, switch_clock};
 use org_texts::{Held, Plan};
 use std::alloc::Global;
 
 /// Tests that a text that is ready has a heading at a path.
-fn look_up(states: &States, held: &Held, path: &Titles) -> Result<(), StateFault>
+fn look_up(states: &States, held: &Held, command: &ClockIn) -> Result<(), StateFault>
     requires ready { held.now.ready ≡ true }
     ensures { result ≡ result_map_both (λ _. tt) fault_of_path
-        (find_path states.now (tree held.now.text.bytes) path.now) }
+        (find_path states.now (tree held.now.text.bytes) command.now.path) }
 {
-    outline_of(held, states).find(path.as_slice())?;
+    outline_of(held, states).find(command.path.as_slice())?;
     Ok(())
 }
 
@@ -45,16 +45,20 @@ fn plan_start(
     alloc: Global,
     states: &States,
     held: &Held,
-    file: &FileName,
-    path: &Titles,
-    moment: Moment,
+    command: &ClockIn,
 ) -> Result<Option<Plan>, StateFault>
     requires ready { held.now.ready ≡ true }
-    ensures { let d = tree held.now.text.bytes in PlansState file.now held.now.text.bytes
-        (clocked_in moment None d (find_path states.now d path.now)) result }
+    ensures { let d = tree held.now.text.bytes in
+        PlansState command.now.file held.now.text.bytes (clocked_in command.now.moment None d
+        (find_path states.now d command.now.path)) result }
 {
-    let edit = clock_in(alloc, &outline_of(held, states), path.as_slice(), moment)?;
-    Ok(Some(plan_of_one(alloc, file, [edit])?))
+    let edit = clock_in(
+        alloc,
+        &outline_of(held, states),
+        command.path.as_slice(),
+        command.moment,
+    )?;
+    Ok(Some(plan_of_one(alloc, &command.file, [edit])?))
 }
 
 /// The edits of a file, whose text is ready, that clock in at one of its headings, where this clock runs in it; none where
@@ -63,19 +67,19 @@ fn plan_switch(
     alloc: Global,
     states: &States,
     held: &Held,
-    file: &FileName,
-    path: &Titles,
+    command: &ClockIn,
     running: Running,
-    moment: Moment,
 ) -> Result<Option<Plan>, StateFault>
     requires ready { held.now.ready ≡ true }
     requires runs { running_in (tree held.now.text.bytes) ≡ Some running }
-    ensures { let d = tree held.now.text.bytes in PlansState file.now held.now.text.bytes
-        (clocked_in moment (Some running) d (find_path states.now d path.now)) result }
+    ensures { let d = tree held.now.text.bytes in
+        PlansState command.now.file held.now.text.bytes (clocked_in command.now.moment
+        (Some running) d (find_path states.now d command.now.path)) result }
 {
     let outline = outline_of(held, states);
-    let edits = switch_clock(alloc, &outline, path.as_slice(), running, moment)?;
-    Ok(plan_of(file, edits)?)
+    let path = command.path.as_slice();
+    let edits = switch_clock(alloc, &outline, path, running, command.moment)?;
+    Ok(plan_of(&command.file, edits)?)
 }
 
 /// The edits of a file, whose text is ready, that clock in at one of its headings. This clock runs in it, or none.
@@ -83,20 +87,19 @@ fn plan_in_text(
     alloc: Global,
     states: &States,
     held: &Held,
-    file: &FileName,
-    path: &Titles,
+    command: &ClockIn,
     running: Option<Running>,
-    moment: Moment,
 ) -> Result<Option<Plan>, StateFault>
     requires ready { held.now.ready ≡ true }
     requires runs { ForSome running
         (λ running. running_in (tree held.now.text.bytes) ≡ Some running) }
-    ensures { let d = tree held.now.text.bytes in PlansState file.now held.now.text.bytes
-        (clocked_in moment running d (find_path states.now d path.now)) result }
+    ensures { let d = tree held.now.text.bytes in
+        PlansState command.now.file held.now.text.bytes (clocked_in command.now.moment running d
+        (find_path states.now d command.now.path)) result }
 {
     match running {
-        None => plan_start(alloc, states, held, file, path, moment),
-        Some(running) => plan_switch(alloc, states, held, file, path, running, moment),
+        None => plan_start(alloc, states, held, command),
+        Some(running) => plan_switch(alloc, states, held, command, running),
     }
 }
 
@@ -105,17 +108,21 @@ fn plan_stop(
     alloc: Global,
     states: &States,
     held: &Held,
-    file: &FileName,
-    running: Running,
+    clock: &Clock,
     moment: Moment,
 ) -> Result<Option<Plan>, StateFault>
     requires ready { held.now.ready ≡ true }
-    requires runs { running_in (tree held.now.text.bytes) ≡ Some running }
-    ensures { PlansState file.now held.now.text.bytes
-        (clocked_out moment running (tree held.now.text.bytes)) result }
+    requires runs { running_in (tree held.now.text.bytes) ≡ Some clock.now.running }
+    ensures { PlansState clock.now.file held.now.text.bytes
+        (clocked_out moment clock.now.running (tree held.now.text.bytes)) result }
 {
-    let edit = clock_out(alloc, outline_of(held, states).text(), running, moment)?;
-    Ok(Some(plan_of_one(alloc, file, [edit])?))
+    let edit = clock_out(
+        alloc,
+        outline_of(held, states).text(),
+        clock.running,
+        moment,
+    )?;
+    Ok(Some(plan_of_one(alloc, &clock.file, [edit])?))
 }
 
 /// The edits of two files, whose texts are ready, that stop the clock that runs in the first, and clock in at a heading of
@@ -126,51 +133,50 @@ fn plan_move(
     other: &Held,
     held: &Held,
     clock: &Clock,
-    file: &FileName,
-    path: &Titles,
-    moment: Moment,
+    command: &ClockIn,
 ) -> Result<Plan, StateFault>
     requires other { other.now.ready ≡ true }
     requires ready { held.now.ready ≡ true }
     requires runs { running_in (tree other.now.text.bytes) ≡ Some clock.now.running }
     ensures { let d = tree held.now.text.bytes in
-        PlansClocks clock.now.file file.now other.now.text.bytes held.now.text.bytes
-        (clock_moved moment clock.now.running (tree other.now.text.bytes) d
-        (find_path states.now d path.now)) result }
+        PlansClocks clock.now.file command.now.file other.now.text.bytes held.now.text.bytes
+        (clock_moved command.now.moment clock.now.running (tree other.now.text.bytes) d
+        (find_path states.now d command.now.path)) result }
 {
-    let start = clock_in(alloc, &outline_of(held, states), path.as_slice(), moment)?;
+    let start = clock_in(
+        alloc,
+        &outline_of(held, states),
+        command.path.as_slice(),
+        command.moment,
+    )?;
     let stop = clock_out(
         alloc,
         outline_of(other, states).text(),
         clock.running,
-        moment,
+        command.moment,
     )?;
-    Ok(plan_of_two(alloc, &clock.file, stop, file, start)?)
+    Ok(plan_of_two(alloc, &clock.file, stop, &command.file, start)?)
 }
 
 /// Tests that one of the files has a heading at a path. No text changes.
 fn look_up_in<D: Disk>(
     files: &mut Files<D>,
     states: &States,
-    file: &FileName,
-    path: &Titles,
+    command: &ClockIn,
 ) -> Result<(), RunFault>
-    requires file { is_name files.old.names file.now ≡ true }
+    requires file { is_name files.old.names command.now.file ≡ true }
     requires between { AreBetweenCommands files.old }
     ensures finds { (tally : Tally) → D.honest files.new.disk
         → let session = (kept_over D.files states.now files.old tally).session in
-        let d = tree (unwrap_or (text_at session.names session.files file.now) []) in
-        LooksUp session (find_path states.now d path.now) result
+        let text = unwrap_or (text_at session.names session.files command.now.file) [] in
+        LooksUp session (find_path states.now (tree text) command.now.path) result
         (kept_over D.files states.now files.new tally).session }
     ensures begun { OnOk result (files.new.held.now ≡ files.new.held.before) }
     ensures disk { OnlyReads D.steady D.honest D.failures D.files D.moment D.left_since
         files.old files.new result }
 {
-    files.ready(file)?;
-    let Some(held) = files.get(file) else {
-        unreachable!();
-    };
-    look_up(states, held, path)?;
+    files.ready(&command.file)?;
+    look_up(states, files.held(&command.file), command)?;
     files.undo();
     Ok(())
 }
@@ -180,30 +186,27 @@ fn look_up_in<D: Disk>(
 fn start_in_one<D: Disk>(
     files: &mut Files<D>,
     states: &States,
-    file: &FileName,
-    path: &Titles,
+    command: &ClockIn,
     running: Option<Running>,
-    moment: Moment,
 ) -> Result<Option<Plan>, RunFault>
-    requires file { is_name files.old.names file.now ≡ true }
+    requires file { is_name files.old.names command.now.file ≡ true }
     requires between { AreBetweenCommands files.old }
-    requires runs { ForSome running (λ running. RunsHeld files.old.held file.now running) }
+    requires runs { ForSome running
+        (λ running. RunsHeld files.old.held command.now.file running) }
     ensures plan { IfOk result (λ plan. ForSome plan
         (λ plan. IsPlanFor files.new.names files.new.held plan)) }
     ensures plans { (tally : Tally) → D.honest files.new.disk
         → let session = (kept_over D.files states.now files.old tally).session in
-        let d = tree (unwrap_or (text_at session.names session.files file.now) []) in
-        PlansOrStays session (with_state session file.now
-        (clocked_in moment running d (find_path states.now d path.now))) result
+        let d = tree (unwrap_or (text_at session.names session.files command.now.file) []) in
+        PlansOrStays session (with_state session command.now.file
+        (clocked_in command.now.moment running d (find_path states.now d command.now.path))) result
         files.new.held (kept_over D.files states.now files.new tally).session }
     ensures disk { OnlyReads D.steady D.honest D.failures D.files D.moment D.left_since
         files.old files.new result }
 {
-    files.ready(file)?;
-    let Some(held) = files.get(file) else {
-        unreachable!();
-    };
-    Ok(plan_in_text(files.alloc(), states, held, file, path, running, moment)?)
+    files.ready(&command.file)?;
+    let held = files.held(&command.file);
+    Ok(plan_in_text(files.alloc(), states, held, command, running)?)
 }
 
 /// What clocking in at a heading of one of the files is to change, where this clock runs in another one.
@@ -211,43 +214,31 @@ fn start_beside<D: Disk>(
     files: &mut Files<D>,
     states: &States,
     clock: &Clock,
-    file: &FileName,
-    path: &Titles,
-    moment: Moment,
-) -> Result<Plan, RunFault>
+    command: &ClockIn,
+) -> Result<Option<Plan>, RunFault>
     requires other { is_name files.old.names clock.now.file ≡ true }
-    requires file { is_name files.old.names file.now ≡ true }
-    requires apart { clock.now.file ≢ file.now }
+    requires file { is_name files.old.names command.now.file ≡ true }
+    requires apart { clock.now.file ≢ command.now.file }
     requires between { AreBetweenCommands files.old }
     requires runs { RunsHeld files.old.held clock.now.file clock.now.running }
-    ensures plan { IfOk result (λ plan. IsPlanFor files.new.names files.new.held plan) }
+    ensures plan { IfOk result (λ plan. ForSome plan
+        (λ plan. IsPlanFor files.new.names files.new.held plan)) }
     ensures plans { (tally : Tally) → D.honest files.new.disk
         → let session = (kept_over D.files states.now files.old tally).session in
-        let d = tree (unwrap_or (text_at session.names session.files file.now) []) in
+        let d = tree (unwrap_or (text_at session.names session.files command.now.file) []) in
         let other = tree (unwrap_or (text_at session.names session.files clock.now.file) []) in
-        Plans session (with_clock_moved session clock.now.file file.now
-        (clock_moved moment clock.now.running other d (find_path states.now d path.now))) result
+        PlansOrStays session (with_clock_moved session clock.now.file command.now.file
+        (clock_moved command.now.moment clock.now.running other d
+        (find_path states.now d command.now.path))) result
         files.new.held (kept_over D.files states.now files.new tally).session }
     ensures disk { OnlyReads D.steady D.honest D.failures D.files D.moment D.left_since
         files.old files.new result }
 {
-    both_ready(files, &clock.file, file)?;
-    let Some(other) = files.get(&clock.file) else {
-        unreachable!();
-    };
-    let Some(held) = files.get(file) else {
-        unreachable!();
-    };
-    Ok(plan_move(
-        files.alloc(),
-        states,
-        other,
-        held,
-        clock,
-        file,
-        path,
-        moment,
-    )?)
+    both_ready(files, &clock.file, &command.file)?;
+    let other = files.held(&clock.file);
+    let held = files.held(&command.file);
+    let plan = plan_move(files.alloc(), states, other, held, clock, command)?;
+    Ok(Some(plan))
 }
 
 /// What clocking in is to change; no plan where the clock that runs is the heading's own. It is refused for its file first,
@@ -256,33 +247,30 @@ fn start_beside<D: Disk>(
 pub(crate) fn plan_clock_in<D: Disk>(
     files: &mut Files<D>,
     states: &States,
-    file: &FileName,
-    path: &Titles,
-    moment: Moment,
+    command: &ClockIn,
 ) -> Result<Option<Plan>, RunFault>
     requires between { AreBetweenCommands files.old }
     ensures plan { IfOk result (λ plan. ForSome plan
         (λ plan. IsPlanFor files.new.names files.new.held plan)) }
     ensures plans { (tally : Tally) → D.honest files.new.disk
         → let session = (kept_over D.files states.now files.old tally).session in
-        PlansOrStays session (outcome_in session file.now path.now moment
-        (text_at session.names session.files file.now)) result
+        PlansOrStays session (outcome_in session command.now.file command.now.path
+        command.now.moment (text_at session.names session.files command.now.file)) result
         files.new.held (kept_over D.files states.now files.new tally).session }
     ensures disk { OnlyReads D.steady D.honest D.failures D.files D.moment D.left_since
         files.old files.new result }
 {
-    if !files.has(file) {
+    if !files.has(&command.file) {
         return Err(RunFault::Refused(Refusal::NoSuchFile));
     }
-    look_up_in(files, states, file, path)?;
+    look_up_in(files, states, command)?;
     let Some(clock) = running_clock(files, states)? else {
-        return start_in_one(files, states, file, path, None, moment);
+        return start_in_one(files, states, command, None);
     };
-    if clock.file == *file {
-        return start_in_one(files, states, file, path, Some(clock.running), moment);
+    if clock.file == command.file {
+        return start_in_one(files, states, command, Some(clock.running));
     }
-    let plan = start_beside(files, states, &clock, file, path, moment)?;
-    Ok(Some(plan))
+    start_beside(files, states, &clock, command)
 }
 
 /// What stopping the clock that runs in one of the files is to change.
@@ -307,17 +295,8 @@ fn stop_running<D: Disk>(
         files.old files.new result }
 {
     files.ready(&clock.file)?;
-    let Some(held) = files.get(&clock.file) else {
-        unreachable!();
-    };
-    Ok(plan_stop(
-        files.alloc(),
-        states,
-        held,
-        &clock.file,
-        clock.running,
-        moment,
-    )?)
+    let held = files.held(&clock.file);
+    Ok(plan_stop(files.alloc(), states, held, clock, moment)?)
 }
 
 /// What clocking out is to change. It is refused where no clock runs, and where the moment is before the start of the one

@@ -13,13 +13,13 @@ ghost use Rattle.org_store.specs.Reading.{OnlyReads};
 ghost use Rattle.org_store.specs.Refile.{MakesDocument, MakesDocuments};
 ghost use Rattle.org_store.specs.Session.{kept_over};
 
-use crate::command::{Refusal, RunFault};
+use crate::command::{Refile, Refusal, RunFault};
 use crate::commands::edits::{plan_of_one, plan_of_two};
 use crate::commands::outline::outline_of;
 use crate::files::Files;
 use org_disk::{Disk, FileName};
 use org_move::{MoveFault, refile_across, refile_within};
-use org_outline::{Place, States, Titles};
+use org_outline::States;
 use org_texts::{Held, Plan};
 use std::alloc::Global;
 
@@ -28,18 +28,22 @@ fn plan_within(
     alloc: Global,
     states: &States,
     held: &Held,
-    file: &FileName,
-    path: &Titles,
-    to: &Titles,
-    place: Place,
+    command: &Refile,
 ) -> Result<Plan, MoveFault>
     requires ready { held.now.ready ≡ true }
-    ensures { Gives (refile_within states.now path.now to.now place (tree held.now.text.bytes))
-        (MakesDocument file.now held.now.text.bytes) result }
+    ensures { Gives (refile_within states.now command.now.path command.now.to_path
+        command.now.place (tree held.now.text.bytes))
+        (MakesDocument command.now.file held.now.text.bytes) result }
 {
     let outline = outline_of(held, states);
-    let edits = refile_within(alloc, &outline, path.as_slice(), to.as_slice(), place)?;
-    Ok(plan_of_one(alloc, file, edits)?)
+    let edits = refile_within(
+        alloc,
+        &outline,
+        command.path.as_slice(),
+        command.to_path.as_slice(),
+        command.place,
+    )?;
+    Ok(plan_of_one(alloc, &command.file, edits)?)
 }
 
 /// The edits of two files, whose texts are ready, that move a subtree from the first into the second.
@@ -48,27 +52,24 @@ fn plan_across(
     states: &States,
     source: &Held,
     target: &Held,
-    file: &FileName,
-    path: &Titles,
-    to_file: &FileName,
-    to: &Titles,
-    place: Place,
+    command: &Refile,
 ) -> Result<Plan, MoveFault>
     requires source { source.now.ready ≡ true }
     requires target { target.now.ready ≡ true }
-    ensures { Gives (refile_across states.now path.now (tree source.now.text.bytes)
-        states.now to.now (tree target.now.text.bytes) place)
-        (MakesDocuments file.now to_file.now source.now.text.bytes target.now.text.bytes) result }
+    ensures { Gives (refile_across states.now command.now.path (tree source.now.text.bytes)
+        states.now command.now.to_path (tree target.now.text.bytes) command.now.place)
+        (MakesDocuments command.now.file command.now.to_file source.now.text.bytes
+        target.now.text.bytes) result }
 {
     let (goes_out, goes_in) = refile_across(
         alloc,
         &outline_of(source, states),
         &outline_of(target, states),
-        path.as_slice(),
-        to.as_slice(),
-        place,
+        command.path.as_slice(),
+        command.to_path.as_slice(),
+        command.place,
     )?;
-    Ok(plan_of_two(alloc, file, goes_out, to_file, goes_in)?)
+    Ok(plan_of_two(alloc, &command.file, goes_out, &command.to_file, goes_in)?)
 }
 
 /// Makes two files ready: see `Files::ready`.
@@ -97,71 +98,50 @@ pub(crate) fn both_ready<D: Disk>(
 fn refile_in_one<D: Disk>(
     files: &mut Files<D>,
     states: &States,
-    file: &FileName,
-    path: &Titles,
-    to: &Titles,
-    place: Place,
+    command: &Refile,
 ) -> Result<Plan, RunFault>
-    requires file { is_name files.old.names file.now ≡ true }
+    requires file { is_name files.old.names command.now.file ≡ true }
     requires between { AreBetweenCommands files.old }
     ensures plan { IfOk result (λ plan. IsPlanFor files.new.names files.new.held plan) }
     ensures plans { (tally : Tally) → D.honest files.new.disk
         → let session = (kept_over D.files states.now files.old tally).session in
-        let text = text_at session.names session.files file.now in
-        Plans session (outcome session file.now path.now file.now to.now place text text) result
+        let text = text_at session.names session.files command.now.file in
+        Plans session (outcome session command.now.file command.now.path command.now.file
+        command.now.to_path command.now.place text text) result
         files.new.held (kept_over D.files states.now files.new tally).session }
     ensures disk { OnlyReads D.steady D.honest D.failures D.files D.moment D.left_since
         files.old files.new result }
 {
-    files.ready(file)?;
-    let Some(held) = files.get(file) else {
-        unreachable!();
-    };
-    Ok(plan_within(files.alloc(), states, held, file, path, to, place)?)
+    files.ready(&command.file)?;
+    let held = files.held(&command.file);
+    Ok(plan_within(files.alloc(), states, held, command)?)
 }
 
 /// What a refile from one of the files into another one is to change.
 fn refile_in_two<D: Disk>(
     files: &mut Files<D>,
     states: &States,
-    file: &FileName,
-    path: &Titles,
-    to_file: &FileName,
-    to: &Titles,
-    place: Place,
+    command: &Refile,
 ) -> Result<Plan, RunFault>
-    requires file { is_name files.old.names file.now ≡ true }
-    requires to_file { is_name files.old.names to_file.now ≡ true }
-    requires apart { file.now ≢ to_file.now }
+    requires file { is_name files.old.names command.now.file ≡ true }
+    requires to_file { is_name files.old.names command.now.to_file ≡ true }
+    requires apart { command.now.file ≢ command.now.to_file }
     requires between { AreBetweenCommands files.old }
     ensures plan { IfOk result (λ plan. IsPlanFor files.new.names files.new.held plan) }
     ensures plans { (tally : Tally) → D.honest files.new.disk
         → let session = (kept_over D.files states.now files.old tally).session in
-        Plans session (outcome session file.now path.now to_file.now to.now place
-        (text_at session.names session.files file.now)
-        (text_at session.names session.files to_file.now)) result
+        Plans session (outcome session command.now.file command.now.path command.now.to_file
+        command.now.to_path command.now.place
+        (text_at session.names session.files command.now.file)
+        (text_at session.names session.files command.now.to_file)) result
         files.new.held (kept_over D.files states.now files.new tally).session }
     ensures disk { OnlyReads D.steady D.honest D.failures D.files D.moment D.left_since
         files.old files.new result }
 {
-    both_ready(files, file, to_file)?;
-    let Some(source) = files.get(file) else {
-        unreachable!();
-    };
-    let Some(target) = files.get(to_file) else {
-        unreachable!();
-    };
-    Ok(plan_across(
-        files.alloc(),
-        states,
-        source,
-        target,
-        file,
-        path,
-        to_file,
-        to,
-        place,
-    )?)
+    both_ready(files, &command.file, &command.to_file)?;
+    let source = files.held(&command.file);
+    let target = files.held(&command.to_file);
+    Ok(plan_across(files.alloc(), states, source, target, command)?)
 }
 
 /// What a refile is to change. It is refused for the name of its source first, then for that of its target, then for the
@@ -169,29 +149,26 @@ fn refile_in_two<D: Disk>(
 pub(crate) fn plan_refile<D: Disk>(
     files: &mut Files<D>,
     states: &States,
-    file: &FileName,
-    path: &Titles,
-    to_file: &FileName,
-    to: &Titles,
-    place: Place,
+    command: &Refile,
 ) -> Result<Plan, RunFault>
     requires between { AreBetweenCommands files.old }
     ensures plan { IfOk result (λ plan. IsPlanFor files.new.names files.new.held plan) }
     ensures plans { (tally : Tally) → D.honest files.new.disk
         → let session = (kept_over D.files states.now files.old tally).session in
-        Plans session (outcome session file.now path.now to_file.now to.now place
-        (text_at session.names session.files file.now)
-        (text_at session.names session.files to_file.now)) result
+        Plans session (outcome session command.now.file command.now.path command.now.to_file
+        command.now.to_path command.now.place
+        (text_at session.names session.files command.now.file)
+        (text_at session.names session.files command.now.to_file)) result
         files.new.held (kept_over D.files states.now files.new tally).session }
     ensures disk { OnlyReads D.steady D.honest D.failures D.files D.moment D.left_since
         files.old files.new result }
 {
-    if !files.has(file) || !files.has(to_file) {
+    if !files.has(&command.file) || !files.has(&command.to_file) {
         return Err(RunFault::Refused(Refusal::NoSuchFile));
     }
-    if file == to_file {
-        refile_in_one(files, states, file, path, to, place)
+    if command.file == command.to_file {
+        refile_in_one(files, states, command)
     } else {
-        refile_in_two(files, states, file, path, to_file, to, place)
+        refile_in_two(files, states, command)
     }
 }

@@ -41,10 +41,7 @@ fn running_in_file<D: Disk>(
         files.old files.new result }
 {
     files.ready(file)?;
-    let Some(held) = files.get(file) else {
-        unreachable!();
-    };
-    let found = running(&outline_of(held, states));
+    let found = running(&outline_of(files.held(file), states));
     files.undo();
     Ok(found)
 }

@@ -37,9 +37,7 @@ fn clocked_in_file<D: Disk>(
         files.old files.new result }
 {
     files.ready(file)?;
-    let Some(held) = files.get(file) else {
-        unreachable!();
-    };
+    let held = files.held(file);
     Ok(clocked(&outline_of(held, states), path.as_slice())?)
 }
 

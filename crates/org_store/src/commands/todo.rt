@@ -12,14 +12,12 @@ ghost use Rattle.org_store.specs.Reading.{OnlyReads};
 ghost use Rattle.org_store.specs.Session.{kept_over};
 ghost use Rattle.org_store.specs.Todo.{PlansState};
 
-use crate::command::{Refusal, RunFault};
+use crate::command::{Refusal, RunFault, Todo};
 use crate::commands::edits::plan_of;
 use crate::commands::outline::outline_of;
 use crate::files::Files;
-use org_disk::{Disk, FileName};
-use org_outline::{States, Titles};
-use org_splice::Bytes;
-use org_stamp::Moment;
+use org_disk::Disk;
+use org_outline::States;
 use org_state::{StateFault, todo};
 use org_texts::{Held, Plan};
 use std::alloc::Global;
@@ -29,23 +27,21 @@ fn plan_state(
     alloc: Global,
     states: &States,
     held: &Held,
-    file: &FileName,
-    path: &Titles,
-    state: &Bytes,
-    moment: Moment,
+    command: &Todo,
 ) -> Result<Option<Plan>, StateFault>
     requires ready { held.now.ready ≡ true }
-    ensures { PlansState file.now held.now.text.bytes
-        (todo states.now path.now state.now moment (tree held.now.text.bytes)) result }
+    ensures { PlansState command.now.file held.now.text.bytes
+        (todo states.now command.now.path command.now.state command.now.moment
+        (tree held.now.text.bytes)) result }
 {
     let edits = todo(
         alloc,
         &outline_of(held, states),
-        path.as_slice(),
-        state.as_slice(),
-        moment,
+        command.path.as_slice(),
+        command.state.as_slice(),
+        command.moment,
     )?;
-    Ok(plan_of(file, edits)?)
+    Ok(plan_of(&command.file, edits)?)
 }
 
 /// What a change of a state is to change; no plan where nothing changes. It is refused for its file first, then for its
@@ -53,28 +49,24 @@ fn plan_state(
 pub(crate) fn plan_todo<D: Disk>(
     files: &mut Files<D>,
     states: &States,
-    file: &FileName,
-    path: &Titles,
-    state: &Bytes,
-    moment: Moment,
+    command: &Todo,
 ) -> Result<Option<Plan>, RunFault>
     requires between { AreBetweenCommands files.old }
     ensures plan { IfOk result (λ plan. ForSome plan
         (λ plan. IsPlanFor files.new.names files.new.held plan)) }
     ensures plans { (tally : Tally) → D.honest files.new.disk
         → let session = (kept_over D.files states.now files.old tally).session in
-        PlansOrStays session (outcome session file.now path.now state.now moment
-        (text_at session.names session.files file.now)) result
+        PlansOrStays session (outcome session command.now.file command.now.path
+        command.now.state command.now.moment
+        (text_at session.names session.files command.now.file)) result
         files.new.held (kept_over D.files states.now files.new tally).session }
     ensures disk { OnlyReads D.steady D.honest D.failures D.files D.moment D.left_since
         files.old files.new result }
 {
-    if !files.has(file) {
+    if !files.has(&command.file) {
         return Err(RunFault::Refused(Refusal::NoSuchFile));
     }
-    files.ready(file)?;
-    let Some(held) = files.get(file) else {
-        unreachable!();
-    };
-    Ok(plan_state(files.alloc(), states, held, file, path, state, moment)?)
+    files.ready(&command.file)?;
+    let held = files.held(&command.file);
+    Ok(plan_state(files.alloc(), states, held, command)?)
 }

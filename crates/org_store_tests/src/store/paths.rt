@@ -3,7 +3,7 @@ use super::{Texts, bytes, capture, file, left_on, now, number_in, run, shows, st
 use org_capture::Target;
 use org_disk::MemoryDisk;
 use org_outline::{Place, Titles};
-use org_store::{Command, Refusal, RunFault, Store};
+use org_store::{Command, Refile, Refusal, RunFault, Store, Todo};
 use std::alloc::Global;
 use std::process::Abort;
 
@@ -19,22 +19,22 @@ fn path(rt: &impl Abort, alloc: Global, titles: &[&str]) -> Titles {
 
 // A refile from a.org into a file.
 fn refile(rt: &impl Abort, alloc: Global, from: &[&str], to_file: &str, to: &[&str]) -> Command {
-    Command::Refile {
+    Command::Refile(Refile {
         file: file(rt, alloc, "a.org"),
         path: path(rt, alloc, from),
         to_file: file(rt, alloc, to_file),
         to_path: path(rt, alloc, to),
         place: Place::Last,
-    }
+    })
 }
 
 fn todo(rt: &impl Abort, alloc: Global) -> Command {
-    Command::Todo {
+    Command::Todo(Todo {
         file: file(rt, alloc, "a.org"),
         path: path(rt, alloc, &[]),
         state: bytes(rt, alloc, b"DONE"),
         moment: now(rt),
-    }
+    })
 }
 
 // Asserts that a command is refused since a heading isn't there, and leaves a.org.

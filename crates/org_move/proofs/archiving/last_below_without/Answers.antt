@@ -1,4 +1,3 @@
-use Rattle.org_outline.specs.Tree.{tree}
 use Rattle.org_move.proofs.Putting.{at_the_new_end}
 use Rattle.org_move.proofs.archiving.last_below_without.Goals as goal
 

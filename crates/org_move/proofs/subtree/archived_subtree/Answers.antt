@@ -1,4 +1,4 @@
-use Rattle.std.proofs.Common.{◌≡◌, ℕ, ap, ◌∙◌}
+use Rattle.std.proofs.Common.{◌≡◌, ap, ◌∙◌}
 use Rattle.org_splice.specs.Lines.{lines_of}
 use Rattle.org_outline.specs.Moves.{IsPrinted}
 use Rattle.org_outline.specs.Tree.{node_at, print_node, tree}

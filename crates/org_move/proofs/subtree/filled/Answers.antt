@@ -29,12 +29,6 @@ shift-requires-then-level-eq0-clause-high c = grind (arith, common_steps)
 pub returns-then-level-eq0 : goal.returns-then-level-eq0
 returns-then-level-eq0 c = grind (arith, common_steps)
 
-pub heading_line-requires : goal.heading_line-requires
-heading_line-requires c = grind (arith, common_steps)
-
-pub returns-in_err-made : goal.returns-in_err-made
-returns-in_err-made c = grind (arith, common_steps)
-
 pub level-requires-2 : goal.level-requires-2
 level-requires-2 c = grind (arith, common_steps)
 
@@ -52,9 +46,6 @@ shift-requires-2-clause-high c = grind (arith, common_steps)
 
 pub returns-in_err-below : goal.returns-in_err-below
 returns-in_err-below c = grind (arith, common_steps)
-
-pub returns-in_err-extend_from_slice : goal.returns-in_err-extend_from_slice
-returns-in_err-extend_from_slice c = grind (arith, common_steps)
 
 pub returns : goal.returns
 returns c = grind (arith, common_steps)

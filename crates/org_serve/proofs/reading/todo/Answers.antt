@@ -8,5 +8,5 @@ pub returns-in_err-moment : goal.returns-in_err-moment
 unfolding todo_of
 returns-in_err-moment c =
     let none : moment_of c.args.when.now ≡ None = sym c.moment.ensures ∙ refused _ _ _ c.in_err-moment.ensures.value in
-    let whole = last_none (file_of c.args.name.now) (path_of c.args.titles.now) (unescaped c.args.state.now) (moment_of c.args.when.now) (λ f p s m. Todo f p s m) none in
+    let whole = last_none (file_of c.args.name.now) (path_of c.args.titles.now) (unescaped c.args.state.now) (moment_of c.args.when.now) (λ f p s m. Todo (record { file = f; path = p; state = s; moment = m })) none in
     search (rules, whole)

@@ -2,4 +2,4 @@ use Rattle.org_store.proofs.ArchivedCounts.{archive_keeps}
 use Rattle.org_store.proofs.laws.archives_keep_counts.Goals as goal
 
 pub returns : goal.returns
-returns c s file path now files apart each named accepts = archive_keeps s apart each file named path now files accepts.1
+returns c s it files apart each named accepts = archive_keeps s apart each it named files accepts.1

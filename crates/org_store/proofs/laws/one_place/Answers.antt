@@ -24,10 +24,10 @@ pub returns-clause-kept : goal.returns-clause-kept
 returns-clause-kept g c = λ given old new commands answers of run whole only. run_keeps old new commands answers (names_apart given old of) of.files only whole run
 
 pub returns-clause-archive : goal.returns-clause-archive
-returns-clause-archive g c = λ given first last file path now answer of sound lists named made.
+returns-clause-archive g c = λ given first last it answer of sound lists named made.
     let d = g.D.Disk in
     let s = first.store.session in
-    archive_moves first last lists (names_apart given s of) file path now named of.files.one_each sound made.1
+    archive_moves first last lists (names_apart given s of) it named of.files.one_each sound made.1
 
 pub returns-clause-moves : goal.returns-clause-moves
 returns-clause-moves g c = λ given first last calls of lists small run only.

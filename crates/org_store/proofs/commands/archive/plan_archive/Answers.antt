@@ -9,10 +9,10 @@ use Rattle.org_store.specs.Keeping.{Plans, Reads, fault_of_move}
 use Rattle.org_store.specs.Outcome.{Outcome, archive, archive_to}
 use Rattle.org_store.specs.Session.{Session, session_over}
 use Rattle.org_store.specs.Step.{Does}
-use Rattle.org_store.proofs.Archives.{held_bytes, is_ready, place_found, place_refused, store_text}
+use Rattle.org_store.proofs.Archives.{held_bytes, place_found, place_refused, store_text}
 use Rattle.org_store.proofs.Held.{none_ready}
 use Rattle.org_store.proofs.InOrder.{none_at}
-use Rattle.org_store.proofs.Plans.{one_name}
+use Rattle.org_store.proofs.Plans.{is_ready, one_name}
 use Rattle.org_store.proofs.Reading.{only_reads_none, only_reads_then}
 use Rattle.org_store.proofs.Sessions.{does_read}
 use Rattle.org_store.proofs.commands.archive.plan_archive.Goals as goal
@@ -22,9 +22,9 @@ returns-then-not-has-clause-plans g c tally honest =
     let a = c.args in
     let files = a.files.now in
     let s = session_over (λ disk. contents (g.D.Disk.files disk)) a.states.now files tally in
-    let missing : is_name files.names a.file.now ≡ false = search rules in
-    let none = none_at (held_over files.held.before (contents (g.D.Disk.files files.disk))) files.names a.file.now missing in
-    (c.requires.between.unbroken, ap (archive s a.file.now a.path.now a.moment) none, refl)
+    let missing : is_name files.names a.command.now.file ≡ false = search rules in
+    let none = none_at (held_over files.held.before (contents (g.D.Disk.files files.disk))) files.names a.command.now.file missing in
+    (c.requires.between.unbroken, ap (archive s a.command.now.file a.command.now.path a.command.now.moment) none, refl)
 
 pub returns-in_err-ready-clause-plans : goal.returns-in_err-ready-clause-plans
 returns-in_err-ready-clause-plans g c tally honest =
@@ -33,7 +33,7 @@ returns-in_err-ready-clause-plans g c tally honest =
     let s = session_over texts a.states.now a.files.now tally in
     let new = session_over texts a.states.now c.ready.new.self tally in
     let fault = c.in_err-ready.field-0.0 in
-    let told = archive s a.file.now a.path.now a.moment (text_at s.names s.files a.file.now) in
+    let told = archive s a.command.now.file a.command.now.path a.command.now.moment (text_at s.names s.files a.command.now.file) in
     let given : c.from_residual.result ≡ Err fault = search rules in
     let reads = subst (λ (r : Result (Unit {0}) RunFault). Reads s r new) c.in_err-ready.was (c.ready.ensures.reads a.states.now tally honest) in
     subst (λ (r : Result Plan RunFault). Plans s told r c.ready.new.self.held new) (sym given) (does_read (Unit {0}) s new told fault c.requires.between.unbroken reads)
@@ -41,7 +41,7 @@ returns-in_err-ready-clause-plans g c tally honest =
 pub find_location-requires : goal.find_location-requires
 find_location-requires g c =
     let held = c.ready.new.self.held in
-    let file = c.args.file.now in
+    let file = c.args.command.now.file in
     let ready : AreReady (file ∷ []) held = c.in_ok-ready.ensures.ready [] (none_ready c.args.files.now.held c.requires.between.begun) in
     is_ready (file ∷ []) held file ready (one_name file)
 
@@ -52,8 +52,8 @@ returns-in_err-to-clause-plans g c tally honest =
     let s = session_over texts a.states.now a.files.now tally in
     let files = c.ready.new.self in
     let new = session_over texts a.states.now files tally in
-    let file = a.file.now in
-    let told = archive s file a.path.now a.moment (text_at s.names s.files file) in
+    let file = a.command.now.file in
+    let told = archive s file a.command.now.path a.command.now.moment (text_at s.names s.files file) in
     let why = c.in_err-to.field-0.0 in
     let given : c.from_residual-in_err-to.result ≡ Err (fault_of_move why) = search rules in
     let read : new ≡ s = c.in_ok-ready.ensures.reads a.states.now tally honest in
@@ -63,7 +63,7 @@ returns-in_err-to-clause-plans g c tally honest =
     let own = store_text texts a.states.now files tally s (file ∷ []) file read ready (one_name file) named in
     let seen = held_bytes files.held file in
     let gives = c.find_location.ensures in
-    let refused = place_refused s file a.path.now a.moment own.0 seen c.find_location.result why c.requires.between.unbroken own.1 own.2 c.in_err-to.was gives in
+    let refused = place_refused s file a.command.now.path a.command.now.moment own.0 seen c.find_location.result why c.requires.between.unbroken own.1 own.2 c.in_err-to.was gives in
     subst (λ (r : Result Plan RunFault). Plans s told r files.held new) (sym given)
     (subst (λ (t : Session). Does s told (Err (fault_of_move why)) t) (sym read) refused)
 
@@ -79,9 +79,9 @@ returns-clause-plans g c tally honest =
     let later = c.plan_archive_to.new.files in
     let one = session_over texts a.states.now files tally in
     let new = session_over texts a.states.now later tally in
-    let file = a.file.now in
+    let file = a.command.now.file in
     let to = c.in_ok-to.to in
-    let told = archive s file a.path.now a.moment (text_at s.names s.files file) in
+    let told = archive s file a.command.now.path a.command.now.moment (text_at s.names s.files file) in
     let read : one ≡ s = c.in_ok-ready.ensures.reads a.states.now tally (c.plan_archive_to.ensures.disk.accounts.was_honest honest) in
     let ready : AreReady (file ∷ []) files.held = c.in_ok-ready.ensures.ready [] (none_ready a.files.now.held c.requires.between.begun) in
     let there : is_name a.files.now.names file ≡ true = search rules in
@@ -89,8 +89,8 @@ returns-clause-plans g c tally honest =
     let own = store_text texts a.states.now files tally s (file ∷ []) file read ready (one_name file) named in
     let seen = held_bytes files.held file in
     let place = c.in_ok-to.ensures in
-    let found = place_found s file a.path.now a.moment own.0 seen to own.1 own.2 place in
-    let plans = subst (λ (t : Session). text_at t.names t.files file ≡ Some own.0 → Plans t (archive_to t file a.path.now a.moment own.0 to (text_at t.names t.files to.file)) c.plan_archive_to.result later.held new) read (c.plan_archive_to.ensures.plans tally own.0 honest) own.1 in
+    let found = place_found s file a.command.now.path a.command.now.moment own.0 seen to own.1 own.2 place in
+    let plans = subst (λ (t : Session). text_at t.names t.files file ≡ Some own.0 → Plans t (archive_to t file a.command.now.path a.command.now.moment own.0 to (text_at t.names t.files to.file)) c.plan_archive_to.result later.held new) read (c.plan_archive_to.ensures.plans tally own.0 honest) own.1 in
     subst (λ (o : Outcome). Plans s o c.plan_archive_to.result later.held new) (sym found) plans
 
 pub returns-clause-disk : goal.returns-clause-disk

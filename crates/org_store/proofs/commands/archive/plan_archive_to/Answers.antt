@@ -11,15 +11,15 @@ use Rattle.org_store.specs.Outcome.{archive_to}
 use Rattle.org_store.specs.Refile.{MakesDocument, MakesDocuments, text_within, texts_across}
 use Rattle.org_store.specs.Session.{Session, session_over}
 use Rattle.org_store.specs.Step.{Does}
-use Rattle.org_store.proofs.Archives.{across_fits, across_is, across_texts, held_bytes, is_ready, no_place, no_text, same_shut, store_text, within_fits, within_is, within_texts}
-use Rattle.org_store.proofs.Plans.{first_name, one_name, second_name}
+use Rattle.org_store.proofs.Archives.{across_fits, across_is, across_texts, held_bytes, no_place, no_text, same_shut, store_text, within_fits, within_is, within_texts}
+use Rattle.org_store.proofs.Plans.{first_name, is_ready, one_name, second_name}
 use Rattle.org_store.proofs.Reading.{only_reads_fault, only_reads_fine, only_reads_none}
 use Rattle.org_store.proofs.Refiles.{move_planned, move_refused}
 use Rattle.org_store.proofs.Sessions.{does_read}
 use Rattle.org_store.proofs.commands.archive.plan_archive_to.Goals as goal
 
 pub plan_within-requires : goal.plan_within-requires
-plan_within-requires g c = is_ready (c.args.file.now ∷ []) c.args.files.now.held c.args.file.now c.requires.ready (one_name c.args.file.now)
+plan_within-requires g c = is_ready (c.args.command.now.file ∷ []) c.args.files.now.held c.args.command.now.file c.requires.ready (one_name c.args.command.now.file)
 
 pub returns-in_err-plan_within-clause-plans : goal.returns-in_err-plan_within-clause-plans
 returns-in_err-plan_within-clause-plans g c tally text honest at =
@@ -27,24 +27,24 @@ returns-in_err-plan_within-clause-plans g c tally text honest at =
     let texts : g.row.D.Denot → Image = λ disk. contents (g.D.Disk.files disk) in
     let files = a.files.now in
     let s = session_over texts a.states.now files tally in
-    let file = a.file.now in
+    let file = a.command.now.file in
     let to = a.to.now in
-    let told = archive_to s file a.path.now a.moment text to (text_at s.names s.files to.file) in
+    let told = archive_to s file a.command.now.path a.command.now.moment text to (text_at s.names s.files to.file) in
     let why = c.in_err-plan_within.field-0.0 in
     let given : c.from_residual.result ≡ Err (fault_of_move why) = search rules in
     let same : file ≡ to.file = search rules in
     let own = store_text texts a.states.now files tally s (file ∷ []) file refl c.requires.ready (one_name file) c.requires.name in
     let seen = held_bytes files.held file in
-    let is = within_is s file a.path.now a.moment text seen to at (same_shut text own.0 seen (sym at ∙ own.1) own.2) same in
+    let is = within_is s file a.command.now.path a.command.now.moment text seen to at (same_shut text own.0 seen (sym at ∙ own.1) own.2) same in
     let gives = c.plan_within.ensures in
-    let refused = move_refused s (text_within file) told (archive_within a.states.now file a.path.now a.moment to (tree seen)) (MakesDocument file seen) c.plan_within.result why c.requires.unbroken is c.in_err-plan_within.was gives in
+    let refused = move_refused s (text_within file) told (archive_within a.states.now file a.command.now.path a.command.now.moment to (tree seen)) (MakesDocument file seen) c.plan_within.result why c.requires.unbroken is c.in_err-plan_within.was gives in
     subst (λ (r : Result Plan RunFault). Plans s told r files.held s) (sym given) refused
 
 pub returns-then-eq-clause-plan : goal.returns-then-eq-clause-plan
 returns-then-eq-clause-plan g c =
     let a = c.args in
     let files = a.files.now in
-    let file = a.file.now in
+    let file = a.command.now.file in
     let to = a.to.now in
     let plan = c.in_ok-plan_within.field-0 in
     let seen = held_bytes files.held file in
@@ -57,16 +57,16 @@ returns-then-eq-clause-plans g c tally text honest at =
     let texts : g.row.D.Denot → Image = λ disk. contents (g.D.Disk.files disk) in
     let files = a.files.now in
     let s = session_over texts a.states.now files tally in
-    let file = a.file.now in
+    let file = a.command.now.file in
     let to = a.to.now in
-    let told = archive_to s file a.path.now a.moment text to (text_at s.names s.files to.file) in
+    let told = archive_to s file a.command.now.path a.command.now.moment text to (text_at s.names s.files to.file) in
     let plan = c.in_ok-plan_within.field-0 in
     let same : file ≡ to.file = search rules in
     let own = store_text texts a.states.now files tally s (file ∷ []) file refl c.requires.ready (one_name file) c.requires.name in
     let seen = held_bytes files.held file in
-    let is = within_is s file a.path.now a.moment text seen to at (same_shut text own.0 seen (sym at ∙ own.1) own.2) same in
+    let is = within_is s file a.command.now.path a.command.now.moment text seen to at (same_shut text own.0 seen (sym at ∙ own.1) own.2) same in
     let made = c.in_ok-plan_within.ensures in (
-      move_planned s (text_within file) told (archive_within a.states.now file a.path.now a.moment to (tree seen)) made.0 (new_texts plan files.held.now) is made.1 (within_texts plan files.held file made.0 made.2 c.requires.ready),
+      move_planned s (text_within file) told (archive_within a.states.now file a.command.now.path a.command.now.moment to (tree seen)) made.0 (new_texts plan files.held.now) is made.1 (within_texts plan files.held file made.0 made.2 c.requires.ready),
       refl,
     )
 
@@ -76,10 +76,10 @@ returns-then-not-has-clause-plans g c tally text honest at =
     let texts : g.row.D.Denot → Image = λ disk. contents (g.D.Disk.files disk) in
     let files = a.files.now in
     let s = session_over texts a.states.now files tally in
-    let file = a.file.now in
+    let file = a.command.now.file in
     let to = a.to.now in
     let missing : is_name files.names to.file ≡ false = search rules in
-    (c.requires.unbroken, no_place s file a.path.now a.moment text to (no_text texts a.states.now files tally s to.file refl missing), refl)
+    (c.requires.unbroken, no_place s file a.command.now.path a.command.now.moment text to (no_text texts a.states.now files tally s to.file refl missing), refl)
 
 pub returns-in_err-ready-clause-plans : goal.returns-in_err-ready-clause-plans
 returns-in_err-ready-clause-plans g c tally text honest at =
@@ -87,9 +87,9 @@ returns-in_err-ready-clause-plans g c tally text honest at =
     let texts : g.row.D.Denot → Image = λ disk. contents (g.D.Disk.files disk) in
     let files = a.files.now in
     let s = session_over texts a.states.now files tally in
-    let file = a.file.now in
+    let file = a.command.now.file in
     let to = a.to.now in
-    let told = archive_to s file a.path.now a.moment text to (text_at s.names s.files to.file) in
+    let told = archive_to s file a.command.now.path a.command.now.moment text to (text_at s.names s.files to.file) in
     let later = c.ready.new.self in
     let new = session_over texts a.states.now later tally in
     let fault = c.in_err-ready.field-0.0 in
@@ -105,7 +105,7 @@ returns-in_err-ready-clause-disk g c =
 pub plan_across-requires-clause-source : goal.plan_across-requires-clause-source
 plan_across-requires-clause-source g c =
     let held = c.ready.new.self.held in
-    let file = c.args.file.now in
+    let file = c.args.command.now.file in
     let to_file = c.file-to_file.result.now in
     let ready : AreReady (to_file ∷ file ∷ []) held = c.in_ok-ready.ensures.ready (file ∷ []) c.requires.ready in
     is_ready (to_file ∷ file ∷ []) held file ready (second_name to_file file)
@@ -113,7 +113,7 @@ plan_across-requires-clause-source g c =
 pub plan_across-requires-clause-target : goal.plan_across-requires-clause-target
 plan_across-requires-clause-target g c =
     let held = c.ready.new.self.held in
-    let file = c.args.file.now in
+    let file = c.args.command.now.file in
     let to_file = c.file-to_file.result.now in
     let ready : AreReady (to_file ∷ file ∷ []) held = c.in_ok-ready.ensures.ready (file ∷ []) c.requires.ready in
     subst (λ (n : List ℕ). IsReady n held) c.file-to_file.ensures (is_ready (to_file ∷ file ∷ []) held to_file ready (first_name to_file (file ∷ [])))
@@ -124,9 +124,9 @@ returns-in_err-plan_across-clause-plans g c tally text honest at =
     let texts : g.row.D.Denot → Image = λ disk. contents (g.D.Disk.files disk) in
     let files = a.files.now in
     let s = session_over texts a.states.now files tally in
-    let file = a.file.now in
+    let file = a.command.now.file in
     let to = a.to.now in
-    let told = archive_to s file a.path.now a.moment text to (text_at s.names s.files to.file) in
+    let told = archive_to s file a.command.now.path a.command.now.moment text to (text_at s.names s.files to.file) in
     let later = c.ready.new.self in
     let new = session_over texts a.states.now later tally in
     let why = c.in_err-plan_across.field-0.0 in
@@ -143,9 +143,9 @@ returns-in_err-plan_across-clause-plans g c tally text honest at =
     let other = store_text texts a.states.now later tally s (to.file ∷ file ∷ []) to.file read both (first_name to.file (file ∷ [])) also in
     let seen = held_bytes later.held file in
     let target = held_bytes later.held to.file in
-    let is = across_is s file a.path.now a.moment text seen other.0 target to other.1 (same_shut text own.0 seen (sym at ∙ own.1) own.2) other.2 apart in
+    let is = across_is s file a.command.now.path a.command.now.moment text seen other.0 target to other.1 (same_shut text own.0 seen (sym at ∙ own.1) own.2) other.2 apart in
     let gives = c.plan_across.ensures in
-    let refused = move_refused s (texts_across file to.file) told (archive_across a.states.now file a.path.now a.moment (tree seen) a.states.now to (tree target)) (MakesDocuments file to.file seen target) c.plan_across.result why
+    let refused = move_refused s (texts_across file to.file) told (archive_across a.states.now file a.command.now.path a.command.now.moment (tree seen) a.states.now to (tree target)) (MakesDocuments file to.file seen target) c.plan_across.result why
     c.requires.unbroken is c.in_err-plan_across.was gives in
     subst (λ (r : Result Plan RunFault). Plans s told r later.held new) (sym given)
     (subst (λ (t : Session). Does s told (Err (fault_of_move why)) t) (sym read) refused)
@@ -158,7 +158,7 @@ returns-clause-plan g c =
     let a = c.args in
     let files = a.files.now in
     let later = c.ready.new.self in
-    let file = a.file.now in
+    let file = a.command.now.file in
     let to = a.to.now in
     let plan = c.in_ok-plan_across.field-0 in
     let both : AreReady (to.file ∷ file ∷ []) later.held = subst (λ (n : List ℕ). AreReady (n ∷ file ∷ []) later.held) c.file-to_file.ensures (c.in_ok-ready.ensures.ready (file ∷ []) c.requires.ready) in
@@ -179,9 +179,9 @@ returns-clause-plans g c tally text honest at =
     let texts : g.row.D.Denot → Image = λ disk. contents (g.D.Disk.files disk) in
     let files = a.files.now in
     let s = session_over texts a.states.now files tally in
-    let file = a.file.now in
+    let file = a.command.now.file in
     let to = a.to.now in
-    let told = archive_to s file a.path.now a.moment text to (text_at s.names s.files to.file) in
+    let told = archive_to s file a.command.now.path a.command.now.moment text to (text_at s.names s.files to.file) in
     let later = c.ready.new.self in
     let new = session_over texts a.states.now later tally in
     let plan = c.in_ok-plan_across.field-0 in
@@ -197,9 +197,9 @@ returns-clause-plans g c tally text honest at =
     let other = store_text texts a.states.now later tally s (to.file ∷ file ∷ []) to.file read both (first_name to.file (file ∷ [])) also in
     let seen = held_bytes later.held file in
     let target = held_bytes later.held to.file in
-    let is = across_is s file a.path.now a.moment text seen other.0 target to other.1 (same_shut text own.0 seen (sym at ∙ own.1) own.2) other.2 apart in
+    let is = across_is s file a.command.now.path a.command.now.moment text seen other.0 target to other.1 (same_shut text own.0 seen (sym at ∙ own.1) own.2) other.2 apart in
     let made = c.in_ok-plan_across.ensures in (
-      move_planned s (texts_across file to.file) told (archive_across a.states.now file a.path.now a.moment (tree seen) a.states.now to (tree target)) made.0 (new_texts plan later.held.now) is made.1
+      move_planned s (texts_across file to.file) told (archive_across a.states.now file a.command.now.path a.command.now.moment (tree seen) a.states.now to (tree target)) made.0 (new_texts plan later.held.now) is made.1
           (across_texts plan later.held file to.file made.0 apart made.2 both),
       read,
     )

@@ -5,6 +5,8 @@ use Rattle.org_store.proofs.commands.capture.new_entry.Goals as goal
 
 pub returns : goal.returns
 returns c =
-    let said = expanded c.args.template.now c.args.moment c.args.initial.now in
-    let is : said ≡ Ok c.as_slice.result.now = c.in_ok-text.ensures ∙ ap (λ (b : List ℕ). Ok b) (sym c.as_slice.ensures.value) in
-    entry_made c.as_slice.result.now said c.entry.result is c.entry.ensures.value
+    let command = c.args.command.now in
+    let said = expanded command.template command.moment command.initial in
+    let told : said ≡ Ok c.in_ok-text.text.items = rw (c.as_slice-template.ensures, c.as_slice.ensures) at c.in_ok-text.ensures in
+    let is : said ≡ Ok c.as_slice-2.result.now = told ∙ ap (λ (b : List ℕ). Ok b) (sym c.as_slice-2.ensures.value) in
+    entry_made c.as_slice-2.result.now said c.entry.result is c.entry.ensures.value

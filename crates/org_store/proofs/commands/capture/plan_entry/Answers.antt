@@ -13,7 +13,7 @@ use Rattle.org_store.specs.Session.{Session, session_over}
 use Rattle.org_store.specs.Step.{Does}
 use Rattle.org_store.proofs.Captures.{target_planned, target_refused}
 use Rattle.org_store.proofs.Held.{none_ready}
-use Rattle.org_store.proofs.Plans.{not_missing, now_held, one_name, one_text, plan_of_one, ready_heads, ready_text, text_held}
+use Rattle.org_store.proofs.Plans.{is_ready, one_name, one_text, plan_of_one, ready_text, text_held}
 use Rattle.org_store.proofs.Sessions.{does_read}
 use Rattle.org_store.proofs.commands.capture.plan_entry.Goals as goal
 
@@ -24,24 +24,17 @@ returns-in_err-ready-clause-plans g c tally node entry honest =
     let s = session_over texts a.states.now a.files.now tally in
     let new = session_over texts a.states.now c.ready.new.self tally in
     let fault = c.in_err-ready.field-0.0 in
-    let told = with_entry s a.file.now a.target.now a.place a.moment (Ok node) (unwrap_or (text_at s.names s.files a.file.now) []) in
+    let told = with_entry s a.command.now.file a.command.now.target a.command.now.place a.command.now.moment (Ok node) (unwrap_or (text_at s.names s.files a.command.now.file) []) in
     let given : c.from_residual.result ≡ Err fault = search rules in
     let reads = subst (λ (r : Result (Unit {0}) RunFault). Reads s r new) c.in_err-ready.was (c.ready.ensures.reads a.states.now tally honest) in
     subst (λ (r : Result Plan RunFault). Plans s told r c.ready.new.self.held new) (sym given) (does_read (Unit {0}) s new told fault c.requires.between.unbroken reads)
 
-pub unreachable-requires : goal.unreachable-requires
-unreachable-requires g c =
+pub held-held-requires : goal.held-held-requires
+held-held-requires g c =
     let held = c.ready.new.self.held in
-    let file = c.args.file.now in
+    let file = c.args.command.now.file in
     let ready : AreReady (file ∷ []) held = c.in_ok-ready.ensures.ready [] (none_ready c.args.files.now.held c.requires.between.begun) in
-    not_missing (λ h. h.now.text) c.get.result (text_of held.now file) c.get.ensures.text (now_held (file ∷ []) held file ready (one_name file)) c.in_default.not-Some
-
-pub plan_insertion-requires-clause-ready : goal.plan_insertion-requires-clause-ready
-plan_insertion-requires-clause-ready g c =
-    let held = c.ready.new.self.held in
-    let file = c.args.file.now in
-    let ready : AreReady (file ∷ []) held = c.in_ok-ready.ensures.ready [] (none_ready c.args.files.now.held c.requires.between.begun) in
-    ready_heads (file ∷ []) held file (λ h. h.now.ready) c.get.result c.in-Some.held ready (one_name file) c.get.ensures.ready c.in-Some.is
+    is_ready (file ∷ []) held file ready (one_name file)
 
 pub returns-in_err-plan_insertion-clause-plans : goal.returns-in_err-plan_insertion-clause-plans
 returns-in_err-plan_insertion-clause-plans g c tally node entry honest =
@@ -50,9 +43,9 @@ returns-in_err-plan_insertion-clause-plans g c tally node entry honest =
     let s = session_over texts a.states.now a.files.now tally in
     let new = session_over texts a.states.now c.ready.new.self tally in
     let held = c.ready.new.self.held in
-    let file = a.file.now in
-    let text = c.in-Some.held.now.text in
-    let said = λ (o : Option (List ℕ)). with_entry s file a.target.now a.place a.moment (Ok node) (unwrap_or o []) in
+    let file = a.command.now.file in
+    let text = c.held-held.result.now.text in
+    let said = λ (o : Option (List ℕ)). with_entry s file a.command.now.target a.command.now.place a.command.now.moment (Ok node) (unwrap_or o []) in
     let why = c.in_err-plan_insertion.field-0.0 in
     let given : c.from_residual-in_err-plan_insertion.result ≡ Err (fault_of_capture why) = search rules in
     let read : new ≡ s = c.in_ok-ready.ensures.reads a.states.now tally honest in
@@ -62,7 +55,7 @@ returns-in_err-plan_insertion-clause-plans g c tally node entry honest =
     let old = ready_text (file ∷ []) held file text ready (one_name file) at in
     let seen : text_at new.names new.files file ≡ Some old.0.bytes = text_held c.ready.new.self.names held (texts c.ready.new.self.disk) file old.0 named old.1 in
     let found : text_at s.names s.files file ≡ Some old.0.bytes = subst (λ (t : Session). text_at t.names t.files file ≡ Some old.0.bytes) read seen in
-    let refused = target_refused s file a.target.now a.place a.moment old.0.bytes text.bytes node old.2 c.plan_insertion.result why c.requires.between.unbroken c.in_err-plan_insertion.was (c.plan_insertion.ensures node entry) in
+    let refused = target_refused s file a.command.now.target a.command.now.place a.command.now.moment old.0.bytes text.bytes node old.2 c.plan_insertion.result why c.requires.between.unbroken c.in_err-plan_insertion.was (c.plan_insertion.ensures node entry) in
     subst (λ (r : Result Plan RunFault). Plans s (said (text_at s.names s.files file)) r held new) (sym given)
     (subst (λ (o : Option (List ℕ)). Does s (said o) (Err (fault_of_capture why)) new) (sym found)
     (subst (λ (t : Session). Does s (said (Some old.0.bytes)) (Err (fault_of_capture why)) t) (sym read) refused))
@@ -71,12 +64,12 @@ pub returns-clause-plan : goal.returns-clause-plan
 returns-clause-plan g c =
     let a = c.args in
     let held = c.ready.new.self.held in
-    let file = a.file.now in
+    let file = a.command.now.file in
     let ready : AreReady (file ∷ []) held = c.in_ok-ready.ensures.ready [] (none_ready a.files.now.held c.requires.between.begun) in
     let named : is_name c.ready.new.self.names file ≡ true = ap (λ (ns : List (List ℕ)). is_name ns file) c.ready.ensures.disk.names ∙ c.requires.file in
-    let at : text_of held.now file ≡ Some c.in-Some.held.now.text = search rules in
+    let at : text_of held.now file ≡ Some c.held-held.result.now.text = search rules in
     let plans = c.in_ok-plan_insertion.ensures c.requires.entry.0 c.requires.entry.1 in
-    plan_of_one c.in_ok-plan_insertion.field-0 c.ready.new.self.names held file c.in-Some.held.now.text (print plans.0) plans.2 plans.3 at plans.4 named ready
+    plan_of_one c.in_ok-plan_insertion.field-0 c.ready.new.self.names held file c.held-held.result.now.text (print plans.0) plans.2 plans.3 at plans.4 named ready
 
 pub returns-clause-plans : goal.returns-clause-plans
 returns-clause-plans g c tally node entry honest =
@@ -85,8 +78,8 @@ returns-clause-plans g c tally node entry honest =
     let s = session_over texts a.states.now a.files.now tally in
     let new = session_over texts a.states.now c.ready.new.self tally in
     let held = c.ready.new.self.held in
-    let file = a.file.now in
-    let text = c.in-Some.held.now.text in
+    let file = a.command.now.file in
+    let text = c.held-held.result.now.text in
     let plan = c.in_ok-plan_insertion.field-0 in
     let read : new ≡ s = c.in_ok-ready.ensures.reads a.states.now tally honest in
     let ready : AreReady (file ∷ []) held = c.in_ok-ready.ensures.ready [] (none_ready a.files.now.held c.requires.between.begun) in
@@ -97,7 +90,7 @@ returns-clause-plans g c tally node entry honest =
     let found : text_at s.names s.files file ≡ Some old.0.bytes = subst (λ (t : Session). text_at t.names t.files file ≡ Some old.0.bytes) read seen in
     let plans = c.in_ok-plan_insertion.ensures node entry in
     let changes = one_text plan held file text (print plans.0) plans.2 plans.3 at plans.4 in (
-      ap (λ (o : Option (List ℕ)). with_entry s file a.target.now a.place a.moment (Ok node) (unwrap_or o [])) found
-          ∙ target_planned s file a.target.now a.place a.moment old.0.bytes text.bytes node old.2 plan (new_texts plan held.now) plans changes,
+      ap (λ (o : Option (List ℕ)). with_entry s file a.command.now.target a.command.now.place a.command.now.moment (Ok node) (unwrap_or o [])) found
+          ∙ target_planned s file a.command.now.target a.command.now.place a.command.now.moment old.0.bytes text.bytes node old.2 plan (new_texts plan held.now) plans changes,
       read,
     )

@@ -14,7 +14,7 @@ use Rattle.org_store.specs.Session.{Kept, session_over}
 use Rattle.org_store.proofs.Acting.{kept_same}
 use Rattle.org_store.proofs.Clocks.{looked_up, not_looked_up, reads_look_up, ready_document}
 use Rattle.org_store.proofs.Held.{none_ready}
-use Rattle.org_store.proofs.Plans.{not_missing, now_held, one_name, ready_heads}
+use Rattle.org_store.proofs.Plans.{is_ready, one_name}
 use Rattle.org_store.proofs.commands.clock.look_up_in.Goals as goal
 
 pub returns-in_err-ready-clause-finds : goal.returns-in_err-ready-clause-finds
@@ -24,24 +24,17 @@ returns-in_err-ready-clause-finds g c tally honest =
     let s = session_over texts a.states.now a.files.now tally in
     let new = session_over texts a.states.now c.ready.new.self tally in
     let fault = c.in_err-ready.field-0.0 in
-    let found = find_path a.states.now (tree (unwrap_or (text_at s.names s.files a.file.now) [])) a.path.now in
+    let found = find_path a.states.now (tree (unwrap_or (text_at s.names s.files a.command.now.file) [])) a.command.now.path in
     let given : c.from_residual.result ≡ Err fault = search rules in
     let reads = subst (λ (r : Result (Unit {0}) RunFault). Reads s r new) c.in_err-ready.was (c.ready.ensures.reads a.states.now tally honest) in
     subst (λ (r : Result (Unit {0}) RunFault). LooksUp s found r new) (sym given) (reads_look_up s new found fault reads)
 
-pub unreachable-requires : goal.unreachable-requires
-unreachable-requires g c =
+pub held-requires : goal.held-requires
+held-requires g c =
     let held = c.ready.new.self.held in
-    let file = c.args.file.now in
+    let file = c.args.command.now.file in
     let ready : AreReady (file ∷ []) held = c.in_ok-ready.ensures.ready [] (none_ready c.args.files.now.held c.requires.between.begun) in
-    not_missing (λ h. h.now.text) c.get.result (text_of held.now file) c.get.ensures.text (now_held (file ∷ []) held file ready (one_name file)) c.in_default.not-Some
-
-pub look_up-requires : goal.look_up-requires
-look_up-requires g c =
-    let held = c.ready.new.self.held in
-    let file = c.args.file.now in
-    let ready : AreReady (file ∷ []) held = c.in_ok-ready.ensures.ready [] (none_ready c.args.files.now.held c.requires.between.begun) in
-    record { ready = ready_heads (file ∷ []) held file (λ h. h.now.ready) c.get.result c.in-Some.held ready (one_name file) c.get.ensures.ready c.in-Some.is }
+    is_ready (file ∷ []) held file ready (one_name file)
 
 pub returns-in_err-look_up-clause-finds : goal.returns-in_err-look_up-clause-finds
 returns-in_err-look_up-clause-finds g c tally honest =
@@ -50,8 +43,8 @@ returns-in_err-look_up-clause-finds g c tally honest =
     let s = session_over texts a.states.now a.files.now tally in
     let new = session_over texts a.states.now c.ready.new.self tally in
     let held = c.ready.new.self.held in
-    let file = a.file.now in
-    let seen = c.in-Some.held.now.text in
+    let file = a.command.now.file in
+    let seen = c.held.result.now.text in
     let why = c.in_err-look_up.field-0.0 in
     let given : c.from_residual-in_err-look_up.result ≡ Err (fault_of_state why) = search rules in
     let read : new ≡ s = c.in_ok-ready.ensures.reads a.states.now tally honest in
@@ -59,10 +52,10 @@ returns-in_err-look_up-clause-finds g c tally honest =
     let named : is_name c.ready.new.self.names file ≡ true = ap (λ (ns : List (List ℕ)). is_name ns file) c.ready.ensures.disk.names ∙ c.requires.file in
     let at : text_of held.now file ≡ Some seen = search rules in
     let document = ready_document texts a.states.now c.ready.new.self tally s (file ∷ []) file seen read ready (one_name file) named at in
-    let none : result_map_both {U = Unit {0}} (λ _. tt) fault_of_path (find_path a.states.now (tree seen.bytes) a.path.now) ≡ Err why = sym c.look_up.ensures ∙ c.in_err-look_up.was in
-    subst (λ (r : Result (Unit {0}) RunFault). LooksUp s (find_path a.states.now (tree (unwrap_or (text_at s.names s.files file) [])) a.path.now) r new) (sym given)
-    (subst (λ (d : Document). LooksUp {A = Unit {0}} s (find_path a.states.now d a.path.now) (Err (fault_of_state why)) new) (sym document)
-    (not_looked_up s new (find_path a.states.now (tree seen.bytes) a.path.now) why none read))
+    let none : result_map_both {U = Unit {0}} (λ _. tt) fault_of_path (find_path a.states.now (tree seen.bytes) a.command.now.path) ≡ Err why = sym c.look_up.ensures ∙ c.in_err-look_up.was in
+    subst (λ (r : Result (Unit {0}) RunFault). LooksUp s (find_path a.states.now (tree (unwrap_or (text_at s.names s.files file) [])) a.command.now.path) r new) (sym given)
+    (subst (λ (d : Document). LooksUp {A = Unit {0}} s (find_path a.states.now d a.command.now.path) (Err (fault_of_state why)) new) (sym document)
+    (not_looked_up s new (find_path a.states.now (tree seen.bytes) a.command.now.path) why none read))
 
 pub returns-clause-finds : goal.returns-clause-finds
 returns-clause-finds g c tally honest =
@@ -72,14 +65,14 @@ returns-clause-finds g c tally honest =
     let texts : g.row.D.Denot → Image = λ disk. contents (g.D.Disk.files disk) in
     let s = session_over texts a.states.now a.files.now tally in
     let held = c.ready.new.self.held in
-    let file = a.file.now in
-    let seen = c.in-Some.held.now.text in
+    let file = a.command.now.file in
+    let seen = c.held.result.now.text in
     let read : session_over texts a.states.now c.ready.new.self tally ≡ s = c.in_ok-ready.ensures.reads a.states.now tally (subst d.honest undone.memory.disk honest) in
     let same = kept_same d.files a.states.now c.ready.new.self c.undo.new.self tally undone.memory undone.before in
     let ready : AreReady (file ∷ []) held = c.in_ok-ready.ensures.ready [] (none_ready a.files.now.held c.requires.between.begun) in
     let named : is_name c.ready.new.self.names file ≡ true = ap (λ (ns : List (List ℕ)). is_name ns file) c.ready.ensures.disk.names ∙ c.requires.file in
     let at : text_of held.now file ≡ Some seen = search rules in
     let document = ready_document texts a.states.now c.ready.new.self tally s (file ∷ []) file seen read ready (one_name file) named at in
-    let found : result_map_both {U = Unit {0}} (λ _. tt) fault_of_path (find_path a.states.now (tree seen.bytes) a.path.now) ≡ Ok tt = sym c.look_up.ensures ∙ c.in_ok-look_up.was in
-    let there = looked_up (find_path a.states.now (tree seen.bytes) a.path.now) found in
-    ((there.0, ap (λ (t : Document). find_path a.states.now t a.path.now) document ∙ there.1), ap (λ (k : Kept g.row.D.Denot). k.session) same ∙ read)
+    let found : result_map_both {U = Unit {0}} (λ _. tt) fault_of_path (find_path a.states.now (tree seen.bytes) a.command.now.path) ≡ Ok tt = sym c.look_up.ensures ∙ c.in_ok-look_up.was in
+    let there = looked_up (find_path a.states.now (tree seen.bytes) a.command.now.path) found in
+    ((there.0, ap (λ (t : Document). find_path a.states.now t a.command.now.path) document ∙ there.1), ap (λ (k : Kept g.row.D.Denot). k.session) same ∙ read)

@@ -14,10 +14,10 @@ returns-in_err-start c =
     let text = a.held.now.text.bytes in
     let why = c.in_err-start.field-0.0 in
     let given : c.from_residual.result ≡ Err why = search rules in
-    let answers = opening_told a.states.now c.outline_of.result.states a.path.now (titles_of c.as_slice.result.now) a.moment text c.outline_of.result.text (Err why)
+    let answers = opening_told a.states.now c.outline_of.result.states a.command.now.path (titles_of c.as_slice.result.now) a.command.now.moment text c.outline_of.result.text (Err why)
     c.outline_of.ensures.1 c.as_slice.ensures c.outline_of.ensures.0 c.in_err-start.ensures in
-    not_moved clock.file a.file.now other text (clock_moved a.moment clock.running (tree other) (tree text) (find_path a.states.now (tree text) a.path.now)) c.from_residual.result why given
-    (move_not_started a.states.now a.path.now a.moment other text clock.running why answers)
+    not_moved clock.file a.command.now.file other text (clock_moved a.command.now.moment clock.running (tree other) (tree text) (find_path a.states.now (tree text) a.command.now.path)) c.from_residual.result why given
+    (move_not_started a.states.now a.command.now.path a.command.now.moment other text clock.running why answers)
 
 pub returns-in_err-stop : goal.returns-in_err-stop
 returns-in_err-stop c =
@@ -28,10 +28,10 @@ returns-in_err-stop c =
     let start = c.in_ok-start.start in
     let why = c.in_err-stop.field-0.0 in
     let given : c.from_residual-in_err-stop.result ≡ Err why = search rules in
-    let answers = opening_told a.states.now c.outline_of.result.states a.path.now (titles_of c.as_slice.result.now) a.moment text c.outline_of.result.text (Ok start)
+    let answers = opening_told a.states.now c.outline_of.result.states a.command.now.path (titles_of c.as_slice.result.now) a.command.now.moment text c.outline_of.result.text (Ok start)
     c.outline_of.ensures.1 c.as_slice.ensures c.outline_of.ensures.0 c.in_ok-start.ensures in
-    not_moved clock.file a.file.now other text (clock_moved a.moment clock.running (tree other) (tree text) (find_path a.states.now (tree text) a.path.now)) c.from_residual-in_err-stop.result why given
-    (move_not_stopped a.states.now a.path.now a.moment other text clock.running start why c.text-2.result.now (c.text-2.ensures.value ∙ c.outline_of-2.ensures.0) answers c.in_err-stop.ensures)
+    not_moved clock.file a.command.now.file other text (clock_moved a.command.now.moment clock.running (tree other) (tree text) (find_path a.states.now (tree text) a.command.now.path)) c.from_residual-in_err-stop.result why given
+    (move_not_stopped a.states.now a.command.now.path a.command.now.moment other text clock.running start why c.text-2.result.now (c.text-2.ensures.value ∙ c.outline_of-2.ensures.0) answers c.in_err-stop.ensures)
 
 pub returns : goal.returns
 returns c =
@@ -41,8 +41,8 @@ returns c =
     let text = a.held.now.text.bytes in
     let start = c.in_ok-start.start in
     let stop = c.in_ok-stop.stop in
-    let answers = opening_told a.states.now c.outline_of.result.states a.path.now (titles_of c.as_slice.result.now) a.moment text c.outline_of.result.text (Ok start)
+    let answers = opening_told a.states.now c.outline_of.result.states a.command.now.path (titles_of c.as_slice.result.now) a.command.now.moment text c.outline_of.result.text (Ok start)
     c.outline_of.ensures.1 c.as_slice.ensures c.outline_of.ensures.0 c.in_ok-start.ensures in
-    move_made a.states.now a.path.now a.moment other text clock.running clock.file a.file.now start stop
+    move_made a.states.now a.command.now.path a.command.now.moment other text clock.running clock.file a.command.now.file start stop
     c.in_ok-plan_of_two.field-0 c.text-2.result.now (c.text-2.ensures.value ∙ c.outline_of-2.ensures.0) answers c.in_ok-stop.ensures
-    (λ new closes opens. two_made clock.file a.file.now other text stop start new c.in_ok-plan_of_two.field-0 c.in_ok-plan_of_two.ensures closes opens)
+    (λ new closes opens. two_made clock.file a.command.now.file other text stop start new c.in_ok-plan_of_two.field-0 c.in_ok-plan_of_two.ensures closes opens)

@@ -12,17 +12,17 @@ returns-in_err-edit c =
     let text = a.held.now.text.bytes in
     let why = c.in_err-edit.field-0.0 in
     let given : c.from_residual.result ≡ Err why = search rules in
-    let answers = opening_told a.states.now c.outline_of.result.states a.path.now (titles_of c.as_slice.result.now) a.moment text c.outline_of.result.text (Err why)
+    let answers = opening_told a.states.now c.outline_of.result.states a.command.now.path (titles_of c.as_slice.result.now) a.command.now.moment text c.outline_of.result.text (Err why)
     c.outline_of.ensures.1 c.as_slice.ensures c.outline_of.ensures.0 c.in_err-edit.ensures in
-    not_planned a.file.now text (clocked_in a.moment None (tree text) (find_path a.states.now (tree text) a.path.now)) c.from_residual.result why given
-    (start_refused a.states.now a.path.now a.moment text why answers)
+    not_planned a.command.now.file text (clocked_in a.command.now.moment None (tree text) (find_path a.states.now (tree text) a.command.now.path)) c.from_residual.result why given
+    (start_refused a.states.now a.command.now.path a.command.now.moment text why answers)
 
 pub returns : goal.returns
 returns c =
     let a = c.args in
     let text = a.held.now.text.bytes in
     let edit = c.in_ok-edit.edit in
-    let answers = opening_told a.states.now c.outline_of.result.states a.path.now (titles_of c.as_slice.result.now) a.moment text c.outline_of.result.text (Ok edit)
+    let answers = opening_told a.states.now c.outline_of.result.states a.command.now.path (titles_of c.as_slice.result.now) a.command.now.moment text c.outline_of.result.text (Ok edit)
     c.outline_of.ensures.1 c.as_slice.ensures c.outline_of.ensures.0 c.in_ok-edit.ensures in
-    let made = start_made a.states.now a.path.now a.moment text edit c.in_ok-plan_of_one.field-0.first.edits.items c.in_ok-plan_of_one.ensures.2 answers in
+    let made = start_made a.states.now a.command.now.path a.command.now.moment text edit c.in_ok-plan_of_one.field-0.first.edits.items c.in_ok-plan_of_one.ensures.2 answers in
     (made.0, made.1, (c.in_ok-plan_of_one.ensures.0, c.in_ok-plan_of_one.ensures.1, made.2))

@@ -10,12 +10,12 @@ returns-in_err-edit c =
     let text = a.held.now.text.bytes in
     let why = c.in_err-edit.field-0.0 in
     let given : c.from_residual.result ≡ Err why = search rules in
-    not_planned a.file.now text (clocked_out a.moment a.running (tree text)) c.from_residual.result why given
-    (stop_refused a.moment text c.text-2.result.now a.running why (c.text-2.ensures.value ∙ c.outline_of.ensures.0) c.in_err-edit.ensures)
+    not_planned a.clock.now.file text (clocked_out a.moment a.clock.now.running (tree text)) c.from_residual.result why given
+    (stop_refused a.moment text c.text-2.result.now a.clock.now.running why (c.text-2.ensures.value ∙ c.outline_of.ensures.0) c.in_err-edit.ensures)
 
 pub returns : goal.returns
 returns c =
     let a = c.args in
     let text = a.held.now.text.bytes in
-    let made = stop_made a.moment text c.text-2.result.now a.running c.in_ok-edit.edit c.in_ok-plan_of_one.field-0.first.edits.items (c.text-2.ensures.value ∙ c.outline_of.ensures.0) c.in_ok-plan_of_one.ensures.2 c.in_ok-edit.ensures in
+    let made = stop_made a.moment text c.text-2.result.now a.clock.now.running c.in_ok-edit.edit c.in_ok-plan_of_one.field-0.first.edits.items (c.text-2.ensures.value ∙ c.outline_of.ensures.0) c.in_ok-plan_of_one.ensures.2 c.in_ok-edit.ensures in
     (made.0, made.1, (c.in_ok-plan_of_one.ensures.0, c.in_ok-plan_of_one.ensures.1, made.2))

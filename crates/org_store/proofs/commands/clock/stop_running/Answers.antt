@@ -14,7 +14,7 @@ use Rattle.org_store.specs.Session.{Session, session_over}
 use Rattle.org_store.specs.Step.{Does}
 use Rattle.org_store.proofs.Clocks.{ready_document, still_runs}
 use Rattle.org_store.proofs.Held.{none_ready}
-use Rattle.org_store.proofs.Plans.{not_missing, now_held, one_name, ready_heads}
+use Rattle.org_store.proofs.Plans.{is_ready, one_name}
 use Rattle.org_store.proofs.Sessions.{does_read}
 use Rattle.org_store.proofs.Todos.{state_fits, state_not_made, state_planned}
 use Rattle.org_store.proofs.commands.clock.stop_running.Goals as goal
@@ -32,25 +32,18 @@ returns-in_err-ready-clause-plans g c tally honest =
     let reads = subst (λ (r : Result (Unit {0}) RunFault). Reads s r new) c.in_err-ready.was (c.ready.ensures.reads a.states.now tally honest) in
     subst (λ (r : Result (Option Plan) RunFault). PlansOrStays s told r c.ready.new.self.held new) (sym given) (does_read (Unit {0}) s new told fault c.requires.between.unbroken reads)
 
-pub unreachable-requires : goal.unreachable-requires
-unreachable-requires g c =
+pub held-held-requires : goal.held-held-requires
+held-held-requires g c =
     let held = c.ready.new.self.held in
     let file = c.args.clock.now.file in
     let ready : AreReady (file ∷ []) held = c.in_ok-ready.ensures.ready [] (none_ready c.args.files.now.held c.requires.between.begun) in
-    not_missing (λ h. h.now.text) c.get.result (text_of held.now file) c.get.ensures.text (now_held (file ∷ []) held file ready (one_name file)) c.in_default.not-Some
-
-pub plan_stop-requires-clause-ready : goal.plan_stop-requires-clause-ready
-plan_stop-requires-clause-ready g c =
-    let held = c.ready.new.self.held in
-    let file = c.args.clock.now.file in
-    let ready : AreReady (file ∷ []) held = c.in_ok-ready.ensures.ready [] (none_ready c.args.files.now.held c.requires.between.begun) in
-    ready_heads (file ∷ []) held file (λ h. h.now.ready) c.get.result c.in-Some.held ready (one_name file) c.get.ensures.ready c.in-Some.is
+    is_ready (file ∷ []) held file ready (one_name file)
 
 pub plan_stop-requires-clause-runs : goal.plan_stop-requires-clause-runs
 plan_stop-requires-clause-runs g c =
     let held = c.ready.new.self.held in
     let file = c.args.clock.now.file in
-    let seen = c.in-Some.held.now.text in
+    let seen = c.held-held.result.now.text in
     let ready : AreReady (file ∷ []) held = c.in_ok-ready.ensures.ready [] (none_ready c.args.files.now.held c.requires.between.begun) in
     let at : text_of held.now file ≡ Some seen = search rules in
     still_runs c.args.files.now.held held (file ∷ []) file c.args.clock.now.running seen c.requires.runs c.ready.ensures.keeps ready (one_name file) at
@@ -63,7 +56,7 @@ returns-in_err-plan_stop-clause-plans g c tally honest =
     let new = session_over texts a.states.now c.ready.new.self tally in
     let held = c.ready.new.self.held in
     let file = a.clock.now.file in
-    let seen = c.in-Some.held.now.text in
+    let seen = c.held-held.result.now.text in
     let said = λ (d : Document). clocked_out a.moment a.clock.now.running d in
     let told = with_state s file (said (tree (unwrap_or (text_at s.names s.files file) []))) in
     let why = c.in_err-plan_stop.field-0.0 in
@@ -82,7 +75,7 @@ returns-clause-plan g c =
     let a = c.args in
     let held = c.ready.new.self.held in
     let file = a.clock.now.file in
-    let seen = c.in-Some.held.now.text in
+    let seen = c.held-held.result.now.text in
     let ready : AreReady (file ∷ []) held = c.in_ok-ready.ensures.ready [] (none_ready a.files.now.held c.requires.between.begun) in
     let named : is_name c.ready.new.self.names file ≡ true = ap (λ (ns : List (List ℕ)). is_name ns file) c.ready.ensures.disk.names ∙ c.requires.file in
     let at : text_of held.now file ≡ Some seen = search rules in
@@ -96,7 +89,7 @@ returns-clause-plans g c tally honest =
     let new = session_over texts a.states.now c.ready.new.self tally in
     let held = c.ready.new.self.held in
     let file = a.clock.now.file in
-    let seen = c.in-Some.held.now.text in
+    let seen = c.held-held.result.now.text in
     let said = λ (d : Document). clocked_out a.moment a.clock.now.running d in
     let told = with_state s file (said (tree (unwrap_or (text_at s.names s.files file) []))) in
     let read : new ≡ s = c.in_ok-ready.ensures.reads a.states.now tally honest in

@@ -17,17 +17,17 @@ returns-then-not-has-clause-plans g c tally honest =
     let files = a.files.now in
     let s = session_over (λ disk. contents (g.D.Disk.files disk)) a.states.now files tally in
     let image = held_over files.held.before (contents (g.D.Disk.files files.disk)) in
-    let source = text_at s.names s.files a.file.now in
-    let target = text_at s.names s.files a.to_file.now in
+    let source = text_at s.names s.files a.command.now.file in
+    let target = text_at s.names s.files a.command.now.to_file in
     elim c.then-not-has.branch [
       | then-not-has-via-then-not-has w ↦
-          let missing : is_name files.names a.file.now ≡ false = search rules in
-          (c.requires.between.unbroken, ap (λ o. refile s a.file.now a.path.now a.to_file.now a.to.now a.place o target) (none_at image files.names a.file.now missing), refl)
+          let missing : is_name files.names a.command.now.file ≡ false = search rules in
+          (c.requires.between.unbroken, ap (λ o. refile s a.command.now.file a.command.now.path a.command.now.to_file a.command.now.to_path a.command.now.place o target) (none_at image files.names a.command.now.file missing), refl)
       | then-not-has-via-else-not-has+then-not-has-2 w ↦
-          let missing : is_name files.names a.to_file.now ≡ false = search rules in (
+          let missing : is_name files.names a.command.now.to_file ≡ false = search rules in (
             c.requires.between.unbroken,
-            ap (λ o. refile s a.file.now a.path.now a.to_file.now a.to.now a.place source o) (none_at image files.names a.to_file.now missing)
-                ∙ no_target s a.file.now a.path.now a.to_file.now a.to.now a.place source,
+            ap (λ o. refile s a.command.now.file a.command.now.path a.command.now.to_file a.command.now.to_path a.command.now.place source o) (none_at image files.names a.command.now.to_file missing)
+                ∙ no_target s a.command.now.file a.command.now.path a.command.now.to_file a.command.now.to_path a.command.now.place source,
             refl,
           )
     ]
@@ -38,8 +38,8 @@ returns-then-eq-clause-plans g c tally honest =
     let texts = λ (disk : g.row.D.Denot). contents (g.D.Disk.files disk) in
     let s = session_over texts a.states.now a.files.now tally in
     let new = session_over texts a.states.now c.refile_in_one.new.files tally in
-    let same : a.file.now ≡ a.to_file.now = search rules in
-    subst (λ (to_file : List ℕ). Plans s (refile s a.file.now a.path.now to_file a.to.now a.place (text_at s.names s.files a.file.now) (text_at s.names s.files to_file)) c.refile_in_one.result c.refile_in_one.new.files.held new) same
+    let same : a.command.now.file ≡ a.command.now.to_file = search rules in
+    subst (λ (to_file : List ℕ). Plans s (refile s a.command.now.file a.command.now.path to_file a.command.now.to_path a.command.now.place (text_at s.names s.files a.command.now.file) (text_at s.names s.files to_file)) c.refile_in_one.result c.refile_in_one.new.files.held new) same
     (c.refile_in_one.ensures.plans tally honest)
 
 pub returns-then-not-has-clause-disk : goal.returns-then-not-has-clause-disk

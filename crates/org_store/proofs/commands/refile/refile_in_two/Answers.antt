@@ -16,7 +16,7 @@ use Rattle.org_store.specs.Refile.{MakesDocuments, texts_across}
 use Rattle.org_store.specs.Session.{Session, session_over}
 use Rattle.org_store.specs.Step.{Does}
 use Rattle.org_store.proofs.Held.{none_ready}
-use Rattle.org_store.proofs.Plans.{first_name, not_missing, now_held, plan_of_two, ready_heads, ready_text, second_name, text_held, two_texts}
+use Rattle.org_store.proofs.Plans.{first_name, is_ready, plan_of_two, ready_text, second_name, text_held, two_texts}
 use Rattle.org_store.proofs.Refiles.{across_is, move_planned, move_refused}
 use Rattle.org_store.proofs.Sessions.{does_read}
 use Rattle.org_store.proofs.commands.refile.refile_in_two.Goals as goal
@@ -28,42 +28,26 @@ returns-in_err-both_ready-clause-plans g c tally honest =
     let s = session_over texts a.states.now a.files.now tally in
     let new = session_over texts a.states.now c.both_ready.new.files tally in
     let fault = c.in_err-both_ready.field-0.0 in
-    let told = refile s a.file.now a.path.now a.to_file.now a.to.now a.place (text_at s.names s.files a.file.now) (text_at s.names s.files a.to_file.now) in
+    let told = refile s a.command.now.file a.command.now.path a.command.now.to_file a.command.now.to_path a.command.now.place (text_at s.names s.files a.command.now.file) (text_at s.names s.files a.command.now.to_file) in
     let given : c.from_residual.result ≡ Err fault = search rules in
     let reads = subst (λ (r : Result (Unit {0}) RunFault). Reads s r new) c.in_err-both_ready.was (c.both_ready.ensures.reads a.states.now tally honest) in
     subst (λ (r : Result Plan RunFault). Plans s told r c.both_ready.new.files.held new) (sym given) (does_read (Unit {0}) s new told fault c.requires.between.unbroken reads)
 
-pub unreachable-requires : goal.unreachable-requires
-unreachable-requires g c =
+pub held-source-requires : goal.held-source-requires
+held-source-requires g c =
     let held = c.both_ready.new.files.held in
-    let file = c.args.file.now in
-    let two = c.args.to_file.now ∷ file ∷ [] in
+    let file = c.args.command.now.file in
+    let two = c.args.command.now.to_file ∷ file ∷ [] in
     let ready : AreReady two held = c.in_ok-both_ready.ensures.ready [] (none_ready c.args.files.now.held c.requires.between.begun) in
-    not_missing (λ h. h.now.text) c.get.result (text_of held.now file) c.get.ensures.text (now_held two held file ready (second_name c.args.to_file.now file)) c.in_default.not-Some
+    is_ready two held file ready (second_name c.args.command.now.to_file file)
 
-pub unreachable-requires-in_default-get : goal.unreachable-requires-in_default-get
-unreachable-requires-in_default-get g c =
+pub held-target-requires : goal.held-target-requires
+held-target-requires g c =
     let held = c.both_ready.new.files.held in
-    let to_file = c.args.to_file.now in
-    let two = to_file ∷ c.args.file.now ∷ [] in
+    let to_file = c.args.command.now.to_file in
+    let two = to_file ∷ c.args.command.now.file ∷ [] in
     let ready : AreReady two held = c.in_ok-both_ready.ensures.ready [] (none_ready c.args.files.now.held c.requires.between.begun) in
-    not_missing (λ h. h.now.text) c.get-2.result (text_of held.now to_file) c.get-2.ensures.text (now_held two held to_file ready (first_name to_file (c.args.file.now ∷ []))) c.in_default-get.not-Some
-
-pub plan_across-requires-clause-source : goal.plan_across-requires-clause-source
-plan_across-requires-clause-source g c =
-    let held = c.both_ready.new.files.held in
-    let file = c.args.file.now in
-    let two = c.args.to_file.now ∷ file ∷ [] in
-    let ready : AreReady two held = c.in_ok-both_ready.ensures.ready [] (none_ready c.args.files.now.held c.requires.between.begun) in
-    ready_heads two held file (λ h. h.now.ready) c.get.result c.in-Some.source ready (second_name c.args.to_file.now file) c.get.ensures.ready c.in-Some.is
-
-pub plan_across-requires-clause-target : goal.plan_across-requires-clause-target
-plan_across-requires-clause-target g c =
-    let held = c.both_ready.new.files.held in
-    let to_file = c.args.to_file.now in
-    let two = to_file ∷ c.args.file.now ∷ [] in
-    let ready : AreReady two held = c.in_ok-both_ready.ensures.ready [] (none_ready c.args.files.now.held c.requires.between.begun) in
-    ready_heads two held to_file (λ h. h.now.ready) c.get-2.result c.in-Some-get.target ready (first_name to_file (c.args.file.now ∷ [])) c.get-2.ensures.ready c.in-Some-get.is
+    is_ready two held to_file ready (first_name to_file (c.args.command.now.file ∷ []))
 
 pub returns-in_err-plan_across-clause-plans : goal.returns-in_err-plan_across-clause-plans
 returns-in_err-plan_across-clause-plans g c tally honest =
@@ -72,14 +56,14 @@ returns-in_err-plan_across-clause-plans g c tally honest =
     let s = session_over texts a.states.now a.files.now tally in
     let new = session_over texts a.states.now c.both_ready.new.files tally in
     let held = c.both_ready.new.files.held in
-    let file = a.file.now in
-    let to_file = a.to_file.now in
+    let file = a.command.now.file in
+    let to_file = a.command.now.to_file in
     let two = to_file ∷ file ∷ [] in
-    let seen = c.in-Some.source.now.text in
-    let found = c.in-Some-get.target.now.text in
+    let seen = c.held-source.result.now.text in
+    let found = c.held-target.result.now.text in
     let text = text_at s.names s.files file in
     let target = text_at s.names s.files to_file in
-    let told = refile s file a.path.now to_file a.to.now a.place text target in
+    let told = refile s file a.command.now.path to_file a.command.now.to_path a.command.now.place text target in
     let why = c.in_err-plan_across.field-0.0 in
     let given : c.from_residual-in_err-plan_across.result ≡ Err (fault_of_move why) = search rules in
     let read : new ≡ s = c.in_ok-both_ready.ensures.reads a.states.now tally honest in
@@ -93,10 +77,10 @@ returns-in_err-plan_across-clause-plans g c tally honest =
     let other = ready_text two held to_file found ready (first_name to_file (file ∷ [])) there in
     let first : text ≡ Some old.0.bytes = subst (λ (t : Session). text_at t.names t.files file ≡ Some old.0.bytes) read (text_held names held (texts c.both_ready.new.files.disk) file old.0 named old.1) in
     let second : target ≡ Some other.0.bytes = subst (λ (t : Session). text_at t.names t.files to_file ≡ Some other.0.bytes) read (text_held names held (texts c.both_ready.new.files.disk) to_file other.0 also other.1) in
-    let is = ap (λ o. refile s file a.path.now to_file a.to.now a.place o target) first
-    ∙ ap (λ o. refile s file a.path.now to_file a.to.now a.place (Some old.0.bytes) o) second
-    ∙ across_is s file a.path.now to_file a.to.now a.place old.0.bytes seen.bytes other.0.bytes found.bytes c.requires.apart old.2 other.2 in
-    let refused = move_refused s (texts_across file to_file) told (refile_across a.states.now a.path.now (tree seen.bytes) a.states.now a.to.now (tree found.bytes) a.place)
+    let is = ap (λ o. refile s file a.command.now.path to_file a.command.now.to_path a.command.now.place o target) first
+    ∙ ap (λ o. refile s file a.command.now.path to_file a.command.now.to_path a.command.now.place (Some old.0.bytes) o) second
+    ∙ across_is s file a.command.now.path to_file a.command.now.to_path a.command.now.place old.0.bytes seen.bytes other.0.bytes found.bytes c.requires.apart old.2 other.2 in
+    let refused = move_refused s (texts_across file to_file) told (refile_across a.states.now a.command.now.path (tree seen.bytes) a.states.now a.command.now.to_path (tree found.bytes) a.command.now.place)
     (MakesDocuments file to_file seen.bytes found.bytes) c.plan_across.result why c.requires.between.unbroken is c.in_err-plan_across.was c.plan_across.ensures in
     subst (λ (r : Result Plan RunFault). Plans s told r held new) (sym given)
     (subst (λ (t : Session). Does s told (Err (fault_of_move why)) t) (sym read) refused)
@@ -105,10 +89,10 @@ pub returns-clause-plan : goal.returns-clause-plan
 returns-clause-plan g c =
     let a = c.args in
     let held = c.both_ready.new.files.held in
-    let file = a.file.now in
-    let to_file = a.to_file.now in
-    let seen = c.in-Some.source.now.text in
-    let found = c.in-Some-get.target.now.text in
+    let file = a.command.now.file in
+    let to_file = a.command.now.to_file in
+    let seen = c.held-source.result.now.text in
+    let found = c.held-target.result.now.text in
     let plan = c.in_ok-plan_across.field-0 in
     let ready : AreReady (to_file ∷ file ∷ []) held = c.in_ok-both_ready.ensures.ready [] (none_ready a.files.now.held c.requires.between.begun) in
     let names = c.both_ready.new.files.names in
@@ -127,14 +111,14 @@ returns-clause-plans g c tally honest =
     let s = session_over texts a.states.now a.files.now tally in
     let new = session_over texts a.states.now c.both_ready.new.files tally in
     let held = c.both_ready.new.files.held in
-    let file = a.file.now in
-    let to_file = a.to_file.now in
+    let file = a.command.now.file in
+    let to_file = a.command.now.to_file in
     let two = to_file ∷ file ∷ [] in
-    let seen = c.in-Some.source.now.text in
-    let found = c.in-Some-get.target.now.text in
+    let seen = c.held-source.result.now.text in
+    let found = c.held-target.result.now.text in
     let text = text_at s.names s.files file in
     let target = text_at s.names s.files to_file in
-    let told = refile s file a.path.now to_file a.to.now a.place text target in
+    let told = refile s file a.command.now.path to_file a.command.now.to_path a.command.now.place text target in
     let plan = c.in_ok-plan_across.field-0 in
     let read : new ≡ s = c.in_ok-both_ready.ensures.reads a.states.now tally honest in
     let ready : AreReady two held = c.in_ok-both_ready.ensures.ready [] (none_ready a.files.now.held c.requires.between.begun) in
@@ -147,12 +131,12 @@ returns-clause-plans g c tally honest =
     let other = ready_text two held to_file found ready (first_name to_file (file ∷ [])) there in
     let first : text ≡ Some old.0.bytes = subst (λ (t : Session). text_at t.names t.files file ≡ Some old.0.bytes) read (text_held names held (texts c.both_ready.new.files.disk) file old.0 named old.1) in
     let second : target ≡ Some other.0.bytes = subst (λ (t : Session). text_at t.names t.files to_file ≡ Some other.0.bytes) read (text_held names held (texts c.both_ready.new.files.disk) to_file other.0 also other.1) in
-    let is = ap (λ o. refile s file a.path.now to_file a.to.now a.place o target) first
-    ∙ ap (λ o. refile s file a.path.now to_file a.to.now a.place (Some old.0.bytes) o) second
-    ∙ across_is s file a.path.now to_file a.to.now a.place old.0.bytes seen.bytes other.0.bytes found.bytes c.requires.apart old.2 other.2 in
+    let is = ap (λ o. refile s file a.command.now.path to_file a.command.now.to_path a.command.now.place o target) first
+    ∙ ap (λ o. refile s file a.command.now.path to_file a.command.now.to_path a.command.now.place (Some old.0.bytes) o) second
+    ∙ across_is s file a.command.now.path to_file a.command.now.to_path a.command.now.place old.0.bytes seen.bytes other.0.bytes found.bytes c.requires.apart old.2 other.2 in
     let made = c.in_ok-plan_across.ensures in
     let more = the_value (λ (second : FileEdits). (second.file ≡ to_file) × AreEdits second.edits.items found.bytes (print made.0.target)) plan.second made.2.2 in
     let changes = two_texts plan more.0 held file to_file seen found (print made.0.source) (print made.0.target) c.requires.apart made.2.0 more.1 more.2.0 at there made.2.1 more.2.1 in (
-      move_planned s (texts_across file to_file) told (refile_across a.states.now a.path.now (tree seen.bytes) a.states.now a.to.now (tree found.bytes) a.place) made.0 (new_texts plan held.now) is made.1 changes,
+      move_planned s (texts_across file to_file) told (refile_across a.states.now a.command.now.path (tree seen.bytes) a.states.now a.command.now.to_path (tree found.bytes) a.command.now.place) made.0 (new_texts plan held.now) is made.1 changes,
       read,
     )

@@ -8,7 +8,7 @@ use Rattle.org_store.specs.Files.{AreReady}
 use Rattle.org_store.specs.Session.{Kept, session_over}
 use Rattle.org_store.proofs.Acting.{kept_same}
 use Rattle.org_store.proofs.Held.{keeps_same, none_ready}
-use Rattle.org_store.proofs.Plans.{not_missing, now_held, one_name, ready_heads}
+use Rattle.org_store.proofs.Plans.{is_ready, one_name}
 use Rattle.org_store.proofs.Running.{runs_ready}
 use Rattle.org_store.proofs.Sessions.{reads_fault}
 use Rattle.org_store.proofs.commands.running.running_in_file.Goals as goal
@@ -21,25 +21,18 @@ returns-in_err-ready-clause-reads g c tally honest =
     reads_fault (session_over texts states c.args.files.now tally) (session_over texts states c.ready.new.self tally) c.ready.result c.from_residual.result c.in_err-ready.field-0.0 c.in_err-ready.was given
     (c.ready.ensures.reads states tally honest)
 
-pub unreachable-requires : goal.unreachable-requires
-unreachable-requires g c =
+pub held-requires : goal.held-requires
+held-requires g c =
     let held = c.ready.new.self.held in
     let file = c.args.file.now in
     let ready : AreReady (file ∷ []) held = c.in_ok-ready.ensures.ready [] (none_ready c.args.files.now.held c.requires.between.begun) in
-    not_missing (λ h. h.now.text) c.get.result (text_of held.now file) c.get.ensures.text (now_held (file ∷ []) held file ready (one_name file)) c.in_default.not-Some
-
-pub outline_of-requires : goal.outline_of-requires
-outline_of-requires g c =
-    let held = c.ready.new.self.held in
-    let file = c.args.file.now in
-    let ready : AreReady (file ∷ []) held = c.in_ok-ready.ensures.ready [] (none_ready c.args.files.now.held c.requires.between.begun) in
-    ready_heads (file ∷ []) held file (λ h. h.now.ready) c.get.result c.in-Some.held ready (one_name file) c.get.ensures.ready c.in-Some.is
+    is_ready (file ∷ []) held file ready (one_name file)
 
 pub returns-clause-runs : goal.returns-clause-runs
 returns-clause-runs g c =
     let held = c.ready.new.self.held in
     let file = c.args.file.now in
-    let seen = c.in-Some.held.now.text in
+    let seen = c.held.result.now.text in
     let ready : AreReady (file ∷ []) held = c.in_ok-ready.ensures.ready [] (none_ready c.args.files.now.held c.requires.between.begun) in
     let at : text_of held.now file ≡ Some seen = search rules in
     let found : running_in (tree seen.bytes) ≡ c.running-found.result = search rules in

@@ -14,7 +14,7 @@ use Rattle.org_store.specs.Outcome.{time}
 use Rattle.org_store.specs.Session.{Session, session_over}
 use Rattle.org_store.specs.Step.{Does}
 use Rattle.org_store.proofs.Held.{none_ready}
-use Rattle.org_store.proofs.Plans.{not_missing, now_held, one_name, ready_heads, ready_text, text_held}
+use Rattle.org_store.proofs.Plans.{is_ready, one_name, ready_text, text_held}
 use Rattle.org_store.proofs.Sessions.{does_read}
 use Rattle.org_store.proofs.Times.{does_refuse, does_tell, time_is}
 use Rattle.org_store.proofs.commands.time.clocked_in_file.Goals as goal
@@ -31,19 +31,12 @@ returns-in_err-ready-clause-does g c tally honest =
     let reads = subst (λ (r : Result (Unit {0}) RunFault). Reads s r new) c.in_err-ready.was (c.ready.ensures.reads a.states.now tally honest) in
     subst (λ (r : Result ℕ RunFault). Does s told (result_map_both Time (λ f. f) r) new) (sym given) (does_read (Unit {0}) s new told fault c.requires.between.unbroken reads)
 
-pub unreachable-requires : goal.unreachable-requires
-unreachable-requires g c =
+pub held-held-requires : goal.held-held-requires
+held-held-requires g c =
     let held = c.ready.new.self.held in
     let file = c.args.file.now in
     let ready : AreReady (file ∷ []) held = c.in_ok-ready.ensures.ready [] (none_ready c.args.files.now.held c.requires.between.begun) in
-    not_missing (λ h. h.now.text) c.get.result (text_of held.now file) c.get.ensures.text (now_held (file ∷ []) held file ready (one_name file)) c.in_default.not-Some
-
-pub outline_of-requires : goal.outline_of-requires
-outline_of-requires g c =
-    let held = c.ready.new.self.held in
-    let file = c.args.file.now in
-    let ready : AreReady (file ∷ []) held = c.in_ok-ready.ensures.ready [] (none_ready c.args.files.now.held c.requires.between.begun) in
-    ready_heads (file ∷ []) held file (λ h. h.now.ready) c.get.result c.in-Some.held ready (one_name file) c.get.ensures.ready c.in-Some.is
+    is_ready (file ∷ []) held file ready (one_name file)
 
 pub returns-in_err-clocked-clause-does : goal.returns-in_err-clocked-clause-does
 returns-in_err-clocked-clause-does g c tally honest =
@@ -53,7 +46,7 @@ returns-in_err-clocked-clause-does g c tally honest =
     let new = session_over texts a.states.now c.ready.new.self tally in
     let held = c.ready.new.self.held in
     let file = a.file.now in
-    let seen = c.in-Some.held.now.text in
+    let seen = c.held-held.result.now.text in
     let text = text_at s.names s.files file in
     let told = time s a.path.now text in
     let why = c.in_err-clocked.field-0.0 in
@@ -77,7 +70,7 @@ returns-clause-does g c tally honest =
     let new = session_over texts a.states.now c.ready.new.self tally in
     let held = c.ready.new.self.held in
     let file = a.file.now in
-    let seen = c.in-Some.held.now.text in
+    let seen = c.held-held.result.now.text in
     let text = text_at s.names s.files file in
     let told = time s a.path.now text in
     let read : new ≡ s = c.in_ok-ready.ensures.reads a.states.now tally honest in

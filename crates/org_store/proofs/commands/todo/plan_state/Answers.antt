@@ -25,16 +25,16 @@ returns-in_err-edits c =
     let a = c.args in
     let why = c.in_err-edits.field-0.0 in
     let given : c.from_residual.result ≡ Err why = search rules in
-    let answers = told a.states.now c.outline_of.result.states a.path.now (titles_of c.as_slice.result.now) a.state.now c.as_slice-2.result.now a.moment a.held.now.text.bytes c.outline_of.result.text (Err why)
+    let answers = told a.states.now c.outline_of.result.states a.command.now.path (titles_of c.as_slice.result.now) a.command.now.state c.as_slice-2.result.now a.command.now.moment a.held.now.text.bytes c.outline_of.result.text (Err why)
     c.outline_of.ensures.1 c.as_slice.ensures c.as_slice-2.ensures c.outline_of.ensures.0 c.in_err-edits.ensures in
-    state_refused a.states.now a.path.now a.state.now a.moment a.held.now.text.bytes a.file.now c.from_residual.result why given answers
+    state_refused a.states.now a.command.now.path a.command.now.state a.command.now.moment a.held.now.text.bytes a.command.now.file c.from_residual.result why given answers
 
 pub returns : goal.returns
 returns c =
     let a = c.args in
     let edits = c.in_ok-edits.edits in
-    let answers = told a.states.now c.outline_of.result.states a.path.now (titles_of c.as_slice.result.now) a.state.now c.as_slice-2.result.now a.moment a.held.now.text.bytes c.outline_of.result.text (Ok edits)
+    let answers = told a.states.now c.outline_of.result.states a.command.now.path (titles_of c.as_slice.result.now) a.command.now.state c.as_slice-2.result.now a.command.now.moment a.held.now.text.bytes c.outline_of.result.text (Ok edits)
     c.outline_of.ensures.1 c.as_slice.ensures c.as_slice-2.ensures c.outline_of.ensures.0 c.in_ok-edits.ensures in
-    plan_made a.file.now a.held.now.text.bytes (todo a.states.now a.path.now a.state.now a.moment (tree a.held.now.text.bytes)) edits.items c.in_ok-plan_of.field-0 c.in_ok-plan_of.ensures.none c.in_ok-plan_of.ensures.some
-    (λ none. state_stays a.states.now a.path.now a.state.now a.moment a.held.now.text.bytes edits none answers)
-    (λ some. state_made a.states.now a.path.now a.state.now a.moment a.held.now.text.bytes edits some answers)
+    plan_made a.command.now.file a.held.now.text.bytes (todo a.states.now a.command.now.path a.command.now.state a.command.now.moment (tree a.held.now.text.bytes)) edits.items c.in_ok-plan_of.field-0 c.in_ok-plan_of.ensures.none c.in_ok-plan_of.ensures.some
+    (λ none. state_stays a.states.now a.command.now.path a.command.now.state a.command.now.moment a.held.now.text.bytes edits none answers)
+    (λ some. state_made a.states.now a.command.now.path a.command.now.state a.command.now.moment a.held.now.text.bytes edits some answers)
