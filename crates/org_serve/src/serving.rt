@@ -137,6 +137,7 @@ fn answer<D: Disk, W: Sink>(
     let read = read_line(alloc, pending);
     pending.clear();
     let answered = answer_read(store, &read, writer);
+    // By name, or all fields of each command would be dropped here, one by one.
     drop(read);
     answered
 }
