@@ -1,113 +1,55 @@
-// Crashes of the disk, and what opening it again finds.
-ghost use Rattle.org_serve.specs.Group.{IsGroup};
-
-use super::{calls_of, image, left_by, run, served, two};
+// Crashes of the disk, and what opening it again finds: the files are as after none of a step's lines, or after the
+// first, and so on.
+use super::steps::{
+    ACROSS, ARCHIVE_WITHIN, BACK, CAPTURES, CLOCK_ELSEWHERE, CLOCK_OUT, IN_AND_OUT, REFILE_WITHIN,
+    REPEATED, Step, THERE_AND_BACK, TO_A_DAY, TO_A_HEAD, TO_ANOTHER_FILE, TO_THE_ARCHIVE,
+    TWO_ARCHIVES, all_of, count_of, files, may_be_done, safe_in,
+};
+use super::{Ended, calls, disk_of, run, served};
+use crate::shared::image;
 use org_disk::{MemoryDisk, Outcome};
 use org_fixtures::OUTCOMES;
 use std::process::Abort;
 
-// Lines: what a.org and b.org hold before them, and what shows of two files answer after none of them, after the first,
-// and so on.
-pub struct Step {
-    pub a: &'static [u8],
-    pub b: &'static [u8],
-    pub lines: &'static [u8],
-    pub shows: &'static [u8],
-    pub shown: &'static [&'static [u8]],
-}
-
-pub const BOTH: &[u8] = b"show\ta.org\nshow\tb.org\n";
-
-// A capture into each of two files.
-pub const CAPTURES: &Step = &Step {
-    a: b"* A\n",
-    b: b"* Z",
-    lines: b"capture\ta.org\ttop\tlast\t2026-07-01 10:00\t* N\t\n\
-        capture\tb.org\ttop\tlast\t2026-07-01 10:00\t* K\t\n",
-    shows: BOTH,
-    shown: &[
-        b"text 4\n* A\n\ntext 3\n* Z\n",
-        b"text 8\n* A\n* N\n\ntext 3\n* Z\n",
-        b"text 8\n* A\n* N\n\ntext 8\n* Z\n* K\n\n",
-    ],
-};
-
-// The first of them, and a show.
-pub const CAPTURE: &[u8] = b"capture\ta.org\ttop\tlast\t2026-07-01 10:00\t* N\t\nshow\ta.org\n";
-
-// The files before a step.
-pub fn files(rt: &(impl Abort + AllocGlobal), step: &Step) -> MemoryDisk {
-    two(rt, step.a, step.b)
-}
-
-// How many lines of the step are done, where the shows answer this.
-fn count_of(step: &Step, shown: &[u8]) -> Option<u64> {
-    for (i, text) in step.shown.iter().enumerate() {
-        if *text == shown {
-            return Some(i as u64);
-        }
-    }
-    None
-}
-
 // How many lines of the step are done in the files of a disk, once it is opened again.
 pub fn done_in(rt: &(impl Abort + AllocGlobal), disk: MemoryDisk, step: &Step) -> u64 {
-    let shown = served(rt, disk, 1, step.shows);
-    match count_of(step, &shown) {
-        Some(count) => count,
-        None => panic!(rt; "the files are as after none of the lines"),
-    }
+    let shown = served(rt, disk, step.shows.as_bytes());
+    count_of(step, &shown).expect(rt, "the files are as after some of the lines")
 }
 
-// How many commands were told to be safe.
-pub fn safe_in(written: &[u8]) -> u64 {
-    if written.ends_with(b"safe 2\n") {
-        2
-    } else if written.starts_with(b"ok 1\nsafe 1\n") {
-        1
-    } else {
-        0
-    }
+// In how many ways a disk can crash, of which each of so many calls has seven.
+pub fn ways(calls: u64) -> u64 {
+    calls.saturating_mul(7)
 }
 
-// How many lines the step has.
-fn all_of(step: &Step) -> u64 {
-    step.shown.len().saturating_sub(1) as u64
+// The call of such a way, and what is left of it.
+pub fn way(number: u64) -> (u64, Outcome) {
+    (number / 7 + 1, OUTCOMES[(number % 7) as usize])
 }
 
-// So many lines of the step may be done: those that were told to be safe, or with these a whole group or all.
-pub fn may_be_done(step: &Step, group: u32, safe: u64, done: u64) -> bool {
-    let all = all_of(step);
-    done == safe || done == safe.saturating_add(u64::from(group)).min(all)
-}
-
-// How many commands were told to be safe as these lines were served, and what a crash at this call of the disk leaves.
-pub fn crashed(
+// Serves these lines over a disk that crashes at this call.
+fn serve_crashing(
     rt: &(impl Abort + AllocGlobal),
     disk: MemoryDisk,
     group: u32,
-    lines: &[u8],
+    lines: &str,
     at: (u64, Outcome),
-) -> (u64, MemoryDisk)
-    requires { IsGroup group }
-{
-    let (call, outcome) = at;
+) -> Ended {
     let mut disk = disk;
-    disk.crash_at(call, outcome);
-    let ended = run(rt, disk, group, lines);
-    let crashed = (safe_in(&ended.written), image(rt, &ended.disk));
-    drop(ended);
-    crashed
+    disk.crash_at(at.0, at.1);
+    run(rt, disk, group, lines.as_bytes())
 }
 
 // What a crash at this call of the disk leaves, as these lines are served in groups of one.
 pub fn left(
     rt: &(impl Abort + AllocGlobal),
     disk: MemoryDisk,
-    lines: &[u8],
+    lines: &str,
     at: (u64, Outcome),
 ) -> MemoryDisk {
-    let (_, left) = crashed(rt, disk, 1, lines, at);
+    let crashed = disk_of(serve_crashing(rt, disk, 1, lines, at));
+    let left = image(rt, &crashed);
+    drop(crashed);
     left
 }
 
@@ -118,14 +60,7 @@ pub fn done_stopped(
     outcome: Outcome,
     step: &Step,
 ) -> u64 {
-    done_in(rt, left(rt, disk, b"", (1, outcome)), step)
-}
-
-// How many calls of the disk it takes to serve these lines.
-pub fn calls(rt: &(impl Abort + AllocGlobal), disk: MemoryDisk, group: u32, lines: &[u8]) -> u64
-    requires { IsGroup group }
-{
-    calls_of(left_by(rt, disk, group, lines))
+    done_in(rt, left(rt, disk, "", (1, outcome)), step)
 }
 
 // How many calls an opening takes over what a disk left.
@@ -133,32 +68,21 @@ pub fn calls_of_opening(rt: &(impl Abort + AllocGlobal), disk: &MemoryDisk) -> u
     calls(rt, image(rt, disk), 1, b"")
 }
 
-// A crash at this call of an opening leaves what the disk recovered to.
-fn crash_opening(
-    rt: &(impl Abort + AllocGlobal),
-    disk: &MemoryDisk,
-    call: u64,
-    step: &Step,
-    done: u64,
-) {
-    for outcome in &OUTCOMES {
-        let again = done_in(rt, left(rt, image(rt, disk), b"", (call, *outcome)), step);
-        assert!(rt; again == done, "opening stopped at {call}");
-    }
-}
-
+// A crash at each call of an opening leaves what the disk recovered to.
 fn crash_each_opening(rt: &(impl Abort + AllocGlobal), disk: &MemoryDisk, step: &Step, done: u64) {
-    let opening = calls_of_opening(rt, disk);
-    for call in 0..opening {
-        crash_opening(rt, disk, call + 1, step, done);
+    for number in 0..ways(calls_of_opening(rt, disk)) {
+        let at = way(number);
+        let again = done_in(rt, left(rt, image(rt, disk), "", at), step);
+        assert!(rt; again == done, "opening stopped at {}", at.0);
     }
 }
 
 // A crash at this call leaves the files as after so many of the lines, and opening them again may be stopped in turn.
-fn crash_at(rt: &(impl Abort + AllocGlobal), group: u32, step: &Step, at: (u64, Outcome))
-    requires { IsGroup group }
-{
-    let (safe, left) = crashed(rt, files(rt, step), group, step.lines, at);
+fn crash_at(rt: &(impl Abort + AllocGlobal), group: u32, step: &Step, at: (u64, Outcome)) {
+    let ended = serve_crashing(rt, files(rt, step), group, step.lines, at);
+    let safe = safe_in(&ended.written);
+    let left = image(rt, &ended.disk);
+    drop(ended);
     let done = done_in(rt, image(rt, &left), step);
     assert!(rt;
         may_be_done(step, group, safe, done),
@@ -169,38 +93,67 @@ fn crash_at(rt: &(impl Abort + AllocGlobal), group: u32, step: &Step, at: (u64, 
     drop(left);
 }
 
-fn crash_in_each_way(rt: &(impl Abort + AllocGlobal), group: u32, step: &Step, call: u64)
-    requires { IsGroup group }
-{
-    for outcome in &OUTCOMES {
-        crash_at(rt, group, step, (call, *outcome));
-    }
-}
-
-// Where no call is stopped all lines are done.
-fn crash_at_every_call(rt: &(impl Abort + AllocGlobal), group: u32, step: &Step)
-    requires { IsGroup group }
-{
-    let disk = left_by(rt, files(rt, step), group, step.lines);
-    let all = disk.calls();
-    for call in 0..all {
-        crash_in_each_way(rt, group, step, call + 1);
+// Crashes at each call. Where no call is stopped all lines are done.
+fn crash_at_every_call(rt: &(impl Abort + AllocGlobal), group: u32, step: &Step) {
+    let disk = disk_of(run(rt, files(rt, step), group, step.lines.as_bytes()));
+    for number in 0..ways(disk.calls()) {
+        crash_at(rt, group, step, way(number));
     }
     assert!(rt; done_in(rt, disk, step) == all_of(step));
 }
 
-// Each step crashes at every call, its lines settled in groups of this size.
-pub fn crash_each(rt: &(impl Abort + AllocGlobal), rows: &[(u32, &Step)]) {
+// Each step crashes at every call, its lines settled in groups of this size. A group that isn't full is settled at the
+// end of the input.
+fn crash_each(rt: &(impl Abort + AllocGlobal), rows: &[(u32, &Step)]) {
     for (group, step) in rows {
-        assert!(rt; *group > 0 && *group <= 1_000);
         crash_at_every_call(rt, *group, step);
     }
 }
 
-// A group of three is settled at the end of the input.
-const CRASHED: &[(u32, &Step)] = &[(1, CAPTURES), (2, CAPTURES), (3, CAPTURES)];
+const CAPTURED: &[(u32, &Step)] = &[(1, CAPTURES), (2, CAPTURES), (3, CAPTURES)];
 
 #[test]
 fn captures_crashed(rt: HostRuntime) {
-    crash_each(&rt, CRASHED);
+    crash_each(&rt, CAPTURED);
+}
+
+const MOVED: &[(u32, &Step)] = &[
+    (1, ACROSS),
+    (1, BACK),
+    (1, REFILE_WITHIN),
+    (2, THERE_AND_BACK),
+    (3, ACROSS),
+    (1, TO_A_HEAD),
+    (1, TO_A_DAY),
+];
+
+#[test]
+fn moves_crashed(rt: HostRuntime) {
+    crash_each(&rt, MOVED);
+}
+
+const ARCHIVED: &[(u32, &Step)] = &[
+    (1, TO_THE_ARCHIVE),
+    (1, TO_ANOTHER_FILE),
+    (1, ARCHIVE_WITHIN),
+    (2, TWO_ARCHIVES),
+    (3, TO_THE_ARCHIVE),
+];
+
+#[test]
+fn archives_crashed(rt: HostRuntime) {
+    crash_each(&rt, ARCHIVED);
+}
+
+const CLOCKED: &[(u32, &Step)] = &[
+    (1, CLOCK_ELSEWHERE),
+    (2, IN_AND_OUT),
+    (3, CLOCK_ELSEWHERE),
+    (1, CLOCK_OUT),
+    (1, REPEATED),
+];
+
+#[test]
+fn clocks_and_a_repetition_crashed(rt: HostRuntime) {
+    crash_each(&rt, CLOCKED);
 }

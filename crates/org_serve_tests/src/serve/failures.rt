@@ -1,17 +1,28 @@
 // Calls of the disk that fail.
-ghost use Rattle.org_serve.specs.Group.{IsGroup};
-
-use super::crashes::{
-    CAPTURE, CAPTURES, Step, calls, done_in, done_stopped, files, may_be_done, safe_in,
+use super::crashes::{done_in, done_stopped};
+use super::steps::{
+    ACROSS, ARCHIVE_WITHIN, CAPTURES, CLOCK_ELSEWHERE, FIRST, NOTHING, REFILE_WITHIN, REPEATED,
+    Step, TO_A_DAY, TO_A_HEAD, TO_THE_ARCHIVE, files, may_be_done, safe_in,
 };
-use super::{Ended, disk_of, image, must, run};
-use org_disk::Outcome;
+use super::{Ended, calls, disk_of, is_refused, run};
+use crate::shared::{image, must};
+use org_disk::MemoryDisk;
 use org_fixtures::OUTCOMES;
 use org_serve::ServeEnd;
-use org_store::OpenFault;
 use std::alloc::Global;
 use std::process::Abort;
 use std::test::Fail;
+
+// In groups of which size the lines of a step are settled; the step, and lines that follow it; how many calls all these
+// make behind the opening; and what is told where one of these fails, one of two.
+type Failed = (u32, &'static Step, &'static str, u64, [&'static str; 2]);
+
+// The lines of a step, and those that follow.
+fn joined(alloc: Global, step: &Step, behind: &str) -> Result<Vec<u8>, Fail> {
+    let mut lines = step.lines.as_bytes().to_vec(alloc)?;
+    lines.extend_from_slice(behind.as_bytes())?;
+    Ok(lines)
+}
 
 // How serving these lines ends over the files before a step, where this call of the disk fails.
 fn serve_failing(
@@ -20,168 +31,130 @@ fn serve_failing(
     step: &Step,
     lines: &[u8],
     call: u64,
-) -> Ended
-    requires { IsGroup group }
-{
+) -> Ended {
     let mut disk = files(rt, step);
     disk.fail_at(call);
     run(rt, disk, group, lines)
 }
 
-fn is_one_of(written: &[u8], told: &[&[u8]]) -> bool {
-    for text in told {
-        if *text == written {
-            return true;
-        }
-    }
-    false
+// Whether a line was told that the disk failed, and each later one that the store is broken.
+fn is_told(ended: &Ended, told: &[&str; 2]) -> bool {
+    let written = ended.written.as_slice();
+    matches!(&ended.end, Ok(ServeEnd::Device))
+        && (written == told[0].as_bytes() || written == told[1].as_bytes())
 }
 
-// Where this call fails the opening is refused, and the files are as they were.
-fn refuse_at(rt: &(impl Abort + AllocGlobal), group: u32, step: &Step, lines: &[u8], call: u64)
-    requires { IsGroup group }
-{
-    let Ended { written, end, disk } = serve_failing(rt, group, step, lines, call);
+// Where this call of an opening fails it is refused, and the files are as they were; where a later one fails, so many
+// lines of the step are done as may be.
+fn fail_at(rt: &(impl Abort + AllocGlobal), row: &Failed, lines: &[u8], call: u64, opening: u64) {
+    let (group, step, _, _, told) = row;
+    let ended = serve_failing(rt, *group, step, lines, call);
+    let (is_right, most) = if call <= opening {
+        (is_refused(&ended), 0)
+    } else {
+        (is_told(&ended, told), *group)
+    };
+    let safe = safe_in(&ended.written);
+    let done = done_in(rt, disk_of(ended), step);
     assert!(rt;
-        matches!(end, Err(OpenFault::Device)) && written.is_empty(),
-        "after {call}"
-    );
-    assert!(rt; done_in(rt, disk, step) == 0, "after {call}");
-}
-
-// Where this call fails one of these is told: a line is told that the disk failed, and each later one that the store
-// is broken. So many lines of the step are done then.
-fn fail_at(
-    rt: &(impl Abort + AllocGlobal),
-    group: u32,
-    step: &Step,
-    lines: &[u8],
-    call: u64,
-    told: &[&[u8]],
-) -> u64
-    requires { IsGroup group }
-{
-    let Ended { written, end, disk } = serve_failing(rt, group, step, lines, call);
-    assert!(rt;
-        matches!(end, Ok(ServeEnd::Device)) && is_one_of(&written, told),
-        "after {call}"
-    );
-    let done = done_in(rt, disk, step);
-    assert!(rt;
-        may_be_done(step, group, safe_in(&written), done),
+        is_right && may_be_done(step, most, safe, done),
         "{done} after {call}"
     );
-    done
 }
 
-// Each call fails in turn; so many are made behind the opening.
-fn fail_at_every_call(
-    rt: &(impl Abort + AllocGlobal),
-    group: u32,
-    step: &Step,
-    lines: &[u8],
-    wanted: u64,
-    told: &[&[u8]],
-)
-    requires { IsGroup group }
-{
-    let opening = calls(rt, files(rt, step), group, b"");
-    let all = calls(rt, files(rt, step), group, lines);
+// Each call fails in turn.
+fn fail_at_every_call(rt: &(impl Abort + AllocGlobal), row: &Failed) {
+    let (group, step, behind, wanted, _) = row;
+    let lines = must(rt, joined(rt.alloc(), step, behind));
+    let opening = calls(rt, files(rt, step), *group, b"");
+    let all = calls(rt, files(rt, step), *group, &lines);
     assert!(rt;
-        all.saturating_sub(opening) == wanted,
+        all.saturating_sub(opening) == *wanted,
         "{all} behind {opening}"
     );
     for call in 0..all {
-        if call < opening {
-            refuse_at(rt, group, step, lines, call + 1);
-        } else {
-            fail_at(rt, group, step, lines, call + 1, told);
-        }
+        fail_at(rt, row, &lines, call + 1, opening);
     }
 }
 
-// The lines of a step, and a settling, which meets the disk only where something is left to settle.
-fn with_settling(alloc: Global, step: &Step) -> Result<Vec<u8>, Fail> {
-    let mut lines = step.lines.to_vec(alloc)?;
-    lines.extend_from_slice(b"settle\n")?;
-    Ok(lines)
-}
+const TOLD: [&str; 2] = [
+    "fault Device\nfault Broken\nfault Broken\n",
+    "ok 1\nsafe 1\nfault Device\nfault Broken\n",
+];
 
-// Each step fails at every call, of which so many are made behind the opening. The command is told that the disk
-// failed, and a settling that the store is broken.
-pub fn fail_each(rt: &(impl Abort + AllocGlobal), rows: &[(&Step, u64)]) {
-    for (step, wanted) in rows {
-        let lines = must(rt, with_settling(rt.alloc(), step));
-        fail_at_every_call(
-            rt,
-            1,
-            step,
-            &lines,
-            *wanted,
-            &[b"fault Device\nfault Broken\n"],
-        );
-    }
-}
+const TOLD_OF_A_GROUP: [&str; 2] = [
+    "fault Device\nfault Broken\nfault Broken\n",
+    "ok 1\nfault Device\nfault Broken\n",
+];
 
-// The two captures, and a show.
-const THREE: &[u8] = b"capture\ta.org\ttop\tlast\t2026-07-01 10:00\t* N\t\n\
-    capture\tb.org\ttop\tlast\t2026-07-01 10:00\t* K\t\nshow\ta.org\n";
+const TOLD_OF_A_SHOW: [&str; 2] = [
+    "fault Device\nfault Broken\nfault Broken\nrefused 20 BadLine\n",
+    "ok 1\nsafe 1\nfault Device\nfault Broken\nrefused 20 BadLine\n",
+];
 
-const TOLD: &[&[u8]] = &[
-    b"fault Device\nfault Broken\nfault Broken\n",
-    b"ok 1\nsafe 1\nfault Device\nfault Broken\n",
+// A settling meets the disk only where something is left to settle.
+const SETTLED: [&str; 2] = [
+    "fault Device\nfault Broken\n",
+    "fault Device\nfault Broken\n",
+];
+
+const FAILED: &[Failed] = &[
+    (1, CAPTURES, "show\ta.org\n", 22, TOLD),
+    (2, CAPTURES, "show\ta.org\n", 16, TOLD_OF_A_GROUP),
+    // a show of a file that isn't held reads it
+    (
+        1,
+        FIRST,
+        "show\tb.org\nshow\ta.org\nnothing\n",
+        13,
+        TOLD_OF_A_SHOW,
+    ),
+    // nothing is pending on a fresh store
+    (1, NOTHING, "settle\n", 0, SETTLED),
+    // Each file is asked for its length and read; the record and the open gate are written with a sync each; each file's
+    // patch is written, of which the source's has no bytes, and it is asked for its length; the source is cut; both are
+    // synced, and the gate is closed with a sync.
+    (1, ACROSS, "settle\n", 17, SETTLED),
+    (1, REFILE_WITHIN, "settle\n", 11, SETTLED),
+    // the made headings and the entry are one insertion
+    (1, TO_A_HEAD, "settle\n", 11, SETTLED),
+    (1, TO_A_DAY, "settle\n", 11, SETTLED),
+    (1, TO_THE_ARCHIVE, "settle\n", 17, SETTLED),
+    (1, ARCHIVE_WITHIN, "settle\n", 11, SETTLED),
+    // The files up to that of the clock that runs, three, are asked for their length and read. Of the two that change each
+    // is written in one place, and none is cut.
+    (1, CLOCK_ELSEWHERE, "settle\n", 18, SETTLED),
+    // The file is written in two places, at its keyword and from its planning line on: one write more than a refile within
+    // it takes.
+    (1, REPEATED, "settle\n", 12, SETTLED),
 ];
 
 #[test]
 fn each_failed_call(rt: HostRuntime) {
-    fail_at_every_call(&rt, 1, CAPTURES, THREE, 22, TOLD);
+    for row in FAILED {
+        fail_at_every_call(&rt, row);
+    }
 }
 
-const TOLD_OF_A_GROUP: &[&[u8]] = &[
-    b"fault Device\nfault Broken\nfault Broken\n",
-    b"ok 1\nfault Device\nfault Broken\n",
-];
-
-#[test]
-fn each_failed_call_of_a_group(rt: HostRuntime) {
-    fail_at_every_call(&rt, 2, CAPTURES, THREE, 16, TOLD_OF_A_GROUP);
-}
-
-// A capture, a show of another file, and what follows.
-const SHOWS: &[u8] =
-    b"capture\ta.org\ttop\tlast\t2026-07-01 10:00\t* N\t\nshow\tb.org\nshow\ta.org\nnothing\n";
-
-// A show of a file that isn't held reads it.
-#[test]
-fn a_show_that_fails(rt: HostRuntime) {
-    let call = calls(&rt, files(&rt, CAPTURES), 1, CAPTURE).saturating_add(1);
-    let told: &[&[u8]] = &[b"ok 1\nsafe 1\nfault Device\nfault Broken\nrefused 20 BadLine\n"];
-    assert!(rt; fail_at(&rt, 1, CAPTURES, SHOWS, call, told) == 1);
-}
+// The first of the captures, and a show.
+pub const CAPTURE: &str = "capture\ta.org\ttop\tlast\t2026-07-01 10:00\t* N\t\nshow\ta.org\n";
 
 // The call of a capture that syncs the open gate.
 const GATE_SYNC: u64 = 6;
 
-// How many of the captures are in what a crash leaves, once this call failed in a capture.
-fn done_in_image(rt: &(impl Abort + AllocGlobal), call: u64) -> u64 {
-    let disk = disk_of(serve_failing(rt, 1, CAPTURES, CAPTURE, call));
-    let image = image(rt, &disk);
-    drop(disk);
-    done_in(rt, image, CAPTURES)
-}
-
-// The same once the next call was stopped.
-fn done_in_stopped(rt: &(impl Abort + AllocGlobal), call: u64, outcome: Outcome) -> u64 {
-    let disk = disk_of(serve_failing(rt, 1, CAPTURES, CAPTURE, call));
-    done_stopped(rt, disk, outcome, CAPTURES)
+// The disk once the sync of the open gate failed in a capture.
+fn gate_unsynced(rt: &(impl Abort + AllocGlobal)) -> MemoryDisk {
+    let call = calls(rt, files(rt, CAPTURES), 1, b"").saturating_add(GATE_SYNC);
+    disk_of(serve_failing(rt, 1, CAPTURES, CAPTURE.as_bytes(), call))
 }
 
 // Once the gate was written, the capture may be done or not, in every image.
 #[test]
 fn the_sync_behind_the_gate_fails(rt: HostRuntime) {
-    let call = calls(&rt, files(&rt, CAPTURES), 1, b"").saturating_add(GATE_SYNC);
-    assert!(rt; done_in_image(&rt, call) == 1);
+    let disk = gate_unsynced(&rt);
+    assert!(rt; done_in(&rt, image(&rt, &disk), CAPTURES) == 1);
+    drop(disk);
     for outcome in &OUTCOMES {
-        assert!(rt; done_in_stopped(&rt, call, *outcome) <= 1);
+        assert!(rt; done_stopped(&rt, gate_unsynced(&rt), *outcome, CAPTURES) <= 1);
     }
 }

@@ -1,19 +1,17 @@
 // Input that comes in pieces, and pipes that fail.
-ghost use Rattle.org_serve.specs.Group.{IsGroup};
-
-use super::{must, serve_over, served, two};
+use super::serve_over;
+use crate::shared::two;
 use org_disk::MemoryDisk;
 use org_serve::{PipeFault, ServeEnd, Served, Sink, Source};
 use std::alloc::Global;
 use std::process::Abort;
-use std::test::Fail;
 
 // Gives its bytes in pieces of this size, and fails at one of its reads, if that is not 0.
 #[derive(Drop)]
 pub struct Pieces<'a> {
     bytes: &'a [u8],
     size: usize,
-    pub fails_at: u64,
+    fails_at: u64,
     reads: u64,
     failures: u64,
 }
@@ -41,11 +39,11 @@ impl Source for Pieces<'_> {
     }
 }
 
-pub fn in_pieces(bytes: &[u8], size: usize) -> Pieces<'_> {
+pub fn in_pieces(text: &str, size: usize, fails_at: u64) -> Pieces<'_> {
     Pieces {
-        bytes,
+        bytes: text.as_bytes(),
         size,
-        fails_at: 0,
+        fails_at,
         reads: 0,
         failures: 0,
     }
@@ -61,10 +59,10 @@ pub struct Page {
 }
 
 impl Page {
-    pub fn new(alloc: Global) -> Page {
+    pub fn new(alloc: Global, fails_at: u64) -> Page {
         Page {
             bytes: Vec::new(alloc),
-            fails_at: 0,
+            fails_at,
             calls: 0,
             failures: 0,
         }
@@ -105,9 +103,7 @@ pub fn pipe(
     reader: &mut Pieces<'_>,
     writer: &mut Page,
     turns: u64,
-) -> (ServeEnd, MemoryDisk)
-    requires { IsGroup group }
-{
+) -> (ServeEnd, MemoryDisk) {
     let Served { disk, end } = serve_over(rt, disk, group, reader, writer, turns);
     match end {
         Ok(end) => (end, disk),
@@ -122,78 +118,64 @@ fn end_of(
     writer: &mut Page,
     turns: u64,
 ) -> ServeEnd {
-    let (end, disk) = pipe(rt, two(rt, b"", b"* Z\n"), 1, reader, writer, turns);
+    let (end, disk) = pipe(rt, two(rt, "", "* Z\n"), 1, reader, writer, turns);
     drop(disk);
     end
 }
 
-// Many lines, longer than one piece, and the start of one more.
-fn many_lines(alloc: Global) -> Result<Vec<u8>, Fail> {
-    let mut input = Vec::new(alloc);
-    for _ in 0..100 {
-        input.extend_from_slice(
-            b"capture\ta.org\ttop\tlast\t2026-07-01 10:00\t* N\t\nshow\tb.org\n\n",
-        )?;
+// An input, the size of its pieces, which of its reads fails, if it isn't 0, and in how many turns it is served; how that
+// ends, how many reads were made, and what was written. Where a read fails, or the turns are used up, the lines that were
+// read whole are answered.
+type Read = (&'static str, usize, u64, u64, ServeEnd, u64, &'static str);
+
+const READ: &[Read] = &[
+    (
+        "show\tb.org\nshow\ta.org",
+        11,
+        3,
+        100,
+        ServeEnd::Read,
+        3,
+        "text 4\n* Z\n\n",
+    ),
+    (
+        "show\tb.org\nshow\ta.org",
+        11,
+        0,
+        2,
+        ServeEnd::Read,
+        2,
+        "text 4\n* Z\n\n",
+    ),
+    ("show\ta.org\n", 100, 0, 0, ServeEnd::Read, 0, ""),
+    ("show\ta.org\n", 100, 0, 1, ServeEnd::Read, 1, "text 0\n\n"),
+    ("show\ta.org\n", 100, 0, 2, ServeEnd::End, 2, "text 0\n\n"),
+];
+
+// Whether the row's input is read so.
+fn is_read(rt: &(impl Abort + AllocGlobal), row: &Read) -> bool {
+    let (input, size, fails_at, turns, wanted, reads, written) = row;
+    let mut reader = in_pieces(input, *size, *fails_at);
+    let mut writer = Page::new(rt.alloc(), 0);
+    let end = end_of(rt, &mut reader, &mut writer, *turns);
+    end == *wanted && reader.reads == *reads && writer.bytes.as_slice() == written.as_bytes()
+}
+
+#[test]
+fn a_read_that_fails_and_turns_that_end(rt: HostRuntime) {
+    for row in READ {
+        assert!(rt; is_read(&rt, row), "turns {}", row.3);
     }
-    input.extend_from_slice(b"show\ta.org\nshow\ta.org")?;
-    Ok(input)
-}
-
-// In pieces of this size the input is answered so.
-fn answers_pieces(rt: &(impl Abort + AllocGlobal), size: usize, input: &[u8], wanted: &[u8]) {
-    let mut writer = Page::new(rt.alloc());
-    let end = end_of(rt, &mut in_pieces(input, size), &mut writer, 100_000);
-    assert!(rt; end == ServeEnd::End && writer.bytes.as_slice() == wanted);
-}
-
-#[test]
-fn any_pieces_give_one_output(rt: HostRuntime) {
-    let input = must(&rt, many_lines(rt.alloc()));
-    let wanted = served(&rt, two(&rt, b"", b"* Z\n"), 1, &input);
-    assert!(rt; wanted.starts_with(b"ok 1\nsafe 1\ntext 4\n* Z\n\nrefused 20 BadLine\nok 2\n"));
-    assert!(rt; wanted.ends_with(b"* N\n* N\n\nrefused 20 BadLine\n"));
-    for size in [1, 7, 4095, 4096, 4097] {
-        answers_pieces(&rt, size, &input, &wanted);
-    }
-}
-
-// Where a read fails, or the turns are used up, the lines that were read whole are answered.
-fn ends_by_reading(rt: &(impl Abort + AllocGlobal), fails_at: u64, turns: u64) {
-    let mut reader = in_pieces(b"show\tb.org\nshow\ta.org", 11);
-    reader.fails_at = fails_at;
-    let mut writer = Page::new(rt.alloc());
-    let end = end_of(rt, &mut reader, &mut writer, turns);
-    assert!(rt; end == ServeEnd::Read && writer.bytes.as_slice() == b"text 4\n* Z\n\n".as_slice());
-}
-
-#[test]
-fn a_read_that_fails(rt: HostRuntime) {
-    ends_by_reading(&rt, 3, 100);
-    ends_by_reading(&rt, 0, 2);
-}
-
-// An input of one piece, served in so many turns, ends so.
-fn ends_in(rt: &(impl Abort + AllocGlobal), turns: u64, wanted: ServeEnd) {
-    let mut reader = in_pieces(b"show\ta.org\n", 100);
-    let end = end_of(rt, &mut reader, &mut Page::new(rt.alloc()), turns);
-    assert!(rt; end == wanted && reader.reads == turns);
-}
-
-#[test]
-fn turns(rt: HostRuntime) {
-    ends_in(&rt, 0, ServeEnd::Read);
-    ends_in(&rt, 1, ServeEnd::Read);
-    ends_in(&rt, 2, ServeEnd::End);
 }
 
 // How serving ends where this call of the writer fails, if it isn't 0, and what was written by then.
 fn written_until(rt: &(impl Abort + AllocGlobal), fails_at: u64) -> (ServeEnd, Vec<u8>) {
     let mut reader = in_pieces(
-        b"show\tb.org\ncapture\ta.org\ttop\tlast\t2026-07-01 10:00\t* N\t\n\nshow\ta.org",
+        "show\tb.org\ncapture\ta.org\ttop\tlast\t2026-07-01 10:00\t* N\t\n\nshow\ta.org",
         4096,
+        0,
     );
-    let mut writer = Page::new(rt.alloc());
-    writer.fails_at = fails_at;
+    let mut writer = Page::new(rt.alloc(), fails_at);
     (end_of(rt, &mut reader, &mut writer, 100), writer.bytes)
 }
 

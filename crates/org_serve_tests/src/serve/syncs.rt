@@ -1,8 +1,10 @@
 // Files that were written and not synced, and a store that syncs them before it is opened.
-use super::{Ended, calls_of, disk_of, image, must, run_synced, served, two};
+use super::crashes::{way, ways};
+use super::{Ended, is_refused, served, setup};
+use crate::shared::{image, must, two};
 use org_disk::{Disk, MemoryDisk, Outcome};
-use org_fixtures::{OUTCOMES, file_name};
-use org_store::OpenFault;
+use org_fixtures::file_name;
+use org_serve::{Counted, Served, serve_synced};
 use std::alloc::Global;
 use std::process::Abort;
 use std::test::Fail;
@@ -10,7 +12,7 @@ use std::test::Fail;
 // The files of the store: three names, their archive files, and the journal.
 const FILES: u64 = 7;
 
-const CAPTURE: &[u8] = b"capture\tb.org\ttop\tlast\t2026-07-01 10:00\t* K\t\n";
+const CAPTURE: &str = "capture\tb.org\ttop\tlast\t2026-07-01 10:00\t* K\t\n";
 
 const SHOW: &[u8] = b"show\ta.org\nshow\tb.org\n";
 
@@ -20,14 +22,28 @@ fn write_anew(alloc: Global, disk: &mut MemoryDisk) -> Result<(), Fail> {
 }
 
 fn unsynced(rt: &(impl Abort + AllocGlobal)) -> MemoryDisk {
-    let mut disk = two(rt, b"* A\n", b"* Z");
+    let mut disk = two(rt, "* A\n", "* Z");
     must(rt, write_anew(rt.alloc(), &mut disk));
     disk
 }
 
-// What the files of what a crash leaves read as.
-fn shown(rt: &(impl Abort + AllocGlobal), disk: &MemoryDisk) -> Vec<u8> {
-    served(rt, image(rt, disk), 1, SHOW)
+// Serves the capture in groups of one over a disk whose files are synced first.
+fn run_synced(rt: &(impl Abort + AllocGlobal), disk: MemoryDisk) -> Ended {
+    let mut reader = Counted::new(CAPTURE.as_bytes());
+    let mut writer = Counted::new(Vec::new(rt.alloc()));
+    let Served { disk, end } = serve_synced(
+        rt.alloc(),
+        disk,
+        setup(rt, 1),
+        &mut reader,
+        &mut writer,
+        10_000_000,
+    );
+    Ended {
+        written: writer.into_inner(),
+        end,
+        disk,
+    }
 }
 
 // A crash may take what wasn't synced until its file is synced, which is the first call; nothing takes it after that.
@@ -40,24 +56,31 @@ fn is_right(call: u64, written: &[u8], shown: &[u8]) -> bool {
     (call == 1 || is_kept) && is_b_whole && (!is_safe || is_captured)
 }
 
-// A run over them that is stopped at this call.
+// A run over a disk that is stopped or fails at this call, of which what a crash leaves is right: whether it was opened.
+fn is_opened(rt: &(impl Abort + AllocGlobal), disk: MemoryDisk, call: u64) -> bool {
+    let ended = run_synced(rt, disk);
+    let shown = served(rt, image(rt, &ended.disk), SHOW);
+    assert!(rt; is_right(call, &ended.written, &shown), "after {call}");
+    let is_opened = !is_refused(&ended);
+    drop(ended);
+    is_opened
+}
+
 fn crash_at(rt: &(impl Abort + AllocGlobal), call: u64, outcome: Outcome) {
     let mut disk = unsynced(rt);
     disk.crash_at(call, outcome);
-    let ended = run_synced(rt, disk, CAPTURE);
-    let shown = shown(rt, &ended.disk);
-    assert!(rt; is_right(call, &ended.written, &shown), "after {call}");
-    drop(ended);
+    is_opened(rt, disk, call);
 }
 
 #[test]
 fn crashed_over_files_that_were_not_synced(rt: HostRuntime) {
-    let all = calls_of(disk_of(run_synced(&rt, unsynced(&rt), CAPTURE)));
-    for outcome in &OUTCOMES {
-        // the write that wasn't synced is the first call of the disk
-        for call in 1..all {
-            crash_at(&rt, call, *outcome);
-        }
+    let ended = run_synced(&rt, unsynced(&rt));
+    let all = ended.disk.calls();
+    drop(ended);
+    // the write that wasn't synced is the first call of the disk
+    for number in 0..ways(all.saturating_sub(1)) {
+        let (call, outcome) = way(number);
+        crash_at(&rt, call, outcome);
     }
 }
 
@@ -65,11 +88,7 @@ fn crashed_over_files_that_were_not_synced(rt: HostRuntime) {
 fn fail_at(rt: &(impl Abort + AllocGlobal), call: u64) {
     let mut disk = unsynced(rt);
     disk.fail_at(call);
-    let Ended { written, end, disk } = run_synced(rt, disk, CAPTURE);
-    assert!(rt; matches!(end, Err(OpenFault::Device)) && written.is_empty());
-    let is_kept = shown(rt, &disk).starts_with(b"text 8\n* A\n* B\n\n");
-    drop(disk);
-    assert!(rt; call == 1 || is_kept);
+    assert!(rt; !is_opened(rt, disk, call));
 }
 
 #[test]

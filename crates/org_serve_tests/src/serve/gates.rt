@@ -1,0 +1,110 @@
+// The gate of a journal, as a crash leaves it.
+use super::crashes::{calls_of_opening, done_in, left, way, ways};
+use super::steps::{FIRST, Step, TO_THE_ARCHIVE, files};
+use super::{calls, disk_of, run};
+use crate::shared::{image, must};
+use org_disk::{MemoryDisk, Outcome};
+use org_fixtures::{OUTCOMES, bytes_of, disk_with, file_name};
+use std::alloc::Global;
+use std::process::Abort;
+use std::test::Fail;
+
+// A capture reads a length and a text, and writes its record; then its fifth call opens the gate.
+const RECORD: u64 = 3;
+
+const GATE: u64 = 5;
+
+// An archive asks both files for their length and reads them, though the archive file isn't there; the record is written
+// and synced, and the gate is the seventh call.
+const ARCHIVE_GATE: u64 = 7;
+
+// Behind the gate's sync the source's patch is written, and it is asked for its length and cut; then the archive file's.
+const ARCHIVE_FILE: u64 = 12;
+
+// What a crash at this call behind the opening leaves, as the lines of a step are served.
+fn left_behind(
+    rt: &(impl Abort + AllocGlobal),
+    step: &Step,
+    call: u64,
+    outcome: Outcome,
+) -> MemoryDisk {
+    let call = calls(rt, files(rt, step), 1, b"").saturating_add(call);
+    left(rt, files(rt, step), step.lines, (call, outcome))
+}
+
+// A step of one line, a call, what of it goes out, and whether the line is done then.
+const AT_THE_GATE: &[(&Step, u64, Outcome, bool)] = &[
+    (FIRST, GATE, Outcome::Fill(1), true),
+    (FIRST, GATE, Outcome::Fill(0x55), false),
+    (TO_THE_ARCHIVE, ARCHIVE_GATE, Outcome::Fill(1), true),
+    (TO_THE_ARCHIVE, ARCHIVE_GATE, Outcome::Fill(0x55), false),
+    (TO_THE_ARCHIVE, ARCHIVE_GATE, Outcome::None, false),
+    (TO_THE_ARCHIVE, ARCHIVE_FILE, Outcome::None, true),
+    (TO_THE_ARCHIVE, ARCHIVE_FILE, Outcome::Front(1), true),
+    (TO_THE_ARCHIVE, ARCHIVE_FILE, Outcome::Fill(0), true),
+];
+
+#[test]
+fn the_gate_decides(rt: HostRuntime) {
+    for (step, call, outcome, wanted) in AT_THE_GATE {
+        let done = done_in(&rt, left_behind(&rt, step, *call, *outcome), step);
+        assert!(rt; done == u64::from(*wanted), "crashed at {call}");
+    }
+}
+
+fn journal_of(alloc: Global, disk: &mut MemoryDisk) -> Result<Vec<u8>, Fail> {
+    bytes_of(alloc, disk, &file_name(alloc, "orgstore.journal")?)
+}
+
+// Whether the gate of a disk's journal is this byte.
+fn has_gate(rt: &(impl Abort + AllocGlobal), disk: MemoryDisk, gate: u8) -> bool {
+    let mut disk = disk;
+    let journal = must(rt, journal_of(rt.alloc(), &mut disk));
+    drop(disk);
+    journal.first() == Some(&gate)
+}
+
+#[test]
+fn the_gate_goes_out(rt: HostRuntime) {
+    assert!(rt; has_gate(&rt, left_behind(&rt, FIRST, GATE, Outcome::Fill(1)), 1));
+}
+
+// Whether the gate is another byte than 0 and 1 once a disk was opened.
+fn keeps_gate(rt: &(impl Abort + AllocGlobal), disk: MemoryDisk) -> bool {
+    has_gate(rt, disk_of(run(rt, disk, 1, b"")), 0x55)
+}
+
+// A byte that closes the gate is left alone, also where its opening is stopped.
+fn leave_gate_alone(rt: &(impl Abort + AllocGlobal), disk: MemoryDisk) {
+    for number in 0..ways(calls_of_opening(rt, &disk)) {
+        assert!(rt; keeps_gate(rt, left(rt, image(rt, &disk), "", way(number))));
+    }
+    assert!(rt; keeps_gate(rt, disk));
+}
+
+#[test]
+fn another_byte_goes_out(rt: HostRuntime) {
+    for (step, call) in [(FIRST, GATE), (TO_THE_ARCHIVE, ARCHIVE_GATE)] {
+        leave_gate_alone(&rt, left_behind(&rt, step, call, Outcome::Fill(0x55)));
+    }
+}
+
+// The files before a capture, and a journal of one byte that reads as an open gate.
+fn with_journal(rt: &(impl Abort + AllocGlobal)) -> MemoryDisk {
+    let files: &[(&str, &[u8])] = &[
+        ("a.org", b"* A\n"),
+        ("b.org", b"* Z"),
+        ("orgstore.journal", b"\x01"),
+    ];
+    must(rt, disk_with(rt.alloc(), files))
+}
+
+// It has no record.
+#[test]
+fn a_journal_of_one_byte(rt: HostRuntime) {
+    let call = calls(&rt, with_journal(&rt), 1, b"").saturating_add(RECORD);
+    for outcome in &OUTCOMES {
+        let left = left(&rt, with_journal(&rt), FIRST.lines, (call, *outcome));
+        assert!(rt; done_in(&rt, left, FIRST) == 0);
+    }
+}

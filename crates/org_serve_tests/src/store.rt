@@ -1,0 +1,41 @@
+// A store over a disk in memory.
+//
+// What owns a store or a command drops it by name: left to the end of a function, each of its parts is dropped there,
+// which the function's proof would have to follow.
+mod asking;
+mod asks;
+mod crashes;
+mod failures;
+
+use crate::shared::{must, two};
+use org_disk::MemoryDisk;
+use org_fixtures::org_names;
+use org_outline::States;
+use org_store::{OpenRefused, Store};
+use std::process::Abort;
+
+// A store over the files of these names on a disk, or why it wasn't opened.
+fn opened(
+    rt: &(impl Abort + AllocGlobal),
+    disk: MemoryDisk,
+    names: &[&str],
+) -> Result<Store<MemoryDisk>, OpenRefused<MemoryDisk>> {
+    let names = must(rt, org_names(rt.alloc(), names));
+    let states = States::new(rt.alloc(), &["TODO"], &["DONE"]).expect(rt, "states");
+    Store::open(rt.alloc(), disk, names, states)
+}
+
+fn open(rt: &(impl Abort + AllocGlobal), disk: MemoryDisk) -> Store<MemoryDisk> {
+    match opened(rt, disk, &["b.org", "a.org"]) {
+        Ok(store) => store,
+        Err(_) => panic!(rt; "not opened"),
+    }
+}
+
+// How many calls of the disk an opening makes.
+fn calls_of_opening(rt: &(impl Abort + AllocGlobal)) -> u64 {
+    let disk = open(rt, two(rt, "* A\n", "")).into_disk();
+    let calls = disk.calls();
+    drop(disk);
+    calls
+}

@@ -1,0 +1,143 @@
+// What a store is asked, and what it answers.
+use crate::shared::must;
+use org_capture::Target;
+use org_disk::{FileName, MemoryDisk};
+use org_fixtures::file_name;
+use org_outline::{Place, Titles};
+use org_splice::Bytes;
+use org_stamp::Moment;
+use org_store::{Capture, Command, Refile, Reply, RunFault, Store, Todo};
+use std::process::Abort;
+
+// A path is that of one heading of this title, or for an empty one that of no titles, which no line can name.
+type Path = &'static str;
+
+// A command.
+pub enum Ask {
+    // the file, and the template of what is captured at its end
+    Capture(&'static str, &'static str),
+    // the template of what is captured into a.org below the heading at a path
+    CaptureBelow(Path, &'static str),
+    // the path in a.org, the file that its subtree goes to, and the path there
+    Refile(Path, &'static str, Path),
+    // the path in a.org of what turns DONE
+    Todo(Path),
+    Show(&'static str),
+    Settle,
+}
+
+// What it is answered.
+pub enum Answer {
+    Done(u64),
+    Safe(u64),
+    Text(&'static str),
+    Fault(RunFault),
+}
+
+fn file(rt: &(impl Abort + AllocGlobal), name: &str) -> FileName {
+    must(rt, file_name(rt.alloc(), name))
+}
+
+fn bytes(rt: &(impl Abort + AllocGlobal), text: &str) -> Bytes {
+    Bytes::new(text.as_bytes().to_vec(rt.alloc()).expect(rt, "memory"))
+}
+
+// 2026-07-01 10:00.
+fn now(rt: &impl Abort) -> Moment {
+    Moment::new(2026, 7, 1, 10, 0).expect(rt, "a moment")
+}
+
+fn path(rt: &(impl Abort + AllocGlobal), title: &str) -> Titles {
+    let mut path = Vec::new(rt.alloc());
+    if !title.is_empty() {
+        let title = title.as_bytes().to_vec(rt.alloc()).expect(rt, "memory");
+        path.push(title).expect(rt, "memory");
+    }
+    Titles::new(path)
+}
+
+fn capture(rt: &(impl Abort + AllocGlobal), name: &str, target: Target, template: &str) -> Command {
+    Command::Capture(Capture {
+        file: file(rt, name),
+        target,
+        place: Place::Last,
+        moment: now(rt),
+        template: bytes(rt, template),
+        initial: bytes(rt, ""),
+    })
+}
+
+fn refile(rt: &(impl Abort + AllocGlobal), from: &str, to_file: &str, to: &str) -> Command {
+    Command::Refile(Refile {
+        file: file(rt, "a.org"),
+        path: path(rt, from),
+        to_file: file(rt, to_file),
+        to_path: path(rt, to),
+        place: Place::Last,
+    })
+}
+
+fn todo(rt: &(impl Abort + AllocGlobal), title: &str) -> Command {
+    Command::Todo(Todo {
+        file: file(rt, "a.org"),
+        path: path(rt, title),
+        state: bytes(rt, "DONE"),
+        moment: now(rt),
+    })
+}
+
+fn command(rt: &(impl Abort + AllocGlobal), ask: &Ask) -> Command {
+    match ask {
+        Ask::Capture(name, template) => capture(rt, name, Target::Top, template),
+        Ask::CaptureBelow(title, template) => {
+            capture(rt, "a.org", Target::Path(path(rt, title)), template)
+        }
+        Ask::Refile(from, to_file, to) => refile(rt, from, to_file, to),
+        Ask::Todo(title) => todo(rt, title),
+        Ask::Show(name) => Command::Show {
+            file: file(rt, name),
+        },
+        Ask::Settle => Command::Settle,
+    }
+}
+
+// What a command is answered, of which nothing is said here: the proofs of what calls this have less to carry on.
+fn run(store: &mut Store<MemoryDisk>, command: &Command) -> Result<Reply, RunFault> {
+    store.run(command)
+}
+
+fn is_answer(given: Result<Reply, RunFault>, wanted: &Answer) -> bool {
+    match wanted {
+        Answer::Done(number) => matches!(&given, Ok(Reply::Done(given)) if given == number),
+        Answer::Safe(number) => matches!(&given, Ok(Reply::Safe(given)) if given == number),
+        Answer::Text(text) => {
+            matches!(&given, Ok(Reply::Text(given)) if given.as_slice() == text.as_bytes())
+        }
+        Answer::Fault(fault) => matches!(&given, Err(given) if given == fault),
+    }
+}
+
+// Whether a command is answered so.
+pub fn answers(
+    rt: &(impl Abort + AllocGlobal),
+    store: &mut Store<MemoryDisk>,
+    ask: &Ask,
+    wanted: &Answer,
+) -> bool {
+    let command = command(rt, ask);
+    let given = run(store, &command);
+    drop(command);
+    is_answer(given, wanted)
+}
+
+// A command, what it is answered, and how many commands are accepted then and how many of them on the disk.
+pub type Row = (Ask, Answer, u64, u64);
+
+// Asks each of them in turn.
+pub fn ask_each(rt: &(impl Abort + AllocGlobal), store: &mut Store<MemoryDisk>, rows: &[Row]) {
+    for (i, (ask, wanted, accepted, acknowledged)) in rows.iter().enumerate() {
+        assert!(rt; answers(rt, store, ask, wanted), "ask {i}");
+        let counts = (store.accepted(), store.acknowledged());
+        assert!(rt; counts == (*accepted, *acknowledged), "ask {i}");
+    }
+}
