@@ -1,4 +1,4 @@
-//! Tests of org_store and of org_serve. This crate has nothing else.
+//! Tests of the crates that know a store: org_store and org_serve. This crate has nothing else.
 #![tactic(auto)]
 
 #[cfg(test)]

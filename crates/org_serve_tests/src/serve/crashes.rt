@@ -53,14 +53,14 @@ pub fn left(
     left
 }
 
-// How many lines of the step are done, once the next call of the disk was stopped.
+// How many lines of the step are done, once this call of an opening of the disk was stopped.
 pub fn done_stopped(
     rt: &(impl Abort + AllocGlobal),
     disk: MemoryDisk,
-    outcome: Outcome,
+    at: (u64, Outcome),
     step: &Step,
 ) -> u64 {
-    done_in(rt, left(rt, disk, "", (1, outcome)), step)
+    done_in(rt, left(rt, disk, "", at), step)
 }
 
 // How many calls an opening takes over what a disk left.
@@ -71,42 +71,41 @@ pub fn calls_of_opening(rt: &(impl Abort + AllocGlobal), disk: &MemoryDisk) -> u
 // A crash at each call of an opening leaves what the disk recovered to.
 fn crash_each_opening(rt: &(impl Abort + AllocGlobal), disk: &MemoryDisk, step: &Step, done: u64) {
     for number in 0..ways(calls_of_opening(rt, disk)) {
-        let at = way(number);
-        let again = done_in(rt, left(rt, image(rt, disk), "", at), step);
-        assert!(rt; again == done, "opening stopped at {}", at.0);
+        let again = done_stopped(rt, image(rt, disk), way(number), step);
+        assert!(rt; again == done, "opening stopped in way {number}");
     }
 }
 
-// A crash at this call leaves the files as after so many of the lines, and opening them again may be stopped in turn.
-fn crash_at(rt: &(impl Abort + AllocGlobal), group: u32, step: &Step, at: (u64, Outcome)) {
-    let ended = serve_crashing(rt, files(rt, step), group, step.lines, at);
+// A crash in this way leaves the files as after so many of the lines, and opening them again may be stopped in turn.
+fn crash(rt: &(impl Abort + AllocGlobal), group: u32, step: &Step, number: u64) {
+    let ended = serve_crashing(rt, files(rt, step), group, step.lines, way(number));
     let safe = safe_in(&ended.written);
     let left = image(rt, &ended.disk);
     drop(ended);
     let done = done_in(rt, image(rt, &left), step);
     assert!(rt;
         may_be_done(step, group, safe, done),
-        "{done} after {}",
-        at.0
+        "crashed in way {number}"
     );
     crash_each_opening(rt, &left, step, done);
     drop(left);
 }
 
-// Crashes at each call. Where no call is stopped all lines are done.
-fn crash_at_every_call(rt: &(impl Abort + AllocGlobal), group: u32, step: &Step) {
-    let disk = disk_of(run(rt, files(rt, step), group, step.lines.as_bytes()));
-    for number in 0..ways(disk.calls()) {
-        crash_at(rt, group, step, way(number));
-    }
+// Crashes in each way. Where no call is stopped all lines are done.
+fn crash_in_each_way(rt: &(impl Abort + AllocGlobal), group: u32, step: &Step) {
+    let lines = step.lines.as_bytes();
+    let disk = disk_of(run(rt, files(rt, step), group, lines));
     assert!(rt; done_in(rt, disk, step) == all_of(step));
+    for number in 0..ways(calls(rt, files(rt, step), group, lines)) {
+        crash(rt, group, step, number);
+    }
 }
 
 // Each step crashes at every call, its lines settled in groups of this size. A group that isn't full is settled at the
 // end of the input.
 fn crash_each(rt: &(impl Abort + AllocGlobal), rows: &[(u32, &Step)]) {
     for (group, step) in rows {
-        crash_at_every_call(rt, *group, step);
+        crash_in_each_way(rt, *group, step);
     }
 }
 

@@ -58,7 +58,7 @@ fn fail_at(rt: &(impl Abort + AllocGlobal), row: &Failed, lines: &[u8], call: u6
     let done = done_in(rt, disk_of(ended), step);
     assert!(rt;
         is_right && may_be_done(step, most, safe, done),
-        "{done} after {call}"
+        "after {call}"
     );
 }
 
@@ -68,10 +68,7 @@ fn fail_at_every_call(rt: &(impl Abort + AllocGlobal), row: &Failed) {
     let lines = must(rt, joined(rt.alloc(), step, behind));
     let opening = calls(rt, files(rt, step), *group, b"");
     let all = calls(rt, files(rt, step), *group, &lines);
-    assert!(rt;
-        all.saturating_sub(opening) == *wanted,
-        "{all} behind {opening}"
-    );
+    assert!(rt; all.saturating_sub(opening) == *wanted, "{all} calls");
     for call in 0..all {
         fail_at(rt, row, &lines, call + 1, opening);
     }
@@ -98,7 +95,13 @@ const SETTLED: [&str; 2] = [
     "fault Device\nfault Broken\n",
 ];
 
-const FAILED: &[Failed] = &[
+fn fail_each(rt: &(impl Abort + AllocGlobal), rows: &[Failed]) {
+    for row in rows {
+        fail_at_every_call(rt, row);
+    }
+}
+
+const CAPTURED: &[Failed] = &[
     (1, CAPTURES, "show\ta.org\n", 22, TOLD),
     (2, CAPTURES, "show\ta.org\n", 16, TOLD_OF_A_GROUP),
     // a show of a file that isn't held reads it
@@ -111,6 +114,14 @@ const FAILED: &[Failed] = &[
     ),
     // nothing is pending on a fresh store
     (1, NOTHING, "settle\n", 0, SETTLED),
+];
+
+#[test]
+fn each_failed_call(rt: HostRuntime) {
+    fail_each(&rt, CAPTURED);
+}
+
+const MOVED: &[Failed] = &[
     // Each file is asked for its length and read; the record and the open gate are written with a sync each; each file's
     // patch is written, of which the source's has no bytes, and it is asked for its length; the source is cut; both are
     // synced, and the gate is closed with a sync.
@@ -119,6 +130,14 @@ const FAILED: &[Failed] = &[
     // the made headings and the entry are one insertion
     (1, TO_A_HEAD, "settle\n", 11, SETTLED),
     (1, TO_A_DAY, "settle\n", 11, SETTLED),
+];
+
+#[test]
+fn each_failed_call_of_a_move(rt: HostRuntime) {
+    fail_each(&rt, MOVED);
+}
+
+const CHANGED: &[Failed] = &[
     (1, TO_THE_ARCHIVE, "settle\n", 17, SETTLED),
     (1, ARCHIVE_WITHIN, "settle\n", 11, SETTLED),
     // The files up to that of the clock that runs, three, are asked for their length and read. Of the two that change each
@@ -130,10 +149,8 @@ const FAILED: &[Failed] = &[
 ];
 
 #[test]
-fn each_failed_call(rt: HostRuntime) {
-    for row in FAILED {
-        fail_at_every_call(&rt, row);
-    }
+fn each_failed_call_of_an_archive_a_clock_and_a_repetition(rt: HostRuntime) {
+    fail_each(&rt, CHANGED);
 }
 
 // The first of the captures, and a show.
@@ -155,6 +172,6 @@ fn the_sync_behind_the_gate_fails(rt: HostRuntime) {
     assert!(rt; done_in(&rt, image(&rt, &disk), CAPTURES) == 1);
     drop(disk);
     for outcome in &OUTCOMES {
-        assert!(rt; done_stopped(&rt, gate_unsynced(&rt), *outcome, CAPTURES) <= 1);
+        assert!(rt; done_stopped(&rt, gate_unsynced(&rt), (1, *outcome), CAPTURES) <= 1);
     }
 }

@@ -5,9 +5,7 @@ use super::{calls, disk_of, run};
 use crate::shared::{image, must};
 use org_disk::{MemoryDisk, Outcome};
 use org_fixtures::{OUTCOMES, bytes_of, disk_with, file_name};
-use std::alloc::Global;
 use std::process::Abort;
-use std::test::Fail;
 
 // A capture reads a length and a text, and writes its record; then its fifth call opens the gate.
 const RECORD: u64 = 3;
@@ -52,14 +50,11 @@ fn the_gate_decides(rt: HostRuntime) {
     }
 }
 
-fn journal_of(alloc: Global, disk: &mut MemoryDisk) -> Result<Vec<u8>, Fail> {
-    bytes_of(alloc, disk, &file_name(alloc, "orgstore.journal")?)
-}
-
 // Whether the gate of a disk's journal is this byte.
 fn has_gate(rt: &(impl Abort + AllocGlobal), disk: MemoryDisk, gate: u8) -> bool {
+    let name = must(rt, file_name(rt.alloc(), "orgstore.journal"));
     let mut disk = disk;
-    let journal = must(rt, journal_of(rt.alloc(), &mut disk));
+    let journal = must(rt, bytes_of(rt.alloc(), &mut disk, &name));
     drop(disk);
     journal.first() == Some(&gate)
 }
@@ -75,17 +70,20 @@ fn keeps_gate(rt: &(impl Abort + AllocGlobal), disk: MemoryDisk) -> bool {
 }
 
 // A byte that closes the gate is left alone, also where its opening is stopped.
-fn leave_gate_alone(rt: &(impl Abort + AllocGlobal), disk: MemoryDisk) {
-    for number in 0..ways(calls_of_opening(rt, &disk)) {
-        assert!(rt; keeps_gate(rt, left(rt, image(rt, &disk), "", way(number))));
+fn leave_gate_alone(rt: &(impl Abort + AllocGlobal), disk: &MemoryDisk) {
+    assert!(rt; keeps_gate(rt, image(rt, disk)));
+    for number in 0..ways(calls_of_opening(rt, disk)) {
+        let again = left(rt, image(rt, disk), "", way(number));
+        assert!(rt; keeps_gate(rt, again));
     }
-    assert!(rt; keeps_gate(rt, disk));
 }
 
 #[test]
 fn another_byte_goes_out(rt: HostRuntime) {
     for (step, call) in [(FIRST, GATE), (TO_THE_ARCHIVE, ARCHIVE_GATE)] {
-        leave_gate_alone(&rt, left_behind(&rt, step, call, Outcome::Fill(0x55)));
+        let left = left_behind(&rt, step, call, Outcome::Fill(0x55));
+        leave_gate_alone(&rt, &left);
+        drop(left);
     }
 }
 

@@ -32,7 +32,7 @@ fn done_in_each_way(rt: &(impl Abort + AllocGlobal), row: &(&str, &str, u64)) {
     let (lines, written, done) = row;
     for outcome in &OUTCOMES {
         let disk = broken_off(rt, lines, written);
-        assert!(rt; done_stopped(rt, disk, *outcome, CAPTURES) == *done);
+        assert!(rt; done_stopped(rt, disk, (1, *outcome), CAPTURES) == *done);
     }
 }
 

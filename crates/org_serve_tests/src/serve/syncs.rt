@@ -5,9 +5,7 @@ use crate::shared::{image, must, two};
 use org_disk::{Disk, MemoryDisk, Outcome};
 use org_fixtures::file_name;
 use org_serve::{Counted, Served, serve_synced};
-use std::alloc::Global;
 use std::process::Abort;
-use std::test::Fail;
 
 // The files of the store: three names, their archive files, and the journal.
 const FILES: u64 = 7;
@@ -16,14 +14,12 @@ const CAPTURE: &str = "capture\tb.org\ttop\tlast\t2026-07-01 10:00\t* K\t\n";
 
 const SHOW: &[u8] = b"show\ta.org\nshow\tb.org\n";
 
-// Another program writes a.org anew, with a second heading, and syncs nothing.
-fn write_anew(alloc: Global, disk: &mut MemoryDisk) -> Result<(), Fail> {
-    Ok(disk.write_at(&file_name(alloc, "a.org")?, 0, b"* A\n* B\n")?)
-}
-
+// Two files. Another program writes a.org anew, with a second heading, and syncs nothing.
 fn unsynced(rt: &(impl Abort + AllocGlobal)) -> MemoryDisk {
     let mut disk = two(rt, "* A\n", "* Z");
-    must(rt, write_anew(rt.alloc(), &mut disk));
+    let name = must(rt, file_name(rt.alloc(), "a.org"));
+    let is_written = disk.write_at(&name, 0, b"* A\n* B\n").is_ok();
+    assert!(rt; is_written);
     disk
 }
 

@@ -106,14 +106,13 @@ fn run(store: &mut Store<MemoryDisk>, command: &Command) -> Result<Reply, RunFau
     store.run(command)
 }
 
-fn is_answer(given: Result<Reply, RunFault>, wanted: &Answer) -> bool {
-    match wanted {
-        Answer::Done(number) => matches!(&given, Ok(Reply::Done(given)) if given == number),
-        Answer::Safe(number) => matches!(&given, Ok(Reply::Safe(given)) if given == number),
-        Answer::Text(text) => {
-            matches!(&given, Ok(Reply::Text(given)) if given.as_slice() == text.as_bytes())
-        }
-        Answer::Fault(fault) => matches!(&given, Err(given) if given == fault),
+fn is_answer(given: &Result<Reply, RunFault>, wanted: &Answer) -> bool {
+    match (given, wanted) {
+        (Ok(Reply::Done(given)), Answer::Done(number)) => given == number,
+        (Ok(Reply::Safe(given)), Answer::Safe(number)) => given == number,
+        (Ok(Reply::Text(given)), Answer::Text(text)) => given.as_slice() == text.as_bytes(),
+        (Err(given), Answer::Fault(fault)) => given == fault,
+        _ => false,
     }
 }
 
@@ -127,7 +126,14 @@ pub fn answers(
     let command = command(rt, ask);
     let given = run(store, &command);
     drop(command);
-    is_answer(given, wanted)
+    let is_wanted = is_answer(&given, wanted);
+    drop(given);
+    is_wanted
+}
+
+// Whether so many commands are accepted, and so many of them on the disk.
+fn has_counts(store: &Store<MemoryDisk>, accepted: u64, acknowledged: u64) -> bool {
+    store.accepted() == accepted && store.acknowledged() == acknowledged
 }
 
 // A command, what it is answered, and how many commands are accepted then and how many of them on the disk.
@@ -136,8 +142,10 @@ pub type Row = (Ask, Answer, u64, u64);
 // Asks each of them in turn.
 pub fn ask_each(rt: &(impl Abort + AllocGlobal), store: &mut Store<MemoryDisk>, rows: &[Row]) {
     for (i, (ask, wanted, accepted, acknowledged)) in rows.iter().enumerate() {
-        assert!(rt; answers(rt, store, ask, wanted), "ask {i}");
-        let counts = (store.accepted(), store.acknowledged());
-        assert!(rt; counts == (*accepted, *acknowledged), "ask {i}");
+        let is_wanted = answers(rt, store, ask, wanted);
+        assert!(rt;
+            is_wanted && has_counts(store, *accepted, *acknowledged),
+            "ask {i}"
+        );
     }
 }

@@ -49,15 +49,16 @@ const ACCEPTED: &[Row] = &[
     (Ask::Show("b.org"), Answer::Fault(RunFault::Broken), 1, 0),
 ];
 
-fn settle(store: &mut Store<MemoryDisk>) -> Result<(), RunFault> {
-    store.settle()
+// Whether the store is broken, as a settling is told too.
+fn is_broken(store: &mut Store<MemoryDisk>) -> bool {
+    store.is_broken() && store.settle() == Err(RunFault::Broken)
 }
 
 // The disk fails at this call of a capture, which is accepted or not, and is done then at most where it is accepted.
 fn fail_at(rt: &(impl Abort + AllocGlobal), call: u64, is_accepted: bool) {
     let mut store = failing(rt, call);
     ask_each(rt, &mut store, if is_accepted { ACCEPTED } else { REFUSED });
-    assert!(rt; store.is_broken() && settle(&mut store) == Err(RunFault::Broken));
+    assert!(rt; is_broken(&mut store));
     assert!(rt; done_in(rt, store.into_disk(), CAPTURED) <= u64::from(is_accepted));
 }
 
