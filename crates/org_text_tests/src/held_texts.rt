@@ -3,9 +3,9 @@ ghost use Rattle.std.specs.Prelude.{◌≡◌, true, [], ◌∷◌};
 ghost use Rattle.org_splice.specs.Edits.{AreEdits, CanApply};
 ghost use Rattle.org_texts.specs.Plan.{CanEdit, IsPlan};
 
-use crate::edits::{Splice, edits_of};
+use crate::edits::{NONE, Splice, edits_of, has, make, patch_count, states};
 use org_disk::FileName;
-use org_outline::{Outline, States, is_terminated};
+use org_outline::{Outline, States};
 use org_splice::{Changes, Edit, Editing, Span};
 use org_texts::{FileEdits, Held, Plan, Texts};
 use std::alloc::Global;
@@ -16,6 +16,8 @@ type Change = (&'static str, &'static [Splice]);
 
 /// What is done to held texts.
 enum Action {
+    /// The texts are dropped, and there are none.
+    Begin,
     /// A text is held as the disk has it.
     Hold(&'static str, &'static [u8]),
     /// The text of a name is made ready.
@@ -33,31 +35,22 @@ enum Action {
 enum Fact {
     /// These texts wait, in this order, each with one patch.
     Waiting(&'static [(&'static str, &'static [u8])]),
-    /// The text of a name, and how many headings are held with it.
-    Text(&'static str, &'static [u8], usize),
-    /// Where the subtree of the second heading of a text lies.
-    Second(&'static str, Span),
+    /// The text of a name, how many headings are held with it, and where the subtree of the second lies.
+    Text(&'static str, &'static [u8], usize, Option<Span>),
     /// Whether a text has one patch, of no bytes.
     IsSettled(&'static str, bool),
     /// No text of this name is held.
     Absent(&'static str),
 }
 
-/// What is done, and what holds then.
-type Step = (Action, &'static [Fact]);
+/// What is done, or what holds then.
+enum Step {
+    Do(Action),
+    Is(Fact),
+}
 
 fn file(rt: &impl Abort, alloc: Global, name: &str) -> FileName {
     FileName::new(alloc, name).expect(rt, "a name")
-}
-
-/// Makes an edit, which has to lie in the text and to leave a terminated one.
-fn make(rt: &impl Abort, now: &mut Editing, edit: &Edit)
-    ensures { AreEdits (edit.now ∷ []) now.old.text.bytes now.new.text.bytes }
-{
-    let size = now.bytes().len();
-    assert!(rt; edit.removed <= size && edit.at <= size - edit.removed);
-    now.apply(edit).expect(rt, "memory");
-    assert!(rt; is_terminated(now.bytes()));
 }
 
 /// Asserts that the edits can be made of a text, one after another.
@@ -111,6 +104,7 @@ fn make_ready(rt: &impl Abort, alloc: Global, texts: &mut Texts, name: &str) {
     let file = file(rt, alloc, name);
     assert!(rt; texts.get(&file).is_some());
     texts.make_ready(&file).expect(rt, "memory");
+    drop(file);
 }
 
 fn edit(rt: &impl Abort, alloc: Global, texts: &mut Texts, change: Change) {
@@ -120,6 +114,7 @@ fn edit(rt: &impl Abort, alloc: Global, texts: &mut Texts, change: Change) {
         second: None,
     };
     texts.apply(&plan).expect(rt, "memory");
+    drop(plan);
 }
 
 fn edit_two(rt: &impl Abort, alloc: Global, texts: &mut Texts, first: Change, second: Change) {
@@ -127,6 +122,7 @@ fn edit_two(rt: &impl Abort, alloc: Global, texts: &mut Texts, first: Change, se
     let second = file_edits(rt, alloc, texts, second);
     let plan = plan_of(rt, texts, first, second);
     texts.apply(&plan).expect(rt, "memory");
+    drop(plan);
 }
 
 /// Whether these texts wait, in this order, each with one patch.
@@ -136,8 +132,7 @@ fn are_waiting(rt: &impl Abort, texts: &Texts, expected: &[(&str, &[u8])]) -> bo
     }
     for (i, (name, text)) in expected.iter().enumerate() {
         let (file, now) = texts.pair(i);
-        let patches = now.patches().expect(rt, "memory").len();
-        if file.as_str() != *name || now.bytes() != *text || patches != 1 {
+        if file.as_str() != *name || now.bytes() != *text || patch_count(rt, now) != 1 {
             return false;
         }
     }
@@ -163,14 +158,9 @@ fn headings(held: &Held, states: &States) -> (usize, Option<Span>) {
     (count, second)
 }
 
-/// Whether a text has one patch, of no bytes.
-fn is_settled(rt: &impl Abort, text: &Editing) -> bool {
-    let patches = text.patches().expect(rt, "memory");
-    matches!(patches.as_slice(), [patch] if patch.bytes.as_slice().is_empty())
-}
-
 fn act(rt: &impl Abort, alloc: Global, texts: &mut Texts, action: &Action) {
     match action {
+        Action::Begin => *texts = Texts::new(alloc),
         Action::Hold(name, text) => hold(rt, alloc, texts, name, text),
         Action::Ready(name) => make_ready(rt, alloc, texts, name),
         Action::Edit(change) => edit(rt, alloc, texts, *change),
@@ -185,52 +175,35 @@ fn act(rt: &impl Abort, alloc: Global, texts: &mut Texts, action: &Action) {
 fn is_so(rt: &impl Abort, alloc: Global, states: &States, texts: &Texts, fact: &Fact) -> bool {
     match fact {
         Fact::Waiting(expected) => are_waiting(rt, texts, expected),
-        Fact::Text(name, text, count) => {
+        Fact::Text(name, text, count, second) => {
             let held = held(rt, alloc, texts, name);
-            held.bytes() == *text && headings(held, states).0 == *count
-        }
-        Fact::Second(name, subtree) => {
-            headings(held(rt, alloc, texts, name), states).1 == Some(*subtree)
+            held.bytes() == *text && headings(held, states) == (*count, *second)
         }
         Fact::IsSettled(name, expected) => {
-            is_settled(rt, held(rt, alloc, texts, name).text()) == *expected
+            let held = held(rt, alloc, texts, name);
+            has(rt, held.text(), held.bytes(), NONE) == *expected
         }
         Fact::Absent(name) => texts.get(&file(rt, alloc, name)).is_none(),
     }
 }
 
-fn are_so(rt: &impl Abort, alloc: Global, states: &States, texts: &Texts, facts: &[Fact]) -> bool {
-    for fact in facts {
-        if !is_so(rt, alloc, states, texts, fact) {
-            return false;
-        }
+/// Does what a step says, or answers whether it is so.
+fn go(rt: &impl Abort, alloc: Global, states: &States, texts: &mut Texts, step: &Step) -> bool {
+    match step {
+        Step::Do(action) => act(rt, alloc, texts, action),
+        Step::Is(fact) => return is_so(rt, alloc, states, texts, fact),
     }
     true
 }
 
-/// Does what the steps say, and asserts what holds then.
-fn go_on(rt: &impl Abort, alloc: Global, states: &States, texts: &mut Texts, steps: &[Step]) {
-    for (i, (action, facts)) in steps.iter().enumerate() {
-        act(rt, alloc, texts, action);
-        assert!(rt; are_so(rt, alloc, states, texts, facts), "step {i}");
-    }
-}
-
-/// The same with texts of its own.
-fn go(rt: &(impl Abort + AllocGlobal), steps: &[Step]) {
-    let alloc = rt.alloc();
-    let states = States::new(alloc, &["TODO"], &["DONE"]).expect(rt, "states");
-    go_on(rt, alloc, &states, &mut Texts::new(alloc), steps);
-}
-
 // Two files that are ready.
-const HOLD_A: Step = (Action::Hold("a.org", b"* A\n* B"), &[]);
+const HOLD_A: Step = Step::Do(Action::Hold("a.org", b"* A\n* B"));
 
-const HOLD_B: Step = (Action::Hold("b.org", b"* C\n"), &[]);
+const HOLD_B: Step = Step::Do(Action::Hold("b.org", b"* C\n"));
 
-const READY_A: Step = (Action::Ready("a.org"), &[]);
+const READY_A: Step = Step::Do(Action::Ready("a.org"));
 
-const READY_B: Step = (Action::Ready("b.org"), &[]);
+const READY_B: Step = Step::Do(Action::Ready("b.org"));
 
 // Moves the second heading of one file below the first of the other.
 const REFILE: Action = Action::EditTwo(
@@ -239,184 +212,131 @@ const REFILE: Action = Action::EditTwo(
 );
 
 // The texts that this makes.
-const MADE_A: Fact = Fact::Text("a.org", b"* X\n", 1);
+const MADE_A: Step = Step::Is(Fact::Text("a.org", b"* X\n", 1, None));
 
-const MADE_B: Fact = Fact::Text("b.org", b"* C\n** B\n", 2);
+const MADE_B: Step = Step::Is(Fact::Text(
+    "b.org",
+    b"* C\n** B\n",
+    2,
+    Some(Span { start: 4, end: 9 }),
+));
 
-const NONE_WAITS: Fact = Fact::Waiting(&[]);
+const NONE_WAITS: Step = Step::Is(Fact::Waiting(&[]));
 
-const TAKEN_BACK: &[Step] = &[
+const STEPS: &[Step] = &[
+    // A command is taken back.
+    Step::Do(Action::Begin),
     HOLD_A,
     HOLD_B,
     READY_A,
     READY_B,
-    (
-        REFILE,
-        &[
-            MADE_A,
-            MADE_B,
-            Fact::Waiting(&[("a.org", b"* X\n"), ("b.org", b"* C\n** B\n")]),
-        ],
-    ),
-    (
-        Action::Undo,
-        &[
-            Fact::Text("a.org", b"* A\n* B", 0),
-            Fact::Text("b.org", b"* C\n", 0),
-            NONE_WAITS,
-        ],
-    ),
-];
-
-#[test]
-fn a_command_taken_back(rt: HostRuntime) {
-    go(&rt, TAKEN_BACK);
-}
-
-const KEPT: &[Step] = &[
+    Step::Do(REFILE),
+    MADE_A,
+    MADE_B,
+    Step::Is(Fact::Waiting(&[("a.org", b"* X\n"), ("b.org", b"* C\n** B\n")])),
+    Step::Do(Action::Undo),
+    Step::Is(Fact::Text("a.org", b"* A\n* B", 0, None)),
+    Step::Is(Fact::Text("b.org", b"* C\n", 0, None)),
+    NONE_WAITS,
+    // A command is kept, and one is taken back.
+    Step::Do(Action::Begin),
     HOLD_A,
     HOLD_B,
     READY_A,
     READY_B,
-    (Action::Keep, &[]),
-    (REFILE, &[]),
-    (
-        Action::Undo,
-        &[
-            Fact::Text("a.org", b"* A\n* B\n", 0),
-            Fact::Waiting(&[("a.org", b"* A\n* B\n"), ("b.org", b"* C\n")]),
-        ],
-    ),
-];
-
-#[test]
-fn a_command_kept_and_one_taken_back(rt: HostRuntime) {
-    go(&rt, KEPT);
-}
-
-const COMMITTED: &[Step] = &[
+    Step::Do(Action::Keep),
+    Step::Do(REFILE),
+    Step::Do(Action::Undo),
+    Step::Is(Fact::Text("a.org", b"* A\n* B\n", 0, None)),
+    Step::Is(Fact::Waiting(&[("a.org", b"* A\n* B\n"), ("b.org", b"* C\n")])),
+    // A commit settles.
+    Step::Do(Action::Begin),
     HOLD_A,
     HOLD_B,
     READY_A,
     READY_B,
-    (REFILE, &[]),
-    (Action::Settle, &[NONE_WAITS]),
-    (Action::Undo, &[MADE_A, MADE_B]),
+    Step::Do(REFILE),
+    Step::Do(Action::Settle),
+    NONE_WAITS,
+    Step::Do(Action::Undo),
+    MADE_A,
+    MADE_B,
+    // A text is terminated, and its headings follow.
+    Step::Do(Action::Begin),
+    Step::Do(Action::Hold("a.org", b"* A\ntext\n** B")),
+    Step::Do(Action::Ready("a.org")),
+    Step::Is(Fact::Text(
+        "a.org",
+        b"* A\ntext\n** B\n",
+        2,
+        Some(Span { start: 9, end: 14 }),
+    )),
+    Step::Do(Action::Edit(("a.org", &[(4, 5, b"* C\n")]))),
+    Step::Is(Fact::Text(
+        "a.org",
+        b"* A\n* C\n** B\n",
+        3,
+        Some(Span { start: 4, end: 13 }),
+    )),
+    // A text keeps its place.
+    Step::Do(Action::Begin),
+    Step::Do(Action::Hold("a.org", b"* A\n")),
+    Step::Do(Action::Hold("b.org", b"* B\n")),
+    Step::Do(Action::Edit(("a.org", &[(0, 0, b"")]))),
+    Step::Do(Action::Edit(("b.org", &[(0, 0, b"")]))),
+    Step::Is(Fact::Waiting(&[("a.org", b"* A\n"), ("b.org", b"* B\n")])),
+    Step::Do(Action::Keep),
+    Step::Do(Action::Edit(("a.org", &[(2, 1, b"C")]))),
+    Step::Is(Fact::Waiting(&[("a.org", b"* C\n"), ("b.org", b"* B\n")])),
+    Step::Is(Fact::Text("b.org", b"* B\n", 0, None)),
+    Step::Is(Fact::Absent("c.org")),
+    // Texts wait in the order in which they are ready: the first is terminated as it is, and waits before the second, which
+    // gets a newline.
+    Step::Do(Action::Begin),
+    Step::Do(Action::Hold("b.org", b"* B\n")),
+    Step::Do(Action::Hold("a.org", b"* A")),
+    Step::Do(Action::Ready("b.org")),
+    Step::Do(Action::Ready("a.org")),
+    Step::Is(Fact::Waiting(&[("b.org", b"* B\n"), ("a.org", b"* A\n")])),
+    Step::Do(Action::Undo),
+    NONE_WAITS,
+    // Changes are the texts that wait: the last command changes b.org, which waits, and c.org, which is new.
+    Step::Do(Action::Begin),
+    Step::Do(Action::Hold("a.org", b"* A")),
+    Step::Do(Action::Hold("c.org", b"")),
+    Step::Do(Action::Hold("b.org", b"* B")),
+    Step::Do(Action::Hold("d.org", b"* E")),
+    Step::Do(Action::Edit(("b.org", &[(3, 0, b"\n")]))),
+    Step::Do(Action::Edit(("a.org", &[(3, 0, b"\n")]))),
+    Step::Do(Action::Keep),
+    Step::Is(Fact::Waiting(&[("b.org", b"* B\n"), ("a.org", b"* A\n")])),
+    Step::Do(Action::EditTwo(("c.org", &[(0, 0, b"* C\n")]), ("b.org", &[(2, 1, b"D")]))),
+    Step::Is(Fact::Waiting(&[
+        ("b.org", b"* D\n"),
+        ("a.org", b"* A\n"),
+        ("c.org", b"* C\n"),
+    ])),
+    // Settled texts have no changes.
+    Step::Do(Action::Begin),
+    Step::Do(Action::Hold("a.org", b"* A\n")),
+    Step::Do(Action::Hold("c.org", b"* C")),
+    Step::Do(Action::Edit(("a.org", &[(4, 0, b"* B\n")]))),
+    Step::Is(Fact::IsSettled("a.org", false)),
+    Step::Do(Action::Settle),
+    NONE_WAITS,
+    Step::Is(Fact::Text("a.org", b"* A\n* B\n", 0, None)),
+    Step::Is(Fact::Text("c.org", b"* C", 0, None)),
+    Step::Is(Fact::IsSettled("a.org", true)),
+    Step::Is(Fact::IsSettled("c.org", true)),
 ];
 
 #[test]
-fn a_commit_settles(rt: HostRuntime) {
-    go(&rt, COMMITTED);
-}
-
-const FOLLOWED: &[Step] = &[
-    (Action::Hold("a.org", b"* A\ntext\n** B"), &[]),
-    (
-        Action::Ready("a.org"),
-        &[Fact::Text("a.org", b"* A\ntext\n** B\n", 2)],
-    ),
-    (
-        Action::Edit(("a.org", &[(4, 5, b"* C\n")])),
-        &[
-            Fact::Text("a.org", b"* A\n* C\n** B\n", 3),
-            Fact::Second("a.org", Span { start: 4, end: 13 }),
-        ],
-    ),
-];
-
-#[test]
-fn a_text_is_terminated_and_its_headings_follow(rt: HostRuntime) {
-    go(&rt, FOLLOWED);
-}
-
-const IN_PLACE: &[Step] = &[
-    (Action::Hold("a.org", b"* A\n"), &[]),
-    (Action::Hold("b.org", b"* B\n"), &[]),
-    (Action::Edit(("a.org", &[(0, 0, b"")])), &[]),
-    (
-        Action::Edit(("b.org", &[(0, 0, b"")])),
-        &[Fact::Waiting(&[("a.org", b"* A\n"), ("b.org", b"* B\n")])],
-    ),
-    (Action::Keep, &[]),
-    (
-        Action::Edit(("a.org", &[(2, 1, b"C")])),
-        &[
-            Fact::Waiting(&[("a.org", b"* C\n"), ("b.org", b"* B\n")]),
-            Fact::Text("b.org", b"* B\n", 0),
-            Fact::Absent("c.org"),
-        ],
-    ),
-];
-
-#[test]
-fn a_text_keeps_its_place(rt: HostRuntime) {
-    go(&rt, IN_PLACE);
-}
-
-const IN_ORDER: &[Step] = &[
-    (Action::Hold("b.org", b"* B\n"), &[]),
-    (Action::Hold("a.org", b"* A"), &[]),
-    (Action::Ready("b.org"), &[]),
-    (
-        Action::Ready("a.org"),
-        &[Fact::Waiting(&[("b.org", b"* B\n"), ("a.org", b"* A\n")])],
-    ),
-    (Action::Undo, &[NONE_WAITS]),
-];
-
-// The first is terminated as it is, and waits before the second, which gets a newline.
-#[test]
-fn texts_wait_in_the_order_they_are_ready(rt: HostRuntime) {
-    go(&rt, IN_ORDER);
-}
-
-const CHANGED: &[Step] = &[
-    (Action::Hold("a.org", b"* A"), &[]),
-    (Action::Hold("c.org", b""), &[]),
-    (Action::Hold("b.org", b"* B"), &[]),
-    (Action::Hold("d.org", b"* E"), &[]),
-    (Action::Edit(("b.org", &[(3, 0, b"\n")])), &[]),
-    (Action::Edit(("a.org", &[(3, 0, b"\n")])), &[]),
-    (
-        Action::Keep,
-        &[Fact::Waiting(&[("b.org", b"* B\n"), ("a.org", b"* A\n")])],
-    ),
-    (
-        Action::EditTwo(("c.org", &[(0, 0, b"* C\n")]), ("b.org", &[(2, 1, b"D")])),
-        &[Fact::Waiting(&[
-            ("b.org", b"* D\n"),
-            ("a.org", b"* A\n"),
-            ("c.org", b"* C\n"),
-        ])],
-    ),
-];
-
-// The last command changes b.org, which waits, and c.org, which is new.
-#[test]
-fn changes_are_the_texts_that_wait(rt: HostRuntime) {
-    go(&rt, CHANGED);
-}
-
-const SETTLED: &[Step] = &[
-    (Action::Hold("a.org", b"* A\n"), &[]),
-    (Action::Hold("c.org", b"* C"), &[]),
-    (
-        Action::Edit(("a.org", &[(4, 0, b"* B\n")])),
-        &[Fact::IsSettled("a.org", false)],
-    ),
-    (
-        Action::Settle,
-        &[
-            NONE_WAITS,
-            Fact::Text("a.org", b"* A\n* B\n", 0),
-            Fact::Text("c.org", b"* C", 0),
-            Fact::IsSettled("a.org", true),
-            Fact::IsSettled("c.org", true),
-        ],
-    ),
-];
-
-#[test]
-fn settled_texts_have_no_changes(rt: HostRuntime) {
-    go(&rt, SETTLED);
+fn held_texts(rt: HostRuntime) {
+    let states = states(&rt, rt.alloc());
+    let mut texts = Texts::new(rt.alloc());
+    for (i, step) in STEPS.iter().enumerate() {
+        assert!(rt; go(&rt, rt.alloc(), &states, &mut texts, step), "step {i}");
+    }
+    drop(texts);
+    drop(states);
 }

@@ -2,8 +2,6 @@
 #![tactic(auto)]
 
 #[cfg(test)]
-mod clocks;
-#[cfg(test)]
 mod edits;
 #[cfg(test)]
 mod held_texts;

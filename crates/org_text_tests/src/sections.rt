@@ -1,156 +1,186 @@
-// Parts of sections, their properties and notes: rows whose bytes the rules of sections fix.
+// Parts of sections, their properties and notes, and clocks that are opened where another one runs, which no command
+// leaves open: rows whose bytes the rules of sections and of clocking fix.
 ghost use Rattle.std.specs.Prelude.{◌≡◌};
 ghost use Rattle.org_splice.specs.Lines.{terminated};
 
-use crate::edits::becomes;
+use crate::edits::{becomes, now, states, titles};
 use org_meta::{
     PlanningFault, add_note, property, put_property, repeat_planning, sections, set_closed,
 };
-use org_outline::is_terminated;
+use org_outline::{Outline, is_terminated};
 use org_splice::Edit;
 use org_stamp::Moment;
+use org_state::clock_in;
 use std::alloc::Global;
 use std::process::Abort;
 
-/// What is added to a section.
+/// What is added to a section, or to a text.
 enum Change {
     /// A property's name and value.
     Put(&'static [u8], &'static [u8]),
     /// A note of 2005-10-03 09:05: the new and the old keyword.
     Noted(&'static [u8], &'static [u8]),
+    /// A clock at the heading A of a text.
+    Opened,
 }
 
-/// The edit of a section.
-fn edit_of(rt: &impl Abort, alloc: Global, section: &[u8], change: &Change) -> Edit
-    requires { terminated section.now ≡ section.now }
+/// What is said of a section, or of a text.
+enum Fact {
+    /// Its planning, drawer and rest.
+    Parts(&'static [u8], &'static [u8], &'static [u8]),
+    /// The value of the property of a name.
+    Property(&'static [u8], Option<&'static [u8]>),
+    /// Its planning line is odd, to what repeats it and to what closes it.
+    Odd,
+    /// What becomes of it by a change.
+    Changed(Change, &'static [u8]),
+}
+
+/// The edit that opens a clock at the heading A of an outline.
+fn opening_in(rt: &impl Abort, alloc: Global, outline: &Outline<'_>) -> Edit {
+    let path = titles(rt, alloc, &["A"]);
+    clock_in(alloc, outline, path.as_slice(), now(rt)).expect(rt, "an edit")
+}
+
+/// The edit that opens a clock at the heading A of a text.
+fn opening(rt: &impl Abort, alloc: Global, text: &[u8]) -> Edit
+    requires { terminated text.now ≡ text.now }
+{
+    let states = states(rt, alloc);
+    let outline = Outline::read(alloc, text, &states).expect(rt, "memory");
+    opening_in(rt, alloc, &outline)
+}
+
+/// The edit that makes a change.
+fn edit_of(rt: &impl Abort, alloc: Global, text: &[u8], change: &Change) -> Edit
+    requires { terminated text.now ≡ text.now }
 {
     match change {
-        Change::Put(name, value) => {
-            put_property(alloc, section, name, value).expect(rt, "an edit")
-        }
+        Change::Put(name, value) => put_property(alloc, text, name, value).expect(rt, "an edit"),
         Change::Noted(new, old) => {
-            let now = Moment::new(2005, 10, 3, 9, 5).expect(rt, "a moment");
-            add_note(alloc, section, new, old, now).expect(rt, "an edit")
+            let then = Moment::new(2005, 10, 3, 9, 5).expect(rt, "a moment");
+            add_note(alloc, text, new, old, then).expect(rt, "an edit")
+        }
+        Change::Opened => opening(rt, alloc, text),
+    }
+}
+
+/// Whether these are the planning, the drawer and the rest of a section.
+fn are_parts(section: &[u8], planning: &[u8], drawer: &[u8], rest: &[u8]) -> bool
+    requires { terminated section.now ≡ section.now }
+{
+    let parts = sections(section);
+    parts.planning == planning && parts.drawer == drawer && parts.rest == rest
+}
+
+/// Whether the planning line of a section is odd, to what repeats it and to what closes it.
+fn is_odd(alloc: Global, section: &[u8], now: Moment) -> bool
+    requires { terminated section.now ≡ section.now }
+{
+    let odd = Some(PlanningFault::OddPlanning);
+    repeat_planning(alloc, section, now).err() == odd
+        && set_closed(alloc, section, now).err() == odd
+}
+
+/// Whether a fact holds of a section, or of a text.
+fn is_so(rt: &impl Abort, alloc: Global, text: &[u8], fact: &Fact) -> bool
+    requires { terminated text.now ≡ text.now }
+{
+    match fact {
+        Fact::Parts(planning, drawer, rest) => are_parts(text, planning, drawer, rest),
+        Fact::Property(name, value) => property(text, name) == *value,
+        Fact::Odd => is_odd(alloc, text, now(rt)),
+        Fact::Changed(change, expected) => {
+            becomes(text, &edit_of(rt, alloc, text, change), expected)
         }
     }
 }
 
-/// Whether a section is this text after its change.
-fn is_changed(
-    rt: &impl Abort,
-    alloc: Global,
-    section: &[u8],
-    change: &Change,
-    expected: &[u8],
-) -> bool {
-    assert!(rt; is_terminated(section));
-    let edit = edit_of(rt, alloc, section, change);
-    becomes(rt, alloc, section, &edit, expected)
-}
-
-// Sections, and their planning, drawer and rest.
-const PARTS: &[(&[u8], &[u8], &[u8], &[u8])] = &[
-    (b"", b"", b"", b""),
+/// Sections and texts, and what is said of them.
+const ROWS: &[(&[u8], Fact)] = &[
+    (b"", Fact::Parts(b"", b"", b"")),
     (
         b" DEADLINE: soon\n:properties:\n:a:\n:END:\nx\n",
-        b" DEADLINE: soon\n",
-        b":properties:\n:a:\n:END:\n",
-        b"x\n",
+        Fact::Parts(b" DEADLINE: soon\n", b":properties:\n:a:\n:END:\n", b"x\n"),
     ),
     (
         b":PROPERTIES:\ntext\n:END:\n",
-        b"",
-        b"",
-        b":PROPERTIES:\ntext\n:END:\n",
+        Fact::Parts(b"", b"", b":PROPERTIES:\ntext\n:END:\n"),
     ),
     (
         b"CLOSED: x\nSCHEDULED: y\n",
-        b"CLOSED: x\n",
-        b"",
-        b"SCHEDULED: y\n",
+        Fact::Parts(b"CLOSED: x\n", b"", b"SCHEDULED: y\n"),
     ),
-];
-
-#[test]
-fn parts_of_sections(rt: HostRuntime) {
-    for (i, (section, planning, drawer, rest)) in PARTS.iter().enumerate() {
-        assert!(rt; is_terminated(section));
-        let parts = sections(section);
-        let are = parts.planning == *planning && parts.drawer == *drawer && parts.rest == *rest;
-        assert!(rt; are, "row {i}");
-    }
-}
-
-#[test]
-fn properties_read(rt: HostRuntime) {
-    let section: &[u8] =
-        b":PROPERTIES:\r\n :a: \n:CATEGORY:  home \r\n:category: b\n:END:\n:x: y\n";
-    assert!(rt; is_terminated(section));
-    assert!(rt; property(section, b"category") == Some(b"home"));
-    assert!(rt; property(section, b"A") == Some(b""));
-    assert!(rt; property(section, b"x").is_none());
-}
-
-// Changes of sections, these, and what becomes of them.
-const CHANGES: &[(Change, &[u8], &[u8])] = &[
-    // a property is put
+    (OF_PROPERTIES, Fact::Property(b"category", Some(b"home"))),
+    (OF_PROPERTIES, Fact::Property(b"A", Some(b""))),
+    (OF_PROPERTIES, Fact::Property(b"x", None)),
+    (b"DEADLINE: soon\n", Fact::Odd),
+    // A property is put.
     (
-        Change::Put(b"A", b"v"),
         b"",
-        b":PROPERTIES:\n:A: v\n:END:\n",
+        Fact::Changed(Change::Put(b"A", b"v"), b":PROPERTIES:\n:A: v\n:END:\n"),
     ),
     (
-        Change::Put(b"A", b""),
         b"SCHEDULED: x\ntext\n",
-        b"SCHEDULED: x\n:PROPERTIES:\n:A:\n:END:\ntext\n",
+        Fact::Changed(
+            Change::Put(b"A", b""),
+            b"SCHEDULED: x\n:PROPERTIES:\n:A:\n:END:\ntext\n",
+        ),
     ),
     (
-        Change::Put(b"A", b"v"),
         b" :properties:\n :a: 1\n :b: 2\n :end:\n",
-        b" :properties:\n:A: v\n :b: 2\n :end:\n",
+        Fact::Changed(
+            Change::Put(b"A", b"v"),
+            b" :properties:\n:A: v\n :b: 2\n :end:\n",
+        ),
     ),
     (
-        Change::Put(b"A", b"v"),
         b":PROPERTIES:\n:b:\n:END:\nx\n",
-        b":PROPERTIES:\n:b:\n:A: v\n:END:\nx\n",
+        Fact::Changed(
+            Change::Put(b"A", b"v"),
+            b":PROPERTIES:\n:b:\n:A: v\n:END:\nx\n",
+        ),
     ),
     (
-        Change::Put(b"A", b"v"),
         b":PROPERTIES:\n\n:END:\n",
-        b":PROPERTIES:\n:A: v\n:END:\n:PROPERTIES:\n\n:END:\n",
+        Fact::Changed(
+            Change::Put(b"A", b"v"),
+            b":PROPERTIES:\n:A: v\n:END:\n:PROPERTIES:\n\n:END:\n",
+        ),
     ),
-    // a note is added
+    // A note is added.
     (
-        Change::Noted(b"DONE", b"TODO"),
         b":PROPERTIES:\n:END:\ntext\n",
-        b":PROPERTIES:\n:END:\n- State \"DONE\"       from \"TODO\"       [2005-10-03 Mon 09:05]\ntext\n",
+        Fact::Changed(
+            Change::Noted(b"DONE", b"TODO"),
+            b":PROPERTIES:\n:END:\n- State \"DONE\"       from \"TODO\"       [2005-10-03 Mon 09:05]\ntext\n",
+        ),
+    ),
+    // A clock comes first in the drawer that is there, in whatever case it is written.
+    (
+        b"* A\nx\n:Logbook:\nCLOCK: [2026-06-01 Mon 10:00]\n:end:\n** B\n",
+        Fact::Changed(
+            Change::Opened,
+            b"* A\nx\n:Logbook:\nCLOCK: [2026-07-01 Wed 10:00]\nCLOCK: [2026-06-01 Mon 10:00]\n:end:\n** B\n",
+        ),
+    ),
+    // No other clock is closed by it.
+    (
+        b"* B\nCLOCK: [2026-06-01 Mon 10:00]\n* A\n",
+        Fact::Changed(
+            Change::Opened,
+            b"* B\nCLOCK: [2026-06-01 Mon 10:00]\n* A\n:LOGBOOK:\nCLOCK: [2026-07-01 Wed 10:00]\n:END:\n",
+        ),
     ),
 ];
 
-#[test]
-fn changes_of_sections(rt: HostRuntime) {
-    for (i, (change, section, expected)) in CHANGES.iter().enumerate() {
-        assert!(rt;
-            is_changed(&rt, rt.alloc(), section, change, expected),
-            "row {i}"
-        );
-    }
-}
+const OF_PROPERTIES: &[u8] =
+    b":PROPERTIES:\r\n :a: \n:CATEGORY:  home \r\n:category: b\n:END:\n:x: y\n";
 
 #[test]
-fn odd_planning_lines(rt: HostRuntime) {
-    let section: &[u8] = b"DEADLINE: soon\n";
-    assert!(rt; is_terminated(section));
-    let now = Moment::new(2026, 7, 1, 10, 0).expect(&rt, "a moment");
-    let faults = (
-        repeat_planning(rt.alloc(), section, now).err(),
-        set_closed(rt.alloc(), section, now).err(),
-    );
-    assert!(rt;
-        faults
-            == (
-                Some(PlanningFault::OddPlanning),
-                Some(PlanningFault::OddPlanning)
-            )
-    );
+fn sections_and_clocks(rt: HostRuntime) {
+    for (i, (text, fact)) in ROWS.iter().enumerate() {
+        assert!(rt; is_terminated(text));
+        assert!(rt; is_so(&rt, rt.alloc(), text, fact), "row {i}");
+    }
 }

@@ -3,6 +3,7 @@ ghost use Rattle.std.specs.Prelude.{◌≡◌, ◌+◌, ◌++◌, ◌≤◌, len
 ghost use Rattle.org_splice.specs.Lines.{terminated};
 ghost use Rattle.org_outline.specs.Outline.{IsEdit, headings_of};
 
+use crate::edits::states;
 use org_outline::{Heads, Outline, States, is_terminated};
 use std::alloc::Global;
 use std::process::Abort;
@@ -87,8 +88,9 @@ fn assert_follow(
 {
     let mut heads = Heads::read(alloc, text).expect(rt, "memory");
     let mut copy = heads.copy().expect(rt, "memory");
-    assert!(rt; follow(rt, &mut heads, after, fresh, edit));
-    assert!(rt; follow(rt, &mut copy, after, fresh, edit));
+    let one = follow(rt, &mut heads, after, fresh, edit);
+    let other = follow(rt, &mut copy, after, fresh, edit);
+    assert!(rt; one && other);
 }
 
 /// Whether there is such an edit between terminated texts. Asserts that headings follow it, and which they are then,
@@ -155,7 +157,7 @@ fn follows_somewhere(rt: &(impl Abort + AllocGlobal), states: &States, seed: u64
 
 #[test]
 fn edits_follow_readings(rt: HostRuntime) {
-    let states = States::new(rt.alloc(), &["TODO"], &["DONE"]).expect(&rt, "states");
+    let states = states(&rt, rt.alloc());
     let mut seed = 2026;
     let mut edits: u32 = 0;
     for _ in 0..8000_u32 {
@@ -185,7 +187,7 @@ const ROWS: &[Row] = &[
 
 #[test]
 fn edited_rows(rt: HostRuntime) {
-    let states = States::new(rt.alloc(), &["TODO"], &["DONE"]).expect(&rt, "states");
+    let states = states(&rt, rt.alloc());
     for (i, (text, at, removed, added, expected)) in ROWS.iter().enumerate() {
         assert!(rt;
             follows(&rt, &states, text, *at, *removed, added, Some(expected)),

@@ -1,11 +1,12 @@
 // What an outline says of its headings: where they, their subtrees and their sections lie, where subtrees go in below
 // them, which of them paths and titles name, and their parts.
-ghost use Rattle.std.specs.Prelude.{◌<◌};
+ghost use Rattle.std.specs.Prelude.{◌≡◌, ◌<◌};
+ghost use Rattle.org_splice.specs.Lines.{terminated};
 ghost use Rattle.org_outline.specs.Tree.{node_count, tree};
 
-use crate::edits::titles;
+use crate::edits::{states, titles};
 use org_outline::{
-    HeadParts, Heads, Node, Outline, PathFault, Place, States, heading_level, is_terminated, shift,
+    HeadParts, Heads, Node, Outline, PathFault, Place, States, heading_level, is_terminated,
 };
 use org_splice::Span;
 use std::alloc::Global;
@@ -14,6 +15,15 @@ use std::process::Abort;
 /// Of a heading its level, its subtree and its section, the number of its parent, how many headings its subtree has, and
 /// what stands behind its stars.
 type Heading<'a> = (usize, Span, Span, Option<usize>, usize, &'a [u8]);
+
+/// The gap, the keyword, the priority, the title and the tags of a heading.
+type Parts = (
+    &'static str,
+    &'static str,
+    &'static str,
+    &'static str,
+    &'static str,
+);
 
 /// What is said of headings, which stand here by their numbers.
 enum Fact {
@@ -26,14 +36,20 @@ enum Fact {
     Without(usize, usize, Place, usize),
     /// The heading at a path.
     Path(&'static [&'static str], Result<usize, PathFault>),
+    /// Two paths that aren't the same.
+    Differ(&'static [&'static str], &'static [&'static str]),
     /// The one heading of a title, if there is one.
     Headed(&'static str, Result<Option<usize>, PathFault>),
-    /// Gap, keyword, priority, title and tags of the first heading.
-    Parts(&'static [&'static [u8]]),
+    /// The parts of the first heading.
+    Parts(Parts),
+    /// The title of a heading of which this stands behind the stars.
+    Titled(&'static str, &'static str),
+    /// The level of the heading that a line is, if it is one.
+    Level(&'static str, Option<usize>),
 }
 
 /// A text, how many headings it has, and what is said of them.
-type Row = (&'static str, usize, &'static [Fact]);
+type Row = (&'static str, usize, Fact);
 
 /// The heading of this number, which an outline has to have.
 fn node(rt: &impl Abort, outline: &Outline<'_>, number: usize) -> Node
@@ -98,16 +114,22 @@ fn found(
     outline.find(copy.as_slice()).map(Node::number)
 }
 
-/// The parts of the first heading.
-fn parts<'a>(rt: &impl Abort, outline: &Outline<'a>) -> [&'a [u8]; 5] {
-    let parts = outline.parts(node(rt, outline, 0));
-    [
-        parts.gap,
-        parts.keyword,
-        parts.priority,
-        parts.title,
-        parts.tags,
-    ]
+/// The number of the one heading of a title, if there is one.
+fn headed(outline: &Outline<'_>, title: &str) -> Result<Option<usize>, PathFault> {
+    match outline.headed(title.as_bytes())? {
+        Some(node) => Ok(Some(node.number())),
+        None => Ok(None),
+    }
+}
+
+/// Whether these are the gap, the keyword, the priority, the title and the tags of a heading.
+fn are_parts(parts: &HeadParts<'_>, expected: &Parts) -> bool {
+    let (gap, keyword, priority, title, tags) = expected;
+    parts.gap == gap.as_bytes()
+        && parts.keyword == keyword.as_bytes()
+        && parts.priority == priority.as_bytes()
+        && parts.title == title.as_bytes()
+        && parts.tags == tags.as_bytes()
 }
 
 /// Whether a fact holds of an outline.
@@ -121,16 +143,13 @@ fn is_so(rt: &impl Abort, alloc: Global, outline: &Outline<'_>, fact: &Fact) -> 
             place_without(rt, outline, *taken, *parent, *place) == *at
         }
         Fact::Path(path, expected) => found(rt, alloc, outline, path) == *expected,
+        Fact::Differ(one, other) => titles(rt, alloc, one) != titles(rt, alloc, other),
         Fact::Headed(title, expected) => headed(outline, title) == *expected,
-        Fact::Parts(expected) => parts(rt, outline).as_slice() == *expected,
-    }
-}
-
-/// The number of the one heading of a title, if there is one.
-fn headed(outline: &Outline<'_>, title: &str) -> Result<Option<usize>, PathFault> {
-    match outline.headed(title.as_bytes())? {
-        Some(node) => Ok(Some(node.number())),
-        None => Ok(None),
+        Fact::Parts(expected) => are_parts(&outline.parts(node(rt, outline, 0)), expected),
+        Fact::Titled(rest, title) => {
+            HeadParts::of(outline.states(), rest.as_bytes()).title == title.as_bytes()
+        }
+        Fact::Level(line, level) => heading_level(line.as_bytes()) == *level,
     }
 }
 
@@ -144,264 +163,190 @@ fn are_states(states: &States) -> bool {
 
 /// Whether an outline is that of a row.
 fn is_of(rt: &impl Abort, alloc: Global, outline: &Outline<'_>, row: &Row) -> bool {
-    let (text, count, facts) = row;
-    if outline.text() != text.as_bytes() || outline.count() != *count {
-        return false;
-    }
-    for fact in *facts {
-        if !is_so(rt, alloc, outline, fact) {
-            return false;
-        }
-    }
-    are_states(outline.states())
+    let (text, count, fact) = row;
+    outline.text() == text.as_bytes()
+        && outline.count() == *count
+        && are_states(outline.states())
+        && is_so(rt, alloc, outline, fact)
 }
 
-/// Whether the outline of a row's text is that of the row, as it is read and over headings that are kept.
-fn is_right(rt: &impl Abort, alloc: Global, states: &States, row: &Row) -> bool {
-    let text = row.0.as_bytes();
-    assert!(rt; is_terminated(text));
+/// Whether the outline of a row's text, as it is read, is that of the row.
+fn is_read(rt: &impl Abort, alloc: Global, states: &States, text: &[u8], row: &Row) -> bool
+    requires { terminated text.now ≡ text.now }
+{
+    let outline = Outline::read(alloc, text, states).expect(rt, "memory");
+    is_of(rt, alloc, &outline, row)
+}
+
+/// The same over headings that are kept.
+fn is_kept(rt: &impl Abort, alloc: Global, states: &States, text: &[u8], row: &Row) -> bool
+    requires { terminated text.now ≡ text.now }
+{
     let heads = Heads::read(alloc, text).expect(rt, "memory");
-    let read = Outline::read(alloc, text, states).expect(rt, "memory");
-    is_of(rt, alloc, &read, row) && is_of(rt, alloc, &Outline::over(text, &heads, states), row)
+    is_of(rt, alloc, &Outline::over(text, &heads, states), row)
 }
 
-fn assert_rows(rt: &(impl Abort + AllocGlobal), rows: &[Row]) {
-    let states = States::new(rt.alloc(), &["TODO"], &["DONE"]).expect(rt, "states");
-    for row in rows {
-        assert!(rt; is_right(rt, rt.alloc(), &states, row), "{}", row.0);
-    }
-}
+const NAMED: &str = "* TODO A :x:\n** B\n* A\n* C\n*** D\n** D\n** B\n";
 
-const PLACED: &[Row] = &[
+const MIXED: &str = "before\n* a\nx\n*** b\n** c\n*bold*\n* d\n";
+
+const NESTED: &str = "* a\n** b\n*** c\n** d\n* e\n";
+
+const BLOCK: &str = "*\n*\tA\n#+BEGIN_SRC\n* A\n#+END_SRC\n";
+
+const ROWS: &[Row] = &[
+    // Places.
     (
-        "before\n* a\nx\n*** b\n** c\n*bold*\n* d\n",
+        MIXED,
         4,
-        &[
-            Fact::Heading(
-                0,
-                (
-                    1,
-                    Span { start: 7, end: 31 },
-                    Span { start: 11, end: 13 },
-                    None,
-                    3,
-                    b" a",
-                ),
+        Fact::Heading(
+            0,
+            (
+                1,
+                Span { start: 7, end: 31 },
+                Span { start: 11, end: 13 },
+                None,
+                3,
+                b" a",
             ),
-            Fact::Heading(
-                2,
-                (
-                    2,
-                    Span { start: 19, end: 31 },
-                    Span { start: 24, end: 31 },
-                    Some(0),
-                    1,
-                    b" c",
-                ),
-            ),
-            Fact::Places(None, 7, 35),
-        ],
+        ),
     ),
     (
-        "* a\n** b\n*** c\n** d\n* e\n",
-        5,
-        &[
-            Fact::Heading(
+        MIXED,
+        4,
+        Fact::Heading(
+            2,
+            (
+                2,
+                Span { start: 19, end: 31 },
+                Span { start: 24, end: 31 },
+                Some(0),
                 1,
-                (
-                    2,
-                    Span { start: 4, end: 15 },
-                    Span { start: 9, end: 9 },
-                    Some(0),
-                    2,
-                    b" b",
-                ),
+                b" c",
             ),
-            Fact::LiesIn(2, 1),
-            Fact::Without(1, 0, Place::First, 4),
-            Fact::Without(1, 0, Place::Last, 9),
-            Fact::Without(1, 4, Place::Last, 13),
-        ],
+        ),
     ),
+    (MIXED, 4, Fact::Places(None, 7, 35)),
+    (
+        NESTED,
+        5,
+        Fact::Heading(
+            1,
+            (
+                2,
+                Span { start: 4, end: 15 },
+                Span { start: 9, end: 9 },
+                Some(0),
+                2,
+                b" b",
+            ),
+        ),
+    ),
+    (NESTED, 5, Fact::LiesIn(2, 1)),
+    (NESTED, 5, Fact::Without(1, 0, Place::First, 4)),
+    (NESTED, 5, Fact::Without(1, 0, Place::Last, 9)),
+    (NESTED, 5, Fact::Without(1, 4, Place::Last, 13)),
     // The first place is the one among deeper children.
-    ("* A\n*** X\n** Y\n", 3, &[Fact::Places(Some(0), 10, 15)]),
-    ("* A\n*** X\n", 2, &[Fact::Places(Some(0), 10, 10)]),
+    ("* A\n*** X\n** Y\n", 3, Fact::Places(Some(0), 10, 15)),
+    ("* A\n*** X\n", 2, Fact::Places(Some(0), 10, 10)),
     // Of a block the line that looks like a heading is one; stars without a blank are none.
     (
-        "*\n*\tA\n#+BEGIN_SRC\n* A\n#+END_SRC\n",
+        BLOCK,
         1,
-        &[
-            Fact::Heading(
-                0,
-                (
-                    1,
-                    Span { start: 18, end: 32 },
-                    Span { start: 22, end: 32 },
-                    None,
-                    1,
-                    b" A",
-                ),
+        Fact::Heading(
+            0,
+            (
+                1,
+                Span { start: 18, end: 32 },
+                Span { start: 22, end: 32 },
+                None,
+                1,
+                b" A",
             ),
-            Fact::Headed("A", Ok(Some(0))),
-        ],
+        ),
     ),
-];
-
-#[test]
-fn places_of_headings(rt: HostRuntime) {
-    assert_rows(&rt, PLACED);
-}
-
-const NAMED: &[Row] = &[(
-    "* TODO A :x:\n** B\n* A\n* C\n*** D\n** D\n** B\n",
-    7,
-    &[
-        Fact::Path(&["A"], Err(PathFault::NotUnique)),
-        Fact::Path(&["C", "D"], Err(PathFault::NotUnique)),
-        Fact::Path(&["C", "B"], Ok(6)),
-        Fact::Path(&["B"], Err(PathFault::NotFound)),
-        Fact::Path(&[], Err(PathFault::NotFound)),
-        Fact::Headed("C", Ok(Some(3))),
-        Fact::Headed("B", Err(PathFault::NotUnique)),
-        Fact::Headed("Q", Ok(None)),
-    ],
-)];
-
-#[test]
-fn paths_and_titles(rt: HostRuntime) {
-    assert_rows(&rt, NAMED);
-}
-
-const KEYWORDS: &[Row] = &[
-    ("* A\n", 1, &[Fact::Parts(&[b" ", b"", b"", b"A", b""])]),
-    (
-        "* DONE\n",
-        1,
-        &[Fact::Parts(&[b" ", b"DONE", b"", b"", b""])],
-    ),
+    (BLOCK, 1, Fact::Headed("A", Ok(Some(0)))),
+    // Paths and titles.
+    (NAMED, 7, Fact::Path(&["A"], Err(PathFault::NotUnique))),
+    (NAMED, 7, Fact::Path(&["C", "D"], Err(PathFault::NotUnique))),
+    (NAMED, 7, Fact::Path(&["C", "B"], Ok(6))),
+    (NAMED, 7, Fact::Path(&["B"], Err(PathFault::NotFound))),
+    (NAMED, 7, Fact::Path(&[], Err(PathFault::NotFound))),
+    (NAMED, 7, Fact::Differ(&["C", "B"], &["A"])),
+    (NAMED, 7, Fact::Headed("C", Ok(Some(3)))),
+    (NAMED, 7, Fact::Headed("B", Err(PathFault::NotUnique))),
+    (NAMED, 7, Fact::Headed("Q", Ok(None))),
+    // Parts of headings: keywords.
+    ("* A\n", 1, Fact::Parts((" ", "", "", "A", ""))),
+    ("* DONE\n", 1, Fact::Parts((" ", "DONE", "", "", ""))),
     (
         "* TODO[#A] x\n",
         1,
-        &[Fact::Parts(&[b" ", b"", b"", b"TODO[#A] x", b""])],
+        Fact::Parts((" ", "", "", "TODO[#A] x", "")),
     ),
-    (
-        "* todo x\n",
-        1,
-        &[Fact::Parts(&[b" ", b"", b"", b"todo x", b""])],
-    ),
+    ("* todo x\n", 1, Fact::Parts((" ", "", "", "todo x", ""))),
     (
         "* COMMENT A\n",
         1,
-        &[Fact::Parts(&[b" ", b"", b"", b"COMMENT A", b""])],
+        Fact::Parts((" ", "", "", "COMMENT A", "")),
     ),
-];
-
-const PRIORITIES: &[Row] = &[
+    // Priorities.
     (
         "** TODO [#A] Call Ann :x:y:\n",
         1,
-        &[Fact::Parts(&[b" ", b"TODO", b"[#A]", b"Call Ann", b":x:y:"])],
+        Fact::Parts((" ", "TODO", "[#A]", "Call Ann", ":x:y:")),
     ),
-    (
-        "* [#a]x\n",
-        1,
-        &[Fact::Parts(&[b" ", b"", b"[#a]", b"x", b""])],
-    ),
-    (
-        "* [#1] x\n",
-        1,
-        &[Fact::Parts(&[b" ", b"", b"[#1]", b"x", b""])],
-    ),
-    (
-        "* [#AB] x\n",
-        1,
-        &[Fact::Parts(&[b" ", b"", b"", b"[#AB] x", b""])],
-    ),
-    (
-        "* [#A]:x:\n",
-        1,
-        &[Fact::Parts(&[b" ", b"", b"[#A]", b":x:", b""])],
-    ),
-];
-
-const TAGS: &[Row] = &[
-    (
-        "* TODO :x:\n",
-        1,
-        &[Fact::Parts(&[b" ", b"TODO", b"", b"", b":x:"])],
-    ),
-    ("* :x:\n", 1, &[Fact::Parts(&[b" ", b"", b"", b"", b":x:"])]),
+    ("* [#a]x\n", 1, Fact::Parts((" ", "", "[#a]", "x", ""))),
+    ("* [#1] x\n", 1, Fact::Parts((" ", "", "[#1]", "x", ""))),
+    ("* [#AB] x\n", 1, Fact::Parts((" ", "", "", "[#AB] x", ""))),
+    ("* [#A]:x:\n", 1, Fact::Parts((" ", "", "[#A]", ":x:", ""))),
+    // Tags.
+    ("* TODO :x:\n", 1, Fact::Parts((" ", "TODO", "", "", ":x:"))),
+    ("* :x:\n", 1, Fact::Parts((" ", "", "", "", ":x:"))),
     (
         "* A :a::b:\n",
         1,
-        &[Fact::Parts(&[b" ", b"", b"", b"A :a::b:", b""])],
+        Fact::Parts((" ", "", "", "A :a::b:", "")),
     ),
     (
         "* A :a_@#%1:\n",
         1,
-        &[Fact::Parts(&[b" ", b"", b"", b"A", b":a_@#%1:"])],
+        Fact::Parts((" ", "", "", "A", ":a_@#%1:")),
     ),
-    (
-        "* A :a-b:\n",
-        1,
-        &[Fact::Parts(&[b" ", b"", b"", b"A :a-b:", b""])],
-    ),
+    ("* A :a-b:\n", 1, Fact::Parts((" ", "", "", "A :a-b:", ""))),
     (
         "* \u{c4} :\u{e9}:\n",
         1,
-        &[Fact::Parts(&[b" ", b"", b"", b"\xc3\x84", b":\xc3\xa9:"])],
+        Fact::Parts((" ", "", "", "\u{c4}", ":\u{e9}:")),
     ),
-];
-
-const BLANKS: &[Row] = &[
-    (
-        "* TODO A\r\n",
-        1,
-        &[Fact::Parts(&[b" ", b"TODO", b"", b"A", b""])],
-    ),
-    ("* A\r \n", 1, &[Fact::Parts(&[b" ", b"", b"", b"A", b""])]),
-    (
-        "* A\r :x:\n",
-        1,
-        &[Fact::Parts(&[b" ", b"", b"", b"A\r", b":x:"])],
-    ),
+    // Blanks.
+    ("* TODO A\r\n", 1, Fact::Parts((" ", "TODO", "", "A", ""))),
+    ("* A\r \n", 1, Fact::Parts((" ", "", "", "A", ""))),
+    ("* A\r :x:\n", 1, Fact::Parts((" ", "", "", "A\r", ":x:"))),
     (
         "* \tTODO\t[#B]\tA\t:x:\t\n",
         1,
-        &[Fact::Parts(&[b" \t", b"TODO", b"[#B]", b"A", b":x:"])],
+        Fact::Parts((" \t", "TODO", "[#B]", "A", ":x:")),
     ),
-    ("* \n", 1, &[Fact::Parts(&[b" ", b"", b"", b"", b""])]),
-    (
-        "*   \t\n",
-        1,
-        &[Fact::Parts(&[b"   \t", b"", b"", b"", b""])],
-    ),
+    ("* \n", 1, Fact::Parts((" ", "", "", "", ""))),
+    ("*   \t\n", 1, Fact::Parts(("   \t", "", "", "", ""))),
+    // The title and the level of a heading without an outline.
+    ("", 0, Fact::Titled(" TODO a :x:", "a")),
+    ("", 0, Fact::Level("** a", Some(2))),
 ];
 
-#[test]
-fn parts_of_headings(rt: HostRuntime) {
-    assert_rows(&rt, KEYWORDS);
-    assert_rows(&rt, PRIORITIES);
-    assert_rows(&rt, TAGS);
-    assert_rows(&rt, BLANKS);
+/// Asserts that a row is right.
+fn assert_row(rt: &impl Abort, alloc: Global, states: &States, row: &Row) {
+    let text = row.0.as_bytes();
+    assert!(rt; is_terminated(text));
+    let is_right = is_read(rt, alloc, states, text, row) && is_kept(rt, alloc, states, text, row);
+    assert!(rt; is_right, "{}", row.0);
 }
 
 #[test]
-fn parts_without_an_outline(rt: HostRuntime) {
-    let states = States::new(rt.alloc(), &["TODO"], &["DONE"]).expect(&rt, "states");
-    assert!(rt; HeadParts::of(&states, b" TODO a :x:").title == b"a".as_slice());
-    assert!(rt; heading_level(b"** a") == Some(2));
-}
-
-#[test]
-fn different_titles(rt: HostRuntime) {
-    let path = titles(&rt, rt.alloc(), &["C", "B"]);
-    let other = titles(&rt, rt.alloc(), &["A"]);
-    assert!(rt; path != other);
-}
-
-#[test]
-fn shifted(rt: HostRuntime) {
-    let moved = shift(rt.alloc(), b"* a\nx\n*** b\n", 3).expect(&rt, "memory");
-    assert!(rt; moved.as_slice() == b"*** a\nx\n***** b\n".as_slice());
+fn headings(rt: HostRuntime) {
+    let states = states(&rt, rt.alloc());
+    for row in ROWS {
+        assert_row(&rt, rt.alloc(), &states, row);
+    }
 }

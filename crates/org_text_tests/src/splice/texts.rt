@@ -1,87 +1,49 @@
 // Texts that are edited in place, whose edits are taken back, kept or settled, and what their patches are.
-ghost use Rattle.std.specs.Prelude.{◌+◌, ◌≤◌, length};
-
-use crate::edits::{Splice, edits_of};
-use org_splice::{Edit, Editing, Patch, size_after};
+use crate::edits::{NONE, Patched, Splice, edit_of, edits_of, has, make, patch_count};
+use org_splice::{Editing, Patch, size_after};
 use std::alloc::Global;
 use std::process::Abort;
 
-/// Where a patch begins, and its bytes.
-type Patched = (u64, &'static [u8]);
-
-/// What is done to a text.
-enum Action {
-    Splice(&'static [Splice]),
-    /// The same by edits.
-    Apply(&'static [Splice]),
+/// What is done to a text, or said of it.
+enum Step {
+    /// A text that is not edited yet.
+    Text(&'static [u8]),
+    /// A place, how many bytes are removed there, and the bytes that take their place.
+    Splice(usize, usize, &'static [u8]),
+    /// The same by an edit.
+    Apply(Splice),
     /// A last line without a newline gets one.
     Terminate,
     Keep,
     Undo,
     Settle,
+    /// Whether an edit could be taken back, the bytes, and the patches.
+    Is(bool, &'static [u8], &'static [Patched]),
 }
 
-/// What is done to a text, whether an edit could be taken back then, its bytes, and its patches.
-type Step = (Action, bool, &'static [u8], &'static [Patched]);
-
-/// Asserts that so many bytes can be removed from a text at a place.
-fn assert_within(rt: &impl Abort, text: &Editing, at: usize, removed: usize)
-    ensures { at + removed ≤ length text.now.text.bytes }
-{
+fn splice(rt: &impl Abort, text: &mut Editing, at: usize, removed: usize, bytes: &[u8]) {
     let size = text.bytes().len();
-    assert!(rt; at <= size && removed <= size - at);
+    assert!(rt; removed <= size && at <= size - removed);
+    text.splice(at, removed, bytes).expect(rt, "memory");
 }
 
-fn splice(rt: &impl Abort, text: &mut Editing, splices: &[Splice]) {
-    for (at, removed, bytes) in splices {
-        assert_within(rt, text, *at, *removed);
-        text.splice(*at, *removed, bytes).expect(rt, "memory");
-    }
+/// A text with these bytes.
+fn new_text(rt: &impl Abort, alloc: Global, bytes: &[u8]) -> Editing {
+    Editing::new(bytes.to_vec(alloc).expect(rt, "memory"))
 }
 
-fn apply(rt: &impl Abort, text: &mut Editing, edits: &[Edit]) {
-    for edit in edits {
-        assert_within(rt, text, edit.at, edit.removed);
-        text.apply(edit).expect(rt, "memory");
-    }
-}
-
-fn act(rt: &impl Abort, alloc: Global, text: &mut Editing, action: &Action) {
-    match action {
-        Action::Splice(splices) => splice(rt, text, splices),
-        Action::Apply(splices) => apply(rt, text, &edits_of(rt, alloc, splices)),
-        Action::Terminate => text.terminate().expect(rt, "memory"),
-        Action::Keep => text.keep(),
-        Action::Undo => text.undo(),
-        Action::Settle => text.settle(),
-    }
-}
-
-/// Whether these are the patches.
-fn are(patches: &[Patch], expected: &[Patched]) -> bool {
-    if patches.len() != expected.len() {
-        return false;
-    }
-    for (patch, (from, bytes)) in patches.iter().zip(expected) {
-        if patch.from != *from || patch.bytes.as_slice() != *bytes {
-            return false;
-        }
-    }
-    true
-}
-
-/// Whether a text has these bytes and these patches.
-fn has(rt: &impl Abort, text: &Editing, bytes: &[u8], patches: &[Patched]) -> bool {
-    text.bytes() == bytes && are(&text.patches().expect(rt, "memory"), patches)
-}
-
-/// Whether each step makes of a text what it says.
-fn goes(rt: &impl Abort, alloc: Global, old: &[u8], steps: &[Step]) -> bool {
-    let mut text = Editing::new(Vec::from_slice(alloc, old).expect(rt, "memory"));
-    for (action, is_edited, bytes, patches) in steps {
-        act(rt, alloc, &mut text, action);
-        if text.is_edited() != *is_edited || !has(rt, &text, bytes, patches) {
-            return false;
+/// Does what a step says, or answers whether it is so.
+fn go(rt: &impl Abort, alloc: Global, text: &mut Editing, step: &Step) -> bool {
+    match step {
+        Step::Text(bytes) => *text = new_text(rt, alloc, bytes),
+        Step::Splice(at, removed, bytes) => splice(rt, text, *at, *removed, bytes),
+        Step::Apply(splice) => make(rt, text, &edit_of(rt, alloc, splice)),
+        Step::Terminate => text.terminate().expect(rt, "memory"),
+        Step::Keep => text.keep(),
+        Step::Undo => text.undo(),
+        Step::Settle => text.settle(),
+        Step::Is(is_edited, bytes, patches) => {
+            return text.is_edited() == *is_edited && has(rt, text, bytes, patches);
         }
     }
     true
@@ -89,256 +51,161 @@ fn goes(rt: &impl Abort, alloc: Global, old: &[u8], steps: &[Step]) -> bool {
 
 const HEADINGS: &[u8] = b"* A\n* B\n";
 
-const NONE: &[Patched] = &[(0, b"")];
-
-/// A text, and what is done to it.
-type Row = (&'static [u8], &'static [Step]);
-
-fn assert_rows(rt: &(impl Abort + AllocGlobal), rows: &[Row]) {
-    for (i, (old, steps)) in rows.iter().enumerate() {
-        assert!(rt; goes(rt, rt.alloc(), old, steps), "row {i}");
-    }
-}
-
-const OF_ONE_SIZE: &[Row] = &[
-    (
-        HEADINGS,
-        &[
-            (Action::Splice(&[]), false, b"* A\n* B\n", NONE),
-            (Action::Settle, false, b"* A\n* B\n", NONE),
-        ],
-    ),
-    (
-        HEADINGS,
-        &[
-            (
-                Action::Splice(&[(2, 1, b"C")]),
-                true,
-                b"* C\n* B\n",
-                &[(2, b"C")],
-            ),
-            (Action::Settle, false, b"* C\n* B\n", NONE),
-        ],
-    ),
-    (
-        HEADINGS,
-        &[
-            (
-                Action::Splice(&[(2, 1, b"C"), (6, 1, b"D")]),
-                true,
-                b"* C\n* D\n",
-                &[(2, b"C"), (6, b"D")],
-            ),
-            (Action::Settle, false, b"* C\n* D\n", NONE),
-        ],
-    ),
-    (
-        HEADINGS,
-        &[
-            (
-                Action::Splice(&[(6, 1, b"D"), (2, 1, b"C")]),
-                true,
-                b"* C\n* D\n",
-                &[(2, b"C"), (6, b"D")],
-            ),
-            (Action::Settle, false, b"* C\n* D\n", NONE),
-        ],
-    ),
-    (
-        HEADINGS,
-        &[
-            (
-                Action::Splice(&[(2, 1, b"C"), (3, 1, b" ")]),
-                true,
-                b"* C * B\n",
-                &[(2, b"C ")],
-            ),
-            (Action::Settle, false, b"* C * B\n", NONE),
-        ],
-    ),
-];
-
-const OF_OTHER_SIZES: &[Row] = &[
-    (
-        HEADINGS,
-        &[
-            (
-                Action::Splice(&[(2, 1, b"CC")]),
-                true,
-                b"* CC\n* B\n",
-                &[(2, b"CC\n* B\n")],
-            ),
-            (Action::Settle, false, b"* CC\n* B\n", NONE),
-        ],
-    ),
-    (
-        HEADINGS,
-        &[
-            (Action::Splice(&[(4, 4, b"")]), true, b"* A\n", NONE),
-            (Action::Settle, false, b"* A\n", NONE),
-        ],
-    ),
-    (
-        HEADINGS,
-        &[
-            (
-                Action::Splice(&[(5, 2, b"xy"), (6, 2, b"")]),
-                true,
-                b"* A\n*x",
-                &[(5, b"x")],
-            ),
-            (Action::Settle, false, b"* A\n*x", NONE),
-        ],
-    ),
-    (
-        HEADINGS,
-        &[
-            (
-                Action::Splice(&[(8, 0, b"* N\n")]),
-                true,
-                b"* A\n* B\n* N\n",
-                &[(8, b"* N\n")],
-            ),
-            (Action::Settle, false, b"* A\n* B\n* N\n", NONE),
-        ],
-    ),
-    (
-        HEADINGS,
-        &[
-            (Action::Splice(&[(3, 0, b"")]), true, b"* A\n* B\n", NONE),
-            (Action::Settle, false, b"* A\n* B\n", NONE),
-        ],
-    ),
-    (
-        b"* A\n",
-        &[
-            (
-                Action::Splice(&[(2, 1, b"B")]),
-                true,
-                b"* B\n",
-                &[(2, b"B")],
-            ),
-            (Action::Settle, false, b"* B\n", NONE),
-        ],
-    ),
-];
-
-#[test]
-fn splices_of_worked_texts(rt: HostRuntime) {
-    assert_rows(&rt, OF_ONE_SIZE);
-    assert_rows(&rt, OF_OTHER_SIZES);
-}
-
-const TERMINATED: &[Row] = &[
-    (b"", &[(Action::Terminate, false, b"", NONE)]),
-    (b"* A\n", &[(Action::Terminate, false, b"* A\n", NONE)]),
-    (
-        b"* A",
-        &[(Action::Terminate, true, b"* A\n", &[(3, b"\n")])],
-    ),
-    (b"\n\n", &[(Action::Terminate, false, b"\n\n", NONE)]),
-];
-
-#[test]
-fn texts_with_a_newline_at_their_end(rt: HostRuntime) {
-    assert_rows(&rt, TERMINATED);
-}
-
-const EDITED: &[Row] = &[
+const STEPS: &[Step] = &[
+    // Splices that keep the size.
+    Step::Text(HEADINGS),
+    Step::Is(false, b"* A\n* B\n", NONE),
+    Step::Settle,
+    Step::Is(false, b"* A\n* B\n", NONE),
+    Step::Text(HEADINGS),
+    Step::Splice(2, 1, b"C"),
+    Step::Is(true, b"* C\n* B\n", &[(2, b"C")]),
+    Step::Settle,
+    Step::Is(false, b"* C\n* B\n", NONE),
+    Step::Text(HEADINGS),
+    Step::Splice(2, 1, b"C"),
+    Step::Splice(6, 1, b"D"),
+    Step::Is(true, b"* C\n* D\n", &[(2, b"C"), (6, b"D")]),
+    Step::Settle,
+    Step::Is(false, b"* C\n* D\n", NONE),
+    Step::Text(HEADINGS),
+    Step::Splice(6, 1, b"D"),
+    Step::Splice(2, 1, b"C"),
+    Step::Is(true, b"* C\n* D\n", &[(2, b"C"), (6, b"D")]),
+    Step::Settle,
+    Step::Is(false, b"* C\n* D\n", NONE),
+    Step::Text(HEADINGS),
+    Step::Splice(2, 1, b"C"),
+    Step::Splice(3, 1, b" "),
+    Step::Is(true, b"* C * B\n", &[(2, b"C ")]),
+    Step::Settle,
+    Step::Is(false, b"* C * B\n", NONE),
+    // Splices that change it.
+    Step::Text(HEADINGS),
+    Step::Splice(2, 1, b"CC"),
+    Step::Is(true, b"* CC\n* B\n", &[(2, b"CC\n* B\n")]),
+    Step::Settle,
+    Step::Is(false, b"* CC\n* B\n", NONE),
+    Step::Text(HEADINGS),
+    Step::Splice(4, 4, b""),
+    Step::Is(true, b"* A\n", NONE),
+    Step::Settle,
+    Step::Is(false, b"* A\n", NONE),
+    Step::Text(HEADINGS),
+    Step::Splice(5, 2, b"xy"),
+    Step::Splice(6, 2, b""),
+    Step::Is(true, b"* A\n*x", &[(5, b"x")]),
+    Step::Settle,
+    Step::Is(false, b"* A\n*x", NONE),
+    Step::Text(HEADINGS),
+    Step::Splice(8, 0, b"* N\n"),
+    Step::Is(true, b"* A\n* B\n* N\n", &[(8, b"* N\n")]),
+    Step::Settle,
+    Step::Is(false, b"* A\n* B\n* N\n", NONE),
+    Step::Text(HEADINGS),
+    Step::Splice(3, 0, b""),
+    Step::Is(true, b"* A\n* B\n", NONE),
+    Step::Settle,
+    Step::Is(false, b"* A\n* B\n", NONE),
+    Step::Text(b"* A\n"),
+    Step::Splice(2, 1, b"B"),
+    Step::Is(true, b"* B\n", &[(2, b"B")]),
+    Step::Settle,
+    Step::Is(false, b"* B\n", NONE),
+    // A newline at the end.
+    Step::Text(b""),
+    Step::Terminate,
+    Step::Is(false, b"", NONE),
+    Step::Text(b"* A\n"),
+    Step::Terminate,
+    Step::Is(false, b"* A\n", NONE),
+    Step::Text(b"* A"),
+    Step::Terminate,
+    Step::Is(true, b"* A\n", &[(3, b"\n")]),
+    Step::Text(b"\n\n"),
+    Step::Terminate,
+    Step::Is(false, b"\n\n", NONE),
+    // Edits made, taken back, kept and settled.
     // An edit of a heading.
-    (
-        b"* A\n",
-        &[(
-            Action::Apply(&[(2, 1, b"BC")]),
-            true,
-            b"* BC\n",
-            &[(2, b"BC\n")],
-        )],
-    ),
+    Step::Text(b"* A\n"),
+    Step::Apply((2, 1, b"BC")),
+    Step::Is(true, b"* BC\n", &[(2, b"BC\n")]),
     // Edits taken back.
-    (
-        b"* A\n* B",
-        &[
-            (
-                Action::Splice(&[(2, 1, b"CC"), (0, 3, b""), (2, 0, b"* Long\n")]),
-                true,
-                b"C\n* Long\n* B",
-                &[(0, b"C\n* Long\n* B")],
-            ),
-            (
-                Action::Terminate,
-                true,
-                b"C\n* Long\n* B\n",
-                &[(0, b"C\n* Long\n* B\n")],
-            ),
-            (Action::Undo, false, b"* A\n* B", NONE),
-        ],
-    ),
+    Step::Text(b"* A\n* B"),
+    Step::Splice(2, 1, b"CC"),
+    Step::Splice(0, 3, b""),
+    Step::Splice(2, 0, b"* Long\n"),
+    Step::Is(true, b"C\n* Long\n* B", &[(0, b"C\n* Long\n* B")]),
+    Step::Terminate,
+    Step::Is(true, b"C\n* Long\n* B\n", &[(0, b"C\n* Long\n* B\n")]),
+    Step::Undo,
+    Step::Is(false, b"* A\n* B", NONE),
     // An edit kept, others taken back, and all settled.
-    (
-        HEADINGS,
-        &[
-            (
-                Action::Splice(&[(2, 1, b"C")]),
-                true,
-                b"* C\n* B\n",
-                &[(2, b"C")],
-            ),
-            (Action::Keep, false, b"* C\n* B\n", &[(2, b"C")]),
-            (
-                Action::Splice(&[(6, 1, b"D"), (0, 4, b"")]),
-                true,
-                b"* D\n",
-                &[(0, b"* D\n")],
-            ),
-            (Action::Undo, false, b"* C\n* B\n", &[(2, b"C")]),
-            (Action::Settle, false, b"* C\n* B\n", NONE),
-            (Action::Undo, false, b"* C\n* B\n", NONE),
-        ],
-    ),
+    Step::Text(HEADINGS),
+    Step::Splice(2, 1, b"C"),
+    Step::Is(true, b"* C\n* B\n", &[(2, b"C")]),
+    Step::Keep,
+    Step::Is(false, b"* C\n* B\n", &[(2, b"C")]),
+    Step::Splice(6, 1, b"D"),
+    Step::Splice(0, 4, b""),
+    Step::Is(true, b"* D\n", &[(0, b"* D\n")]),
+    Step::Undo,
+    Step::Is(false, b"* C\n* B\n", &[(2, b"C")]),
+    Step::Settle,
+    Step::Is(false, b"* C\n* B\n", NONE),
+    Step::Undo,
+    Step::Is(false, b"* C\n* B\n", NONE),
 ];
 
 #[test]
-fn edits_made_taken_back_kept_and_settled(rt: HostRuntime) {
-    assert_rows(&rt, EDITED);
+fn texts_under_edit(rt: HostRuntime) {
+    let mut text = new_text(&rt, rt.alloc(), b"");
+    for (i, step) in STEPS.iter().enumerate() {
+        assert!(rt; go(&rt, rt.alloc(), &mut text, step), "step {i}");
+    }
+    drop(text);
 }
 
 /// Changes every other byte of a text, and asserts that each is a patch of its own, up to a thousand.
 fn assert_counts(rt: &impl Abort, text: &mut Editing) {
     for i in 0..1_001usize {
-        assert!(rt; 2 * i + 1 <= text.bytes().len());
-        text.splice(2 * i, 1, b"b").expect(rt, "memory");
-        let patches = text.patches().expect(rt, "memory");
-        assert!(rt; patches.len() == (i + 1).min(1_000), "after splice {i}");
+        splice(rt, text, 2 * i, 1, b"b");
+        assert!(rt;
+            patch_count(rt, text) == (i + 1).min(1_000),
+            "after splice {i}"
+        );
     }
 }
 
-/// Asserts that the patches change every other byte, and that the last of a thousand changes two.
-fn assert_every_other(rt: &impl Abort, patches: &[Patch]) {
+/// Whether the patches change every other byte, and the last of a thousand changes two.
+fn are_every_other(patches: &[Patch]) -> bool {
     for (i, patch) in patches.iter().enumerate() {
         let bytes: &[u8] = if i == 999 { b"bab" } else { b"b" };
-        assert!(rt;
-            patch.from == 2 * i as u64 && patch.bytes.as_slice() == bytes,
-            "patch {i}"
-        );
+        if patch.from != 2 * i as u64 || patch.bytes.as_slice() != bytes {
+            return false;
+        }
     }
+    true
 }
 
 #[test]
 fn more_than_a_thousand_ranges(rt: HostRuntime) {
     let mut text = Editing::new(vec![in rt.alloc(); b'a'; 2_002].expect(&rt, "memory"));
     assert_counts(&rt, &mut text);
-    assert_every_other(&rt, &text.patches().expect(&rt, "memory"));
+    assert!(rt; are_every_other(&text.patches().expect(&rt, "memory")));
+    drop(text);
 }
 
-/// How long a text of so many bytes is after these edits, if it can be that long.
-fn size(rt: &impl Abort, alloc: Global, old: usize, rows: &[Splice]) -> Option<usize> {
-    size_after(old, &edits_of(rt, alloc, rows))
-}
+/// How long a text is, its edits, and how long it is after them, if it can be that long.
+const SIZES: &[(usize, &[Splice], Option<usize>)] = &[
+    (8, &[(2, 3, b""), (0, 0, b"* A\n")], Some(9)),
+    (usize::MAX, &[(0, 0, b"* A\n")], None),
+];
 
 #[test]
 fn size_of_a_text_after_edits(rt: HostRuntime) {
-    let edits: &[Splice] = &[(2, 3, b""), (0, 0, b"* A\n")];
-    assert!(rt; size(&rt, rt.alloc(), 8, edits) == Some(9));
-    assert!(rt; size(&rt, rt.alloc(), usize::MAX, &edits[1..]).is_none());
+    for (old, splices, size) in SIZES {
+        let edits = edits_of(&rt, rt.alloc(), splices);
+        assert!(rt; size_after(*old, &edits) == *size, "{old}");
+    }
 }

@@ -1,5 +1,4 @@
 // Timestamps that are printed, and that are repeated.
-use super::{prints, stamp};
 use org_stamp::{RepeatFault, Stamp};
 use std::alloc::Global;
 use std::process::Abort;
@@ -198,7 +197,27 @@ const BAD_REPEATS: &str = "\
 <2026-01-05 Mon 10:00-11:00 ++1h> at [2026-07-01 10:00]: BadRepeat
 ";
 
-// Whether a timestamp became this one, or was refused by the fault of this name.
+const TABLES: &[&str] = &[
+    PRINTED,
+    OF_THE_MANUAL,
+    OF_MONTHS_AND_YEARS,
+    AT_THE_ENDS,
+    BAD_REPEATS,
+];
+
+/// The timestamp that a text is.
+fn stamp<'a>(rt: &impl Abort, text: &'a str) -> Stamp<'a> {
+    let (stamp, length) = Stamp::read(text.as_bytes()).expect(rt, "a timestamp");
+    assert!(rt; length == text.len());
+    stamp
+}
+
+/// Whether a timestamp is printed so.
+fn prints(rt: &impl Abort, alloc: Global, stamp: &Stamp<'_>, text: &str) -> bool {
+    stamp.print(alloc).expect(rt, "memory").as_slice() == text.as_bytes()
+}
+
+/// Whether a timestamp became this one, or was refused by the fault of this name.
 fn is(
     rt: &impl Abort,
     alloc: Global,
@@ -212,30 +231,27 @@ fn is(
     }
 }
 
-fn assert_row(rt: &impl Abort, alloc: Global, row: &str) {
-    let (given, wanted) = row.split_once(": ").expect(rt, "a row");
-    let answer = match given.split_once(" at ") {
-        Some((from, now)) => stamp(rt, from.as_bytes()).repeat(stamp(rt, now.as_bytes()).moment()),
-        None => Ok(stamp(rt, given.as_bytes())),
-    };
-    assert!(rt; is(rt, alloc, &answer, wanted), "{row}");
+/// Whether a timestamp, repeated where a moment is given with it, becomes what it should.
+fn is_right(rt: &impl Abort, alloc: Global, given: &str, wanted: &str) -> bool {
+    match given.split_once(" at ") {
+        Some((from, now)) => {
+            let answer = stamp(rt, from).repeat(stamp(rt, now).moment());
+            is(rt, alloc, &answer, wanted)
+        }
+        None => prints(rt, alloc, &stamp(rt, given), wanted),
+    }
 }
 
 fn assert_rows(rt: &impl Abort, alloc: Global, rows: &str) {
     for row in rows.lines() {
-        assert_row(rt, alloc, row);
+        let (given, wanted) = row.split_once(": ").expect(rt, "a row");
+        assert!(rt; is_right(rt, alloc, given, wanted), "{row}");
     }
 }
 
 #[test]
-fn timestamps_printed(rt: HostRuntime) {
-    assert_rows(&rt, rt.alloc(), PRINTED);
-}
-
-#[test]
-fn timestamps_repeated(rt: HostRuntime) {
-    assert_rows(&rt, rt.alloc(), OF_THE_MANUAL);
-    assert_rows(&rt, rt.alloc(), OF_MONTHS_AND_YEARS);
-    assert_rows(&rt, rt.alloc(), AT_THE_ENDS);
-    assert_rows(&rt, rt.alloc(), BAD_REPEATS);
+fn timestamps_printed_and_repeated(rt: HostRuntime) {
+    for rows in TABLES {
+        assert_rows(&rt, rt.alloc(), rows);
+    }
 }

@@ -1,66 +1,82 @@
 // What is read of timestamps.
-use super::{moment, stamp};
 use org_stamp::Stamp;
 
-#[test]
-fn front_of_a_range(rt: HostRuntime) {
-    let range: &[u8] = b"[2026-07-01 Wed 10:00]--[2026-07-01 Wed 11:30]";
-    let (front, length) = Stamp::read(range).expect(&rt, "a timestamp");
-    let start = moment(&rt, 2026, 7, 1, 10, 0);
-    let has = (front.is_active(), front.has_time(), front.has_cookies());
-    assert!(rt;
-        (length, front.moment().minutes(), has) == (22, start.minutes(), (false, true, false))
-    );
-}
+/// How long a timestamp is, the minutes from 1970-01-01 00:00 to its moment, and whether it is active, has a time, has
+/// cookies, and repeats.
+type Read = (usize, i64, bool, bool, bool, bool);
 
-// Timestamps, and whether each has a time, has cookies, and repeats.
-const HAVING: &[(&str, bool, bool, bool)] = &[
-    ("<2026-07-01 -3d>", false, true, false),
-    ("<2026-07-01 ++0y>", false, true, false),
-    ("<2026-07-01 -3d ++1y>", false, true, true),
-    ("<2026-07-01 10:00-11:00>", false, false, false),
+/// 2026-07-01 00:00, in minutes from 1970-01-01 00:00.
+const DAY: i64 = 20635 * 1440;
+
+/// Texts, and the timestamp that each begins with, if it does.
+const ROWS: &[(&str, Option<Read>)] = &[
+    // The front of a range.
+    (
+        "[2026-07-01 Wed 10:00]--[2026-07-01 Wed 11:30]",
+        Some((22, DAY + 600, false, true, false, false)),
+    ),
+    (
+        "<2026-07-01 -3d>",
+        Some((16, DAY, true, false, true, false)),
+    ),
+    (
+        "<2026-07-01 ++0y>",
+        Some((17, DAY, true, false, true, false)),
+    ),
+    (
+        "<2026-07-01 -3d ++1y>",
+        Some((21, DAY, true, false, true, true)),
+    ),
+    (
+        "<2026-07-01 10:00-11:00>",
+        Some((24, DAY + 600, true, false, false, false)),
+    ),
+    // No timestamps.
+    ("", None),
+    ("2026-07-01", None),
+    ("<2026-07-01", None),
+    ("<2026-07-01]", None),
+    ("<2026-07-01 a]>", None),
+    ("<2026-07-01 >", None),
+    ("<2026-07-01Wed>", None),
+    ("< 2026-07-01>", None),
+    ("<2026-07-01 Wed Thu>", None),
+    ("<2026-07-01 10:00 11:00>", None),
+    ("<2026-07-01 +1d ++1d>", None),
+    ("<2026-07-01 -1d --1d>", None),
+    ("<2026-07-01 24:00>", None),
+    ("<2026-07-01 10:60>", None),
+    ("<2026-07-01 10:00->", None),
+    ("<2026-07-01 +12345d>", None),
+    ("<2026-07-01 +d>", None),
+    ("<2026-07-01 +1x>", None),
+    ("<2026-07-01 +1d/>", None),
+    ("<2026-07-01 -1d/2d>", None),
+    ("<2026-07-01 Wed\n10:00>", None),
+    ("<2100-02-29>", None),
+    ("<0000-01-01>", None),
+    ("<10000-01-01>", None),
+    ("<2026-7-01>", None),
 ];
 
-#[test]
-fn what_timestamps_have(rt: HostRuntime) {
-    for (text, time, cookies, repeats) in HAVING {
-        let stamp = stamp(&rt, text.as_bytes());
-        let has = (stamp.has_time(), stamp.has_cookies(), stamp.repeats());
-        assert!(rt; has == (*time, *cookies, *repeats), "{text}");
-    }
+/// What is read of a text.
+fn read(text: &str) -> Option<Read> {
+    let (stamp, length) = Stamp::read(text.as_bytes())?;
+    let (has_time, has_cookies) = (stamp.has_time(), stamp.has_cookies());
+    let minutes = stamp.moment().minutes();
+    Some((
+        length,
+        minutes,
+        stamp.is_active(),
+        has_time,
+        has_cookies,
+        stamp.repeats(),
+    ))
 }
 
-const NO_TIMESTAMPS: &[&str] = &[
-    "",
-    "2026-07-01",
-    "<2026-07-01",
-    "<2026-07-01]",
-    "<2026-07-01 a]>",
-    "<2026-07-01 >",
-    "<2026-07-01Wed>",
-    "< 2026-07-01>",
-    "<2026-07-01 Wed Thu>",
-    "<2026-07-01 10:00 11:00>",
-    "<2026-07-01 +1d ++1d>",
-    "<2026-07-01 -1d --1d>",
-    "<2026-07-01 24:00>",
-    "<2026-07-01 10:60>",
-    "<2026-07-01 10:00->",
-    "<2026-07-01 +12345d>",
-    "<2026-07-01 +d>",
-    "<2026-07-01 +1x>",
-    "<2026-07-01 +1d/>",
-    "<2026-07-01 -1d/2d>",
-    "<2026-07-01 Wed\n10:00>",
-    "<2100-02-29>",
-    "<0000-01-01>",
-    "<10000-01-01>",
-    "<2026-7-01>",
-];
-
 #[test]
-fn no_timestamps(rt: HostRuntime) {
-    for text in NO_TIMESTAMPS {
-        assert!(rt; Stamp::read(text.as_bytes()).is_none(), "{text}");
+fn timestamps_read(rt: HostRuntime) {
+    for (text, wanted) in ROWS {
+        assert!(rt; read(text) == *wanted, "{text}");
     }
 }
