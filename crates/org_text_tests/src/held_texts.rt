@@ -16,8 +16,6 @@ type Change = (&'static str, &'static [Splice]);
 
 /// What is done to held texts.
 enum Action {
-    /// The texts are dropped, and there are none.
-    Begin,
     /// A text is held as the disk has it.
     Hold(&'static str, &'static [u8]),
     /// The text of a name is made ready.
@@ -114,7 +112,6 @@ fn edit(rt: &impl Abort, alloc: Global, texts: &mut Texts, change: Change) {
         second: None,
     };
     texts.apply(&plan).expect(rt, "memory");
-    drop(plan);
 }
 
 fn edit_two(rt: &impl Abort, alloc: Global, texts: &mut Texts, first: Change, second: Change) {
@@ -122,7 +119,6 @@ fn edit_two(rt: &impl Abort, alloc: Global, texts: &mut Texts, first: Change, se
     let second = file_edits(rt, alloc, texts, second);
     let plan = plan_of(rt, texts, first, second);
     texts.apply(&plan).expect(rt, "memory");
-    drop(plan);
 }
 
 /// Whether these texts wait, in this order, each with one patch.
@@ -160,7 +156,6 @@ fn headings(held: &Held, states: &States) -> (usize, Option<Span>) {
 
 fn act(rt: &impl Abort, alloc: Global, texts: &mut Texts, action: &Action) {
     match action {
-        Action::Begin => *texts = Texts::new(alloc),
         Action::Hold(name, text) => hold(rt, alloc, texts, name, text),
         Action::Ready(name) => make_ready(rt, alloc, texts, name),
         Action::Edit(change) => edit(rt, alloc, texts, *change),
@@ -223,9 +218,8 @@ const MADE_B: Step = Step::Is(Fact::Text(
 
 const NONE_WAITS: Step = Step::Is(Fact::Waiting(&[]));
 
-const STEPS: &[Step] = &[
-    // A command is taken back.
-    Step::Do(Action::Begin),
+// A command is taken back.
+const TAKEN_BACK: &[Step] = &[
     HOLD_A,
     HOLD_B,
     READY_A,
@@ -238,8 +232,10 @@ const STEPS: &[Step] = &[
     Step::Is(Fact::Text("a.org", b"* A\n* B", 0, None)),
     Step::Is(Fact::Text("b.org", b"* C\n", 0, None)),
     NONE_WAITS,
-    // A command is kept, and one is taken back.
-    Step::Do(Action::Begin),
+];
+
+// A command is kept, and one is taken back.
+const KEPT: &[Step] = &[
     HOLD_A,
     HOLD_B,
     READY_A,
@@ -249,8 +245,10 @@ const STEPS: &[Step] = &[
     Step::Do(Action::Undo),
     Step::Is(Fact::Text("a.org", b"* A\n* B\n", 0, None)),
     Step::Is(Fact::Waiting(&[("a.org", b"* A\n* B\n"), ("b.org", b"* C\n")])),
-    // A commit settles.
-    Step::Do(Action::Begin),
+];
+
+// A commit settles.
+const COMMITTED: &[Step] = &[
     HOLD_A,
     HOLD_B,
     READY_A,
@@ -261,8 +259,10 @@ const STEPS: &[Step] = &[
     Step::Do(Action::Undo),
     MADE_A,
     MADE_B,
-    // A text is terminated, and its headings follow.
-    Step::Do(Action::Begin),
+];
+
+// A text is terminated, and its headings follow.
+const FOLLOWED: &[Step] = &[
     Step::Do(Action::Hold("a.org", b"* A\ntext\n** B")),
     Step::Do(Action::Ready("a.org")),
     Step::Is(Fact::Text(
@@ -278,8 +278,10 @@ const STEPS: &[Step] = &[
         3,
         Some(Span { start: 4, end: 13 }),
     )),
-    // A text keeps its place.
-    Step::Do(Action::Begin),
+];
+
+// A text keeps its place.
+const IN_PLACE: &[Step] = &[
     Step::Do(Action::Hold("a.org", b"* A\n")),
     Step::Do(Action::Hold("b.org", b"* B\n")),
     Step::Do(Action::Edit(("a.org", &[(0, 0, b"")]))),
@@ -290,9 +292,11 @@ const STEPS: &[Step] = &[
     Step::Is(Fact::Waiting(&[("a.org", b"* C\n"), ("b.org", b"* B\n")])),
     Step::Is(Fact::Text("b.org", b"* B\n", 0, None)),
     Step::Is(Fact::Absent("c.org")),
-    // Texts wait in the order in which they are ready: the first is terminated as it is, and waits before the second, which
-    // gets a newline.
-    Step::Do(Action::Begin),
+];
+
+// Texts wait in the order in which they are ready: the first is terminated as it is, and waits before the second, which
+// gets a newline.
+const IN_ORDER: &[Step] = &[
     Step::Do(Action::Hold("b.org", b"* B\n")),
     Step::Do(Action::Hold("a.org", b"* A")),
     Step::Do(Action::Ready("b.org")),
@@ -300,8 +304,10 @@ const STEPS: &[Step] = &[
     Step::Is(Fact::Waiting(&[("b.org", b"* B\n"), ("a.org", b"* A\n")])),
     Step::Do(Action::Undo),
     NONE_WAITS,
-    // Changes are the texts that wait: the last command changes b.org, which waits, and c.org, which is new.
-    Step::Do(Action::Begin),
+];
+
+// Changes are the texts that wait: the last command changes b.org, which waits, and c.org, which is new.
+const CHANGED: &[Step] = &[
     Step::Do(Action::Hold("a.org", b"* A")),
     Step::Do(Action::Hold("c.org", b"")),
     Step::Do(Action::Hold("b.org", b"* B")),
@@ -316,8 +322,10 @@ const STEPS: &[Step] = &[
         ("a.org", b"* A\n"),
         ("c.org", b"* C\n"),
     ])),
-    // Settled texts have no changes.
-    Step::Do(Action::Begin),
+];
+
+// Settled texts have no changes.
+const SETTLED: &[Step] = &[
     Step::Do(Action::Hold("a.org", b"* A\n")),
     Step::Do(Action::Hold("c.org", b"* C")),
     Step::Do(Action::Edit(("a.org", &[(4, 0, b"* B\n")]))),
@@ -330,13 +338,28 @@ const STEPS: &[Step] = &[
     Step::Is(Fact::IsSettled("c.org", true)),
 ];
 
-#[test]
-fn held_texts(rt: HostRuntime) {
-    let states = states(&rt, rt.alloc());
-    let mut texts = Texts::new(rt.alloc());
-    for (i, step) in STEPS.iter().enumerate() {
-        assert!(rt; go(&rt, rt.alloc(), &states, &mut texts, step), "step {i}");
+/// Goes through steps with texts of its own.
+fn assert_goes(rt: &(impl Abort + AllocGlobal), steps: &[Step]) {
+    let alloc = rt.alloc();
+    let states = states(rt, alloc);
+    let mut texts = Texts::new(alloc);
+    for (i, step) in steps.iter().enumerate() {
+        assert!(rt; go(rt, alloc, &states, &mut texts, step), "step {i}");
     }
-    drop(texts);
-    drop(states);
+}
+
+#[test]
+fn commands_taken_back_kept_and_settled(rt: HostRuntime) {
+    assert_goes(&rt, TAKEN_BACK);
+    assert_goes(&rt, KEPT);
+    assert_goes(&rt, COMMITTED);
+    assert_goes(&rt, SETTLED);
+}
+
+#[test]
+fn texts_that_wait(rt: HostRuntime) {
+    assert_goes(&rt, FOLLOWED);
+    assert_goes(&rt, IN_PLACE);
+    assert_goes(&rt, IN_ORDER);
+    assert_goes(&rt, CHANGED);
 }

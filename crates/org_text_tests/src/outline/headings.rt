@@ -17,13 +17,7 @@ use std::process::Abort;
 type Heading<'a> = (usize, Span, Span, Option<usize>, usize, &'a [u8]);
 
 /// The gap, the keyword, the priority, the title and the tags of a heading.
-type Parts = (
-    &'static str,
-    &'static str,
-    &'static str,
-    &'static str,
-    &'static str,
-);
+type Parts<'a> = (&'a [u8], &'a [u8], &'a [u8], &'a [u8], &'a [u8]);
 
 /// What is said of headings, which stand here by their numbers.
 enum Fact {
@@ -41,7 +35,7 @@ enum Fact {
     /// The one heading of a title, if there is one.
     Headed(&'static str, Result<Option<usize>, PathFault>),
     /// The parts of the first heading.
-    Parts(Parts),
+    Parts(Parts<'static>),
     /// The title of a heading of which this stands behind the stars.
     Titled(&'static str, &'static str),
     /// The level of the heading that a line is, if it is one.
@@ -122,17 +116,19 @@ fn headed(outline: &Outline<'_>, title: &str) -> Result<Option<usize>, PathFault
     }
 }
 
-/// Whether these are the gap, the keyword, the priority, the title and the tags of a heading.
-fn are_parts(parts: &HeadParts<'_>, expected: &Parts) -> bool {
-    let (gap, keyword, priority, title, tags) = expected;
-    parts.gap == gap.as_bytes()
-        && parts.keyword == keyword.as_bytes()
-        && parts.priority == priority.as_bytes()
-        && parts.title == title.as_bytes()
-        && parts.tags == tags.as_bytes()
+/// The parts of the first heading.
+fn parts<'a>(rt: &impl Abort, outline: &Outline<'a>) -> Parts<'a> {
+    let parts = outline.parts(node(rt, outline, 0));
+    let (priority, title) = (parts.priority, parts.title);
+    (parts.gap, parts.keyword, priority, title, parts.tags)
 }
 
-/// Whether a fact holds of an outline.
+/// Whether paths differ.
+fn differ(rt: &impl Abort, alloc: Global, one: &[&str], other: &[&str]) -> bool {
+    titles(rt, alloc, one) != titles(rt, alloc, other)
+}
+
+/// Whether a fact on places holds of an outline; or one on names does.
 fn is_so(rt: &impl Abort, alloc: Global, outline: &Outline<'_>, fact: &Fact) -> bool {
     match fact {
         Fact::Heading(i, expected) => heading(rt, outline, *i) == *expected,
@@ -142,14 +138,22 @@ fn is_so(rt: &impl Abort, alloc: Global, outline: &Outline<'_>, fact: &Fact) -> 
         Fact::Without(taken, parent, place, at) => {
             place_without(rt, outline, *taken, *parent, *place) == *at
         }
+        _ => is_named(rt, alloc, outline, fact),
+    }
+}
+
+/// Whether a fact on names holds of an outline.
+fn is_named(rt: &impl Abort, alloc: Global, outline: &Outline<'_>, fact: &Fact) -> bool {
+    match fact {
         Fact::Path(path, expected) => found(rt, alloc, outline, path) == *expected,
-        Fact::Differ(one, other) => titles(rt, alloc, one) != titles(rt, alloc, other),
+        Fact::Differ(one, other) => differ(rt, alloc, one, other),
         Fact::Headed(title, expected) => headed(outline, title) == *expected,
-        Fact::Parts(expected) => are_parts(&outline.parts(node(rt, outline, 0)), expected),
+        Fact::Parts(expected) => parts(rt, outline) == *expected,
         Fact::Titled(rest, title) => {
             HeadParts::of(outline.states(), rest.as_bytes()).title == title.as_bytes()
         }
         Fact::Level(line, level) => heading_level(line.as_bytes()) == *level,
+        _ => false,
     }
 }
 
@@ -194,8 +198,7 @@ const NESTED: &str = "* a\n** b\n*** c\n** d\n* e\n";
 
 const BLOCK: &str = "*\n*\tA\n#+BEGIN_SRC\n* A\n#+END_SRC\n";
 
-const ROWS: &[Row] = &[
-    // Places.
+const PLACED: &[Row] = &[
     (
         MIXED,
         4,
@@ -266,7 +269,71 @@ const ROWS: &[Row] = &[
         ),
     ),
     (BLOCK, 1, Fact::Headed("A", Ok(Some(0)))),
-    // Paths and titles.
+    // After the rows of `edits`.
+    ("x* A\n", 0, Fact::Places(None, 5, 5)),
+    (
+        "* A\n",
+        1,
+        Fact::Heading(
+            0,
+            (
+                1,
+                Span { start: 0, end: 4 },
+                Span { start: 4, end: 4 },
+                None,
+                1,
+                b" A",
+            ),
+        ),
+    ),
+    (
+        "* A\n** N\n* B\n",
+        3,
+        Fact::Heading(
+            0,
+            (
+                1,
+                Span { start: 0, end: 9 },
+                Span { start: 4, end: 4 },
+                None,
+                2,
+                b" A",
+            ),
+        ),
+    ),
+    (
+        "* A\n** N\n* B\n",
+        3,
+        Fact::Heading(
+            1,
+            (
+                2,
+                Span { start: 4, end: 9 },
+                Span { start: 9, end: 9 },
+                Some(0),
+                1,
+                b" N",
+            ),
+        ),
+    ),
+    (
+        "* A\n** N\n* B\n",
+        3,
+        Fact::Heading(
+            2,
+            (
+                1,
+                Span { start: 9, end: 13 },
+                Span { start: 13, end: 13 },
+                None,
+                1,
+                b" B",
+            ),
+        ),
+    ),
+];
+
+const NAMES: &[Row] = &[
     (NAMED, 7, Fact::Path(&["A"], Err(PathFault::NotUnique))),
     (NAMED, 7, Fact::Path(&["C", "D"], Err(PathFault::NotUnique))),
     (NAMED, 7, Fact::Path(&["C", "B"], Ok(6))),
@@ -276,60 +343,96 @@ const ROWS: &[Row] = &[
     (NAMED, 7, Fact::Headed("C", Ok(Some(3)))),
     (NAMED, 7, Fact::Headed("B", Err(PathFault::NotUnique))),
     (NAMED, 7, Fact::Headed("Q", Ok(None))),
-    // Parts of headings: keywords.
-    ("* A\n", 1, Fact::Parts((" ", "", "", "A", ""))),
-    ("* DONE\n", 1, Fact::Parts((" ", "DONE", "", "", ""))),
+];
+
+const KEYWORDS: &[Row] = &[
+    ("* A\n", 1, Fact::Parts((b" ", b"", b"", b"A", b""))),
+    ("* DONE\n", 1, Fact::Parts((b" ", b"DONE", b"", b"", b""))),
     (
         "* TODO[#A] x\n",
         1,
-        Fact::Parts((" ", "", "", "TODO[#A] x", "")),
+        Fact::Parts((b" ", b"", b"", b"TODO[#A] x", b"")),
     ),
-    ("* todo x\n", 1, Fact::Parts((" ", "", "", "todo x", ""))),
+    (
+        "* todo x\n",
+        1,
+        Fact::Parts((b" ", b"", b"", b"todo x", b"")),
+    ),
     (
         "* COMMENT A\n",
         1,
-        Fact::Parts((" ", "", "", "COMMENT A", "")),
+        Fact::Parts((b" ", b"", b"", b"COMMENT A", b"")),
     ),
     // Priorities.
     (
         "** TODO [#A] Call Ann :x:y:\n",
         1,
-        Fact::Parts((" ", "TODO", "[#A]", "Call Ann", ":x:y:")),
+        Fact::Parts((b" ", b"TODO", b"[#A]", b"Call Ann", b":x:y:")),
     ),
-    ("* [#a]x\n", 1, Fact::Parts((" ", "", "[#a]", "x", ""))),
-    ("* [#1] x\n", 1, Fact::Parts((" ", "", "[#1]", "x", ""))),
-    ("* [#AB] x\n", 1, Fact::Parts((" ", "", "", "[#AB] x", ""))),
-    ("* [#A]:x:\n", 1, Fact::Parts((" ", "", "[#A]", ":x:", ""))),
-    // Tags.
-    ("* TODO :x:\n", 1, Fact::Parts((" ", "TODO", "", "", ":x:"))),
-    ("* :x:\n", 1, Fact::Parts((" ", "", "", "", ":x:"))),
+    ("* [#a]x\n", 1, Fact::Parts((b" ", b"", b"[#a]", b"x", b""))),
+    (
+        "* [#1] x\n",
+        1,
+        Fact::Parts((b" ", b"", b"[#1]", b"x", b"")),
+    ),
+    (
+        "* [#AB] x\n",
+        1,
+        Fact::Parts((b" ", b"", b"", b"[#AB] x", b"")),
+    ),
+    (
+        "* [#A]:x:\n",
+        1,
+        Fact::Parts((b" ", b"", b"[#A]", b":x:", b"")),
+    ),
+];
+
+const TAGS: &[Row] = &[
+    (
+        "* TODO :x:\n",
+        1,
+        Fact::Parts((b" ", b"TODO", b"", b"", b":x:")),
+    ),
+    ("* :x:\n", 1, Fact::Parts((b" ", b"", b"", b"", b":x:"))),
     (
         "* A :a::b:\n",
         1,
-        Fact::Parts((" ", "", "", "A :a::b:", "")),
+        Fact::Parts((b" ", b"", b"", b"A :a::b:", b"")),
     ),
     (
         "* A :a_@#%1:\n",
         1,
-        Fact::Parts((" ", "", "", "A", ":a_@#%1:")),
+        Fact::Parts((b" ", b"", b"", b"A", b":a_@#%1:")),
     ),
-    ("* A :a-b:\n", 1, Fact::Parts((" ", "", "", "A :a-b:", ""))),
+    (
+        "* A :a-b:\n",
+        1,
+        Fact::Parts((b" ", b"", b"", b"A :a-b:", b"")),
+    ),
     (
         "* \u{c4} :\u{e9}:\n",
         1,
-        Fact::Parts((" ", "", "", "\u{c4}", ":\u{e9}:")),
+        Fact::Parts((b" ", b"", b"", b"\xc3\x84", b":\xc3\xa9:")),
     ),
     // Blanks.
-    ("* TODO A\r\n", 1, Fact::Parts((" ", "TODO", "", "A", ""))),
-    ("* A\r \n", 1, Fact::Parts((" ", "", "", "A", ""))),
-    ("* A\r :x:\n", 1, Fact::Parts((" ", "", "", "A\r", ":x:"))),
+    (
+        "* TODO A\r\n",
+        1,
+        Fact::Parts((b" ", b"TODO", b"", b"A", b"")),
+    ),
+    ("* A\r \n", 1, Fact::Parts((b" ", b"", b"", b"A", b""))),
+    (
+        "* A\r :x:\n",
+        1,
+        Fact::Parts((b" ", b"", b"", b"A\r", b":x:")),
+    ),
     (
         "* \tTODO\t[#B]\tA\t:x:\t\n",
         1,
-        Fact::Parts((" \t", "TODO", "[#B]", "A", ":x:")),
+        Fact::Parts((b" \t", b"TODO", b"[#B]", b"A", b":x:")),
     ),
-    ("* \n", 1, Fact::Parts((" ", "", "", "", ""))),
-    ("*   \t\n", 1, Fact::Parts(("   \t", "", "", "", ""))),
+    ("* \n", 1, Fact::Parts((b" ", b"", b"", b"", b""))),
+    ("*   \t\n", 1, Fact::Parts((b"   \t", b"", b"", b"", b""))),
     // The title and the level of a heading without an outline.
     ("", 0, Fact::Titled(" TODO a :x:", "a")),
     ("", 0, Fact::Level("** a", Some(2))),
@@ -343,10 +446,18 @@ fn assert_row(rt: &impl Abort, alloc: Global, states: &States, row: &Row) {
     assert!(rt; is_right, "{}", row.0);
 }
 
+fn assert_rows(rt: &impl Abort, alloc: Global, rows: &[Row]) {
+    let states = states(rt, alloc);
+    for row in rows {
+        assert_row(rt, alloc, &states, row);
+    }
+    drop(states);
+}
+
 #[test]
 fn headings(rt: HostRuntime) {
-    let states = states(&rt, rt.alloc());
-    for row in ROWS {
-        assert_row(&rt, rt.alloc(), &states, row);
-    }
+    assert_rows(&rt, rt.alloc(), PLACED);
+    assert_rows(&rt, rt.alloc(), NAMES);
+    assert_rows(&rt, rt.alloc(), KEYWORDS);
+    assert_rows(&rt, rt.alloc(), TAGS);
 }

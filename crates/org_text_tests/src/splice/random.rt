@@ -1,7 +1,7 @@
 // The patches of texts that are spliced at random give the new text.
 ghost use Rattle.std.specs.Prelude.{◌<◌};
 
-use org_splice::Editing;
+use org_splice::{Editing, Patch};
 use std::alloc::Global;
 use std::process::Abort;
 
@@ -43,11 +43,16 @@ fn splice_somewhere(rt: &impl Abort, text: &mut Editing, state: &mut u64) {
     text.splice(at, removed, bytes).expect(rt, "memory");
 }
 
+/// Writes patches over a text.
+fn write_all(rt: &impl Abort, text: &mut Vec<u8>, patches: &[Patch]) {
+    for patch in patches {
+        write(rt, text, patch.from as usize, patch.bytes.as_slice());
+    }
+}
+
 /// Whether the patches of a text, written over what it was, and cut to its length, give it.
 fn give(rt: &impl Abort, old: &mut Vec<u8>, text: &Editing) -> bool {
-    for patch in &text.patches().expect(rt, "memory") {
-        write(rt, old, patch.from as usize, patch.bytes.as_slice());
-    }
+    write_all(rt, old, &text.patches().expect(rt, "memory"));
     old.truncate(text.bytes().len());
     old.as_slice() == text.bytes()
 }
@@ -79,6 +84,7 @@ fn assert_patches(rt: &impl Abort, alloc: Global, bytes: Vec<u8>, most: usize, s
         give_text(rt, alloc, &mut text, splices, state),
         "after {splices} splices more"
     );
+    drop(text);
 }
 
 #[test]

@@ -51,8 +51,7 @@ fn go(rt: &impl Abort, alloc: Global, text: &mut Editing, step: &Step) -> bool {
 
 const HEADINGS: &[u8] = b"* A\n* B\n";
 
-const STEPS: &[Step] = &[
-    // Splices that keep the size.
+const OF_ONE_SIZE: &[Step] = &[
     Step::Text(HEADINGS),
     Step::Is(false, b"* A\n* B\n", NONE),
     Step::Settle,
@@ -80,7 +79,9 @@ const STEPS: &[Step] = &[
     Step::Is(true, b"* C * B\n", &[(2, b"C ")]),
     Step::Settle,
     Step::Is(false, b"* C * B\n", NONE),
-    // Splices that change it.
+];
+
+const OF_OTHER_SIZES: &[Step] = &[
     Step::Text(HEADINGS),
     Step::Splice(2, 1, b"CC"),
     Step::Is(true, b"* CC\n* B\n", &[(2, b"CC\n* B\n")]),
@@ -112,7 +113,9 @@ const STEPS: &[Step] = &[
     Step::Is(true, b"* B\n", &[(2, b"B")]),
     Step::Settle,
     Step::Is(false, b"* B\n", NONE),
-    // A newline at the end.
+];
+
+const TERMINATED: &[Step] = &[
     Step::Text(b""),
     Step::Terminate,
     Step::Is(false, b"", NONE),
@@ -125,7 +128,10 @@ const STEPS: &[Step] = &[
     Step::Text(b"\n\n"),
     Step::Terminate,
     Step::Is(false, b"\n\n", NONE),
-    // Edits made, taken back, kept and settled.
+];
+
+// Edits made, taken back, kept and settled.
+const EDITED: &[Step] = &[
     // An edit of a heading.
     Step::Text(b"* A\n"),
     Step::Apply((2, 1, b"BC")),
@@ -157,13 +163,21 @@ const STEPS: &[Step] = &[
     Step::Is(false, b"* C\n* B\n", NONE),
 ];
 
-#[test]
-fn texts_under_edit(rt: HostRuntime) {
-    let mut text = new_text(&rt, rt.alloc(), b"");
-    for (i, step) in STEPS.iter().enumerate() {
-        assert!(rt; go(&rt, rt.alloc(), &mut text, step), "step {i}");
+/// Goes through steps, the first of which is a text.
+fn assert_goes(rt: &impl Abort, alloc: Global, steps: &[Step]) {
+    let mut text = new_text(rt, alloc, b"");
+    for (i, step) in steps.iter().enumerate() {
+        assert!(rt; go(rt, alloc, &mut text, step), "step {i}");
     }
     drop(text);
+}
+
+#[test]
+fn texts_under_edit(rt: HostRuntime) {
+    assert_goes(&rt, rt.alloc(), OF_ONE_SIZE);
+    assert_goes(&rt, rt.alloc(), OF_OTHER_SIZES);
+    assert_goes(&rt, rt.alloc(), TERMINATED);
+    assert_goes(&rt, rt.alloc(), EDITED);
 }
 
 /// Changes every other byte of a text, and asserts that each is a patch of its own, up to a thousand.
