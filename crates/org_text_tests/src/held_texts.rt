@@ -105,20 +105,26 @@ fn make_ready(rt: &impl Abort, alloc: Global, texts: &mut Texts, name: &str) {
     drop(file);
 }
 
+fn apply(rt: &impl Abort, texts: &mut Texts, plan: Plan)
+    requires { IsPlan plan texts.old.now }
+{
+    texts.apply(&plan).expect(rt, "memory");
+}
+
 fn edit(rt: &impl Abort, alloc: Global, texts: &mut Texts, change: Change) {
     let first = file_edits(rt, alloc, texts, change);
     let plan = Plan {
         first,
         second: None,
     };
-    texts.apply(&plan).expect(rt, "memory");
+    apply(rt, texts, plan);
 }
 
 fn edit_two(rt: &impl Abort, alloc: Global, texts: &mut Texts, first: Change, second: Change) {
     let first = file_edits(rt, alloc, texts, first);
     let second = file_edits(rt, alloc, texts, second);
     let plan = plan_of(rt, texts, first, second);
-    texts.apply(&plan).expect(rt, "memory");
+    apply(rt, texts, plan);
 }
 
 /// Whether these texts wait, in this order, each with one patch.

@@ -27,21 +27,6 @@ fn repeated(rt: &impl Abort, alloc: Global, unit: &str, times: usize) -> Vec<u8>
     bytes
 }
 
-/// Whether a template makes these bytes.
-fn fills(
-    rt: &impl Abort,
-    alloc: Global,
-    template: &[u8],
-    initial: &[u8],
-    wanted: &[u8],
-    now: Moment,
-) -> bool {
-    expand(alloc, template, now, initial)
-        .expect(rt, "a text")
-        .as_slice()
-        == wanted
-}
-
 /// Whether a template makes what it should, as many bytes as are told of it.
 fn is_made(
     rt: &impl Abort,
@@ -55,7 +40,8 @@ fn is_made(
     match made {
         Made::Text(unit, times) => {
             let wanted = repeated(rt, alloc, unit, *times);
-            length == wanted.len() && fills(rt, alloc, template, initial, &wanted, now)
+            let text = expand(alloc, template, now, initial).expect(rt, "a text");
+            length == wanted.len() && text.as_slice() == wanted.as_slice()
         }
         Made::Length(wanted) => length == *wanted,
     }
@@ -91,6 +77,8 @@ const ROWS: &[Row] = &[
             1,
         ),
     ),
+    ("%t", 1, "", 1, Made::Text("<2026-07-01 Wed>", 1)),
+    ("%U", 1, "", 1, Made::Text("[2026-07-01 Wed 10:00]", 1)),
     ("%%t %%%", 1, "", 1, Made::Text("%<2026-07-01 Wed> %%%", 1)),
     ("%", 1, "", 1, Made::Text("%", 1)),
     ("5% 6%7 %! %\n%", 1, "", 1, Made::Text("5% 6%7 %! %\n%", 1)),

@@ -55,9 +55,16 @@ fn node(rt: &impl Abort, outline: &Outline<'_>, number: usize) -> Node
     node
 }
 
+fn number_of(node: Option<Node>) -> Option<usize> {
+    match node {
+        Some(node) => Some(node.number()),
+        None => None,
+    }
+}
+
 fn heading<'a>(rt: &impl Abort, outline: &Outline<'a>, number: usize) -> Heading<'a> {
     let node = node(rt, outline, number);
-    let parent = outline.parent(node).map(Node::number);
+    let parent = number_of(outline.parent(node));
     let (subtree, section) = (outline.subtree(node), outline.section(node));
     let (level, size) = (outline.level(node), outline.size(node));
     (level, subtree, section, parent, size, outline.rest(node))
@@ -105,15 +112,15 @@ fn found(
     let path = titles(rt, alloc, path);
     let copy = path.clone().expect(rt, "memory");
     assert!(rt; copy == path);
-    outline.find(copy.as_slice()).map(Node::number)
+    match outline.find(copy.as_slice()) {
+        Ok(node) => Ok(node.number()),
+        Err(fault) => Err(fault),
+    }
 }
 
 /// The number of the one heading of a title, if there is one.
 fn headed(outline: &Outline<'_>, title: &str) -> Result<Option<usize>, PathFault> {
-    match outline.headed(title.as_bytes())? {
-        Some(node) => Ok(Some(node.number())),
-        None => Ok(None),
-    }
+    Ok(number_of(outline.headed(title.as_bytes())?))
 }
 
 /// The parts of the first heading.

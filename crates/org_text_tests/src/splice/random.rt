@@ -61,37 +61,32 @@ fn give(rt: &impl Abort, old: &mut Vec<u8>, text: &Editing) -> bool {
 fn give_text(
     rt: &impl Abort,
     alloc: Global,
-    text: &mut Editing,
+    bytes: Vec<u8>,
     splices: usize,
     state: &mut u64,
 ) -> bool {
-    splice_somewhere(rt, text, state);
+    let mut text = Editing::new(bytes);
+    splice_somewhere(rt, &mut text, state);
     text.settle();
     let mut old = Vec::from_slice(alloc, text.bytes()).expect(rt, "memory");
     for _ in 0..splices {
-        splice_somewhere(rt, text, state);
+        splice_somewhere(rt, &mut text, state);
     }
-    give(rt, &mut old, text)
-}
-
-/// Splices a text at random, at least once and so often at most, and asserts that its patches give it.
-fn assert_patches(rt: &impl Abort, alloc: Global, bytes: Vec<u8>, most: usize, state: &mut u64)
-    requires { 0 < most }
-{
-    let mut text = Editing::new(bytes);
-    let splices = below(state, most);
-    assert!(rt;
-        give_text(rt, alloc, &mut text, splices, state),
-        "after {splices} splices more"
-    );
+    let is_given = give(rt, &mut old, &text);
     drop(text);
+    is_given
 }
 
 #[test]
 fn patches_of_random_splices(rt: HostRuntime) {
     let mut state = 1;
     for _ in 0..4_000u32 {
-        assert_patches(&rt, rt.alloc(), Vec::new(rt.alloc()), 6, &mut state);
+        let splices = below(&mut state, 6);
+        let text = Vec::new(rt.alloc());
+        assert!(rt;
+            give_text(&rt, rt.alloc(), text, splices, &mut state),
+            "{splices} splices"
+        );
     }
 }
 
@@ -112,6 +107,10 @@ fn patches_of_long_texts(rt: HostRuntime) {
     let mut state = 1;
     for _ in 0..200u32 {
         let text = long_text(&rt, rt.alloc(), &mut state);
-        assert_patches(&rt, rt.alloc(), text, 60, &mut state);
+        let splices = below(&mut state, 60);
+        assert!(rt;
+            give_text(&rt, rt.alloc(), text, splices, &mut state),
+            "{splices} splices"
+        );
     }
 }
