@@ -355,15 +355,11 @@ fn assert_goes(rt: &(impl Abort + AllocGlobal), steps: &[Step]) {
 }
 
 #[test]
-fn commands_taken_back_kept_and_settled(rt: HostRuntime) {
+fn held_texts(rt: HostRuntime) {
     assert_goes(&rt, TAKEN_BACK);
     assert_goes(&rt, KEPT);
     assert_goes(&rt, COMMITTED);
     assert_goes(&rt, SETTLED);
-}
-
-#[test]
-fn texts_that_wait(rt: HostRuntime) {
     assert_goes(&rt, FOLLOWED);
     assert_goes(&rt, IN_PLACE);
     assert_goes(&rt, IN_ORDER);

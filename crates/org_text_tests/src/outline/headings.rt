@@ -1,12 +1,12 @@
-// What an outline says of its headings: where they, their subtrees and their sections lie, where subtrees go in below
-// them, which of them paths and titles name, and their parts.
+// What an outline says of its headings: where they, their subtrees and their sections lie, which of them paths name, and
+// their parts. Where subtrees go in below them, and which of them titles name, commands show (tests/commands).
 ghost use Rattle.std.specs.Prelude.{◌≡◌, ◌<◌};
 ghost use Rattle.org_splice.specs.Lines.{terminated};
 ghost use Rattle.org_outline.specs.Tree.{node_count, tree};
 
 use crate::edits::{states, titles};
 use org_outline::{
-    HeadParts, Heads, Node, Outline, PathFault, Place, States, heading_level, is_terminated,
+    HeadParts, Heads, Node, Outline, PathFault, States, heading_level, is_terminated,
 };
 use org_splice::Span;
 use std::alloc::Global;
@@ -22,18 +22,10 @@ type Parts<'a> = (&'a [u8], &'a [u8], &'a [u8], &'a [u8], &'a [u8]);
 /// What is said of headings, which stand here by their numbers.
 enum Fact {
     Heading(usize, Heading<'static>),
-    /// A heading lies in the subtree of another.
-    LiesIn(usize, usize),
-    /// The first and the last place below a heading, or at top level.
-    Places(Option<usize>, usize, usize),
-    /// The place of a subtree below a heading once another subtree is taken out: the one taken out, and the parent.
-    Without(usize, usize, Place, usize),
     /// The heading at a path.
     Path(&'static [&'static str], Result<usize, PathFault>),
     /// Two paths that aren't the same.
     Differ(&'static [&'static str], &'static [&'static str]),
-    /// The one heading of a title, if there is one.
-    Headed(&'static str, Result<Option<usize>, PathFault>),
     /// The parts of the first heading.
     Parts(Parts<'static>),
     /// The title of a heading of which this stands behind the stars.
@@ -70,38 +62,6 @@ fn heading<'a>(rt: &impl Abort, outline: &Outline<'a>, number: usize) -> Heading
     (level, subtree, section, parent, size, outline.rest(node))
 }
 
-fn lies_in(rt: &impl Abort, outline: &Outline<'_>, number: usize, top: usize) -> bool {
-    outline.lies_in(node(rt, outline, number), node(rt, outline, top))
-}
-
-/// The first and the last place at top level.
-fn top_places(outline: &Outline<'_>) -> (usize, usize) {
-    (
-        outline.place(None, Place::First),
-        outline.place(None, Place::Last),
-    )
-}
-
-/// The first and the last place below a heading.
-fn places_below(rt: &impl Abort, outline: &Outline<'_>, number: usize) -> (usize, usize) {
-    let parent = node(rt, outline, number);
-    let first = outline.place(Some(parent), Place::First);
-    (first, outline.place(Some(parent), Place::Last))
-}
-
-/// Where a subtree goes in below a heading once another one is taken out.
-fn place_without(
-    rt: &impl Abort,
-    outline: &Outline<'_>,
-    taken: usize,
-    parent: usize,
-    place: Place,
-) -> usize {
-    let (taken, parent) = (node(rt, outline, taken), node(rt, outline, parent));
-    assert!(rt; !outline.lies_in(parent, taken));
-    outline.place_without(taken, Some(parent), place)
-}
-
 /// The number of the heading at a path, and at a copy of it.
 fn found(
     rt: &impl Abort,
@@ -118,11 +78,6 @@ fn found(
     }
 }
 
-/// The number of the one heading of a title, if there is one.
-fn headed(outline: &Outline<'_>, title: &str) -> Result<Option<usize>, PathFault> {
-    Ok(number_of(outline.headed(title.as_bytes())?))
-}
-
 /// The parts of the first heading.
 fn parts<'a>(rt: &impl Abort, outline: &Outline<'a>) -> Parts<'a> {
     let parts = outline.parts(node(rt, outline, 0));
@@ -135,32 +90,17 @@ fn differ(rt: &impl Abort, alloc: Global, one: &[&str], other: &[&str]) -> bool 
     titles(rt, alloc, one) != titles(rt, alloc, other)
 }
 
-/// Whether a fact on places holds of an outline; or one on names does.
+/// Whether a fact holds of an outline.
 fn is_so(rt: &impl Abort, alloc: Global, outline: &Outline<'_>, fact: &Fact) -> bool {
     match fact {
         Fact::Heading(i, expected) => heading(rt, outline, *i) == *expected,
-        Fact::LiesIn(i, top) => lies_in(rt, outline, *i, *top),
-        Fact::Places(None, first, last) => top_places(outline) == (*first, *last),
-        Fact::Places(Some(i), first, last) => places_below(rt, outline, *i) == (*first, *last),
-        Fact::Without(taken, parent, place, at) => {
-            place_without(rt, outline, *taken, *parent, *place) == *at
-        }
-        _ => is_named(rt, alloc, outline, fact),
-    }
-}
-
-/// Whether a fact on names holds of an outline.
-fn is_named(rt: &impl Abort, alloc: Global, outline: &Outline<'_>, fact: &Fact) -> bool {
-    match fact {
         Fact::Path(path, expected) => found(rt, alloc, outline, path) == *expected,
         Fact::Differ(one, other) => differ(rt, alloc, one, other),
-        Fact::Headed(title, expected) => headed(outline, title) == *expected,
         Fact::Parts(expected) => parts(rt, outline) == *expected,
         Fact::Titled(rest, title) => {
             HeadParts::of(outline.states(), rest.as_bytes()).title == title.as_bytes()
         }
         Fact::Level(line, level) => heading_level(line.as_bytes()) == *level,
-        _ => false,
     }
 }
 
@@ -236,7 +176,6 @@ const PLACED: &[Row] = &[
             ),
         ),
     ),
-    (MIXED, 4, Fact::Places(None, 7, 35)),
     (
         NESTED,
         5,
@@ -252,13 +191,37 @@ const PLACED: &[Row] = &[
             ),
         ),
     ),
-    (NESTED, 5, Fact::LiesIn(2, 1)),
-    (NESTED, 5, Fact::Without(1, 0, Place::First, 4)),
-    (NESTED, 5, Fact::Without(1, 0, Place::Last, 9)),
-    (NESTED, 5, Fact::Without(1, 4, Place::Last, 13)),
-    // The first place is the one among deeper children.
-    ("* A\n*** X\n** Y\n", 3, Fact::Places(Some(0), 10, 15)),
-    ("* A\n*** X\n", 2, Fact::Places(Some(0), 10, 10)),
+    // A level is left out.
+    (
+        "* A\n*** X\n** Y\n",
+        3,
+        Fact::Heading(
+            2,
+            (
+                2,
+                Span { start: 10, end: 15 },
+                Span { start: 15, end: 15 },
+                Some(0),
+                1,
+                b" Y",
+            ),
+        ),
+    ),
+    (
+        "* A\n*** X\n",
+        2,
+        Fact::Heading(
+            1,
+            (
+                3,
+                Span { start: 4, end: 10 },
+                Span { start: 10, end: 10 },
+                Some(0),
+                1,
+                b" X",
+            ),
+        ),
+    ),
     // Of a block the line that looks like a heading is one; stars without a blank are none.
     (
         BLOCK,
@@ -275,9 +238,8 @@ const PLACED: &[Row] = &[
             ),
         ),
     ),
-    (BLOCK, 1, Fact::Headed("A", Ok(Some(0)))),
     // After the rows of `edits`.
-    ("x* A\n", 0, Fact::Places(None, 5, 5)),
+    ("x* A\n", 0, Fact::Level("x* A", None)),
     (
         "* A\n",
         1,
@@ -347,9 +309,6 @@ const NAMES: &[Row] = &[
     (NAMED, 7, Fact::Path(&["B"], Err(PathFault::NotFound))),
     (NAMED, 7, Fact::Path(&[], Err(PathFault::NotFound))),
     (NAMED, 7, Fact::Differ(&["C", "B"], &["A"])),
-    (NAMED, 7, Fact::Headed("C", Ok(Some(3)))),
-    (NAMED, 7, Fact::Headed("B", Err(PathFault::NotUnique))),
-    (NAMED, 7, Fact::Headed("Q", Ok(None))),
 ];
 
 const KEYWORDS: &[Row] = &[

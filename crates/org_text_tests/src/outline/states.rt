@@ -1,6 +1,5 @@
 // Which states are accepted.
 use org_outline::{States, StatesFault};
-use std::alloc::Global;
 
 const SIXTEEN: &[&str] = &[
     "a", "b", "c", "d", "e", "f", "g", "h", "i", "j", "k", "l", "m", "n", "o", "p",
@@ -30,14 +29,12 @@ const ROWS: &[(&[&str], &[&str], Option<StatesFault>)] = &[
     (&["A B"], &["D"], BAD),
 ];
 
-/// Why states are refused, if they are.
-fn fault_of(alloc: Global, active: &[&str], done: &[&str]) -> Option<StatesFault> {
-    States::new(alloc, active, done).err()
-}
-
 #[test]
 fn accepted_states(rt: HostRuntime) {
     for (i, (active, done, fault)) in ROWS.iter().enumerate() {
-        assert!(rt; fault_of(rt.alloc(), active, done) == *fault, "row {i}");
+        assert!(rt;
+            States::new(rt.alloc(), active, done).err() == *fault,
+            "row {i}"
+        );
     }
 }

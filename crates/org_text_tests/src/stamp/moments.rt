@@ -29,22 +29,15 @@ const ROWS: &[Row] = &[
     (2026, 1, 1, 23, 60, None),
 ];
 
-/// Whether a moment has this date, these minutes, and this day of the week.
-fn has(moment: Moment, year: u16, month: u8, day: u8, counted: (i64, u8)) -> bool {
-    moment.year() == year
-        && moment.month() == month
-        && moment.day() == day
-        && (moment.minutes(), moment.weekday()) == counted
-}
-
 /// Whether a row is right.
 fn is_right(row: &Row) -> bool {
     let (year, month, day, hour, minute, counted) = row;
-    match (Moment::new(*year, *month, *day, *hour, *minute), counted) {
-        (Some(moment), Some(counted)) => has(moment, *year, *month, *day, *counted),
-        (None, None) => true,
-        _ => false,
-    }
+    let Some(moment) = Moment::new(*year, *month, *day, *hour, *minute) else {
+        return counted.is_none();
+    };
+    let date = (moment.year(), moment.month(), moment.day());
+    let found = Some((moment.minutes(), moment.weekday()));
+    date == (*year, *month, *day) && found == *counted
 }
 
 #[test]

@@ -196,28 +196,16 @@ fn prints(rt: &impl Abort, alloc: Global, stamp: &Stamp<'_>, text: &str) -> bool
     stamp.print(alloc).expect(rt, "memory").as_slice() == text.as_bytes()
 }
 
-/// Whether a timestamp became this one, or was refused by the fault of this name.
-fn is(
-    rt: &impl Abort,
-    alloc: Global,
-    answer: &Result<Stamp<'_>, RepeatFault>,
-    wanted: &str,
-) -> bool {
-    match answer {
-        Ok(stamp) => prints(rt, alloc, stamp, wanted),
+/// Whether a timestamp, repeated where a moment is given with it, becomes this one, or is refused by the fault of this
+/// name.
+fn becomes(rt: &impl Abort, alloc: Global, given: &str, wanted: &str) -> bool {
+    let Some((from, now)) = given.split_once(" at ") else {
+        return prints(rt, alloc, &stamp(rt, given), wanted);
+    };
+    match stamp(rt, from).repeat(stamp(rt, now).moment()) {
+        Ok(stamp) => prints(rt, alloc, &stamp, wanted),
         Err(RepeatFault::BadRepeat) => wanted == "BadRepeat",
         Err(RepeatFault::DateRange) => wanted == "DateRange",
-    }
-}
-
-/// Whether a timestamp, repeated where a moment is given with it, becomes this one.
-fn becomes(rt: &impl Abort, alloc: Global, given: &str, wanted: &str) -> bool {
-    match given.split_once(" at ") {
-        Some((from, now)) => {
-            let answer = stamp(rt, from).repeat(stamp(rt, now).moment());
-            is(rt, alloc, &answer, wanted)
-        }
-        None => prints(rt, alloc, &stamp(rt, given), wanted),
     }
 }
 
