@@ -17,6 +17,8 @@ enum Step {
     Keep,
     Undo,
     Settle,
+    /// How long a text is, edits of it, and how long it is after them, if it can be that long.
+    Size(usize, &'static [Splice], Option<usize>),
     /// Whether an edit could be taken back, the bytes, and the patches.
     Is(bool, &'static [u8], &'static [Patched]),
 }
@@ -42,6 +44,9 @@ fn go(rt: &impl Abort, alloc: Global, text: &mut Editing, step: &Step) -> bool {
         Step::Keep => text.keep(),
         Step::Undo => text.undo(),
         Step::Settle => text.settle(),
+        Step::Size(old, splices, size) => {
+            return size_after(*old, &edits_of(rt, alloc, splices)) == *size;
+        }
         Step::Is(is_edited, bytes, patches) => {
             return text.is_edited() == *is_edited && has(rt, text, bytes, patches);
         }
@@ -161,6 +166,9 @@ const EDITED: &[Step] = &[
     Step::Is(false, b"* C\n* B\n", NONE),
     Step::Undo,
     Step::Is(false, b"* C\n* B\n", NONE),
+    // Sizes after edits.
+    Step::Size(8, &[(2, 3, b""), (0, 0, b"* A\n")], Some(9)),
+    Step::Size(usize::MAX, &[(0, 0, b"* A\n")], None),
 ];
 
 /// Goes through steps, the first of which is a text.
@@ -208,18 +216,4 @@ fn more_than_a_thousand_ranges(rt: HostRuntime) {
     assert_counts(&rt, &mut text);
     assert!(rt; are_every_other(&text.patches().expect(&rt, "memory")));
     drop(text);
-}
-
-/// How long a text is, its edits, and how long it is after them, if it can be that long.
-const SIZES: &[(usize, &[Splice], Option<usize>)] = &[
-    (8, &[(2, 3, b""), (0, 0, b"* A\n")], Some(9)),
-    (usize::MAX, &[(0, 0, b"* A\n")], None),
-];
-
-#[test]
-fn size_of_a_text_after_edits(rt: HostRuntime) {
-    for (old, splices, size) in SIZES {
-        let edits = edits_of(&rt, rt.alloc(), splices);
-        assert!(rt; size_after(*old, &edits) == *size, "{old}");
-    }
 }
