@@ -4,11 +4,11 @@
 // which the function's proof would have to follow.
 ghost use Rattle.std.specs.Prelude.{◌≡◌, Ok};
 
-mod crashes;
-mod failures;
+mod fuses;
+mod memory;
 mod names;
 
-use org_disk::{Disk, DiskFault, FileName, MemoryDisk};
+use org_disk::{Disk, FileName, MemoryDisk};
 use org_fixtures::bytes_of;
 use std::alloc::Global;
 use std::process::Abort;
@@ -35,6 +35,16 @@ pub fn are_texts(names: &[FileName], texts: &[&str]) -> bool {
     names.len() == texts.len()
 }
 
+// Stops the test where this isn't so. What asserts holds nothing else, and what holds a disk asserts nothing.
+pub fn hold(rt: &impl Abort, is_so: bool) {
+    assert!(rt; is_so);
+}
+
+// Stops the test where a row, counted from 0, isn't as it says.
+pub fn hold_row(rt: &impl Abort, is_so: bool, row: usize) {
+    assert!(rt; is_so, "row {row}");
+}
+
 // The name of a file.
 pub fn name_of(rt: &impl Abort, alloc: Global, text: &str) -> FileName
     ensures { result ≡ text.now }
@@ -43,10 +53,10 @@ pub fn name_of(rt: &impl Abort, alloc: Global, text: &str) -> FileName
 }
 
 // Whether a file of the disk holds this text.
-pub fn holds<D: Disk>(
+pub fn holds(
     rt: &impl Abort,
     alloc: Global,
-    disk: &mut D,
+    disk: &mut MemoryDisk,
     name: &FileName,
     text: &[u8],
 ) -> bool {
@@ -61,12 +71,12 @@ fn leaves(rt: &impl Abort, alloc: Global, disk: &MemoryDisk, name: &FileName, te
     is_held
 }
 
-// From nothing: `abc` on the disk, then `aXY`, `aX`.
-fn sync_write_cut<D: Disk>(disk: &mut D, name: &FileName) -> Result<(), DiskFault> {
-    disk.cut(name, 0)?;
-    disk.write_at(name, 0, b"abc")?;
-    disk.sync(name)?;
-    disk.write_at(name, 1, b"XY")?;
-    disk.cut(name, 2)?;
-    disk.sync(name)
+// From nothing: `abc` on the disk, then `aXY`, `aX`. Whether all six calls are made.
+fn sync_write_cut<D: Disk>(disk: &mut D, name: &FileName) -> bool {
+    disk.cut(name, 0).is_ok()
+        && disk.write_at(name, 0, b"abc").is_ok()
+        && disk.sync(name).is_ok()
+        && disk.write_at(name, 1, b"XY").is_ok()
+        && disk.cut(name, 2).is_ok()
+        && disk.sync(name).is_ok()
 }

@@ -3,22 +3,33 @@ mod commits;
 mod edited;
 mod openings;
 
-use crate::disk::{self, must};
+use crate::disk::{are_texts, must};
 use org_disk::MemoryDisk;
 use org_fileset::{FileSet, OpenFault, OpenRefused};
-use org_fixtures::{NEW, disk_with, file_name, org_names};
+use org_fixtures::{NEW, bytes_of, disk_with as disk_of, file_name, org_names};
 use std::alloc::Global;
 use std::process::Abort;
 
 // The files of most sets.
 const FILES: &[&str] = &["inbox.org", "a.org"];
 
-// A disk with a.org, and a journal of these bytes.
-fn with_journal(rt: &impl Abort, alloc: Global, journal: &[u8]) -> MemoryDisk {
-    must(
-        rt,
-        disk_with(alloc, &[("orgstore.journal", journal), ("a.org", b"* A\n")]),
-    )
+// Their names in byte order.
+const IN_ORDER: &[&str] = &["a.org", "a.org_archive", "inbox.org", "inbox.org_archive"];
+
+// A disk with these texts of the journal, a.org and inbox.org.
+pub fn disk_with(
+    rt: &impl Abort,
+    alloc: Global,
+    journal: &[u8],
+    a: &[u8],
+    inbox: &[u8],
+) -> MemoryDisk {
+    let files = [
+        ("orgstore.journal", journal),
+        ("a.org", a),
+        ("inbox.org", inbox),
+    ];
+    must(rt, disk_of(alloc, &files))
 }
 
 // The worked journal with this gate.
@@ -28,17 +39,9 @@ fn with_gate(gate: u8) -> [u8; 75] {
     journal
 }
 
-// Makes a file hold these bytes.
-fn set_file(rt: &impl Abort, alloc: Global, disk: &mut MemoryDisk, name: &str, bytes: &[u8]) {
-    let name = must(rt, file_name(alloc, name));
-    disk.set(&name, bytes).expect(rt, "memory");
-}
-
 // A disk that crashed while the record was applied: some of the text is there.
 fn crashed(rt: &impl Abort, alloc: Global, gate: u8) -> MemoryDisk {
-    let mut disk = with_journal(rt, alloc, &with_gate(gate));
-    set_file(rt, alloc, &mut disk, "inbox.org", b"* TO");
-    disk
+    disk_with(rt, alloc, &with_gate(gate), b"* A\n", b"* TO")
 }
 
 // Opens a set over these files.
@@ -82,7 +85,7 @@ fn reads_both(
     reads(rt, alloc, set, name, text) && reads(rt, alloc, set, "inbox.org", inbox)
 }
 
-// The disk of a set that is opened over this one, and whether the set reads both texts.
+// The disk of a set that is opened over this one, and whether the set has its names in order and reads both texts.
 fn read_once(
     rt: &impl Abort,
     alloc: Global,
@@ -92,7 +95,8 @@ fn read_once(
     inbox: &[u8],
 ) -> (MemoryDisk, bool) {
     let mut set = open(rt, alloc, disk, FILES);
-    let is_read = reads_both(rt, alloc, &mut set, name, text, inbox);
+    let is_read = are_texts(set.names(), IN_ORDER)
+        && reads_both(rt, alloc, &mut set, name, text, inbox);
     (set.into_disk(), is_read)
 }
 
@@ -110,9 +114,14 @@ fn opens_with(
     is_read
 }
 
+// What a file of the disk holds, or the journal.
+fn bytes_in(rt: &impl Abort, alloc: Global, disk: &mut MemoryDisk, name: &str) -> Vec<u8> {
+    must(rt, bytes_of(alloc, disk, &must(rt, file_name(alloc, name))))
+}
+
 // Whether a file of the disk holds these bytes.
 fn holds(rt: &impl Abort, alloc: Global, disk: &mut MemoryDisk, name: &str, bytes: &[u8]) -> bool {
-    disk::holds(rt, alloc, disk, &must(rt, file_name(alloc, name)), bytes)
+    bytes_in(rt, alloc, disk, name).as_slice() == bytes
 }
 
 // The disk that an opening leaves, and why it is refused, if it is.
@@ -131,6 +140,28 @@ fn opened_then_closed(
 fn opened_disk(rt: &impl Abort, alloc: Global, disk: MemoryDisk) -> MemoryDisk {
     let (disk, _) = opened_then_closed(rt, alloc, disk);
     disk
+}
+
+// Whether a disk holds this journal, this inbox.org, and a.org as it was.
+fn holds_all(
+    rt: &impl Abort,
+    alloc: Global,
+    disk: &mut MemoryDisk,
+    journal: &[u8],
+    inbox: &[u8],
+) -> bool {
+    holds(rt, alloc, disk, "orgstore.journal", journal)
+        && holds(rt, alloc, disk, "a.org", b"* A\n")
+        && holds(rt, alloc, disk, "inbox.org", inbox)
+}
+
+// Whether an opening over this journal is refused for it, and the disk is handed back as it was.
+pub fn is_refused(rt: &impl Abort, alloc: Global, journal: &[u8], inbox: &[u8]) -> bool {
+    let disk = disk_with(rt, alloc, journal, b"* A\n", inbox);
+    let (mut disk, fault) = opened_then_closed(rt, alloc, disk);
+    let is_as_it_was = holds_all(rt, alloc, &mut disk, journal, inbox);
+    drop(disk);
+    is_as_it_was && matches!(fault, Some(OpenFault::BadJournal))
 }
 
 // A disk that holds what a crash leaves of this one.

@@ -26,7 +26,7 @@ fn put(bytes: &mut [u8], at: usize, others: &[u8]) {
     }
 }
 
-// What stands behind the gate of a journal: how many of a worked one's bytes, places with others, and what is added.
+// What stands behind the gate of a journal: how many of a worked one's bytes, places of both with others, and what is added.
 type Body = (
     &'static [u8],
     usize,
@@ -44,15 +44,14 @@ fn behind_gate(journal: &[u8]) -> &[u8] {
     }
 }
 
+// The bytes behind the gate.
 fn body_of(rt: &impl Abort, alloc: Global, body: &Body) -> Vec<u8> {
     let (journal, count, changes, added) = body;
     let worked = behind_gate(journal);
-    let worked = &worked[..worked.len().min(*count)];
-    let mut bytes = Vec::from_slice(alloc, worked).expect(rt, "memory");
+    let mut bytes = joined(rt, alloc, &worked[..worked.len().min(*count)], added);
     for (at, others) in *changes {
         put(&mut bytes, *at, others);
     }
-    bytes.extend_from_slice(added).expect(rt, "memory");
     bytes
 }
 

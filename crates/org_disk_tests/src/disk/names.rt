@@ -1,93 +1,78 @@
 // The names of files.
-use super::name_of;
+use super::{hold, hold_row, name_of};
 use org_disk::FileName;
 use std::alloc::Global;
 use std::process::Abort;
 
-fn is_accepted(rt: &impl Abort, alloc: Global, text: &str) -> bool {
-    FileName::accepts(text) && name_of(rt, alloc, text).as_str() == text
-}
-
-// Texts, and whether each is the name of a file.
-const NAMES: &[(&str, bool)] = &[
-    ("a.org", true),
-    ("Zettel über.org", true),
-    ("x.org_archive.org", true),
-    ("~.org", true),
-    ("a.org_archive", true),
-    ("", false),
-    ("a.txt", false),
-    (".org", false),
-    (".org_archive", false),
-    ("a/b.org", false),
-    ("a\x1F.org", false),
-    ("a\x7F.org", false),
-    ("a.ORG", false),
-    ("a.org_archive_archive", false),
-    ("orgstore.journal", false),
-];
-
-#[test]
-fn accepted_names(rt: HostRuntime) {
-    for (text, accepted) in NAMES {
-        assert!(rt; is_accepted(&rt, rt.alloc(), text) == *accepted, "{text}");
-    }
-}
-
-// A name of so many letters in front of its `.org`, with the end of an archive file's or without.
-fn long_name(rt: &impl Abort, alloc: Global, letters: usize, end: &str) -> String {
+// So many letters in front of this.
+fn with_letters(rt: &impl Abort, alloc: Global, letters: usize, end: &str) -> String {
     let mut text = String::new(alloc);
     for _ in 0..letters {
         text.push('a').expect(rt, "memory");
     }
-    text.push_str(".org").expect(rt, "memory");
     text.push_str(end).expect(rt, "memory");
     text
 }
 
-const LONG_NAMES: &[(usize, &str, bool)] = &[
-    (196, "", true),
-    (196, "_archive", true),
-    (197, "", false),
-    (197, "_archive", false),
+// Whether so many letters and this behind them are the name of a file.
+fn is_accepted(rt: &impl Abort, alloc: Global, letters: usize, end: &str) -> bool {
+    let text = with_letters(rt, alloc, letters, end);
+    let text = text.as_str();
+    FileName::accepts(text) && name_of(rt, alloc, text).as_str() == text
+}
+
+// Texts, each with letters in front of it, and whether each is the name of a file.
+const NAMES: &[(usize, &str, bool)] = &[
+    (0, "a.org", true),
+    (0, "Zettel über.org", true),
+    (0, "x.org_archive.org", true),
+    (0, "~.org", true),
+    (0, "a.org_archive", true),
+    (0, "", false),
+    (0, "a.txt", false),
+    (0, ".org", false),
+    (0, ".org_archive", false),
+    (0, "a/b.org", false),
+    (0, "a\x1F.org", false),
+    (0, "a\x7F.org", false),
+    (0, "a.ORG", false),
+    (0, "a.org_archive_archive", false),
+    (0, "orgstore.journal", false),
+    (196, ".org", true),
+    (196, ".org_archive", true),
+    (197, ".org", false),
+    (197, ".org_archive", false),
 ];
 
 #[test]
-fn long_names(rt: HostRuntime) {
-    for (letters, end, accepted) in LONG_NAMES {
-        let text = long_name(&rt, rt.alloc(), *letters, end);
-        assert!(rt;
-            FileName::accepts(text.as_str()) == *accepted,
-            "{letters}{end}"
-        );
+fn accepted_names(rt: HostRuntime) {
+    let alloc = rt.alloc();
+    for (i, (letters, end, accepted)) in NAMES.iter().enumerate() {
+        hold_row(&rt, is_accepted(&rt, alloc, *letters, end) == *accepted, i);
     }
 }
 
-// Whether the archive file of a file comes behind it, and neither is the other.
-fn are_apart(inbox: &FileName, archive: &FileName) -> bool {
-    archive.is_archive() && !inbox.is_archive() && inbox < archive && archive != inbox
+// Whether this is the archive file of inbox.org, comes behind it, and neither is the other.
+fn is_archive_of(archive: &FileName, inbox: &FileName) -> bool {
+    archive.as_str() == "inbox.org_archive"
+        && archive.is_archive()
+        && !inbox.is_archive()
+        && inbox < archive
+        && archive != inbox
 }
 
-fn has_archive(rt: &impl Abort, alloc: Global) -> bool {
-    let inbox = name_of(rt, alloc, "inbox.org");
-    let archive = inbox.archive().expect(rt, "memory");
-    archive.as_str() == "inbox.org_archive" && are_apart(&inbox, &archive)
-}
-
-fn is_copied(rt: &impl Abort, alloc: Global) -> bool {
-    let inbox = name_of(rt, alloc, "inbox.org");
-    inbox.clone().expect(rt, "memory") == inbox
+// The name is no archive's.
+fn is_journal(journal: &FileName) -> bool {
+    journal.as_str() == "orgstore.journal" && !journal.is_archive()
 }
 
 #[test]
 fn archives(rt: HostRuntime) {
     let alloc = rt.alloc();
-    assert!(rt; has_archive(&rt, alloc));
-    assert!(rt; is_copied(&rt, alloc));
-}
-
-#[test]
-fn name_of_the_journal(rt: HostRuntime) {
-    let journal = FileName::journal_name(rt.alloc()).expect(&rt, "memory");
-    assert!(rt; journal.as_str() == "orgstore.journal" && !journal.is_archive());
+    let inbox = name_of(&rt, alloc, "inbox.org");
+    let archive = inbox.archive().expect(&rt, "memory");
+    hold(&rt, is_archive_of(&archive, &inbox));
+    hold(&rt, inbox.clone().expect(&rt, "memory") == inbox);
+    let journal = FileName::journal_name(alloc).expect(&rt, "memory");
+    hold(&rt, is_journal(&journal));
 }

@@ -8,13 +8,13 @@ ghost use Rattle.org_fileset.specs.Set.{AreCommittable};
 
 use super::edited::Edited;
 use super::{
-    FILES, calls_of, image_of, open, opened, opened_disk, opens_with, read_once, reads_both,
-    with_gate, with_journal,
+    FILES, bytes_in, calls_of, disk_with, image_of, open, opened, opened_disk, opens_with,
+    read_once, with_gate,
 };
-use crate::disk::must;
+use crate::disk::{hold, hold_row};
 use org_disk::{FileName, MemoryDisk, Outcome};
 use org_fileset::{FileSet, LIMIT, SetFault};
-use org_fixtures::{OLD, OUTCOMES, TEXT, bytes_of};
+use org_fixtures::{OLD, OUTCOMES, TEXT};
 use org_splice::Editing;
 use std::alloc::Global;
 use std::process::Abort;
@@ -117,11 +117,16 @@ fn change(
 // The disk that a commit of these edits leaves.
 fn changed(rt: &impl Abort, alloc: Global, disk: MemoryDisk, edits: &[Edit]) -> MemoryDisk {
     let (disk, answer) = change(rt, alloc, disk, edits);
-    assert!(rt; answer.is_ok());
+    hold(rt, answer.is_ok());
     disk
 }
 
 const BOTH: [Edit; 2] = [RENAME, CAPTURE];
+
+// A disk with this journal, and an a.org.
+fn with_journal(rt: &impl Abort, alloc: Global, journal: &[u8]) -> MemoryDisk {
+    disk_with(rt, alloc, journal, b"* A\n", b"")
+}
 
 // How many calls an opening and a commit of these edits make.
 fn calls_with(rt: &impl Abort, alloc: Global, edits: &[Edit]) -> u64 {
@@ -132,40 +137,35 @@ fn calls_with(rt: &impl Abort, alloc: Global, edits: &[Edit]) -> u64 {
 fn calls_before_commit(rt: &impl Abort, alloc: Global, journal: &[u8]) -> u64 {
     let disk = with_journal(rt, alloc, journal);
     let (disk, is_before) = read_once(rt, alloc, disk, "a.org", b"* A\n", b"");
-    assert!(rt; is_before);
+    hold(rt, is_before);
     calls_of(disk)
 }
 
-// Whether both files have their new texts; that one of them has it is a failure.
-fn has_changed(rt: &impl Abort, alloc: Global, set: &mut FileSet<MemoryDisk>) -> bool {
-    let is_new = reads_both(rt, alloc, set, "a.org", b"* Better\n", &TEXT);
-    assert!(rt;
-        is_new || reads_both(rt, alloc, set, "a.org", b"* A\n", b""),
-        "one file is old and one is new"
-    );
-    is_new
-}
-
-// The same of a disk, once a set is opened over it.
-fn are_changed(rt: &impl Abort, alloc: Global, disk: MemoryDisk) -> bool {
-    let mut set = open(rt, alloc, disk, FILES);
-    let has_changed = has_changed(rt, alloc, &mut set);
-    drop(set);
-    has_changed
+// Whether a set that is opened over the disk reads both files' new texts, or both files' old ones.
+fn is_changed(rt: &impl Abort, alloc: Global, disk: MemoryDisk, changed: bool) -> bool {
+    if changed {
+        opens_with(rt, alloc, disk, "a.org", b"* Better\n", &TEXT)
+    } else {
+        opens_with(rt, alloc, disk, "a.org", b"* A\n", b"")
+    }
 }
 
 #[test]
 fn a_commit_leaves_its_record(rt: HostRuntime) {
     let alloc = rt.alloc();
     let disk = changed(&rt, alloc, with_journal(&rt, alloc, b""), &[CAPTURE]);
-    assert!(rt; opens_with(&rt, alloc, disk, "orgstore.journal", &with_gate(0), &TEXT));
+    let journal = with_gate(0);
+    hold(
+        &rt,
+        opens_with(&rt, alloc, disk, "orgstore.journal", &journal, &TEXT),
+    );
 }
 
 #[test]
 fn a_commit_of_nothing_makes_no_call(rt: HostRuntime) {
     let alloc = rt.alloc();
     let opened = opened_disk(&rt, alloc, with_journal(&rt, alloc, b""));
-    assert!(rt; calls_with(&rt, alloc, &[]) == calls_of(opened));
+    hold(&rt, calls_with(&rt, alloc, &[]) == calls_of(opened));
 }
 
 // Opens a set over a record of version 1, open or closed: the disk then, where the record is ended.
@@ -173,16 +173,13 @@ fn end_old(rt: &impl Abort, alloc: Global, disk: MemoryDisk) -> MemoryDisk {
     let mut closed = OLD;
     closed[0] = 0;
     let (disk, is_ended) = read_once(rt, alloc, disk, "orgstore.journal", &closed, &TEXT);
-    assert!(rt; is_ended);
+    hold(rt, is_ended);
     disk
 }
 
 // Whether the journal has a closed gate and a record of version 2.
-fn is_closed_and_new(rt: &impl Abort, alloc: Global, disk: MemoryDisk) -> bool {
-    let mut disk = disk;
-    let journal = FileName::journal_name(alloc).expect(rt, "memory");
-    let bytes = must(rt, bytes_of(alloc, &mut disk, &journal));
-    drop(disk);
+fn is_closed_and_new(rt: &impl Abort, alloc: Global, disk: &mut MemoryDisk) -> bool {
+    let bytes = bytes_in(rt, alloc, disk, "orgstore.journal");
     matches!(bytes.as_slice(), [0, _, _, _, _, 2, ..])
 }
 
@@ -193,7 +190,9 @@ fn an_old_record_is_ended_and_a_new_one_follows(rt: HostRuntime) {
     // opened once more, no file changes
     let disk = end_old(&rt, alloc, disk);
     let disk = changed(&rt, alloc, disk, &[RENAME]);
-    assert!(rt; is_closed_and_new(&rt, alloc, opened_disk(&rt, alloc, disk)));
+    let mut disk = opened_disk(&rt, alloc, disk);
+    hold(&rt, is_closed_and_new(&rt, alloc, &mut disk));
+    drop(disk);
 }
 
 // Whether the gate was opened for what the crash leaves, at the write of the gate and at the sync after it.
@@ -203,15 +202,6 @@ fn is_gate_open(is_write: bool, outcome: Outcome) -> bool {
         Outcome::Front(n) => !is_write || n > 0,
         Outcome::None | Outcome::Fill(_) => false,
     }
-}
-
-// Whether both files are changed after a crash at this call of a commit of both.
-fn crash_commit(rt: &impl Abort, alloc: Global, k: u64, outcome: Outcome, journal: &[u8]) -> bool {
-    let mut disk = with_journal(rt, alloc, journal);
-    disk.crash_at(k, outcome);
-    let (disk, answer) = change(rt, alloc, disk, &BOTH);
-    assert!(rt; answer.is_err(), "it isn't crashed");
-    are_changed(rt, alloc, image_of(rt, alloc, disk))
 }
 
 // Whether both files are changed after a crash at this call, the first of the commit being 1.
@@ -225,36 +215,57 @@ fn is_done(call: u64, outcome: Outcome) -> bool {
     }
 }
 
+// Whether a commit of both files that crashes at the k-th call changes both, or neither.
+fn crashes(
+    rt: &impl Abort,
+    alloc: Global,
+    journal: &[u8],
+    (k, outcome): (u64, Outcome),
+    changed: bool,
+) -> bool {
+    let mut disk = with_journal(rt, alloc, journal);
+    disk.crash_at(k, outcome);
+    let (disk, answer) = change(rt, alloc, disk, &BOTH);
+    is_changed(rt, alloc, image_of(rt, alloc, disk), changed) && answer.is_err()
+}
+
+// Whether both files are changed, or neither is, as it should be, for each way in which the k-th call may crash; before
+// the commit there are so many calls.
+fn crashes_at(rt: &impl Abort, alloc: Global, journal: &[u8], before: u64, k: u64) -> bool {
+    for outcome in &OUTCOMES {
+        let changed = is_done(k.saturating_sub(before), *outcome);
+        if !crashes(rt, alloc, journal, (k, *outcome), changed) {
+            return false;
+        }
+    }
+    true
+}
+
 #[test]
 fn a_crashed_commit_changes_both_files_or_none(rt: HostRuntime) {
     let alloc = rt.alloc();
     let before = calls_before_commit(&rt, alloc, b"");
     for k in 1..=calls_with(&rt, alloc, &BOTH) {
-        for outcome in &OUTCOMES {
-            let expected = is_done(k.saturating_sub(before), *outcome);
-            let changed = crash_commit(&rt, alloc, k, *outcome, b"");
-            assert!(rt; changed == expected, "crashed at call {k}");
-        }
+        hold_row(&rt, crashes_at(&rt, alloc, b"", before, k), k as usize);
     }
 }
 
+// A first call of a commit that crashes changes nothing.
 #[test]
 fn a_body_behind_a_short_journal_opens_nothing(rt: HostRuntime) {
     let alloc = rt.alloc();
     let before = calls_before_commit(&rt, alloc, &[1]);
-    for outcome in &OUTCOMES {
-        let changed = crash_commit(&rt, alloc, before.saturating_add(1), *outcome, &[1]);
-        assert!(rt; !changed);
-    }
+    hold(
+        &rt,
+        crashes_at(&rt, alloc, &[1], before, before.saturating_add(1)),
+    );
 }
 
-// A commit at which the disk fails, and one after it.
-fn commit_failing(rt: &impl Abort, alloc: Global, set: &mut FileSet<MemoryDisk>) {
-    let answer = commit(rt, alloc, set, &BOTH);
-    assert!(rt; matches!(answer, Err(SetFault::Device)));
-    assert!(rt; set.is_broken());
-    let answer = commit(rt, alloc, set, &[]);
-    assert!(rt; matches!(answer, Err(SetFault::Broken)));
+// Whether the disk fails at a commit, and the set at one after it.
+fn is_broken_by_commit(rt: &impl Abort, alloc: Global, set: &mut FileSet<MemoryDisk>) -> bool {
+    matches!(commit(rt, alloc, set, &BOTH), Err(SetFault::Device))
+        && set.is_broken()
+        && matches!(commit(rt, alloc, set, &[]), Err(SetFault::Broken))
 }
 
 // A disk at which this call fails, the first of a commit being 1.
@@ -269,9 +280,9 @@ fn failing(rt: &impl Abort, alloc: Global, call: u64) -> MemoryDisk {
 fn a_failed_sync_of_the_gate_breaks_the_set(rt: HostRuntime) {
     let alloc = rt.alloc();
     let mut set = open(&rt, alloc, failing(&rt, alloc, 4), FILES);
-    commit_failing(&rt, alloc, &mut set);
+    hold(&rt, is_broken_by_commit(&rt, alloc, &mut set));
     let disk = set.into_disk();
     let image = disk.image(alloc).expect(&rt, "memory");
-    assert!(rt; are_changed(&rt, alloc, image));
-    assert!(rt; are_changed(&rt, alloc, disk));
+    hold(&rt, is_changed(&rt, alloc, image, true));
+    hold(&rt, is_changed(&rt, alloc, disk, true));
 }

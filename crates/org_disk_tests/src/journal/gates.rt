@@ -4,13 +4,13 @@ ghost use Rattle.org_disk.specs.Disk.{IsStable};
 ghost use Rattle.org_disk.specs.Names.{journal_name};
 
 use super::{ALL, Body, TWO, behind_gate, body_of, is_capture, joined};
-use crate::disk::must;
+use crate::disk::{hold, hold_row};
+use crate::fileset::{disk_with, is_refused};
 use org_disk::{Disk, DiskFault, FileName, MemoryDisk};
-use org_fixtures::{NEW, OLD, disk_with};
+use org_fixtures::{NEW, OLD};
 use org_journal::{FindFault, Found, arm, close_gate, find, open_gate, prepare};
 use std::alloc::Global;
 use std::process::Abort;
-use std::test::Fail;
 
 #[derive(Clone, Copy, PartialEq, Eq)]
 enum Answer {
@@ -34,16 +34,9 @@ fn answer_in(found: Result<Found, FindFault>) -> Answer {
     }
 }
 
-// A disk with this journal, and an inbox.org with this text.
-fn with_journal(alloc: Global, journal: &[u8], text: &[u8]) -> Result<MemoryDisk, Fail> {
-    disk_with(alloc, &[("orgstore.journal", journal), ("inbox.org", text)])
-}
-
-// What `find` says over a journal of this gate and these bytes behind it.
-fn answer_of(rt: &(impl Abort + AllocGlobal), gate: u8, body: &Body, text: &[u8]) -> Answer {
-    let alloc = rt.alloc();
-    let bytes = joined(rt, alloc, &[gate], &body_of(rt, alloc, body));
-    let mut disk = must(rt, with_journal(alloc, &bytes, text));
+// What `find` says over this journal, beside an inbox.org with this text.
+fn answer_of(rt: &impl Abort, alloc: Global, bytes: &[u8], text: &[u8]) -> Answer {
+    let mut disk = disk_with(rt, alloc, bytes, b"* A\n", text);
     let journal = FileName::journal_name(alloc).expect(rt, "memory");
     let answer = answer_in(find(alloc, &mut disk, &journal));
     drop(disk);
@@ -67,8 +60,11 @@ static ROWS: &[(u8, Body, &[u8], Answer)] = &[
     (1, (&OLD, 14, &[], b""), b"", Answer::Closed),
     // Its last byte is missing.
     (1, (&OLD, 69, &[], b""), b"", Answer::Bad),
-    // A header alone, with the greatest size.
+    // A header alone, with a size past its end, and with the greatest.
+    (1, (&OLD, 15, &[(14, &[0xff])], b""), b"", Answer::Bad),
     (1, (&OLD, 15, &[(7, &[0xff; 8])], b""), b"", Answer::Bad),
+    // Another magic.
+    (1, (&NEW, ALL, &[(0, &[0x4b])], b""), b"", Answer::Bad),
     (1, (&OLD, ALL, LATE, b""), b"", Answer::Bad),
     (1, (&OLD, ALL, LATE, b""), b"a", Answer::Other),
     (1, (&OLD, ALL, LATE, b"*"), b"", Answer::Bad),
@@ -83,10 +79,29 @@ static ROWS: &[(u8, Body, &[u8], Answer)] = &[
     (1, (&TWO, ALL, &[], b""), b"* A\n* B\n", Answer::Other),
 ];
 
+// Whether `find` says this, and a set of files is refused where the journal is bad, and nowhere else.
+fn is_as_told(
+    rt: &impl Abort,
+    alloc: Global,
+    journal: &[u8],
+    text: &[u8],
+    expected: Answer,
+) -> bool {
+    answer_of(rt, alloc, journal, text) == expected
+        && is_refused(rt, alloc, journal, text) == (expected == Answer::Bad)
+}
+
+// The bytes of a journal.
+fn journal_of(rt: &impl Abort, alloc: Global, gate: u8, body: &Body) -> Vec<u8> {
+    joined(rt, alloc, &[gate], &body_of(rt, alloc, body))
+}
+
 #[test]
 fn journals_on_a_disk(rt: HostRuntime) {
+    let alloc = rt.alloc();
     for (i, (gate, body, text, expected)) in ROWS.iter().enumerate() {
-        assert!(rt; answer_of(&rt, *gate, body, text) == *expected, "row {i}");
+        let journal = journal_of(&rt, alloc, *gate, body);
+        hold_row(&rt, is_as_told(&rt, alloc, &journal, text, *expected), i);
     }
 }
 
@@ -107,7 +122,7 @@ fn open<D: Disk>(disk: &mut D, journal: &FileName, body: &[u8]) -> Result<(), Di
 }
 
 // The gate is open then, and is closed.
-fn opened_and_closed<D: Disk>(
+fn opens_and_closes<D: Disk>(
     alloc: Global,
     disk: &mut D,
     journal: &FileName,
@@ -116,10 +131,9 @@ fn opened_and_closed<D: Disk>(
     requires { journal.now ≡ journal_name }
 {
     open(disk, journal, body)?;
-    let opened = answer_in(find(alloc, disk, journal));
+    let is_open = answer_in(find(alloc, disk, journal)) == Answer::Capture;
     close_gate(disk, journal)?;
-    let closed = answer_in(find(alloc, disk, journal));
-    Ok(opened == Answer::Capture && closed == Answer::Closed)
+    Ok(is_open && answer_in(find(alloc, disk, journal)) == Answer::Closed)
 }
 
 #[test]
@@ -127,7 +141,7 @@ fn the_gate_opens_and_closes(rt: HostRuntime) {
     let alloc = rt.alloc();
     let journal = FileName::journal_name(alloc).expect(&rt, "memory");
     let mut disk = MemoryDisk::new(alloc);
-    let both = opened_and_closed(alloc, &mut disk, &journal, behind_gate(&NEW));
+    let both = opens_and_closes(alloc, &mut disk, &journal, behind_gate(&NEW));
+    hold(&rt, both == Ok(true));
     drop(disk);
-    assert!(rt; both == Ok(true));
 }
