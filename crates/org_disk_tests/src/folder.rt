@@ -7,11 +7,11 @@ mod files;
 mod listing;
 mod refusals;
 
-use crate::disk::name_of;
+use crate::disk::{hold_row, name_of};
 use org_disk::{Disk, DiskFault, FileName};
-use org_folder::{FolderDisk, Start, Unknown, lock_folder};
-use std::fs::Permissions;
-use std::os::unix::fs::{PermissionsExt, symlink};
+use org_folder::{Calls, CallsDisk, FolderDisk, Start, Unknown, lock_folder};
+use std::fs::{Files, Permissions};
+use std::os::unix::fs::{FileExt, PermissionsExt, symlink};
 use std::process::Abort;
 use std::{fs, io};
 
@@ -73,13 +73,19 @@ fn holds(rt: &impl Abort, system: &HostRuntime, path: &str, bytes: &[u8]) -> boo
     fs::read(system, path).expect(rt, "not read").as_slice() == bytes
 }
 
-// The disk of a folder, of whose files this is supposed.
-fn disk<S: Start>(rt: &impl Abort, system: &HostRuntime, folder: &str) -> FolderDisk<HostRuntime, S>
+// The disk of a folder over the calls of this system; this is supposed of the folder's files.
+fn disk<R: Files + AllocGlobal + Drop, S: Start>(
+    rt: &impl Abort,
+    host: &HostRuntime,
+    folder: &str,
+    system: R,
+) -> FolderDisk<R, S>
+where
+    R::File: FileExt,
     ensures { record_of result ≡ [] }
 {
-    let folder = lock_folder(system, folder).expect(rt, "not locked");
-    let own = system.clone().expect(rt, "memory");
-    FolderDisk::new(own, system.alloc(), &folder).expect(rt, "memory")
+    let folder = lock_folder(host, folder).expect(rt, "not locked");
+    FolderDisk::new(system, host.alloc(), &folder).expect(rt, "memory")
 }
 
 // A call of a disk on a file.
@@ -95,8 +101,10 @@ enum Call {
     Read,
     // cuts all
     Cut,
-    // writes, and cuts what it wrote; it answers the length in between
-    WriteAndCut,
+    // writes, and cuts what it wrote; in between the file has this length
+    WriteAndCut(u64),
+    // writes, and reads what another program cuts meanwhile, at this path
+    WriteAndRead(&'static str),
 }
 
 // A step of a test: what it does or sees on the disk of a folder, or beside it.
@@ -110,24 +118,19 @@ enum Step {
     Holds(&'static str, &'static [u8]),
     // nothing is at a path
     IsAbsent(&'static str),
-    // a read of a file fails where another program makes it shorter, at its path
-    Shortens(&'static str, &'static str),
 }
 
-// The length after two writes; what a cut leaves is read.
-fn write_and_cut(disk: &mut impl Disk, name: &FileName) -> Result<u64, DiskFault> {
-    disk.write_at(name, 0, b"* A\n* B\n")?;
-    disk.write_at(name, 6, b"CC\n")?;
-    disk.sync(name)?;
-    let length = disk.length(name)?;
-    disk.cut(name, 7)?;
-    disk.sync(name)?;
+// Whether the file has this length after two writes, and what a cut leaves is read.
+fn is_written_and_cut(disk: &mut impl Disk, name: &FileName, length: u64) -> bool {
     let mut bytes = [0; 3];
-    disk.read_at(name, 4, &mut bytes)?;
-    if bytes != *b"* C" {
-        return Err(DiskFault);
-    }
-    Ok(length)
+    disk.write_at(name, 0, b"* A\n* B\n").is_ok()
+        && disk.write_at(name, 6, b"CC\n").is_ok()
+        && disk.sync(name).is_ok()
+        && disk.length(name) == Ok(length)
+        && disk.cut(name, 7).is_ok()
+        && disk.sync(name).is_ok()
+        && disk.read_at(name, 4, &mut bytes).is_ok()
+        && bytes == *b"* C"
 }
 
 fn append(disk: &mut impl Disk, name: &FileName, bytes: &[u8]) -> Result<(), DiskFault> {
@@ -137,54 +140,87 @@ fn append(disk: &mut impl Disk, name: &FileName, bytes: &[u8]) -> Result<(), Dis
     disk.write_at(name, 4, bytes)
 }
 
-fn answer(disk: &mut impl Disk, name: &FileName, call: &Call) -> Result<u64, DiskFault> {
+// A read of a file that another program makes shorter, at its path.
+fn write_and_read(
+    system: &HostRuntime,
+    disk: &mut impl Disk,
+    name: &FileName,
+    path: &str,
+) -> Result<(), DiskFault> {
+    disk.write_at(name, 0, b"* A\n* C")?;
+    if fs::write(system, path, b"* A\n* ").is_err() {
+        return Ok(());
+    }
+    disk.read_at(name, 4, &mut [0; 3])
+}
+
+fn answer(
+    system: &HostRuntime,
+    disk: &mut impl Disk,
+    name: &FileName,
+    call: &Call,
+) -> Result<u64, DiskFault> {
     let made = match call {
         Call::Length => return disk.length(name),
-        Call::WriteAndCut => return write_and_cut(disk, name),
+        Call::WriteAndCut(length) => {
+            if is_written_and_cut(disk, name, *length) {
+                Ok(())
+            } else {
+                Err(DiskFault)
+            }
+        }
         Call::Write(bytes) => disk.write_at(name, 0, bytes),
         Call::Append(bytes) => append(disk, name, bytes),
         Call::Sync => disk.sync(name),
         Call::Read => disk.read_at(name, 0, &mut []),
         Call::Cut => disk.cut(name, 0),
+        Call::WriteAndRead(path) => write_and_read(system, disk, name, path),
     };
     made.and(Ok(0))
 }
 
-// Whether a read fails where another program makes the file shorter.
-fn fails_shortened(
-    rt: &impl Abort,
+// Whether a call on a file answers this, and so many have failed then.
+fn answers<C: Calls + Drop>(
     system: &HostRuntime,
-    disk: &mut impl Disk,
+    disk: &mut CallsDisk<C>,
     name: &FileName,
-    path: &str,
-) -> bool {
-    disk.write_at(name, 0, b"* A\n* C")
-        .expect(rt, "not written");
-    fs::write(system, path, b"* A\n* ").expect(rt, "not written");
-    disk.read_at(name, 4, &mut [0; 3]).is_err()
+    call: &Call,
+    expected: &Result<u64, DiskFault>,
+    failures: u64,
+) -> bool
+where
+    C::File: Drop,
+{
+    answer(system, disk, name, call) == *expected && disk.failures() == failures
 }
 
 // Whether a step goes as it says.
-fn goes(rt: &impl Abort, system: &HostRuntime, disk: &mut Folder, step: &Step) -> bool {
+fn goes<C: Calls + Drop>(
+    rt: &impl Abort,
+    system: &HostRuntime,
+    disk: &mut CallsDisk<C>,
+    step: &Step,
+) -> bool
+where
+    C::File: Drop,
+{
     match step {
         Step::Other(path, entry) => make(system, path, entry).is_ok(),
         Step::Call(file, call, expected, failures) => {
-            let answer = answer(disk, &name_of(rt, system.alloc(), file), call);
-            answer == *expected && disk.failures() == *failures
+            let name = name_of(rt, system.alloc(), file);
+            answers(system, disk, &name, call, expected, *failures)
         }
         Step::Holds(path, bytes) => holds(rt, system, path, bytes),
         Step::IsAbsent(path) => !is_there(system, path),
-        Step::Shortens(file, path) => {
-            fails_shortened(rt, system, disk, &name_of(rt, system.alloc(), file), path)
-        }
     }
 }
 
 // The steps on the disk of a folder.
 fn go_on(rt: &impl Abort, system: &HostRuntime, folder: &str, steps: &[Step]) {
-    let mut disk = disk(rt, system, folder);
+    let own = system.clone().expect(rt, "memory");
+    let mut disk: Folder = disk(rt, system, folder, own);
     for (i, step) in steps.iter().enumerate() {
-        assert!(rt; goes(rt, system, &mut disk, step), "{folder}, step {i}");
+        hold_row(rt, goes(rt, system, &mut disk, step), i);
     }
     drop(disk);
 }

@@ -1,17 +1,17 @@
 // Calls of the system of which one fails.
-use super::{holds, make_folder, remove};
-use crate::disk::name_of;
-use org_disk::{Disk, DiskFault, FileName};
-use org_folder::{FolderDisk, Unknown, lock_folder};
+use super::{disk, holds, make_folder, remove};
+use crate::disk::{hold_row, name_of};
+use org_disk::{Disk, FileName};
+use org_folder::{Calls, CallsDisk, FolderDisk, Unknown};
 use std::alloc::{Alloc, Allocator, Global};
 use std::cell::Cell;
 use std::fs::{File, FileTimes, Files, Metadata, OpenFile, OpenOptions, Permissions};
+use std::io;
 use std::io::{Error, ErrorKind, Read, Seek, SeekFrom, Write};
 use std::os::unix::fs::FileExt;
 use std::path::PathBuf;
 use std::process::Abort;
 use std::rc::Rc;
-use std::{fs, io};
 
 // Counts a call of the system, which may be the one that fails.
 fn count(fails_in: &Rc<Cell<u64>>) -> io::Result<()> {
@@ -159,56 +159,56 @@ impl Seek for FailingFile {
     }
 }
 
-// Every kind of call on a file. Made again, it leaves the same, wherever it was broken off.
-fn work<D: Disk>(disk: &mut D, name: &FileName) -> Result<(), DiskFault> {
-    disk.write_at(name, 0, b"* A\n* B\n")?;
-    disk.sync(name)?;
-    disk.cut(name, 6)?;
-    disk.write_at(name, 6, b"C\n")?;
-    disk.sync(name)?;
+// Whether every kind of call on a file is made. Made again, they leave the same, wherever they were broken off.
+fn works<D: Disk>(disk: &mut D, name: &FileName) -> bool {
     let mut bytes = [0; 8];
-    disk.read_at(name, 0, &mut bytes)?;
-    disk.length(name)?;
-    Ok(())
-}
-
-// A folder's disk, of which the call of the system with this number fails.
-fn failing_disk(
-    rt: &impl Abort,
-    system: &HostRuntime,
-    fails_in: u64,
-) -> FolderDisk<Failing, Unknown> {
-    let failing = Failing {
-        rt: system.clone().expect(rt, "memory"),
-        fails_in: Rc::new(system.alloc(), Cell::new(fails_in)).expect(rt, "memory"),
-    };
-    let folder = lock_folder(system, "one_fails").expect(rt, "not locked");
-    FolderDisk::new(failing, system.alloc(), &folder).expect(rt, "memory")
+    disk.write_at(name, 0, b"* A\n* B\n").is_ok()
+        && disk.sync(name).is_ok()
+        && disk.cut(name, 6).is_ok()
+        && disk.write_at(name, 6, b"C\n").is_ok()
+        && disk.sync(name).is_ok()
+        && disk.read_at(name, 0, &mut bytes).is_ok()
+        && disk.length(name).is_ok()
 }
 
 // Whether the disk counts one failure over the work, in which a call of the system fails, and over the work once more.
-fn fails_once(disk: &mut FolderDisk<Failing, Unknown>, a: &FileName) -> bool {
-    work(disk, a).is_err() && disk.failures() == 1 && work(disk, a).is_ok() && disk.failures() == 1
+fn fails_once<C: Calls + Drop>(disk: &mut CallsDisk<C>, a: &FileName) -> bool
+where
+    C::File: Drop,
+{
+    let mut is_so = true;
+    for is_done in &[false, true] {
+        is_so &= works(disk, a) == *is_done && disk.failures() == 1;
+    }
+    is_so
 }
 
-// The same of a disk at which the call of the system with this number fails.
-fn fails_at(rt: &impl Abort, system: &HostRuntime, a: &FileName, fails_in: u64) -> bool {
-    let mut disk = failing_disk(rt, system, fails_in);
-    let fails_once = fails_once(&mut disk, a);
+// The file system, of which the call with this number fails.
+fn failing_system(rt: &impl Abort, host: &HostRuntime, fails_in: u64) -> Failing {
+    Failing {
+        rt: host.clone().expect(rt, "memory"),
+        fails_in: Rc::new(host.alloc(), Cell::new(fails_in)).expect(rt, "memory"),
+    }
+}
+
+// The same of a new folder's disk at which the call of the system with this number fails; then the file holds what the
+// work leaves.
+fn fails_at(rt: &impl Abort, host: &HostRuntime, fails_in: u64) -> bool {
+    make_folder(rt, host, "one_fails", &[]);
+    let a = name_of(rt, host.alloc(), "a.org");
+    let system = failing_system(rt, host, fails_in);
+    let mut disk: FolderDisk<Failing, Unknown> = disk(rt, host, "one_fails", system);
+    let fails_once = fails_once(&mut disk, &a);
     drop(disk);
-    fails_once
+    fails_once && holds(rt, host, "one_fails/a.org", b"* A\n* C\n")
 }
 
 // The work makes 12 calls of the system: the file is made, seen to be empty and written; its folder is looked for, opened and
 // synced, and the file synced; it is cut, written, synced, read and measured.
 #[test]
 fn each_call_of_the_system_fails_once(rt: HostRuntime) {
-    let a = name_of(&rt, rt.alloc(), "a.org");
-    for fails_in in 1..13u64 {
-        make_folder(&rt, &rt, "one_fails", &[]);
-        assert!(rt; fails_at(&rt, &rt, &a, fails_in), "call {fails_in}");
-        let held = holds(&rt, &rt, "one_fails/a.org", b"* A\n* C\n");
-        assert!(rt; held, "call {fails_in}");
+    for fails_in in 1..13usize {
+        hold_row(&rt, fails_at(&rt, &rt, fails_in as u64), fails_in);
     }
     remove(&rt, &rt, "one_fails");
 }

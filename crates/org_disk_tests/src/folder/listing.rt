@@ -1,6 +1,6 @@
 // The Org files of a folder.
 use super::{Entry, make_folder, remove};
-use crate::disk::are_texts;
+use crate::disk::{are_texts, hold, hold_row};
 use org_disk::{FileName, NameFault};
 use org_folder::{lock_folder, org_file, org_files};
 use std::alloc::Global;
@@ -11,11 +11,18 @@ fn fault_of(alloc: Global, text: &str) -> Option<NameFault> {
     org_file(alloc, text).err()
 }
 
+// Texts, and why each isn't the name of an Org file.
+const NAMES: &[(&str, Option<NameFault>)] = &[
+    ("a.org", None),
+    ("a.txt", Some(NameFault::BadName)),
+    ("a.org_archive", Some(NameFault::BadName)),
+];
+
 #[test]
 fn names_of_org_files(rt: HostRuntime) {
-    assert!(rt; fault_of(rt.alloc(), "a.org").is_none());
-    for text in &["a.txt", "a.org_archive"] {
-        assert!(rt; fault_of(rt.alloc(), text) == Some(NameFault::BadName));
+    let alloc = rt.alloc();
+    for (i, (text, fault)) in NAMES.iter().enumerate() {
+        hold_row(&rt, fault_of(alloc, text) == *fault, i);
     }
 }
 
@@ -30,23 +37,28 @@ const LISTED: &[(&str, Entry)] = &[
     ("listed/link.org", Entry::Link("nowhere")),
 ];
 
-// The Org files of a folder, in order.
-fn listed(rt: &impl Abort, system: &HostRuntime, folder: &str) -> Vec<FileName> {
-    let folder = lock_folder(system, folder).expect(rt, "not locked");
-    let mut names = org_files(system, &folder).expect(rt, "not listed");
-    names.sort().expect(rt, "memory");
-    names
+// The Org files of a folder, where they are listed.
+fn listed(rt: &impl Abort, host: &HostRuntime, folder: &str) -> Option<Vec<FileName>> {
+    let folder = lock_folder(host, folder).expect(rt, "not locked");
+    org_files(host, &folder).ok()
 }
 
-fn fails_listed(rt: &impl Abort, system: &HostRuntime, folder: &str) -> bool {
-    let folder = lock_folder(system, folder).expect(rt, "not locked");
-    org_files(system, &folder).is_err()
+// Whether the names of a folder are these, and it is listed.
+fn are_listed(rt: &impl Abort, names: Option<Vec<FileName>>, texts: &[&str]) -> bool {
+    match names {
+        Some(mut names) => {
+            names.sort().expect(rt, "memory");
+            are_texts(&names, texts)
+        }
+        None => false,
+    }
 }
 
 #[test]
 fn files_of_a_folder(rt: HostRuntime) {
     make_folder(&rt, &rt, "listed", LISTED);
-    assert!(rt; are_texts(&listed(&rt, &rt, "listed"), &["a.org", "link.org"]));
-    assert!(rt; fails_listed(&rt, &rt, "listed/nowhere"));
+    let texts = ["a.org", "link.org"];
+    hold(&rt, are_listed(&rt, listed(&rt, &rt, "listed"), &texts));
+    hold(&rt, listed(&rt, &rt, "listed/nowhere").is_none());
     remove(&rt, &rt, "listed");
 }

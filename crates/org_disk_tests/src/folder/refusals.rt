@@ -3,31 +3,6 @@ use super::{Call, Entry, Step, go, go_on, is_there, make_folder, remove};
 use org_disk::DiskFault;
 use std::fs::File;
 
-const FAILING: &[(&str, Entry)] = &[
-    ("failing/a.org", Entry::File(b"* A\n")),
-    ("failing/was_file.org", Entry::File(b"")),
-    ("failing/link.org", Entry::Link("nowhere/target")),
-];
-
-// Failures that whoever may do all meets too: a name that became a folder's, and a link into a folder that isn't there.
-// Each is counted, and later calls go on.
-const COUNTED: &[Step] = &[
-    Step::Other("failing/was_file.org", Entry::Gone),
-    Step::Other("failing/was_file.org", Entry::Folder),
-    Step::Call("was_file.org", Call::Length, Err(DiskFault), 1),
-    Step::Call("was_file.org", Call::Write(b"* B\n"), Err(DiskFault), 2),
-    Step::Call("link.org", Call::Length, Ok(0), 2),
-    Step::Call("link.org", Call::Write(b"* B\n"), Err(DiskFault), 3),
-    Step::Call("a.org", Call::Append(b"* B\n"), Ok(0), 3),
-    Step::Call("a.org", Call::Sync, Ok(0), 3),
-    Step::Call("a.org", Call::Length, Ok(8), 3),
-];
-
-#[test]
-fn failures_are_counted(rt: HostRuntime) {
-    go(&rt, &rt, "failing", FAILING, COUNTED);
-}
-
 // A write to a device that is full fails; another file is written then as if nothing had failed.
 const FULL: &[Step] = &[
     Step::Other("full/full.org", Entry::Link("/dev/full")),
@@ -84,16 +59,19 @@ fn permitted(may_read: bool, may_write: bool) -> [Step; 3] {
     ]
 }
 
-fn may_write(rt: &HostRuntime, path: &str) -> bool {
-    File::options().write(true).open(rt, path).is_ok()
+// Whether a file may be opened to be written, or to be read.
+fn may_open(host: &HostRuntime, path: &str, writes: bool) -> bool {
+    let mut how = File::options();
+    how.read(!writes).write(writes);
+    how.open(host, path).is_ok()
 }
 
 // Whoever may do all may open each file; then these are none that can't be read or written.
 #[test]
 fn files_without_permission(rt: HostRuntime) {
     make_folder(&rt, &rt, "closed", CLOSED);
-    let may_read = File::open(&rt, "closed/a.org").is_ok();
-    let may_write = may_write(&rt, "closed/b.org");
+    let may_read = may_open(&rt, "closed/a.org", false);
+    let may_write = may_open(&rt, "closed/b.org", true);
     go_on(&rt, &rt, "closed", &permitted(may_read, may_write));
     remove(&rt, &rt, "closed");
 }
