@@ -27,12 +27,15 @@ pub fn must<T>(rt: &impl Abort, given: Result<T, Fail>) -> T
 
 // Whether the names are these texts, in order.
 pub fn are_texts(names: &[FileName], texts: &[&str]) -> bool {
-    for (name, text) in names.iter().zip(texts) {
-        if name.as_str() != *text {
+    if names.len() != texts.len() {
+        return false;
+    }
+    for i in 0..names.len() {
+        if names[i].as_str() != texts[i] {
             return false;
         }
     }
-    names.len() == texts.len()
+    true
 }
 
 // Stops the test where this isn't so. What asserts holds nothing else, and what holds a disk asserts nothing.
