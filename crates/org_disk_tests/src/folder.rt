@@ -7,7 +7,7 @@ mod files;
 mod listing;
 mod refusals;
 
-use crate::disk::{hold_row, name_of};
+use crate::disk::name_of;
 use org_disk::{Disk, DiskFault, FileName};
 use org_folder::{Calls, CallsDisk, FolderDisk, Start, Unknown, lock_folder};
 use std::fs::{Files, Permissions};
@@ -220,7 +220,7 @@ fn go_on(rt: &impl Abort, system: &HostRuntime, folder: &str, steps: &[Step]) {
     let own = system.clone().expect(rt, "memory");
     let mut disk: Folder = disk(rt, system, folder, own);
     for (i, step) in steps.iter().enumerate() {
-        hold_row(rt, goes(rt, system, &mut disk, step), i);
+        assert!(rt; goes(rt, system, &mut disk, step), "{folder}, step {i}");
     }
     drop(disk);
 }
