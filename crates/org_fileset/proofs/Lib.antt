@@ -1,5 +1,6 @@
 mod Accounted
 mod Sets
+mod Sizes
 mod Starting
 mod Patching
 pub mod Elements

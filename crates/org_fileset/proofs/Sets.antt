@@ -1,10 +1,10 @@
 -- What a call of a set makes of it besides its disk.
-use Rattle.std.proofs.Common.{◌≡◌, inr, List, ℕ, Bool, true, false, refl, sym, ◌∙◌, ⊎_elim}
-use Rattle.std.specs.Prelude.{Result, Err, IsErrOf}
+use Rattle.std.proofs.Common.{◌≡◌, inl, inr, List, ℕ, Bool, true, false, refl, sym, ◌∙◌, ⊎_elim}
+use Rattle.std.specs.Prelude.{Result, Ok, Err, OnOk, IsErrOf, IsErrAnd}
 use Rattle.std.proofs.lemmas.Bool.{true≢false}
 use Rattle.org_fileset.specs.Set.{KeepsSet}
 use Rattle.org_fileset.specs.declared.fault.SetFault.{SetFault}
-use Rattle.org_fileset.specs.declared.fault.SetFault.TheVariants.{Broken, Device}
+use Rattle.org_fileset.specs.declared.fault.SetFault.TheVariants.{Broken, Device, OutOfMemory}
 
 module _ {S A : Type 0} (old new : S) (names : S → List (List ℕ)) (broken : S → Bool) (same : names new ≡ names old) (whole : broken old ≡ false) where
   -- no call of the disk failed
@@ -24,3 +24,30 @@ module _ {S A : Type 0} (old new : S) (names : S → List (List ℕ)) (broken : 
     breaks = (λ b. inr refl, λ either. is);
     untouched = λ b. absurd (true≢false (sym b ∙ whole));
   }
+
+-- a broken one does nothing
+pub keeps_refused : {S A : Type 0} (old : S) (names : S → List (List ℕ)) (broken : S → Bool) → broken old ≡ true → KeepsSet {A = A} old old names broken (Err Broken)
+keeps_refused old names broken before = record {
+  same_names = refl;
+  refuses = (λ e. before, λ b. refl);
+  breaks = (λ b. inl b, λ either. before);
+  untouched = λ b. refl;
+}
+
+-- answers that are told apart
+pub ok_apart : {A E : Type 0} {x : A} {e : E} → ◌≡◌ {A = Result A E} (Ok x) (Err e) → ⊥
+ok_apart is = cc is
+
+pub device_apart : {A : Type 0} → ◌≡◌ {A = Result A SetFault} (Err Device) (Err OutOfMemory) → ⊥
+device_apart is = cc is
+
+pub broken_apart : {A : Type 0} → ◌≡◌ {A = Result A SetFault} (Err Broken) (Err Device) → ⊥
+broken_apart is = cc is
+
+pub memory_apart : OutOfMemory ≡ Device → ⊥
+memory_apart is = cc is
+
+-- what a `?` passed on is no Ok
+pub passed_never : {A E : Type 0} (P : E → Type 0) (Q : Type 0) (answer : Result A E) → IsErrAnd answer P → OnOk answer Q
+passed_never P Q (Ok x) is = absurd is
+passed_never P Q (Err e) is = tt

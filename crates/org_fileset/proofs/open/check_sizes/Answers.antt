@@ -5,6 +5,8 @@ use Rattle.org_journal.proofs.Accounted.{accounts_answered, accounts_quiet, acco
 use Rattle.org_fileset.proofs.Accounted.{accounts_other}
 use Rattle.org_journal.specs.Recovered.{contents}
 use Rattle.org_fileset.specs.Names.{limit}
+use Rattle.org_fileset.proofs.Sets.{ok_apart}
+use Rattle.org_fileset.proofs.Sizes.{device_else, memory_else, large_else, sizes_device, sizes_memory}
 use Rattle.org_fileset.proofs.Sorted.{first_large-next}
 use Rattle.org_fileset.proofs.open.check_sizes.Goals as goal
 
@@ -49,3 +51,36 @@ returns-then-branch-clause-accounts g c =
 
 pub returns-clause-accounts : goal.returns-clause-accounts
 returns-clause-accounts g c = accounts_answered c.loop-name.invariant.accounts
+
+pub returns-in_err-length-clause-sizes : goal.returns-in_err-length-clause-sizes
+returns-in_err-length-clause-sizes g c ended = sizes_device (contents (g.D.Disk.files c.args.disk.now)) c.args.names.now c.from_residual.result c.from_residual.ensures.1
+
+pub returns-in_err-length-clause-not_too_many : goal.returns-in_err-length-clause-not_too_many
+returns-in_err-length-clause-not_too_many g c = (device_else c.from_residual.ensures.1).0
+
+pub returns-in_err-length-clause-not_bad : goal.returns-in_err-length-clause-not_bad
+returns-in_err-length-clause-not_bad g c = (device_else c.from_residual.ensures.1).1
+
+pub returns-in_err-clone-clause-sizes : goal.returns-in_err-clone-clause-sizes
+returns-in_err-clone-clause-sizes g c ended = sizes_memory (contents (g.D.Disk.files c.args.disk.now)) c.args.names.now c.from_residual-in_err-clone.result c.from_residual-in_err-clone.ensures.1
+
+pub returns-in_err-clone-clause-not_too_many : goal.returns-in_err-clone-clause-not_too_many
+returns-in_err-clone-clause-not_too_many g c = (memory_else c.from_residual-in_err-clone.ensures.1).0
+
+pub returns-in_err-clone-clause-not_bad : goal.returns-in_err-clone-clause-not_bad
+returns-in_err-clone-clause-not_bad g c = (memory_else c.from_residual-in_err-clone.ensures.1).1
+
+pub returns-then-branch-clause-not_too_many : goal.returns-then-branch-clause-not_too_many
+returns-then-branch-clause-not_too_many g c = large_else.0
+
+pub returns-then-branch-clause-not_bad : goal.returns-then-branch-clause-not_bad
+returns-then-branch-clause-not_bad g c = large_else.1
+
+pub returns-clause-not_too_many : goal.returns-clause-not_too_many
+returns-clause-not_too_many g c = ok_apart
+
+pub returns-clause-not_bad : goal.returns-clause-not_bad
+returns-clause-not_bad g c = ok_apart
+
+pub returns-clause-looks : goal.returns-clause-looks
+returns-clause-looks g c = c.loop-name.invariant.looks

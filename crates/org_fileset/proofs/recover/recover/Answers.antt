@@ -17,6 +17,8 @@ use Rattle.org_journal.specs.Recovered.{contents, recovered, SameFiles, IsRecove
 use Rattle.org_fileset.specs.Recovery.{closed_journal}
 use Rattle.org_fileset.specs.Replay.{IsOpenOver, AreApplicable, IsAtRest}
 use Rattle.org_fileset.specs.Writes.{IsUnconcerned}
+use Rattle.org_fileset.proofs.Sets.{ok_apart}
+use Rattle.org_fileset.proofs.Sizes.{found_device}
 use Rattle.org_fileset.proofs.Starting.{since_start}
 use Rattle.org_fileset.proofs.Writes.{alone_journal, alone_then}
 use Rattle.org_fileset.proofs.Armed.{closed_after, on_ok_never}
@@ -338,3 +340,24 @@ returns-in_err-prepare-in-Closed-clause-accounts g c =
 pub returns-in_ok-prepare-in-Closed-clause-accounts : goal.returns-in_ok-prepare-in-Closed-clause-accounts
 returns-in_ok-prepare-in-Closed-clause-accounts g c =
     accounts_answered (accounts_then (accounts_call_ok c.in_ok-sync.ensures.accounts) (accounts_after c.in_ok-record.ensures.accounts (accounts_then (accounts_call_ok c.in_ok-length-in-Closed.ensures.accounts) (accounts_ok c.in_ok-prepare-in-Closed.ensures.accounts))))
+
+pub returns-in_err-sync-clause-bad : goal.returns-in_err-sync-clause-bad
+returns-in_err-sync-clause-bad g c bad = absurd (found_device c.from_residual.ensures.1 bad)
+
+pub returns-in_err-replay-in-Armed-clause-bad : goal.returns-in_err-replay-in-Armed-clause-bad
+returns-in_err-replay-in-Armed-clause-bad g c bad = absurd (found_device c.from_residual-in_err-replay-in-Armed.ensures.1 bad)
+
+pub returns-in_err-length-in-Closed-clause-bad : goal.returns-in_err-length-in-Closed-clause-bad
+returns-in_err-length-in-Closed-clause-bad g c bad = absurd (found_device c.from_residual-in_err-length-in-Closed.ensures.1 bad)
+
+pub returns-in_err-prepare-in-Closed-clause-bad : goal.returns-in_err-prepare-in-Closed-clause-bad
+returns-in_err-prepare-in-Closed-clause-bad g c bad = absurd (found_device c.from_residual-in_err-prepare-in-Closed.ensures.1 bad)
+
+pub returns-in_ok-replay-in-Armed-clause-bad : goal.returns-in_ok-replay-in-Armed-clause-bad
+returns-in_ok-replay-in-Armed-clause-bad g c bad = absurd (ok_apart bad)
+
+pub returns-else-branch-lt-FRONT-clause-bad : goal.returns-else-branch-lt-FRONT-clause-bad
+returns-else-branch-lt-FRONT-clause-bad g c bad = absurd (ok_apart bad)
+
+pub returns-in_ok-prepare-in-Closed-clause-bad : goal.returns-in_ok-prepare-in-Closed-clause-bad
+returns-in_ok-prepare-in-Closed-clause-bad g c bad = absurd (ok_apart bad)

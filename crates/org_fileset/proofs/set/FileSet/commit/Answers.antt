@@ -1,4 +1,4 @@
-use Rattle.std.proofs.Common.{rules, ◌≡◌, ℕ, List, [], Option, Some, Ok, Err, IsErr, length, refl, sym, ◌∙◌, ap, subst, arith}
+use Rattle.std.proofs.Common.{◌≡◌, ℕ, List, [], Option, Some, Ok, Err, length, true≢false, refl, sym, ◌∙◌, ap, subst, arith}
 use Rattle.std.specs.Prelude.{IsTrue}
 use Rattle.std.specs.Map.{keys_of}
 use Rattle.std.proofs.lemmas.List.{nil_from_length}
@@ -13,12 +13,12 @@ use Rattle.org_journal.specs.Recovered.{contents, all_fit, replayed}
 use Rattle.org_fileset.specs.Entries.{changed}
 use Rattle.org_fileset.specs.Replay.{AreApplicable, Commits}
 use Rattle.org_fileset.specs.Writes.{IsOther, IsUnwritten}
-use Rattle.org_fileset.specs.declared.fault.SetFault.TheVariants.{Device}
-use Rattle.org_fileset.proofs.Armed.{on_ok_never}
+use Rattle.org_fileset.specs.declared.fault.SetFault.TheVariants.{Broken, Device}
+use Rattle.org_fileset.proofs.Accounted.{accounts_other}
 use Rattle.org_fileset.proofs.Recorded.{changes_applicable, changes_fit}
-use Rattle.org_disk.proofs.Accounting.{accounts_ok}
-use Rattle.org_journal.proofs.Accounted.{accounts_answered}
-use Rattle.org_fileset.proofs.Sets.{keeps_whole, keeps_broken}
+use Rattle.org_disk.proofs.Accounting.{accounts_none, accounts_ok}
+use Rattle.org_journal.proofs.Accounted.{accounts_answered, accounts_failed, accounts_quiet}
+use Rattle.org_fileset.proofs.Sets.{keeps_whole, keeps_broken, keeps_refused, ok_apart, device_apart, broken_apart, memory_apart, passed_never}
 use Rattle.org_fileset.proofs.Committing.{committable, all_edits, changes_formed, commits_none, commits_changes, has_record}
 use Rattle.org_fileset.proofs.set.FileSet.commit.Goals as goal
 
@@ -58,16 +58,14 @@ returns-in_err-entries_of-clause-commits g c honest =
     let d = g.D.Disk in
     let disk = c.args.self.now.disk in
     let after = changed (g.C.Changes.pairs c.args.changes.now) (contents (d.files disk)) in
-    let failed : IsErr c.from_residual.result = search rules in
-    commits_none d.files d.moment d.left_since after (IsOther (keys_of (g.C.Changes.pairs c.args.changes.now))) disk c.from_residual.result (λ image left. g.met.D.Disk.only_now disk image honest left) (on_ok_never _ c.from_residual.result failed)
+    commits_none d.files d.moment d.left_since after (IsOther (keys_of (g.C.Changes.pairs c.args.changes.now))) disk c.from_residual.result (λ image left. g.met.D.Disk.only_now disk image honest left) (passed_never _ _ c.from_residual.result c.from_residual.ensures.1)
 
 pub returns-in_err-body-clause-commits : goal.returns-in_err-body-clause-commits
 returns-in_err-body-clause-commits g c honest =
     let d = g.D.Disk in
     let disk = c.args.self.now.disk in
     let after = changed (g.C.Changes.pairs c.args.changes.now) (contents (d.files disk)) in
-    let failed : IsErr c.from_residual-in_err-body.result = search rules in
-    commits_none d.files d.moment d.left_since after (IsOther (keys_of (g.C.Changes.pairs c.args.changes.now))) disk c.from_residual-in_err-body.result (λ image left. g.met.D.Disk.only_now disk image honest left) (on_ok_never _ c.from_residual-in_err-body.result failed)
+    commits_none d.files d.moment d.left_since after (IsOther (keys_of (g.C.Changes.pairs c.args.changes.now))) disk c.from_residual-in_err-body.result (λ image left. g.met.D.Disk.only_now disk image honest left) (passed_never _ _ c.from_residual-in_err-body.result c.from_residual-in_err-body.ensures.1)
 
 pub returns-in-Ok-clause-commits : goal.returns-in-Ok-clause-commits
 returns-in-Ok-clause-commits g c = rw (← c.self.view_is) (λ ended.
@@ -139,3 +137,86 @@ returns-clause-set g c = rw (← c.self.view_is) (keeps_broken _ _ _ _ refl c.if
 
 pub returns-in-Ok-clause-accounts : goal.returns-in-Ok-clause-accounts
 returns-in-Ok-clause-accounts g c = rw (← c.self.view_is) (accounts_answered (accounts_ok c.in-Ok.ensures.accounts))
+
+pub returns-clause-accounts : goal.returns-clause-accounts
+returns-clause-accounts g c = rw (← c.self.view_is) (accounts_failed refl c.in-Err.ensures.accounts)
+
+pub commit_entries-requires-clause-journal : goal.commit_entries-requires-clause-journal
+commit_entries-requires-clause-journal g c = c.self.invariant.journal_is
+
+pub commit_entries-requires-clause-gate : goal.commit_entries-requires-clause-gate
+commit_entries-requires-clause-gate g c = c.self.invariant.gate c.if-self.false
+
+pub invariant_of-self : goal.invariant_of-self
+invariant_of-self g c =
+    let s = c.self.invariant in
+    record { journal_is = s.journal_is; each = s.each; few = s.few; gate = λ fine honest. c.in-Ok.ensures.gate honest }
+
+pub invariant_of-self-in-Err : goal.invariant_of-self-in-Err
+invariant_of-self-in-Err g c =
+    let s = c.self.invariant in
+    record { journal_is = s.journal_is; each = s.each; few = s.few; gate = λ fine. absurd (true≢false fine) }
+
+pub returns-then-self-clause-commits : goal.returns-then-self-clause-commits
+returns-then-self-clause-commits g c honest =
+    let d = g.D.Disk in
+    let disk = c.args.self.now.disk in
+    let after = changed (g.C.Changes.pairs c.args.changes.now) (contents (d.files disk)) in
+    commits_none d.files d.moment d.left_since after (IsOther (keys_of (g.C.Changes.pairs c.args.changes.now))) disk (Err Broken) (λ image left. g.met.D.Disk.only_now disk image honest left) tt
+
+pub returns-then-self-clause-record : goal.returns-then-self-clause-record
+returns-then-self-clause-record g c honest = tt
+
+pub returns-then-self-clause-memory : goal.returns-then-self-clause-memory
+returns-then-self-clause-memory g c e = refl
+
+pub returns-then-self-clause-nothing : goal.returns-then-self-clause-nothing
+returns-then-self-clause-nothing g c = rw (← c.self.view_is) (λ none. (refl, λ whole. absurd (true≢false (sym c.if-self.true ∙ whole))))
+
+pub returns-then-self-clause-set : goal.returns-then-self-clause-set
+returns-then-self-clause-set g c = rw (← c.self.view_is) (keeps_refused _ _ _ c.if-self.true)
+
+pub returns-then-self-clause-accounts : goal.returns-then-self-clause-accounts
+returns-then-self-clause-accounts g c = accounts_quiet broken_apart (accounts_none _ _ _ _)
+
+pub returns-then-len-eq0-clause-record : goal.returns-then-len-eq0-clause-record
+returns-then-len-eq0-clause-record g c honest =
+    let changes = g.C.Changes.pairs c.args.changes.now in
+    let none : changes ≡ [] = nil_from_length changes (omega (arith, c.if-len-eq0.true, c.len.ensures.len)) in
+    rw none tt
+
+pub returns-then-len-eq0-clause-memory : goal.returns-then-len-eq0-clause-memory
+returns-then-len-eq0-clause-memory g c e = refl
+
+pub returns-then-len-eq0-clause-nothing : goal.returns-then-len-eq0-clause-nothing
+returns-then-len-eq0-clause-nothing g c none = (refl, λ whole. refl)
+
+pub returns-then-len-eq0-clause-accounts : goal.returns-then-len-eq0-clause-accounts
+returns-then-len-eq0-clause-accounts g c = accounts_answered (accounts_none _ _ _ _)
+
+pub returns-in_err-entries_of-clause-record : goal.returns-in_err-entries_of-clause-record
+returns-in_err-entries_of-clause-record g c honest = passed_never _ _ c.from_residual.result c.from_residual.ensures.1
+
+pub returns-in_err-entries_of-clause-memory : goal.returns-in_err-entries_of-clause-memory
+returns-in_err-entries_of-clause-memory g c e = refl
+
+pub returns-in_err-entries_of-clause-accounts : goal.returns-in_err-entries_of-clause-accounts
+returns-in_err-entries_of-clause-accounts g c = accounts_other c.from_residual.ensures.1 memory_apart (accounts_none _ _ _ _)
+
+pub returns-in_err-body-clause-record : goal.returns-in_err-body-clause-record
+returns-in_err-body-clause-record g c honest = passed_never _ _ c.from_residual-in_err-body.result c.from_residual-in_err-body.ensures.1
+
+pub returns-in_err-body-clause-memory : goal.returns-in_err-body-clause-memory
+returns-in_err-body-clause-memory g c e = refl
+
+pub returns-in_err-body-clause-accounts : goal.returns-in_err-body-clause-accounts
+returns-in_err-body-clause-accounts g c = accounts_other c.from_residual-in_err-body.ensures.1 memory_apart (accounts_none _ _ _ _)
+
+pub returns-in-Ok-clause-memory : goal.returns-in-Ok-clause-memory
+returns-in-Ok-clause-memory g c e = absurd (ok_apart e)
+
+pub returns-clause-record : goal.returns-clause-record
+returns-clause-record g c honest = tt
+
+pub returns-clause-memory : goal.returns-clause-memory
+returns-clause-memory g c e = absurd (device_apart e)

@@ -32,3 +32,27 @@ pub returns-in-Err-make_ready-clause-reopens : goal.returns-in-Err-make_ready-cl
 returns-in-Err-make_ready-clause-reopens g c ended =
     let made = c.in-Err-make_ready.ensures.reopens ended in
     record { done = tt; any_moment = made.any_moment; recoverable = made.recoverable; bad = made.bad; idle = made.idle; alone = made.alone }
+
+pub returns-in-Err-clause-names : goal.returns-in-Err-clause-names
+returns-in-Err-clause-names g c = tt
+
+pub returns-in-Err-clause-unbroken : goal.returns-in-Err-clause-unbroken
+returns-in-Err-clause-unbroken g c = tt
+
+pub returns-in-Err-clause-sizes : goal.returns-in-Err-clause-sizes
+returns-in-Err-clause-sizes g c = tt
+
+pub returns-in-Err-make_ready-clause-names : goal.returns-in-Err-make_ready-clause-names
+returns-in-Err-make_ready-clause-names g c = tt
+
+pub returns-in-Err-make_ready-clause-unbroken : goal.returns-in-Err-make_ready-clause-unbroken
+returns-in-Err-make_ready-clause-unbroken g c = tt
+
+pub returns-in-Err-make_ready-clause-sizes : goal.returns-in-Err-make_ready-clause-sizes
+returns-in-Err-make_ready-clause-sizes g c = tt
+
+pub returns-in-Ok-make_ready-clause-refused : goal.returns-in-Ok-make_ready-clause-refused
+returns-in-Ok-make_ready-clause-refused g c = tt
+
+pub returns-in-Ok-make_ready-clause-unused : goal.returns-in-Ok-make_ready-clause-unused
+returns-in-Ok-make_ready-clause-unused g c = tt
