@@ -1,8 +1,9 @@
 -- How calls of a store that may break it follow one another.
-use Rattle.std.proofs.Common.{◌≡◌, ℕ, true, false, true≢false, refl, sym, ap, ◌∙◌, arith, inl, inr, ◌⊎◌, Bool, subst}
+use Rattle.std.proofs.Common.{◌≡◌, ℕ, true, false, true≢false, refl, sym, ap, ◌∙◌, arith, inl, inr, ◌⊎◌, ⊎_elim, Bool, subst}
 use Rattle.std.specs.Prelude.{IsTrue, IsFalse, IsErrOf, Result, Ok, Err}
 use Rattle.org_disk.specs.Accounts.{Accounts}
-use Rattle.org_disk.proofs.Accounting.{accounts_then}
+use Rattle.org_disk.proofs.Accounting.{accounts_none, accounts_then}
+use Rattle.org_journal.proofs.Accounted.{accounts_quiet}
 use Rattle.org_disk.specs.Disk.{HasRisen}
 use Rattle.org_store.specs.declared.command.RunFault.{RunFault}
 use Rattle.org_store.specs.declared.command.RunFault.TheVariants as run
@@ -111,3 +112,36 @@ served_accounts {D} {steady} {honest} {failures} {disk} end store after opened s
     equal Device ends rises stays fine = absurd (fine tt)
     equal Read ends rises stays fine = stays (λ broke. fine (rises broke))
     equal Write ends rises stays fine = stays (λ broke. fine (rises broke))
+
+-- nothing was done
+pub accounts_still : {D : Type 0} {steady : Type 0} {honest : D → Type 0} {failures : D → ℕ} {disk : D} (session : Session)
+    → Accounts steady honest failures disk disk (HasBroken session session)
+accounts_still {steady = steady} {honest = honest} {failures = failures} {disk = disk} session = accounts_quiet (λ has. both_ways has.1 has.0) (accounts_none steady honest failures disk)
+
+-- a settling over a store that wasn't broken
+pub accounts_settled : {D : Type 0} {steady : Type 0} {honest : D → Type 0} {failures : D → ℕ} {disk disk' : D} (answer : Result (Unit {0}) RunFault) (old new : Session) → old.broken ≡ false
+    → (IsTrue new.broken → IsTrue old.broken ⊎ IsErrOf answer run.Device) → (IsTrue old.broken ⊎ IsErrOf answer run.Device → IsTrue new.broken)
+    → Accounts steady honest failures disk disk' (IsErrOf answer run.Device) → Accounts steady honest failures disk disk' (HasBroken old new)
+accounts_settled answer old new sound only_so so call = record {
+  was_honest = call.was_honest;
+  stays_honest = call.stays_honest;
+  no_less = call.no_less;
+  risen = λ has. call.risen (⊎_elim {C = IsErrOf answer run.Device} (λ before. absurd (both_ways before has.0)) (λ failed. failed) (only_so has.1));
+  equal = λ fine. call.equal (λ failed. fine (sound, so (inr failed)));
+}
+
+-- ends that are told apart
+pub device_unwritten : {P : Type 0} → Device ≡ Write → P
+device_unwritten is = absurd (cc is)
+
+pub device_unread : Device ≡ Read → ⊥
+device_unread is = cc is
+
+pub end_unwritten : {P : Type 0} → End ≡ Write → P
+end_unwritten is = absurd (cc is)
+
+pub end_unread : End ≡ Read → ⊥
+end_unread is = cc is
+
+pub write_unread : Write ≡ Read → ⊥
+write_unread is = cc is

@@ -1,5 +1,5 @@
 -- What serving does to the disk of a store, line by line.
-use Rattle.std.proofs.Common.{◌≡◌, ◌≢◌, ◌⊎◌, inl, inr, ⊎_elim, ℕ, ◌<◌, Bool, true, false, nat_lt, List, [], ◌∷◌, ◌++◌, Option, Result, Ok, Err, refl, sym, ap, subst, append-nil, arith}
+use Rattle.std.proofs.Common.{◌≡◌, ◌≢◌, ◌⊎◌, inl, inr, ⊎_elim, ℕ, ◌<◌, ◌≤◌, Bool, true, false, nat_lt, List, [], ◌∷◌, ◌++◌, Option, Result, Ok, Err, refl, sym, ap, subst, append-nil, arith}
 use Rattle.std.specs.Io.KnownBytes.{Appends}
 use Rattle.org_disk.specs.Disk.{FileState}
 use Rattle.org_journal.specs.Recovered.{Image}
@@ -176,6 +176,15 @@ module _ {D : Type 0} (honest : D → Type 0) (files : D → List ℕ → FileSt
       ends false true sound less = (answer, over, is, refl)
       ends true some sound less = absurd (cc)
       ends false false sound less = absurd (cc)
+
+  -- no settling at the end
+  pub finishes_broken : (store : Kept D) → store.session.broken ≡ true → ToldFinishes honest files moment left_since store Device [] store
+  finishes_broken store broken = rw broken (refl, refl, refl)
+
+  pub finishes_settled : (store : Kept D) → store.session.broken ≡ false → store.session.accepted ≤ store.session.acknowledged → ToldFinishes honest files moment left_since store End [] store
+  finishes_settled store sound settled =
+      let none : nat_lt store.session.acknowledged store.session.accepted ≡ false = grind (arith, settled) in
+      rw (sound, none) (refl, refl, refl)
 
   -- What the disk is after it.
 

@@ -1,5 +1,6 @@
 -- How the lines of a piece are served, one by one.
-use Rattle.std.proofs.Common.{◌≡◌, ℕ, List, [], ◌∷◌, ◌++◌, Option, refl, sym, ap, ◌∙◌, append_assoc, append-nil, subst}
+use Rattle.std.proofs.Common.{◌≡◌, ℕ, ◌<◌, length, arith, List, [], ◌∷◌, ◌++◌, Option, refl, sym, ap, ◌∙◌, append_assoc, append-nil, subst}
+use Rattle.std.proofs.lemmas.List.{length-append}
 use Rattle.std.specs.Io.KnownBytes.{Appends}
 use Rattle.org_serve.specs.declared.pending.Pending.{Pending}
 use Rattle.org_serve.specs.Lines.{Cut, cut}
@@ -79,3 +80,7 @@ Fed-end {AnswersLine = AnswersLine} {old = old} {bytes = bytes} {rest = rest} {n
       f.wrote,
       subst R (sym (ap (λ (c : Cut). c.rest) whole)) (added f.part f.stands),
     )
+
+-- what follows a line is less
+pub less_left : (rest line more : List ℕ) → rest ≡ line ++ 10 ∷ more → length more < length rest
+less_left rest line more whole = omega (arith, ap length whole, length-append line (10 ∷ more))

@@ -1,6 +1,6 @@
 -- Runs, reads and writes, one after another.
-use Rattle.std.proofs.Common.{ℕ, List, [], ◌∷◌, ◌++◌, Option, None, Some, Result, Ok, Err, refl, sym, ap, ◌∙◌, append_assoc, append-nil, subst}
-use Rattle.std.specs.Prelude.{OnErr}
+use Rattle.std.proofs.Common.{◌≡◌, ℕ, List, [], ◌∷◌, ◌++◌, Option, None, Some, Result, Ok, Err, refl, sym, ap, ◌∙◌, append_assoc, append-nil, subst}
+use Rattle.std.specs.Prelude.{OnOk, OnErr, IfErr, IsErrAnd}
 use Rattle.std.specs.Io.KnownBytes.{Consumes, Appends, Keeps}
 use Rattle.org_serve.specs.Parts.{AppendsSome}
 use Rattle.org_serve.specs.Transcript.{Answers}
@@ -73,3 +73,12 @@ on_err (Err e) held = held
 pub on_err_more : {A E P Q : Type 0} (r : Result A E) → (P → Q) → OnErr r P → OnErr r Q
 on_err_more (Ok x) more held = tt
 on_err_more (Err e) more held = more held
+
+-- what a `?` passed on
+pub passed_never : {A E : Type 0} (P : E → Type 0) (Q : Type 0) (answer : Result A E) → IsErrAnd answer P → OnOk answer Q
+passed_never P Q (Ok x) is = absurd is
+passed_never P Q (Err e) is = tt
+
+pub passed_told : {A E : Type 0} (e : E) (P : E → Type 0) (answer : Result A E) → IsErrAnd answer (λ y. y ≡ e) → P e → IfErr answer P
+passed_told e P (Ok x) is held = absurd is
+passed_told e P (Err f) is held = subst P (sym is) held

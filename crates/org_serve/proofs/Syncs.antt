@@ -1,6 +1,7 @@
 -- Syncs of the files of a store, one after another, and what they make of a disk.
 use Rattle.std.proofs.Common.{true≢false, OnOk, IsErr, ◌≡◌, ◌⊎◌, inl, inr, ⊎_elim, ℕ, ◌+◌, ◌<◌, ◌≤◌, List, [], ◌∷◌, ◌++◌, length, take, drop, get_or, true, Option, Some, None, Result, Ok, Err, refl, sym, ◌∙◌, ap, subst}
-use Rattle.std.specs.Prelude.{IsSomeAnd, is_some, IsTrue}
+use Rattle.std.specs.Prelude.{IsSomeAnd, IsErrAnd, is_some, IsTrue}
+use Rattle.std.proofs.lemmas.Result.{err_from_is_err_and}
 use Rattle.std.specs.List.{Contains}
 use Rattle.std.proofs.lemmas.List.{take_more, take_all}
 use Rattle.std.proofs.lemmas.List.Elements.{Contains-push_cases}
@@ -12,6 +13,8 @@ use Rattle.org_journal.specs.Recovered.{Image, SameFiles, RecoversTo, IsRecovera
 use Rattle.org_journal.specs.Reading.{journal_at}
 use Rattle.org_journal.specs.Gate.{is_open}
 use Rattle.org_fileset.specs.Names.{AreSorted}
+use Rattle.org_fileset.specs.declared.open.OpenFault.{OpenFault}
+use Rattle.org_fileset.specs.declared.open.OpenFault.TheVariants.{TooManyFiles, Device}
 use Rattle.org_fileset.specs.Recovery.{EachRecovers, RecoversAsBefore}
 use Rattle.org_fileset.proofs.Elements.{no_member, cons_cases, cons_here, cons_later}
 use Rattle.org_fileset.proofs.Recovering.{stable_from_only, with_bytes, one_image, here_is}
@@ -155,3 +158,15 @@ some_or_none files = cases (recovered files)
     cases : (o : Option Image) → IsTrue (is_some o) ⊎ (o ≡ None)
     cases None = inr refl
     cases (Some found) = inl refl
+
+-- answers that don't tell too many files
+pub ok_many : {A P : Type 0} {x : A} → ◌≡◌ {A = Result A OpenFault} (Ok x) (Err TooManyFiles) → P
+ok_many is = absurd (cc is)
+
+pub device_many : {A P : Type 0} {answer : Result A OpenFault} → IsErrAnd answer (λ y. y ≡ Device) → answer ≡ Err TooManyFiles → P
+device_many {answer = answer} is many =
+    let p = err_from_is_err_and answer is in
+    absurd (cc (many, p.1, p.2))
+
+pub ok_apart : {A E : Type 0} {x : A} {e : E} → ◌≡◌ {A = Result A E} (Ok x) (Err e) → ⊥
+ok_apart is = cc is

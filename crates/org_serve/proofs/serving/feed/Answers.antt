@@ -1,7 +1,9 @@
-use Rattle.std.proofs.Common.{◌∙◌}
+use Rattle.std.proofs.Common.{◌∙◌, ℕ, subst}
+use Rattle.org_disk.specs.Disk.{IsCounted}
 use Rattle.std.proofs.lemmas.Result.{err_from_is_err_and}
 use Rattle.org_serve.proofs.Breaking.{untouched_then, breaks_then}
-use Rattle.org_serve.proofs.Feeding.{Fed-step, Fed-err, Fed-end}
+use Rattle.org_serve.proofs.Feeding.{Fed-step, Fed-err, Fed-end, less_left}
+use Rattle.org_serve.proofs.Joins.{on_err, passed_never}
 use Rattle.org_serve.proofs.serving.feed.Goals as goal
 
 pub returns-in_err-answer-clause-fed : goal.returns-in_err-answer-clause-fed
@@ -37,3 +39,19 @@ returns-clause-untouched g c = c.loop-line.invariant.1
 
 pub returns-clause-accounts : goal.returns-clause-accounts
 returns-clause-accounts g c = c.loop-line.invariant.2
+
+pub returns-in_err-answer-clause-same : goal.returns-in_err-answer-clause-same
+returns-in_err-answer-clause-same g c = passed_never _ _ c.from_residual.result c.from_residual.ensures.1
+
+pub returns-in_err-answer-clause-err : goal.returns-in_err-answer-clause-err
+returns-in_err-answer-clause-err g c =
+    on_err c.from_residual.result (subst (λ (n : ℕ). IsCounted n (g.W.Sink.failures c.answer.new.writer)) c.loop-line.invariant.3 c.in_err-answer.ensures.err)
+
+pub returns-clause-same : goal.returns-clause-same
+returns-clause-same g c = c.loop-line.invariant.3
+
+pub returns-clause-err : goal.returns-clause-err
+returns-clause-err g c = tt
+
+pub loop-line-smaller : goal.loop-line-smaller
+loop-line-smaller g c = less_left _ _ _ c.in-Some.ensures.whole

@@ -1,9 +1,10 @@
-use Rattle.std.proofs.Common.{◌≡◌, ◌∙◌, ◌<◌, false, sym, subst, arith}
+use Rattle.std.proofs.Common.{◌≡◌, ◌∙◌, ◌<◌, ◌≤◌, [], false, refl, sym, subst, arith}
 use Rattle.org_store.specs.Runs.{SettlesOver}
 use Rattle.org_serve.specs.Replies.{settled_text}
 use Rattle.org_serve.specs.Serving.{EndsBroken}
-use Rattle.org_serve.proofs.Breaking.{ends_broken}
-use Rattle.org_serve.proofs.Crashes.{finishes_settling}
+use Rattle.org_serve.proofs.Breaking.{ends_broken, accounts_settled, accounts_still, device_unread, device_unwritten, end_unread, end_unwritten, write_unread}
+use Rattle.org_serve.proofs.Crashes.{finishes_broken, finishes_settled, finishes_settling}
+use Rattle.org_serve.proofs.Joins.{Appends-none}
 use Rattle.org_serve.proofs.serving.settle.Goals as goal
 
 pub returns-in-Ok-clause-told : goal.returns-in-Ok-clause-told
@@ -51,3 +52,109 @@ returns-in-Err-clause-write g c = λ is.
       waits = e.waits honest;
       unneeded = e.unneeded;
     } in (c.settle-answer.result, record { before = e.accounts.was_honest; did = over })
+
+pub returns-then-is_broken-clause-never : goal.returns-then-is_broken-clause-never
+returns-then-is_broken-clause-never g c = device_unread
+
+pub returns-then-is_broken-clause-write : goal.returns-then-is_broken-clause-write
+returns-then-is_broken-clause-write g c = device_unwritten
+
+pub returns-then-is_broken-clause-wrote : goal.returns-then-is_broken-clause-wrote
+returns-then-is_broken-clause-wrote g c = device_unwritten
+
+pub returns-then-is_broken-clause-write_cause : goal.returns-then-is_broken-clause-write_cause
+returns-then-is_broken-clause-write_cause g c = device_unwritten
+
+pub returns-then-is_broken-clause-write_told : goal.returns-then-is_broken-clause-write_told
+returns-then-is_broken-clause-write_told g c not = refl
+
+pub returns-then-is_broken-clause-broken : goal.returns-then-is_broken-clause-broken
+returns-then-is_broken-clause-broken g c = sym c.is_broken.ensures ∙ c.if-is_broken.true
+
+pub returns-then-is_broken-clause-untouched : goal.returns-then-is_broken-clause-untouched
+returns-then-is_broken-clause-untouched g c broke = refl
+
+pub returns-then-is_broken-clause-accounts : goal.returns-then-is_broken-clause-accounts
+returns-then-is_broken-clause-accounts g c = accounts_still c.args.store.now.session
+
+pub returns-then-acknowledged-accepted-clause-never : goal.returns-then-acknowledged-accepted-clause-never
+returns-then-acknowledged-accepted-clause-never g c = end_unread
+
+pub returns-then-acknowledged-accepted-clause-write : goal.returns-then-acknowledged-accepted-clause-write
+returns-then-acknowledged-accepted-clause-write g c = end_unwritten
+
+pub returns-then-acknowledged-accepted-clause-wrote : goal.returns-then-acknowledged-accepted-clause-wrote
+returns-then-acknowledged-accepted-clause-wrote g c = end_unwritten
+
+pub returns-then-acknowledged-accepted-clause-write_cause : goal.returns-then-acknowledged-accepted-clause-write_cause
+returns-then-acknowledged-accepted-clause-write_cause g c = end_unwritten
+
+pub returns-then-acknowledged-accepted-clause-write_told : goal.returns-then-acknowledged-accepted-clause-write_told
+returns-then-acknowledged-accepted-clause-write_told g c not = refl
+
+pub returns-then-acknowledged-accepted-clause-broken : goal.returns-then-acknowledged-accepted-clause-broken
+returns-then-acknowledged-accepted-clause-broken g c = sym c.is_broken.ensures ∙ c.if-is_broken.false
+
+pub returns-then-acknowledged-accepted-clause-untouched : goal.returns-then-acknowledged-accepted-clause-untouched
+returns-then-acknowledged-accepted-clause-untouched g c broke = refl
+
+pub returns-then-acknowledged-accepted-clause-accounts : goal.returns-then-acknowledged-accepted-clause-accounts
+returns-then-acknowledged-accepted-clause-accounts g c = accounts_still c.args.store.now.session
+
+pub returns-in-Err-clause-told : goal.returns-in-Err-clause-told
+returns-in-Err-clause-told g c not = absurd (not refl)
+
+pub returns-in-Err-clause-never : goal.returns-in-Err-clause-never
+returns-in-Err-clause-never g c = write_unread
+
+pub returns-in-Err-clause-write_cause : goal.returns-in-Err-clause-write_cause
+returns-in-Err-clause-write_cause g c is = c.in-Err.ensures.err
+
+pub returns-in-Err-clause-write_told : goal.returns-in-Err-clause-write_told
+returns-in-Err-clause-write_told g c not = absurd (not refl)
+
+pub returns-in-Err-clause-broken : goal.returns-in-Err-clause-broken
+returns-in-Err-clause-broken g c = tt
+
+pub returns-in-Err-clause-untouched : goal.returns-in-Err-clause-untouched
+returns-in-Err-clause-untouched g c broke = c.settle-answer.ensures.untouched (c.settle-answer.ensures.broken.1 broke)
+
+pub returns-in-Ok-clause-never : goal.returns-in-Ok-clause-never
+returns-in-Ok-clause-never g c = c.end_of.ensures.never.0
+
+pub returns-in-Ok-clause-write : goal.returns-in-Ok-clause-write
+returns-in-Ok-clause-write g c is = absurd (c.end_of.ensures.never.1 is)
+
+pub returns-in-Ok-clause-wrote : goal.returns-in-Ok-clause-wrote
+returns-in-Ok-clause-wrote g c is = absurd (c.end_of.ensures.never.1 is)
+
+pub returns-in-Ok-clause-write_cause : goal.returns-in-Ok-clause-write_cause
+returns-in-Ok-clause-write_cause g c is = absurd (c.end_of.ensures.never.1 is)
+
+pub returns-in-Ok-clause-write_told : goal.returns-in-Ok-clause-write_told
+returns-in-Ok-clause-write_told g c not = c.in-Ok.ensures.same
+
+pub returns-in-Ok-clause-untouched : goal.returns-in-Ok-clause-untouched
+returns-in-Ok-clause-untouched g c broke = c.settle-answer.ensures.untouched (c.settle-answer.ensures.broken.1 broke)
+
+pub returns-then-is_broken-clause-told : goal.returns-then-is_broken-clause-told
+returns-then-is_broken-clause-told g c not =
+    let d = g.D.Disk in
+    ([], finishes_broken d.honest d.files d.moment d.left_since c.args.store.now (sym c.is_broken.ensures ∙ c.if-is_broken.true), Appends-none (g.W.Sink.written c.args.writer.now))
+
+pub returns-then-acknowledged-accepted-clause-told : goal.returns-then-acknowledged-accepted-clause-told
+returns-then-acknowledged-accepted-clause-told g c not =
+    let d = g.D.Disk in
+    let store = c.args.store.now in
+    let settled : store.session.accepted ≤ store.session.acknowledged = omega (arith, c.acknowledged.ensures, c.accepted.ensures, c.if-acknowledged-accepted.true) in
+    ([], finishes_settled d.honest d.files d.moment d.left_since store (sym c.is_broken.ensures ∙ c.if-is_broken.false) settled, Appends-none (g.W.Sink.written c.args.writer.now))
+
+pub returns-in-Err-clause-accounts : goal.returns-in-Err-clause-accounts
+returns-in-Err-clause-accounts g c =
+    let e = c.settle-answer.ensures in
+    accounts_settled c.settle-answer.result c.args.store.now.session c.settle-answer.new.self.session (sym c.is_broken.ensures ∙ c.if-is_broken.false) e.breaks.0 e.breaks.1 e.accounts
+
+pub returns-in-Ok-clause-accounts : goal.returns-in-Ok-clause-accounts
+returns-in-Ok-clause-accounts g c =
+    let e = c.settle-answer.ensures in
+    accounts_settled c.settle-answer.result c.args.store.now.session c.settle-answer.new.self.session (sym c.is_broken.ensures ∙ c.if-is_broken.false) e.breaks.0 e.breaks.1 e.accounts

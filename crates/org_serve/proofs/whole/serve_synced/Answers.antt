@@ -1,13 +1,17 @@
-use Rattle.std.proofs.Common.{◌≡◌, ℕ, List, Result, IfErr, subst}
+use Rattle.std.proofs.Common.{◌≡◌, ℕ, List, Result, IfErr, refl, subst}
 use Rattle.std.proofs.lemmas.Result.{IfOk-weaker}
+use Rattle.org_disk.specs.Accounts.{Accounts}
 use Rattle.org_journal.specs.Recovered.{contents}
+use Rattle.org_journal.proofs.Accounted.{accounts_after}
 use Rattle.org_fileset.specs.Names.{AreFew, AreTooMany}
 use Rattle.org_fileset.specs.Opening.{IsReason}
 use Rattle.org_fileset.specs.declared.open.OpenFault.{OpenFault}
 use Rattle.org_store.proofs.Sortings.{few_or_many}
 use Rattle.org_serve.specs.declared.end.ServeEnd.{ServeEnd}
 use Rattle.org_serve.specs.Syncing.{AreSynced, IsNotStored, stored}
+use Rattle.org_serve.specs.Whole.{HasFailed}
 use Rattle.org_serve.proofs.Counting.{ended_unserved}
+use Rattle.org_serve.proofs.Syncs.{ok_apart}
 use Rattle.org_serve.proofs.Foreign.{leaves_foreign}
 use Rattle.org_serve.proofs.Synced.{if_err, reason_before, served_from, breaks_from, lasts_recoverable, lasts_found, synced_gives_back, unsynced_gives_back}
 use Rattle.org_serve.proofs.whole.serve_synced.Goals as goal
@@ -85,3 +89,17 @@ returns-in-Ok-clause-causes g c = c.serve_disk.ensures.causes
 
 pub returns-in-Err-clause-served : goal.returns-in-Err-clause-served
 returns-in-Err-clause-served g c = tt
+
+pub returns-in-Ok-clause-accounts : goal.returns-in-Ok-clause-accounts
+returns-in-Ok-clause-accounts g c =
+    let d = g.D.Disk in
+    let mid = c.sync_files.new.disk in
+    let last = c.serve_disk.result.disk in
+    let synced = c.in-Ok.ensures.accounts in
+    accounts_after synced (subst (λ (n : ℕ). Accounts d.steady d.honest d.failures mid last (HasFailed c.serve_disk.result.end n (d.failures last))) (synced.equal ok_apart) c.serve_disk.ensures.accounts)
+
+pub returns-in-Err-clause-unserved : goal.returns-in-Err-clause-unserved
+returns-in-Err-clause-unserved g c = (refl, refl)
+
+pub returns-in-Err-clause-unused : goal.returns-in-Err-clause-unused
+returns-in-Err-clause-unused g c is = c.sync_files.ensures.unused (cc is)
