@@ -1,10 +1,11 @@
-use Rattle.std.proofs.Common.{◌≤◌, ℕ, List, length, ◌∙◌, ap, arith}
+use Rattle.std.proofs.Common.{◌≤◌, ℕ, List, length, refl, sym, ◌∙◌, ap, arith}
+use Rattle.std.proofs.lemmas.List.{at_drop_all}
 use Rattle.org_disk.specs.Disk.{FileState}
-use Rattle.org_disk.proofs.Accounting.{accounts_then, accounts_call, accounts_call_ok, looks_then}
+use Rattle.org_disk.proofs.Accounting.{accounts_none, accounts_then, accounts_call, accounts_call_ok, looks_none, looks_then}
 use Rattle.org_journal.proofs.Accounted.{accounts_answered, accounts_quiet, accounts_told}
 use Rattle.org_fileset.proofs.Accounted.{accounts_other}
 use Rattle.org_journal.specs.Recovered.{contents}
-use Rattle.org_fileset.specs.Names.{limit}
+use Rattle.org_fileset.specs.Names.{limit, first_large}
 use Rattle.org_fileset.proofs.Sets.{ok_apart}
 use Rattle.org_fileset.proofs.Sizes.{device_else, memory_else, large_else, sizes_device, sizes_memory}
 use Rattle.org_fileset.proofs.Sorted.{first_large-next}
@@ -84,3 +85,16 @@ returns-clause-not_bad g c = ok_apart
 
 pub returns-clause-looks : goal.returns-clause-looks
 returns-clause-looks g c = c.loop-name.invariant.looks
+
+pub returns-clause-sizes : goal.returns-clause-sizes
+returns-clause-sizes g c ended =
+    let sofar = c.loop-name.invariant in
+    let files = contents (g.D.Disk.files c.args.disk.now) in
+    sym (sofar.sizes ended) ∙ at_drop_all (first_large files) c.args.names.now c.loop-name.name-index c.loop-name-test.false
+
+pub loop-name-init : goal.loop-name-init
+loop-name-init g c = record {
+  sizes = λ ended. refl;
+  looks = λ ended. looks_none _ _ _ _;
+  accounts = accounts_none _ _ _ _;
+}
