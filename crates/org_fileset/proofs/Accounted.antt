@@ -33,3 +33,14 @@ accounts_opened {answer = answer} find.Device is call =
       risen = λ failed. call.risen refl;
       equal = λ fine. absurd (fine (p.1 ∙ ap (λ e. Err e) p.2));
     }
+
+-- the fault alone, as a refusal hands it on
+pub accounts_fault : {D : Type 0} {T E : Type 0} {found fault : E} {steady : Type 0} {honest : D → Type 0} {failures : D → ℕ} {old new : D}
+    → Accounts steady honest failures old new (IsErrOf {T = T} (Err found) fault) → Accounts steady honest failures old new (found ≡ fault)
+accounts_fault call = record {
+  was_honest = call.was_honest;
+  stays_honest = call.stays_honest;
+  no_less = call.no_less;
+  risen = λ is. call.risen (ap (λ e. Err e) is);
+  equal = λ fine. call.equal (λ is. fine (cc is));
+}

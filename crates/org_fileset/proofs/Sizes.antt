@@ -6,7 +6,7 @@ use Rattle.org_disk.specs.Disk.{FileState}
 use Rattle.org_journal.specs.Recovered.{Image, recovered, contents}
 use Rattle.org_journal.specs.declared.fault.FindFault.{FindFault}
 use Rattle.org_journal.specs.declared.fault.FindFault.TheVariants as find
-use Rattle.org_fileset.specs.Opening.{HaveSizes, IsAnswer, fault_of}
+use Rattle.org_fileset.specs.Opening.{AreAllNames, HaveSizes, IsAnswer, IsReason, fault_of}
 use Rattle.org_fileset.specs.Recovery.{IsReopened}
 use Rattle.org_fileset.specs.declared.open.OpenFault.{OpenFault}
 use Rattle.org_fileset.specs.declared.open.OpenFault.TheVariants.{TooManyFiles, BadJournal, TooLarge, Device, OutOfMemory}
@@ -75,3 +75,18 @@ pub found_device : {U : Type 0} {answer : Result U FindFault} → IsErrAnd answe
 found_device {answer = answer} is e =
     let p = passed answer is in
     cc (e, p)
+
+-- why names are refused
+pub names_reason : (given : List (List ℕ)) (honest : Type 0) (before now : Image) (fault : OpenFault) → AreAllNames given (Err fault) → IsReason given honest before now fault
+names_reason given honest before now TooManyFiles why = why
+names_reason given honest before now OutOfMemory why = tt
+names_reason given honest before now BadJournal why = absurd why
+names_reason given honest before now (TooLarge name) why = absurd why
+names_reason given honest before now Device why = absurd why
+
+pub names_apart : (given : List (List ℕ)) (fault : OpenFault) → AreAllNames given (Err fault) → fault ≡ Device → ⊥
+names_apart given TooManyFiles why is = cc is
+names_apart given OutOfMemory why is = cc is
+names_apart given BadJournal why is = why
+names_apart given (TooLarge name) why is = why
+names_apart given Device why is = why

@@ -6,7 +6,6 @@ use Rattle.org_fileset.proofs.Steps.{pair_at, patched_each-more, next_within, ne
 use Rattle.org_disk.proofs.Accounting.{accounts_none, accounts_then, accounts_call, accounts_call_ok}
 use Rattle.org_journal.proofs.Accounted.{accounts_failed, accounts_fine_test}
 use Rattle.org_fileset.proofs.Writes.{alone_none, alone_then, alone_looks, alone_call}
-use Rattle.org_fileset.proofs.Armed.{on_ok_never}
 use Rattle.org_fileset.proofs.apply.apply_entry.Goals as goal
 
 pub loop-patch-init : goal.loop-patch-init
@@ -196,12 +195,3 @@ returns-in_ok-cut-clause-accounts g c =
 pub returns-else-length-entry-clause-accounts : goal.returns-else-length-entry-clause-accounts
 returns-else-length-entry-clause-accounts g c =
     accounts_fine_test (accounts_then c.loop-patch.invariant.accounts (accounts_call_ok c.in_ok-length.ensures.accounts))
-
-pub returns-in_err-write_at-clause-content : goal.returns-in_err-write_at-clause-content
-returns-in_err-write_at-clause-content g c = on_ok_never _ c.from_residual.result c.from_residual.ensures.0
-
-pub returns-in_err-length-clause-content : goal.returns-in_err-length-clause-content
-returns-in_err-length-clause-content g c = on_ok_never _ c.from_residual-in_err-length.result c.from_residual-in_err-length.ensures.0
-
-pub returns-in_err-cut-clause-content : goal.returns-in_err-cut-clause-content
-returns-in_err-cut-clause-content g c = on_ok_never _ c.from_residual-in_err-cut.result c.from_residual-in_err-cut.ensures.0

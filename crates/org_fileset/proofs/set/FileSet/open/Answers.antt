@@ -1,10 +1,16 @@
 use Rattle.org_disk.specs.Disk.{AreImages}
+use Rattle.std.proofs.Common.{Err, refl, ap}
+use Rattle.org_disk.proofs.Accounting.{accounts_fine, accounts_none}
+use Rattle.org_journal.proofs.Accounted.{accounts_quiet}
 use Rattle.org_disk.proofs.Moments.{passes_none}
 use Rattle.org_disk.specs.Names.{journal_name}
 use Rattle.org_journal.specs.Recovered.{contents}
 use Rattle.org_fileset.specs.Recovery.{RecoversAsBefore}
 use Rattle.org_fileset.specs.Writes.{IsUnconcerned}
 use Rattle.org_fileset.proofs.Writes.{alone_none}
+use Rattle.org_fileset.proofs.Accounted.{accounts_fault}
+use Rattle.org_fileset.proofs.Sets.{ok_apart}
+use Rattle.org_fileset.proofs.Sizes.{names_reason, names_apart}
 use Rattle.org_fileset.proofs.Starting.{since_start}
 use Rattle.org_fileset.proofs.Recovering.{as_before}
 use Rattle.org_fileset.proofs.set.FileSet.open.Goals as goal
@@ -56,3 +62,23 @@ returns-in-Ok-make_ready-clause-refused g c = tt
 
 pub returns-in-Ok-make_ready-clause-unused : goal.returns-in-Ok-make_ready-clause-unused
 returns-in-Ok-make_ready-clause-unused g c = tt
+
+pub returns-in-Err-clause-refused : goal.returns-in-Err-clause-refused
+returns-in-Err-clause-refused g c =
+    let files = contents (g.D.Disk.files c.args.disk) in
+    names_reason c.args.names.items (g.D.Disk.honest c.args.disk) files files c.in-Err.fault c.in-Err.ensures.refused
+
+pub returns-in-Err-clause-unused : goal.returns-in-Err-clause-unused
+returns-in-Err-clause-unused g c is = refl
+
+pub returns-in-Err-clause-accounts : goal.returns-in-Err-clause-accounts
+returns-in-Err-clause-accounts g c = accounts_quiet (names_apart _ c.in-Err.fault c.in-Err.ensures.refused) (accounts_none _ _ _ _)
+
+pub returns-in-Err-make_ready-clause-unused : goal.returns-in-Err-make_ready-clause-unused
+returns-in-Err-make_ready-clause-unused g c is = absurd (c.in-Err-make_ready.ensures.not_too_many (ap (λ e. Err e) is))
+
+pub returns-in-Err-make_ready-clause-accounts : goal.returns-in-Err-make_ready-clause-accounts
+returns-in-Err-make_ready-clause-accounts g c = accounts_fault c.in-Err-make_ready.ensures.accounts
+
+pub returns-in-Ok-make_ready-clause-accounts : goal.returns-in-Ok-make_ready-clause-accounts
+returns-in-Ok-make_ready-clause-accounts g c = accounts_fine ok_apart c.in-Ok-make_ready.ensures.accounts
