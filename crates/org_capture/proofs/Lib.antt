@@ -9,3 +9,4 @@ pub mod Rows
 pub mod Numbers
 pub mod OneByOne
 pub mod Kept
+pub mod Pieces
