@@ -1,5 +1,5 @@
 -- What the calls of a store's files do to its session.
-use Rattle.std.proofs.Common.{◌≡◌, inl, inr, ⊎_elim, ℕ, false, true, List, Option, Some, Result, Ok, Err, refl, sym, ◌∙◌, ap, subst}
+use Rattle.std.proofs.Common.{◌≡◌, inl, inr, ⊎_elim, ℕ, ◌+◌, false, true, List, [], Option, Some, Result, Ok, Err, refl, sym, ◌∙◌, ap, subst}
 use Rattle.std.specs.Prelude.{◌↔◌, IsErrOf, IsOkAnd, IsTrue, MatchResult}
 use Rattle.org_disk.specs.Disk.{FileState, AreImages, LeavesOnly}
 use Rattle.org_outline.specs.States.{Keywords}
@@ -15,11 +15,11 @@ use Rattle.org_store.specs.declared.command.Reply.{Reply}
 use Rattle.org_store.specs.declared.command.RunFault.{RunFault}
 use Rattle.org_store.specs.declared.command.RunFault.TheVariants.{Refused, OutOfMemory, Device, Broken}
 use Rattle.org_store.specs.declared.tally.Tally.{Tally}
-use Rattle.org_store.specs.Files.{OpenFiles}
+use Rattle.org_store.specs.Files.{CommitsTexts, OpenFiles}
 use Rattle.org_store.specs.InOrder.{HoldsEither, texts_of}
 use Rattle.org_store.specs.Session.{Session, Kept, kept_over, session_over}
-use Rattle.org_store.specs.Outcome.{Outcome, AsksToSettle}
-use Rattle.org_store.specs.Step.{Does, Settles, failed_in_read}
+use Rattle.org_store.specs.Outcome.{Outcome, AsksToSettle, Accepts}
+use Rattle.org_store.specs.Step.{Does, Settles, failed_in_read, fills}
 use Rattle.org_store.specs.Left.{IsLeft, IsLeftAlone}
 use Rattle.org_store.specs.Keeping.{Plans, PlansOrStays, Reads, fault_of_set}
 use Rattle.org_store.specs.Runs.{LeavesDisk}
@@ -75,6 +75,32 @@ module _ {D : Type 0} (files : D → List ℕ → FileState) (moment : D → ℕ
     alone = alone_fewer files moment left_since (IsLeftAlone {A = Unit {0}} before.session before.waiting AsksToSettle (Err Device) now.session.accepted) (IsOther old.held.before.waiting) old.disk new.disk alone (λ name this. this refl);
   }
   settle_leaves result set.Broken fails leaves fit alone = absurd (fails.works fails.is)
+
+-- what the commit of a command that fills the group leaves of the disk
+module _ {D : Type 0} (files : D → List ℕ → FileState) (moment : D → ℕ) (left_since : D → ℕ → Image → Type 0) (states : Keywords) (old new : OpenFiles D) (was now : Tally) (waiting after : List (List ℕ))
+    (full : fills (session_over (λ disk. contents (files disk)) states old was) ≡ true) (more : now.accepted ≡ was.accepted + 1) where
+  abbrev LeavesFilled : Result (Unit {0}) RunFault → Type 0
+  LeavesFilled answer = LeavesDisk files moment left_since (kept_over files states old was) (kept_over files states new now)
+      (IsLeft (kept_over files states old was).session (contents (files old.disk)) (Accepts waiting after) answer now.accepted)
+      (IsLeftAlone (kept_over files states old was).session [] (Accepts waiting after) answer now.accepted) (IsErrOf answer Device)
+
+  pub leaves_filled : new.names ≡ old.names → CommitsTexts {A = Unit {0}} {E = SetFault} files moment left_since old.names waiting after old.disk new.disk (Ok (tt {0})) → LeavesFilled (Ok (tt {0}))
+  leaves_filled names made = record {
+    any_moment = λ rest. leaves_as (made.any_moment rest) (λ image either. ⊎_elim (λ held. inl held) (λ all. inr (tt, (after, (refl, full, more), all))) either);
+    others = λ fine. rw (names, made.texts) made.others;
+    rest = λ fine. made.rest;
+    recoverable = made.recoverable;
+    alone = alone_fewer files moment left_since (IsLeftAlone {A = Unit {0}} (kept_over files states old was).session [] (Accepts waiting after) (Ok (tt {0})) now.accepted) (IsOther waiting) old.disk new.disk made.alone (λ name this. this tt full more);
+  }
+
+  pub leaves_torn : (fault : SetFault) → CommitsTexts {A = Unit {0}} {E = SetFault} files moment left_since old.names waiting after old.disk new.disk (Err fault) → LeavesFilled (Err Device)
+  leaves_torn fault made = record {
+    any_moment = λ rest. leaves_as (made.any_moment rest) (λ image either. ⊎_elim (λ held. inl held) (λ all. inr (refl, (after, (refl, full, more), all))) either);
+    others = λ fine. absurd (fine refl);
+    rest = λ fine. absurd (fine refl);
+    recoverable = made.recoverable;
+    alone = alone_fewer files moment left_since (IsLeftAlone {A = Unit {0}} (kept_over files states old was).session [] (Accepts waiting after) (Err Device) now.accepted) (IsOther waiting) old.disk new.disk made.alone (λ name this. this refl full more);
+  }
 
 -- the same fault of a settling, handed on as a command's
 pub leaves_handed : {D : Type 0} (files : D → List ℕ → FileState) (moment : D → ℕ) (left_since : D → ℕ → Image → Type 0) (old new : Kept D) (result : Result (Unit {0}) RunFault) (given : Result Reply RunFault) (fault : RunFault)

@@ -1,13 +1,19 @@
 -- Where all commands are acknowledged, their texts are on the disk: what a command makes of that.
 use Rattle.std.proofs.Common.{◌≡◌, inl, inr, ℕ, ◌≤◌, true, List, Result, Ok, Err, refl, sym, ap, ◌∙◌, subst, arith}
 use Rattle.std.proofs.lemmas.Bool.{cases_Bool, false≢true}
+use Rattle.org_disk.specs.Disk.{FileState}
+use Rattle.org_outline.specs.States.{Keywords}
+use Rattle.org_texts.specs.Texts.{TextSet, nothing_held}
 use Rattle.org_store.specs.declared.command.Reply.{Reply}
 use Rattle.org_store.specs.declared.command.Reply.TheVariants.{Done, Safe, Text, Time}
 use Rattle.org_store.specs.declared.command.RunFault.{RunFault}
 use Rattle.org_store.specs.declared.command.RunFault.TheVariants.{Refused, OutOfMemory, Device, Broken}
-use Rattle.org_store.specs.Session.{Session}
+use Rattle.org_store.specs.declared.tally.Tally.{Tally}
+use Rattle.org_store.specs.Files.{OpenFiles}
+use Rattle.org_store.specs.Session.{Session, kept_over}
 use Rattle.org_store.specs.Outcome.{Outcome}
 use Rattle.org_store.specs.Step.{Does, IsSettled, done, fills}
+use Rattle.org_store.specs.Waiting.{NoneWaits}
 
 -- a session that is broken
 settled_broken : (s : Session) → s.broken ≡ true → IsSettled s
@@ -34,3 +40,11 @@ settled_on old new outcome (Err Device) does counted was = elim does.1 [
     | inr between ↦ settled_broken new (ap (λ (s : Session). s.broken) between.3)
   ]
 ]
+
+-- a store over files of which nothing is held
+pub settled_new : {D : Type 0} (files : D → List ℕ → FileState) (states : Keywords) (opened : OpenFiles D) (tally : Tally) → opened.held.before ≡ nothing_held
+    → IsSettled (kept_over files states opened tally).session × NoneWaits (kept_over files states opened tally)
+settled_new files states opened tally none = (rw none (λ whole all. refl), λ all. ap (λ (s : TextSet). s.waiting) none)
+
+pub none_counted : 0 ≤ 0
+none_counted = omega arith

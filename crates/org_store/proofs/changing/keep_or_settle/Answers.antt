@@ -1,14 +1,17 @@
-use Rattle.std.proofs.Common.{◌≡◌, ◌∙◌, inl, ◌+◌, [], true, false, Ok, Err, refl, ap, subst, rules}
+use Rattle.std.proofs.Common.{◌≡◌, ◌∙◌, inl, ◌+◌, [], true, false, Ok, Err, refl, sym, ap, subst, rules}
 use Rattle.org_journal.specs.Recovered.{contents}
+use Rattle.org_fileset.specs.declared.fault.SetFault.{SetFault}
 use Rattle.org_texts.specs.Texts.{held_over}
+use Rattle.org_store.specs.declared.tally.Tally.{Tally}
 use Rattle.org_store.specs.declared.command.RunFault.TheVariants.{OutOfMemory}
-use Rattle.org_store.specs.Files.{OpenFiles}
+use Rattle.org_store.specs.Files.{CommitsTexts, OpenFiles}
 use Rattle.org_store.specs.InOrder.{texts_of}
 use Rattle.org_store.specs.Left.{IsLeft, IsLeftAlone}
 use Rattle.org_store.specs.Outcome.{Accepts}
 use Rattle.org_store.specs.Session.{kept_over}
 use Rattle.org_store.specs.Step.{fills}
 use Rattle.org_store.proofs.Leaving.{leaves_unwritten}
+use Rattle.org_store.proofs.Sessions.{leaves_filled, leaves_torn}
 use Rattle.org_store.proofs.changing.keep_or_settle.Goals as goal
 
 pub returns-then-not-fills-clause-disk : goal.returns-then-not-fills-clause-disk
@@ -70,3 +73,23 @@ returns-in-Err-OutOfMemory-clause-keeps g c states honest =
     let unwritten : c.commit.new.self ≡ c.args.files.now = search rules in
     let taken = c.undo-in-Err-OutOfMemory.ensures in
     rw (taken.memory.disk, taken.memory.names, taken.memory.broken, taken.before, unwritten) refl
+
+pub returns-in-Ok-clause-disk : goal.returns-in-Ok-clause-disk
+returns-in-Ok-clause-disk g c states honest =
+    let d = g.D.Disk in
+    let files = c.args.files.now in
+    let was = c.args.tally.now in
+    let now : Tally = record { accepted = was.accepted + 1; acknowledged = was.accepted + 1; group = was.group } in
+    leaves_filled d.files d.moment d.left_since states files c.commit.new.self was now files.held.now.waiting (texts_of (held_over files.held.now (contents (d.files files.disk))) files.names)
+    (sym c.fills.ensures ∙ c.if-not-fills.false) refl c.commit.ensures.names (c.in-Ok.ensures.commits honest)
+
+pub returns-in-Err-Device-clause-disk : goal.returns-in-Err-Device-clause-disk
+returns-in-Err-Device-clause-disk g c states honest =
+    let d = g.D.Disk in
+    let files = c.args.files.now in
+    let was = c.args.tally.now in
+    let now : Tally = record { accepted = was.accepted + 1; acknowledged = was.acknowledged; group = was.group } in
+    let texts = texts_of (held_over files.held.now (contents (d.files files.disk))) files.names in
+    let same = c.undo.ensures.memory.disk in
+    leaves_torn d.files d.moment d.left_since states files c.undo.new.self was now files.held.now.waiting texts (sym c.fills.ensures ∙ c.if-not-fills.false) refl c.in-Err-Device.field-0
+    (subst (λ disk. CommitsTexts {A = Unit {0}} {E = SetFault} d.files d.moment d.left_since files.names files.held.now.waiting texts files.disk disk (Err c.in-Err-Device.field-0)) (sym same) (c.in-Err-Device.ensures.commits (subst d.honest same honest)))

@@ -1,7 +1,8 @@
-use Rattle.std.proofs.Common.{refl, ap}
+use Rattle.std.proofs.Common.{◌∙◌, refl, sym, ap}
 use Rattle.org_journal.specs.Recovered.{contents}
 use Rattle.org_texts.specs.Texts.{TextSet}
 use Rattle.org_store.proofs.Reopening.{only_faults}
+use Rattle.org_store.proofs.Settled.{none_counted, settled_new}
 use Rattle.org_store.proofs.store.Store.open.Goals as goal
 
 pub returns-in-Err-clause-again : goal.returns-in-Err-clause-again
@@ -64,3 +65,9 @@ returns-in-Ok-clause-session g c = rw (c.in-Ok.ensures.held.1, c.in-Ok.ensures.u
 
 pub returns-in-Ok-clause-waits : goal.returns-in-Ok-clause-waits
 returns-in-Ok-clause-waits g c = ap (λ (s : TextSet). s.waiting) c.in-Ok.ensures.held.1
+
+pub invariant_of-result : goal.invariant_of-result
+invariant_of-result g c =
+    let opened = c.in-Ok.files in
+    let held = c.in-Ok.ensures.held in
+    (none_counted, held.0 ∙ sym held.1, λ honest. settled_new g.D.Disk.files c.args.states opened (record { accepted = 0; acknowledged = 0; group = 1 }) held.1)
