@@ -102,6 +102,19 @@ module _ {D : Type 0} (files : D → List ℕ → FileState) (moment : D → ℕ
     alone = alone_fewer files moment left_since (IsLeftAlone {A = Unit {0}} (kept_over files states old was).session [] (Accepts waiting after) (Err Device) now.accepted) (IsOther waiting) old.disk new.disk made.alone (λ name this. this refl full more);
   }
 
+-- .. and that of a settling
+pub leaves_settled : {D : Type 0} (files : D → List ℕ → FileState) (moment : D → ℕ) (left_since : D → ℕ → Image → Type 0) (states : Keywords) (old new : OpenFiles D) (was now : Tally) → new.names ≡ old.names
+    → CommitsTexts {A = Unit {0}} {E = SetFault} files moment left_since old.names old.held.before.waiting (session_over (λ disk. contents (files disk)) states old was).files old.disk new.disk (Ok (tt {0}))
+    → LeavesDisk files moment left_since (kept_over files states old was) (kept_over files states new now) (IsLeft {A = Unit {0}} (kept_over files states old was).session (contents (files old.disk)) AsksToSettle (Ok (tt {0})) now.accepted)
+    (IsLeftAlone {A = Unit {0}} (kept_over files states old was).session old.held.before.waiting AsksToSettle (Ok (tt {0})) now.accepted) (IsErrOf {T = Unit {0}} {E = RunFault} (Ok (tt {0})) Device)
+leaves_settled files moment left_since states old new was now names made = record {
+  any_moment = λ rest. leaves_as (made.any_moment rest) (λ image either. ⊎_elim (λ held. inl held) (λ all. inr (tt, ((session_over (λ disk. contents (files disk)) states old was).files, refl, all))) either);
+  others = λ fine. rw (names, made.texts) made.others;
+  rest = λ fine. made.rest;
+  recoverable = made.recoverable;
+  alone = alone_fewer files moment left_since (IsLeftAlone {A = Unit {0}} (kept_over files states old was).session old.held.before.waiting AsksToSettle (Ok (tt {0})) now.accepted) (IsOther old.held.before.waiting) old.disk new.disk made.alone (λ name this. this tt);
+}
+
 -- the same fault of a settling, handed on as a command's
 pub leaves_handed : {D : Type 0} (files : D → List ℕ → FileState) (moment : D → ℕ) (left_since : D → ℕ → Image → Type 0) (old new : Kept D) (result : Result (Unit {0}) RunFault) (given : Result Reply RunFault) (fault : RunFault)
     → result ≡ Err fault → given ≡ Err fault

@@ -4,12 +4,15 @@ use Rattle.org_store.specs.declared.command.RunFault.TheVariants.{Broken}
 use Rattle.org_disk.specs.Accounts.{LeavesOver}
 use Rattle.org_fileset.specs.Writes.{LeavesAlone, IsOther}
 use Rattle.org_texts.specs.Texts.{TextSet, held_over}
+use Rattle.org_fileset.specs.declared.fault.SetFault.{SetFault}
+use Rattle.org_store.specs.declared.tally.Tally.{Tally}
+use Rattle.org_store.specs.Files.{CommitsTexts}
 use Rattle.org_store.specs.InOrder.{HoldsEither, texts_of}
 use Rattle.org_store.specs.Keeping.{fault_of_set}
 use Rattle.org_store.specs.Left.{IsLeft, IsLeftAlone}
 use Rattle.org_store.specs.Outcome.{AsksToSettle}
 use Rattle.org_store.proofs.Leaving.{leaves_unwritten}
-use Rattle.org_store.proofs.Sessions.{Fails, settle_failed, settle_leaves}
+use Rattle.org_store.proofs.Sessions.{Fails, leaves_settled, settle_failed, settle_leaves}
 use Rattle.org_store.proofs.store.Store.settle.Goals as goal
 
 pub returns-then-is_broken-clause-disk : goal.returns-then-is_broken-clause-disk
@@ -75,3 +78,14 @@ returns-clause-step g c =
     let unbroken : inside.files.broken ≡ false = search rules in
     let whole : c.commit.new.self.broken ≡ inside.files.broken = search rules in
     rw (← c.self.view_is) (λ honest. (unbroken, rw (c.commit.ensures.names, whole, made.texts honest, (made.commits honest).texts, c.self.invariant.1) refl))
+
+pub returns-clause-disk : goal.returns-clause-disk
+returns-clause-disk g c =
+    let d = g.D.Disk in
+    let inside = c.self.inside in
+    let files = contents (d.files inside.files.disk) in
+    let now : Tally = record { accepted = inside.tally.accepted; acknowledged = inside.tally.accepted; group = inside.tally.group } in
+    rw (← c.self.view_is) (λ honest.
+    leaves_settled d.files d.moment d.left_since inside.states inside.files c.commit.new.self inside.tally now c.commit.ensures.names
+    (subst (λ (s : TextSet). CommitsTexts {A = Unit {0}} {E = SetFault} d.files d.moment d.left_since inside.files.names s.waiting (texts_of (held_over s files) inside.files.names) inside.files.disk c.commit.new.self.disk (Ok (tt {0})))
+    c.self.invariant.1 (c.in_ok-commit.ensures.commits honest)))
