@@ -18,6 +18,10 @@ pub(crate) fn replace(
     ensures room { vec_len text.old - removed + length bytes.now ≤ vec_capacity text.old
         → IsOk result }
 {
+    // An append moves nothing.
+    if at == text.len() {
+        return text.extend_from_slice(bytes);
+    }
     if bytes.len() != removed {
         let old_size = text.len();
         let size = old_size - removed + bytes.len();

@@ -1,6 +1,7 @@
 use Rattle.std.proofs.Common.{arith}
 use Rattle.std.proofs.lemmas.Grind.{common_steps}
 use Rattle.org_splice.proofs.replacing.replace.Goals as goal
+use Rattle.org_splice.proofs.replacing.replace.Goals.{then-bytes-removed+in_ok-resize, else-bytes-removed}
 
 pub overflow_sub-size : goal.overflow_sub-size
 overflow_sub-size c = omega arith
@@ -57,7 +58,7 @@ pub copy_from_slice-requires : goal.copy_from_slice-requires
 copy_from_slice-requires c = grind (arith, common_steps)
 
 pub returns-clause-ok : goal.returns-clause-ok
-returns-clause-ok c = grind (arith, common_steps)
+returns-clause-ok c = elim c.if-bytes-removed.branch [ then-bytes-removed+in_ok-resize w ↦ grind (arith, common_steps) | else-bytes-removed w ↦ grind (arith, common_steps) ]
 
 pub returns-clause-err : goal.returns-clause-err
 returns-clause-err c = grind (arith, common_steps)
