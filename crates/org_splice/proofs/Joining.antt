@@ -54,16 +54,13 @@ joined_touching size first ranges all own range rest not_before not_behind done 
       apart = LieApart-earlier (range.end + 1) 0 size rest (omega arith) done.apart.3;
     }
 
--- one more range that is cut: it is kept, or left out
-pub cut_kept : (size : ℕ) (kept : List Span) (range : Span) (rest all : List Span) → range.start < size → kept ++ cut_at size (range ∷ rest) ≡ all
-    → (kept ++ record { start = range.start; end = min range.end size } ∷ []) ++ cut_at size rest ≡ all
-cut_kept size kept range rest all before so_far =
+-- a range that is cut: it is kept, or left out
+pub cut_kept : (size : ℕ) (range : Span) (rest : List Span) → range.start < size → cut_at size (range ∷ rest) ≡ record { start = range.start; end = min range.end size } ∷ cut_at size rest
+cut_kept size range rest before =
     let cut : Span = record { start = range.start; end = min range.end size } in
-    append_assoc kept (cut ∷ []) (cut_at size rest)
-    ∙ ap (λ (t : List Span). kept ++ t) (sym (cond-true (ltb range.start size) (cut ∷ cut_at size rest) (cut_at size rest) (lt-ltb range.start size before)))
-    ∙ so_far
+    cond-true (ltb range.start size) (cut ∷ cut_at size rest) (cut_at size rest) (lt-ltb range.start size before)
 
-pub cut_left_out : (size : ℕ) (kept : List Span) (range : Span) (rest all : List Span) → size ≤ range.start → kept ++ cut_at size (range ∷ rest) ≡ all → kept ++ cut_at size rest ≡ all
-cut_left_out size kept range rest all behind so_far =
+pub cut_left_out : (size : ℕ) (range : Span) (rest : List Span) → size ≤ range.start → cut_at size (range ∷ rest) ≡ cut_at size rest
+cut_left_out size range rest behind =
     let cut : Span = record { start = range.start; end = min range.end size } in
-    ap (λ (t : List Span). kept ++ t) (sym (cond-false (ltb range.start size) (cut ∷ cut_at size rest) (cut_at size rest) (le-ltb range.start size behind))) ∙ so_far
+    cond-false (ltb range.start size) (cut ∷ cut_at size rest) (cut_at size rest) (le-ltb range.start size behind)

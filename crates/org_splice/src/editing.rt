@@ -187,8 +187,7 @@ fn prepared(
         size
     };
     undos.reserve(1)?;
-    let kept = ranges::cut_at(alloc, size, changed)?;
-    let new_changed = ranges::with_range(alloc, Span { start: at, end }, kept)?;
+    let new_changed = ranges::with_range(alloc, Span { start: at, end }, size, changed)?;
     let old_bytes = Vec::from_slice(alloc, &text[at..at + removed])?;
     Ok((old_bytes, new_changed))
 }

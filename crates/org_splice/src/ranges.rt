@@ -1,6 +1,6 @@
 //! The changed ranges of a text, kept as lists that rise.
 ghost use Rattle.std.specs.Prelude.{◌≡◌, ◌<◌, ◌≤◌, IfOk};
-ghost use Rattle.org_splice.specs.Ranges.{LieApart, cut_at, joined, a_thousand_of, with_range};
+ghost use Rattle.org_splice.specs.Ranges.{AreChanged, cut_at, joined, a_thousand_of, with_range};
 
 use crate::Span;
 use std::alloc::{AllocError, Global};
@@ -9,7 +9,7 @@ use std::alloc::{AllocError, Global};
 const MAX_PATCHES: usize = 1_000;
 
 /// The ranges, cut at the end of a text of this size.
-pub fn cut_at(alloc: Global, size: usize, ranges: &[Span]) -> Result<Vec<Span>, AllocError>
+fn cut_at(alloc: Global, size: usize, ranges: &[Span]) -> Result<Vec<Span>, AllocError>
     ensures { IfOk result (λ kept. kept.items ≡ cut_at size ranges.now) }
 {
     let mut kept = Vec::new(alloc);
@@ -24,24 +24,32 @@ pub fn cut_at(alloc: Global, size: usize, ranges: &[Span]) -> Result<Vec<Span>, 
     Ok(kept)
 }
 
-/// The ranges with one more, which becomes one with those that it touches or overlaps.
-fn joined(alloc: Global, own: Span, ranges: &[Span]) -> Result<Vec<Span>, AllocError>
+/// The ranges, cut at the end of a text of this size, with one more, which becomes one with those that it touches or
+/// overlaps.
+fn joined(alloc: Global, own: Span, size: usize, ranges: &[Span]) -> Result<Vec<Span>, AllocError>
     requires full { own.start < own.end }
-    requires apart { LieApart 0 usize.MAX ranges.now }
-    ensures { IfOk result (λ all. all.items ≡ joined own ranges.now) }
+    requires changed { AreChanged usize.MAX ranges.now }
+    ensures { IfOk result (λ all. all.items ≡ joined own (cut_at size ranges.now)) }
 {
     let mut own = own;
-    let mut all = Vec::new(alloc);
+    let mut all = Vec::with_capacity(alloc, ranges.len() + 1)?;
     for range in ranges {
-        if range.end < own.start {
-            all.push(*range)?;
-        } else if own.end < range.start {
+        if range.start >= size {
+            continue;
+        }
+        let cut = Span {
+            start: range.start,
+            end: range.end.min(size),
+        };
+        if cut.end < own.start {
+            all.push(cut)?;
+        } else if own.end < cut.start {
             all.push(own)?;
-            own = *range;
+            own = cut;
         } else {
             own = Span {
-                start: own.start.min(range.start),
-                end: own.end.max(range.end),
+                start: own.start.min(cut.start),
+                end: own.end.max(cut.end),
             };
         }
     }
@@ -61,16 +69,21 @@ fn keep_a_thousand(ranges: &mut Vec<Span>)
     }
 }
 
-/// The ranges with one more, if it isn't empty.
-pub fn with_range(alloc: Global, own: Span, ranges: Vec<Span>) -> Result<Vec<Span>, AllocError>
+/// The ranges, cut at the end of a text of this size, with one more, if it isn't empty.
+pub fn with_range(
+    alloc: Global,
+    own: Span,
+    size: usize,
+    ranges: &[Span],
+) -> Result<Vec<Span>, AllocError>
     requires rises { own.start ≤ own.end }
-    requires apart { LieApart 0 usize.MAX ranges.items }
-    ensures { IfOk result (λ all. all.items ≡ with_range own ranges.items) }
+    requires changed { AreChanged usize.MAX ranges.now }
+    ensures { IfOk result (λ all. all.items ≡ with_range own (cut_at size ranges.now)) }
 {
     if own.start == own.end {
-        return Ok(ranges);
+        return cut_at(alloc, size, ranges);
     }
-    let mut all = joined(alloc, own, &ranges)?;
+    let mut all = joined(alloc, own, size, ranges)?;
     keep_a_thousand(&mut all);
     Ok(all)
 }

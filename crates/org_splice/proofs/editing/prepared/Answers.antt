@@ -1,7 +1,7 @@
 use Rattle.std.proofs.Common.{◌≡◌, ◌∙◌, ◌+◌, ◌-◌, ◌^◌, ℕ, length, ap, arith}
 use Rattle.org_splice.specs.declared.Span.{Span}
 use Rattle.org_splice.specs.Ranges.{cut_at, own_range, with_range}
-use Rattle.org_splice.proofs.Apart.{LieApart-wider, LieApart-cut_at}
+use Rattle.org_splice.proofs.Apart.{LieApart-wider}
 use Rattle.org_splice.proofs.Failing.{no_value, not_ok}
 use Rattle.org_splice.proofs.Splicing.{as_long, not_as_long}
 use Rattle.org_splice.proofs.editing.prepared.Goals as goal
@@ -16,12 +16,10 @@ with_range-requires-clause-rises c = elim c.if-removed-bytes.branch [ then-remov
 pub slice_bounds-from_slice-end : goal.slice_bounds-from_slice-end
 slice_bounds-from_slice-end c = omega (arith, c.requires.within)
 
-pub with_range-requires-clause-apart : goal.with_range-requires-clause-apart
-with_range-requires-clause-apart c =
-    let ranges = c.args.changed.now in
-    let size : ℕ = length c.args.text.now - c.args.removed + length c.args.bytes.now in
-    let apart = LieApart-cut_at 0 (length c.args.text.now) size ranges c.requires.changed.apart in
-    rw c.in_ok-kept.ensures (LieApart-wider 0 size (2 ^ 64 - 1) (cut_at size ranges) (omega arith) apart)
+pub with_range-requires-clause-changed : goal.with_range-requires-clause-changed
+with_range-requires-clause-changed c =
+    let changed = c.requires.changed in
+    record { apart = LieApart-wider 0 (length c.args.text.now) (2 ^ 64 - 1) c.args.changed.now (omega arith) changed.apart; few = changed.few }
 
 pub returns-in_err-reserve-clause-bytes : goal.returns-in_err-reserve-clause-bytes
 returns-in_err-reserve-clause-bytes c = no_value _ _ c.from_residual.ensures.0
@@ -34,18 +32,6 @@ returns-in_err-reserve-clause-undos c = c.reserve.ensures.items
 
 pub returns-in_err-reserve-clause-room : goal.returns-in_err-reserve-clause-room
 returns-in_err-reserve-clause-room c = not_ok _ _ c.from_residual.ensures.0
-
-pub returns-in_err-kept-clause-bytes : goal.returns-in_err-kept-clause-bytes
-returns-in_err-kept-clause-bytes c = no_value _ _ c.from_residual-in_err-kept.ensures.0
-
-pub returns-in_err-kept-clause-changed : goal.returns-in_err-kept-clause-changed
-returns-in_err-kept-clause-changed c = no_value _ _ c.from_residual-in_err-kept.ensures.0
-
-pub returns-in_err-kept-clause-undos : goal.returns-in_err-kept-clause-undos
-returns-in_err-kept-clause-undos c = c.reserve.ensures.items
-
-pub returns-in_err-kept-clause-room : goal.returns-in_err-kept-clause-room
-returns-in_err-kept-clause-room c = not_ok _ _ c.from_residual-in_err-kept.ensures.0
 
 pub returns-in_err-new_changed-clause-bytes : goal.returns-in_err-new_changed-clause-bytes
 returns-in_err-new_changed-clause-bytes c = no_value _ _ c.from_residual-in_err-new_changed.ensures.0
@@ -75,7 +61,7 @@ pub returns-clause-changed : goal.returns-clause-changed
 returns-clause-changed c =
     let size : ℕ = length c.args.text.now - c.args.removed + length c.args.bytes.now in
     let own : record { start = c.args.at; end = c.if-removed-bytes.end } ≡ own_range c.args.at c.args.removed (length c.args.bytes.now) size = elim c.if-removed-bytes.branch [ then-removed-bytes w ↦ as_long c.args.at c.args.removed (length c.args.bytes.now) size c.if-removed-bytes.end w.if-removed-bytes.true w.end-is | else-removed-bytes w ↦ not_as_long c.args.at c.args.removed (length c.args.bytes.now) size c.if-removed-bytes.end w.if-removed-bytes.false w.end-is ] in
-    c.in_ok-new_changed.ensures ∙ ap (λ (o : Span). with_range o c.in_ok-kept.kept.items) own ∙ ap (with_range (own_range c.args.at c.args.removed (length c.args.bytes.now) size)) c.in_ok-kept.ensures
+    c.in_ok-new_changed.ensures ∙ ap (λ (o : Span). with_range o (cut_at size c.args.changed.now)) own
 
 pub returns-clause-undos : goal.returns-clause-undos
 returns-clause-undos c = c.reserve.ensures.items

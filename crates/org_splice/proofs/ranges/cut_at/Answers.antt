@@ -1,4 +1,4 @@
-use Rattle.std.proofs.Common.{◌≡◌, ◌∙◌, ◌+◌, ◌<◌, ◌∷◌, ◌++◌, List, length, get_or, drop, sym, ap, arith}
+use Rattle.std.proofs.Common.{◌≡◌, ◌∙◌, ◌+◌, ◌<◌, ◌∷◌, ◌++◌, [], List, length, get_or, drop, min, append_assoc, sym, ap, arith}
 use Rattle.std.proofs.lemmas.List.{drop_more}
 use Rattle.org_splice.specs.declared.Span.{Span}
 use Rattle.org_splice.specs.Ranges.{cut_at}
@@ -17,6 +17,8 @@ loop-range-preserved c =
     let so_far : kept ++ cut_at c.args.size (range ∷ rest) ≡ cut_at c.args.size ranges =
     ap (λ (left : List Span). kept ++ cut_at c.args.size left) (sym (drop_more ranges c.loop-range.range-index none here)) ∙ c.loop-range.invariant in
     elim c.if-range-size.branch [
-      | then-range-size+in_ok-push w ↦ rw (w.kept-is, w.in_ok-push.ensures.items, w.min.ensures) (cut_kept c.args.size kept range rest (cut_at c.args.size ranges) w.if-range-size.true so_far)
-      | else-range-size w ↦ rw w.kept-is (cut_left_out c.args.size kept range rest (cut_at c.args.size ranges) w.if-range-size.false so_far)
+      | then-range-size+in_ok-push w ↦
+          rw (w.kept-is, w.in_ok-push.ensures.items, w.min.ensures)
+          (append_assoc kept (record { start = range.start; end = min range.end c.args.size } ∷ []) (cut_at c.args.size rest) ∙ ap (λ (t : List Span). kept ++ t) (sym (cut_kept c.args.size range rest w.if-range-size.true)) ∙ so_far)
+      | else-range-size w ↦ rw w.kept-is (ap (λ (t : List Span). kept ++ t) (sym (cut_left_out c.args.size range rest w.if-range-size.false)) ∙ so_far)
     ]

@@ -1,6 +1,7 @@
-use Rattle.std.proofs.Common.{◌-◌, ◌^◌, drop}
+use Rattle.std.proofs.Common.{drop}
+use Rattle.org_splice.specs.Ranges.{cut_at}
 use Rattle.org_splice.proofs.Joining.{IsJoinedSoFar}
 use Rattle.org_splice.proofs.ranges.joined.Given as goal
 
 abbrev pub invariant-loop-range : goal.invariant-loop-range
-invariant-loop-range l = IsJoinedSoFar (2 ^ 64 - 1) l.fn.own l.ranges l.all.items l.own (drop l.range-index l.ranges)
+invariant-loop-range l = IsJoinedSoFar l.size l.fn.own (cut_at l.size l.ranges) l.all.items l.own (cut_at l.size (drop l.range-index l.ranges))
