@@ -6,7 +6,7 @@ use Rattle.std.specs.List.Sorted.{IsNonDecreasingBy, IsPartitionPoint}
 use Rattle.std.proofs.lemmas.List.Sums.{prefix_len_is}
 use Rattle.std.proofs.lemmas.Bool.{cases_Bool, eqb-true}
 use Rattle.std.proofs.lemmas.Bool.Decides.{nat_tests}
-use Rattle.std.proofs.lemmas.List.{length-append, length-drop, length-take, length-take-le, take-append-drop, take_rest, take_more, take_at, drop_at, drop-drop, get_or-take, get_or-drop, length-map, take_all}
+use Rattle.std.proofs.lemmas.List.{length-append, length-drop, length-take, length-take-le, take-append-drop, take_rest, take_more, take_at, drop_at, drop-drop, get_or-take, get_or-drop, length-map, take_all, drop_all, append-nil}
 use Rattle.std.specs.declared.vec.IntoIter.{IntoIter}
 use Rattle.std.specs.Vec.Iter.{into_iter_items, into_iter_len, into_iter_steps}
 use Rattle.std.specs.Iterator.{Drains}
@@ -390,6 +390,29 @@ edited_now hs ks us ws rest c removed added from to first last n size {fresh} m 
     take_at ws rest size long ∙ ew
     ∙ ap (λ n. take (first + n) us ++ map f (drop (first + n) us)) en
     ∙ ap (λ us. take (first + length fresh) us ++ map f (drop (first + length fresh) us)) same ∙ m.is
+
+-- where all headings begin before the lines, those of the lines go behind them: us is their list
+pub appended_now : (hs ks ls us : List Heading) (c : List ℕ) (at removed added from to first : ℕ) → IsEdit hs c at removed added → length c < 2 ^ 64
+    → (from ≤ at) × (ends_line true (take from c) ≡ true) → (at + added ≤ to) × (to ≤ length c)
+    → (to ≡ length c) ⊎ ((f : Bool) → ends_line f (take (to - (at + added)) (drop (at + added) c)) ≡ true)
+    → ks ≡ hs → ls ≡ hs → first ≡ prefix_len (λ (h : Heading). ltb h.start from) ks → first ≡ length ls
+    → us ≡ ls ++ heads_from from true (take (to - from) (drop from c)) → us ≡ headings_of c
+appended_now hs ks ls us c at removed added from to first e small f bounds te ke le first_is all us_is =
+    let p : Heading → Bool = λ h. ltb h.start (to - added + removed) in
+    let last = prefix_len p hs in
+    let fresh = heads_from from true (take (to - from) (drop from c)) in
+    let m = makes hs c at removed added from to first last fresh e small f.0 f.1 bounds te (first_is ∙ ap (prefix_len (λ (h : Heading). ltb h.start from)) ke) refl refl in
+    let k = first + length fresh in
+    let now = hs ++ fresh in
+    let count : first ≡ length hs = all ∙ ap length le in
+    let some = m.ordered in
+    let none : drop last hs ≡ [] = drop_all last hs (omega (arith, some, count)) in
+    let same : take first hs ++ (fresh ++ drop last hs) ≡ now =
+    ap (λ l. l ++ (fresh ++ drop last hs)) (take_all first hs (omega (arith, count))) ∙ ap (λ l. hs ++ (fresh ++ l)) none ∙ ap (λ l. hs ++ l) (append-nil fresh) in
+    let long : length now ≤ k = omega (arith, length-append hs fresh, count) in
+    us_is ∙ ap (λ l. l ++ fresh) le
+    ∙ sym (ap (λ l. l ++ map (moved removed added) (drop k now)) (take_all k now long) ∙ ap (λ l. now ++ map (moved removed added) l) (drop_all k now long) ∙ append-nil now)
+    ∙ sym (ap (λ l. take k l ++ map (moved removed added) (drop k l)) same) ∙ m.is
 
 -- bytes put in the place of others are an edit
 pub spliced_edit : (hs : List Heading) (before after added : List ℕ) (at removed n : ℕ) → hs ≡ headings_of before → terminated before ≡ before → terminated after ≡ after → length before < 2 ^ 64

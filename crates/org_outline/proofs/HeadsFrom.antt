@@ -291,6 +291,21 @@ scanned_other text base from s n found r x y sc h is en ex ey not_both =
     let P : List Heading → Type 0 = λ hs. Scanned text base (from + s + n) hs in
     subst P (append-nil found) (scanned_next text base from s n found [] r x y sc h is en ex ey (none_at x y n (base + (from + s)) not_both))
 
+-- a pass that puts what it finds behind others
+pub record ScannedOnto (text : List ℕ) (base from : ℕ) (held all : List Heading) : Type 0 where
+  pub found : List Heading
+  pub behind : all ≡ held ++ found
+  pub scanned : Scanned text base from found
+
+pub onto_none : (text : List ℕ) (base : ℕ) (held : List Heading) → ScannedOnto text base 0 held held
+onto_none text base held =
+    record { found = []; behind = sym (append-nil held); scanned = record { within = omega arith; all = ap (λ k. heads_from k true text) (add-zero base) } }
+
+pub onto_more : (text : List ℕ) (base from next : ℕ) (held all all2 new : List Heading) → (o : ScannedOnto text base from held all) → all2 ≡ all ++ new → Scanned text base next (o.found ++ new)
+    → ScannedOnto text base next held all2
+onto_more text base from next held all all2 new o is sc =
+    record { found = o.found ++ new; behind = is ∙ ap (λ hs. hs ++ new) o.behind ∙ append_assoc held o.found new; scanned = sc }
+
 -- where no star is left
 pub scanned_all : (text : List ℕ) (base from : ℕ) (found : List Heading) (r : Option ℕ) → Scanned text base from found → Looked 42 text from r → r ≡ None → found ≡ heads_from base true text
 scanned_all text base from found r sc h is =

@@ -1,6 +1,9 @@
-use Rattle.std.proofs.Common.{◌∙◌, ◌+◌, ◌<◌, ◌^◌, length, ap, List, arith, ℕ}
+use Rattle.std.proofs.Common.{◌≡◌, ◌∙◌, ◌+◌, ◌<◌, ◌^◌, ◌-◌, ◌++◌, [], true, drop, take, length, ap, List, arith, ℕ}
 use Rattle.std.proofs.lemmas.List.{length-drop}
-use Rattle.org_outline.proofs.Edits.{rising_now, makes_now, can_move_now, edited_now}
+use Rattle.std.proofs.lemmas.Result.{on_ok_weaker}
+use Rattle.org_outline.specs.declared.heads.Heading.{Heading}
+use Rattle.org_outline.specs.Outline.{headings_of, heads_from}
+use Rattle.org_outline.proofs.Edits.{rising_now, makes_now, can_move_now, edited_now, appended_now}
 use Rattle.org_outline.proofs.heads.Heads.edited.Goals as goal
 
 pub overflow_add-to : goal.overflow_add-to
@@ -17,19 +20,34 @@ starts_before-first-requires c = rising_now _ _ _ _ _ _ c.requires (c.as_slice.e
 pub starts_before-last-requires : goal.starts_before-last-requires
 starts_before-last-requires c = rising_now _ _ _ _ _ _ c.requires (c.as_slice-2.ensures.value ∙ c.self.view_is)
 
+pub returns-then-first-len-clause-ok : goal.returns-then-first-len-clause-ok
+returns-then-first-len-clause-ok c =
+    let small : length c.args.after.now < 2 ^ 64 = omega arith in
+    let from = c.line_start-from.result in
+    let found = heads_from from true (take (c.line_end-to.result - from) (drop from c.args.after.now)) in
+    let held = c.self.inside.headings in
+    let all = c.scan.new.headings.items in
+    on_ok_weaker {P = all ≡ held.items ++ found} {Q = all ≡ headings_of c.args.after.now} c.scan.result
+    (λ is. appended_now _ _ _ _ _ _ _ _ _ _ _ c.requires small (c.line_start-from.ensures.within, c.line_start-from.ensures.begins) c.line_end-to.ensures.within c.line_end-to.ensures.ends
+    (c.as_slice.ensures.value ∙ c.self.view_is) c.self.view_is c.starts_before-first.ensures.count (c.if-first-len.true ∙ c.len.ensures ∙ held.ok.0) is) c.scan.ensures.ok
+
+-- what was put behind no headings
+behind_none : (all held found : List Heading) → all ≡ held ++ found → held ≡ [] → all ≡ found
+behind_none all held found is none = is ∙ ap (λ hs. hs ++ found) none
+
 pub replace-requires-clause-ordered : goal.replace-requires-clause-ordered
 replace-requires-clause-ordered c =
     let small : length c.args.after.now < 2 ^ 64 = omega arith in
     let m = makes_now _ _ _ _ _ _ _ _ _ _ _ _ c.requires small (c.line_start-from.ensures.within, c.line_start-from.ensures.begins) c.line_end-to.ensures.within c.line_end-to.ensures.ends
-    (c.as_slice.ensures.value ∙ c.self.view_is) (c.as_slice-2.ensures.value ∙ c.self.view_is) c.starts_before-first.ensures.count c.starts_before-last.ensures.count c.in_ok-fresh.ensures in
+    (c.as_slice.ensures.value ∙ c.self.view_is) (c.as_slice-2.ensures.value ∙ c.self.view_is) c.starts_before-first.ensures.count c.starts_before-last.ensures.count (behind_none _ _ _ c.in_ok-scan.ensures.ok c.new-fresh.ensures.items) in
     m.ordered
 
 pub move_from-requires-clause-room : goal.move_from-requires-clause-room
 move_from-requires-clause-room c =
     let small : length c.args.after.now < 2 ^ 64 = omega arith in
     let m = makes_now _ _ _ _ _ _ _ _ _ _ _ _ c.requires small (c.line_start-from.ensures.within, c.line_start-from.ensures.begins) c.line_end-to.ensures.within c.line_end-to.ensures.ends
-    (c.as_slice.ensures.value ∙ c.self.view_is) (c.as_slice-2.ensures.value ∙ c.self.view_is) c.starts_before-first.ensures.count c.starts_before-last.ensures.count c.in_ok-fresh.ensures in
-    let at_cut = c.len.ensures ∙ c.in_ok-fresh.fresh.ok.0 in
+    (c.as_slice.ensures.value ∙ c.self.view_is) (c.as_slice-2.ensures.value ∙ c.self.view_is) c.starts_before-first.ensures.count c.starts_before-last.ensures.count (behind_none _ _ _ c.in_ok-scan.ensures.ok c.new-fresh.ensures.items) in
+    let at_cut = c.len-2.ensures ∙ c.scan-2.new.headings.ok.0 in
     let now = c.as_mut_slice.ensures.value ∙ c.in_ok-replace.ensures.ok in
     can_move_now _ _ _ _ _ _ _ _ _ _ _ m at_cut now (c.self.view_is)
 
@@ -37,7 +55,7 @@ pub returns-clause-ok : goal.returns-clause-ok
 returns-clause-ok c =
     let small : length c.args.after.now < 2 ^ 64 = omega arith in
     let m = makes_now _ _ _ _ _ _ _ _ _ _ _ _ c.requires small (c.line_start-from.ensures.within, c.line_start-from.ensures.begins) c.line_end-to.ensures.within c.line_end-to.ensures.ends
-    (c.as_slice.ensures.value ∙ c.self.view_is) (c.as_slice-2.ensures.value ∙ c.self.view_is) c.starts_before-first.ensures.count c.starts_before-last.ensures.count c.in_ok-fresh.ensures in
-    let at_cut = c.len.ensures ∙ c.in_ok-fresh.fresh.ok.0 in
+    (c.as_slice.ensures.value ∙ c.self.view_is) (c.as_slice-2.ensures.value ∙ c.self.view_is) c.starts_before-first.ensures.count c.starts_before-last.ensures.count (behind_none _ _ _ c.in_ok-scan.ensures.ok c.new-fresh.ensures.items) in
+    let at_cut = c.len-2.ensures ∙ c.scan-2.new.headings.ok.0 in
     let now = c.as_mut_slice.ensures.value ∙ c.in_ok-replace.ensures.ok in
     edited_now _ _ _ _ _ _ _ _ _ _ _ _ _ _ m at_cut now c.self.view_is c.move_from.ensures c.as_mut_slice.ensures.len
