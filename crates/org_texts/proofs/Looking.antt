@@ -1,10 +1,14 @@
 -- Look-ups among held texts, of which one is changed, or one more is held.
-use Rattle.std.proofs.Common.{◌≡◌, inl, inr, ℕ, true, false, List, [], ◌∷◌, ◌++◌, Option, Some, None, refl, sym, ◌∙◌, ap, subst}
-use Rattle.std.specs.Prelude.{IsSomeAnd}
-use Rattle.std.specs.Map.{keys_of, lookup}
-use Rattle.std.specs.Option.{option_map, IsSome}
+use Rattle.std.proofs.Common.{◌≡◌, inl, inr, ℕ, zero, suc, ◌<◌, true, false, nat_lt, List, [], ◌∷◌, ◌++◌, length, get_or, Option, Some, None, refl, sym, ◌∙◌, ap, subst, arith}
+use Rattle.std.specs.Prelude.{IsSomeAnd, slice_get}
+use Rattle.std.specs.List.{IsDistinct, list_any, position, position_or_len}
+use Rattle.std.specs.Map.{keys_of, lookup, values_of}
+use Rattle.std.specs.Option.{is_some, option_map, IsSome}
 use Rattle.std.specs.Str.{bytes_eq}
-use Rattle.std.proofs.lemmas.Bool.{cases_Bool}
+use Rattle.std.proofs.lemmas.Bool.{cases_Bool, cond-true, lt-ltb}
+use Rattle.std.proofs.lemmas.List.Sums.{position_or_len_is}
+use Rattle.std.proofs.lemmas.Map.Keys.{apart_from_distinct}
+use Rattle.std.proofs.lemmas.Option.{get_or_from_slice_get, slice_get_within}
 use Rattle.std.proofs.lemmas.Map.Made.{lookup-map_values}
 use Rattle.std.proofs.lemmas.Slice.Eq.{bytes_eq-Decides}
 use Rattle.org_splice.specs.Edits.{applied_each, CanApply}
@@ -22,6 +26,42 @@ not_equal a b apart = elim (cases_Bool (bytes_eq a b)) [
   | inl t ↦ absurd (apart ((bytes_eq-Decides a b).0 t))
   | inr f ↦ f
 ]
+
+-- a name that stands at a place of distinct ones stands nowhere before
+pub first_place : (names : List (List ℕ)) (i : ℕ) (name : List ℕ) → IsDistinct bytes_eq names → slice_get names i ≡ Some name → position (bytes_eq name) names ≡ Some i
+first_place names i name distinct at =
+    let within : i < length names = slice_get_within names i name at in
+    let here : get_or names i [] ≡ name = get_or_from_slice_get names i name [] at in
+    let before : (k : ℕ) → k < i → bytes_eq name (get_or names k []) ≡ false =
+    λ k lt. not_equal name (get_or names k [])
+    (λ same.
+    let apart : bytes_eq (get_or names k []) (get_or names i []) ≡ false = apart_from_distinct bytes_eq names k i [] distinct lt within in
+    let equal : bytes_eq (get_or names k []) (get_or names i []) ≡ true = (bytes_eq-Decides (get_or names k []) (get_or names i [])).1 (sym same ∙ sym here) in
+    absurd (cc))
+    in
+    let first : position_or_len (bytes_eq name) names ≡ i =
+    position_or_len_is (bytes_eq name) names i [] (omega (arith, within)) before (λ _. (bytes_eq-Decides name (get_or names i [])).1 (sym here)) in
+    rw first (cond-true (nat_lt i (length names)) (Some i) None (lt-ltb i (length names) within))
+
+-- the name and the value at a place
+pub at_place : {X : Type 0} (es : List (List ℕ × X)) (i : ℕ) (name : List ℕ) (x : X) → slice_get es i ≡ Some (name, x) → (slice_get (keys_of es) i ≡ Some name) × (slice_get (values_of es) i ≡ Some x)
+at_place [] i name x at = absurd (cc)
+at_place {X = X} (e ∷ es) zero name x at = let same : e ≡ (name, x) = cc in (ap (λ (p : List ℕ × X). Some p.0) same, ap (λ (p : List ℕ × X). Some p.1) same)
+at_place (e ∷ es) (suc i) name x at = at_place es i name x at
+
+pub is_there : (names : List (List ℕ)) (i : ℕ) (name : List ℕ) → slice_get names i ≡ Some name → list_any (bytes_eq name) names ≡ true
+is_there [] i name at = absurd (cc)
+is_there (one ∷ names) zero name at =
+    let same : name ≡ one = cc in
+    rw ((bytes_eq-Decides name one).1 same) refl
+is_there (one ∷ names) (suc i) name at = elim (cases_Bool (bytes_eq name one)) [
+  | inl t ↦ rw t refl
+  | inr f ↦ let later = is_there names i name at in rw f later
+]
+
+pub not_there : {X : Type 0} (o : Option X) → is_some o ≡ false → o ≡ None
+not_there None is = refl
+not_there (Some x) is = absurd (cc)
 
 -- the value of the changed name, and that of another
 pub change_this : {X : Type 0} (name : List ℕ) (f : X → X) (es : List (List ℕ × X)) → lookup (bytes_eq name) (with_change name f es) ≡ option_map f (lookup (bytes_eq name) es)

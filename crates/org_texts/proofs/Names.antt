@@ -1,9 +1,9 @@
 -- The texts of names, and names that are held.
-use Rattle.std.proofs.Common.{◌≡◌, inl, inr, ℕ, zero, suc, ◌≤◌, Bool, true, false, List, [], ◌∷◌, ◌++◌, length, Option, Some, None, refl, sym, ◌∙◌, ap, subst, arith, map, Bor, length-append}
+use Rattle.std.proofs.Common.{◌≡◌, inl, inr, ℕ, zero, suc, ◌≤◌, Bool, true, false, List, [], ◌∷◌, ◌++◌, length, Option, Some, None, refl, sym, ◌∙◌, ap, subst, arith, map, length-append}
 use Rattle.std.specs.Prelude.{slice_get, IsSomeAnd}
 use Rattle.std.specs.List.{list_any}
 use Rattle.std.specs.Map.{keys_of, lookup, values_of}
-use Rattle.std.specs.Option.{is_some, option_copied, option_map, IsSome}
+use Rattle.std.specs.Option.{is_some, option_map, IsSome}
 use Rattle.std.specs.Str.{bytes_eq}
 use Rattle.std.proofs.lemmas.Bool.{cases_Bool}
 use Rattle.std.proofs.lemmas.Map.Made.{is_some-lookup, lookup-map_values}
@@ -11,11 +11,6 @@ use Rattle.org_splice.specs.Texts.{EditedText, settled}
 use Rattle.org_texts.specs.Held.{HeldText}
 use Rattle.org_texts.specs.Inside.{AreAmong}
 use Rattle.org_texts.specs.Texts.{now_of, on_disk, with_name}
-
--- what a look-up answers, and what of it
-pub copied : {Y : Type 0} (p : HeldText → Y) (o : Option (Bor HeldText)) → option_map (λ (h : Bor HeldText). p h.now) o ≡ option_map p (option_copied o)
-copied p None = refl
-copied p (Some h) = refl
 
 pub found : (name : List ℕ) (es : List (List ℕ × HeldText)) (i : ℕ) (held : HeldText) → slice_get (values_of es) i ≡ lookup (bytes_eq name) es → slice_get (values_of es) i ≡ Some held
     → lookup (bytes_eq name) (map now_of es) ≡ Some held.text

@@ -1,8 +1,8 @@
 //! Texts by the names of their files.
-ghost use Rattle.std.specs.Prelude.{◌≡◌, ◌<◌, ◌≤◌, [], ◌∷◌, ◌++◌, List, ℕ, map, take, length, slice_get, Some, None, true, false, IsSome, IsSomeAnd, OnOk, OnErr};
-ghost use Rattle.std.specs.List.{IsDistinct, list_any};
-ghost use Rattle.std.specs.Map.{keys_of, lookup, set_value};
-ghost use Rattle.std.specs.Option.{option_map};
+ghost use Rattle.std.specs.Prelude.{◌≡◌, ◌<◌, ◌≤◌, [], ◌∷◌, ◌++◌, List, ℕ, map, take, length, slice_get, Some, None, true, false, IfSome, IsSome, IsSomeAnd, OnOk, OnErr};
+ghost use Rattle.std.specs.List.{IsDistinct, list_any, position};
+ghost use Rattle.std.specs.Map.{keys_of, lookup, set_value, values_of};
+ghost use Rattle.std.specs.Option.{is_some, option_map};
 ghost use Rattle.std.specs.Str.{bytes_eq};
 ghost use Rattle.org_splice.specs.Edits.{CanApply};
 ghost use Rattle.org_splice.specs.Texts.{terminated_text, settled, spliced_each};
@@ -31,6 +31,8 @@ pub struct Texts {
     waiting: IndexSet<FileName>,
     // How many of them waited before the command.
     waited: usize,
+    // Where the text that was made ready last stands: the next command mostly asks for it again. Only a guess.
+    last: usize,
 }
 
 impl Model for Texts {
@@ -59,6 +61,7 @@ impl Texts {
             held: IndexMap::new(alloc),
             waiting: IndexSet::new(alloc),
             waited: 0,
+            last: 0,
         }
     }
 
@@ -83,7 +86,10 @@ impl Texts {
         ensures ready { option_map (λ held. held.now.ready) result
             ≡ lookup (bytes_eq name.now) self.now.ready }
     {
-        self.held.get(name)
+        match place_of(&self.held, self.last, name) {
+            Some(place) => Some(&self.held[place]),
+            None => None,
+        }
     }
 
     /// Makes the text of this name, which is held, ready for a command: a last line without a newline gets one, and the
@@ -113,7 +119,7 @@ impl Texts {
         ensures before { self.new.before ≡ self.old.before }
     {
         wait(&mut self.waiting, name)?;
-        ready_at(&mut self.held, name)
+        ready_at(&mut self.held, &mut self.last, name)
     }
 
     /// Makes the edits of a plan, in place. `AllocError` takes all edits of the command back.
@@ -150,7 +156,7 @@ impl Texts {
         ensures before { self.new.before ≡ self.old.before }
     {
         wait(&mut self.waiting, &change.file)?;
-        apply_at(&mut self.held, &change.file, &change.edits)
+        apply_at(&mut self.held, self.last, &change.file, &change.edits)
     }
 
     /// Takes all edits of the command back. Takes no memory, and can't fail.
@@ -219,20 +225,49 @@ impl Changes<FileName> for Texts {
     }
 }
 
+/// Where the text of this name stands. A place is guessed, and looked at first.
+fn place_of(held: &IndexMap<FileName, Held>, guess: usize, name: &FileName) -> Option<usize>
+    ensures place { result ≡ position (bytes_eq name.now) (keys_of held.now.entries) }
+    ensures found { is_some result
+        ≡ is_some (lookup (bytes_eq name.now) held.now.entries) }
+    ensures within { IfSome result (λ i. i < length held.now.entries) }
+    ensures value { IfSome result (λ i. slice_get (values_of held.now.entries) i
+        ≡ lookup (bytes_eq name.now) held.now.entries) }
+{
+    match held.as_slice().get_index(guess) {
+        Some((at, _)) if at == name => Some(guess),
+        _ => held.get_index_of(name),
+    }
+}
+
+/// Whether a name is one of these. The last one is looked at first.
+fn has(names: &IndexSet<FileName>, name: &FileName) -> bool
+    ensures { result ≡ list_any (bytes_eq name.now) names.now.keys }
+{
+    match names.last() {
+        Some(last) if last == name => true,
+        _ => names.contains(name),
+    }
+}
+
 /// Puts a name behind the others, if it isn't there. `AllocError` leaves them as they are.
 fn wait(names: &mut IndexSet<FileName>, name: &FileName) -> Result<(), AllocError>
     ensures ok { OnOk result (names.new.keys ≡ with_name name.now names.old.keys) }
     ensures err { OnErr result (names.new.keys ≡ names.old.keys) }
 {
-    if names.contains(name) {
+    if has(names, name) {
         return Ok(());
     }
     names.insert(name.clone()?)?;
     Ok(())
 }
 
-/// Makes the text of this name, which is held, ready, as far as there is memory.
-fn ready_at(held: &mut IndexMap<FileName, Held>, name: &FileName) -> Result<(), AllocError>
+/// Makes the text of this name, which is held, ready, as far as there is memory. Where it stands becomes the guess.
+fn ready_at(
+    held: &mut IndexMap<FileName, Held>,
+    guess: &mut usize,
+    name: &FileName,
+) -> Result<(), AllocError>
     requires { IsSome (lookup (bytes_eq name.now) (map now_of held.old.entries)) }
     ensures now { OnOk result
         (map now_of held.new.entries
@@ -244,15 +279,17 @@ fn ready_at(held: &mut IndexMap<FileName, Held>, name: &FileName) -> Result<(), 
     ensures names { keys_of held.new.entries ≡ keys_of held.old.entries }
 {
     let alloc = *held.allocator();
-    let Some(place) = held.get_index_of(name) else {
+    let Some(place) = place_of(held, *guess, name) else {
         unreachable!();
     };
+    *guess = place;
     held[place].make_ready(alloc)
 }
 
 /// Makes edits of the text of this name, as far as there is memory.
 fn apply_at(
     held: &mut IndexMap<FileName, Held>,
+    guess: usize,
     name: &FileName,
     edits: &[Edit],
 ) -> Result<(), AllocError>
@@ -264,7 +301,7 @@ fn apply_at(
     ensures before { map before_of held.new.entries ≡ map before_of held.old.entries }
     ensures names { keys_of held.new.entries ≡ keys_of held.old.entries }
 {
-    let Some(place) = held.get_index_of(name) else {
+    let Some(place) = place_of(held, guess, name) else {
         unreachable!();
     };
     held[place].apply(edits)

@@ -18,7 +18,7 @@ pub unreachable-requires : goal.unreachable-requires
 unreachable-requires c =
     let es = c.args.held.now.entries in
     let name = c.args.name.now in
-    let none : is_some (lookup (bytes_eq name) es) ≡ false = sym c.get_index_of.ensures.found ∙ ap is_some c.in_default.is in
+    let none : is_some (lookup (bytes_eq name) es) ≡ false = sym c.place_of.ensures.found ∙ ap is_some c.in_default.is in
     missing name es none (some_of (λ (t : EditedText). CanApply c.args.edits.now t.bytes) (lookup (bytes_eq name) (map now_of es)) c.requires)
 
 pub apply-requires : goal.apply-requires

@@ -15,7 +15,7 @@ pub unreachable-requires : goal.unreachable-requires
 unreachable-requires c =
     let es = c.args.held.now.entries in
     let name = c.args.name.now in
-    let none : is_some (lookup (bytes_eq name) es) ≡ false = sym c.get_index_of.ensures.found ∙ ap is_some c.in_default.is in
+    let none : is_some (lookup (bytes_eq name) es) ≡ false = sym c.place_of.ensures.found ∙ ap is_some c.in_default.is in
     missing name es none c.requires
 
 pub returns-clause-now : goal.returns-clause-now

@@ -1,0 +1,32 @@
+use Rattle.std.proofs.Common.{◌≡◌, ◌∙◌, List, ℕ, Some, sym, ap}
+use Rattle.std.specs.Prelude.{slice_get}
+use Rattle.std.specs.Cmp.Lexicographic.{nat_list_eq_equiv}
+use Rattle.std.specs.Map.{keys_of}
+use Rattle.std.specs.Option.{is_some}
+use Rattle.std.proofs.lemmas.Map.Entries.{lookup_from_place}
+use Rattle.std.proofs.lemmas.Slice.Eq.{bytes_eq-Decides}
+use Rattle.org_texts.specs.Held.{HeldText}
+use Rattle.org_texts.proofs.Looking.{at_place, first_place}
+use Rattle.org_texts.proofs.texts.place_of.Goals as goal
+
+-- what stands at the place that was guessed
+guessed : (c : goal.After-at-1) → slice_get c.args.held.now.entries c.args.guess ≡ Some (c.args.name.now, c.in-Some.field-0-1.now)
+guessed c =
+    let held : HeldText = c.in-Some.field-0-1.now in
+    let same : c.in-Some.at.now ≡ c.args.name.now = (bytes_eq-Decides c.in-Some.at.now c.args.name.now).0 (sym c.eq.ensures ∙ c.if-eq.true) in
+    ap (λ (es : List (List ℕ × HeldText)). slice_get es c.args.guess) (sym c.as_slice.ensures.entries) ∙ sym c.in-Some.ensures.entry ∙ ap (λ (name : List ℕ). Some (name, held)) same
+
+pub returns-in-Some-clause-place : goal.returns-in-Some-clause-place
+returns-in-Some-clause-place c =
+    let es = c.args.held.now.entries in
+    sym (first_place (keys_of es) c.args.guess c.args.name.now c.as_slice.ensures.unique (at_place es c.args.guess c.args.name.now c.in-Some.field-0-1.now (guessed c)).0)
+
+pub returns-in-Some-clause-found : goal.returns-in-Some-clause-found
+returns-in-Some-clause-found c =
+    ap is_some (sym (lookup_from_place nat_list_eq_equiv c.args.held.now.entries c.args.guess c.args.name.now c.in-Some.field-0-1.now c.as_slice.ensures.unique (guessed c)))
+
+pub returns-in-Some-clause-value : goal.returns-in-Some-clause-value
+returns-in-Some-clause-value c =
+    let es = c.args.held.now.entries in
+    let held : HeldText = c.in-Some.field-0-1.now in
+    (at_place es c.args.guess c.args.name.now held (guessed c)).1 ∙ sym (lookup_from_place nat_list_eq_equiv es c.args.guess c.args.name.now held c.as_slice.ensures.unique (guessed c))
