@@ -1,10 +1,10 @@
 -- Texts that are one heading with what lies below it.
-use Rattle.std.proofs.Common.{◌≡◌, ℕ, ◌+◌, ◌<◌, List, [], ◌∷◌, ◌++◌, length, slice_index_or, Option, Some, None, Ok, Err, refl, sym, ◌∙◌, ap, arith, length-append, false, eqb, inl, inr}
-use Rattle.std.proofs.lemmas.Bool.{cases_Bool, eqb-true}
+use Rattle.std.proofs.Common.{◌≡◌, ℕ, ◌+◌, ◌<◌, List, [], ◌∷◌, ◌++◌, length, slice_index_or, Option, Some, None, Ok, Err, refl, sym, ◌∙◌, ap, arith, length-append, eqb, inl, inr}
+use Rattle.std.proofs.lemmas.Bool.{cases_Bool}
 use Rattle.std.proofs.lemmas.List.{append-nil}
 use Rattle.org_splice.specs.Lines.{terminated, print_lines}
 use Rattle.org_splice.proofs.Lines.{print_lines-append, terminated_twice, lines_of-terminated}
-use Rattle.org_outline.specs.Tree.{Forest, Empty, Tree, Node, Document, tree, tree_of_lines, print_node, nodes_from, node_at, no_node, lines}
+use Rattle.org_outline.specs.Tree.{Forest, Empty, Tree, Node, tree, tree_of_lines, print_node, nodes_from, node_at, no_node, lines}
 use Rattle.org_outline.specs.Text.{heading_line}
 use Rattle.org_outline.specs.Moves.{IsPrinted}
 use Rattle.org_outline.proofs.Trees.{tree-is}

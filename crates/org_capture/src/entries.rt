@@ -1,5 +1,5 @@
 //! Entries.
-ghost use Rattle.std.specs.Prelude.{◌≡◌, ◌↔◌, IsTrue, IfOk, length};
+ghost use Rattle.std.specs.Prelude.{◌≡◌, ◌↔◌, IsTrue, IfOk, OnOk};
 ghost use Rattle.org_splice.specs.Lines.{terminated};
 ghost use Rattle.org_outline.specs.Tree.{Node as NodeOf};
 ghost use Rattle.org_outline.specs.Moves.{IsPrinted};
@@ -30,26 +30,24 @@ fn is_entry(alloc: Global, text: &[u8], states: &States) -> Result<bool, AllocEr
     Ok(is_one_heading(&outline))
 }
 
-/// The bytes, with a newline at their end where they have none.
-fn terminated_copy(alloc: Global, bytes: &[u8]) -> Result<Vec<u8>, AllocError>
-    ensures { IfOk result (λ text. text.items ≡ terminated bytes.now) }
+/// Puts a newline behind the text where it ends without one.
+fn terminate(text: &mut Vec<u8>) -> Result<(), AllocError>
+    ensures { OnOk result (text.new.items ≡ terminated text.old.items) }
 {
-    let mut text = Vec::with_capacity(alloc, bytes.len().saturating_add(1))?;
-    text.extend_from_slice(bytes)?;
-    if !is_terminated(bytes) {
+    if !is_terminated(text.as_slice()) {
         text.push(b'\n')?;
     }
-    Ok(text)
+    Ok(())
 }
 
 /// The terminated text of an entry: one heading, of any level, with what lies below it (Org manual,
 /// "Template elements": type `entry`). BadEntry where the text has something before its first
-/// heading, or not exactly one root.
-pub fn entry(alloc: Global, bytes: &[u8], states: &States) -> Result<Vec<u8>, CaptureFault>
-    ensures value { AnswersBytes (entry_text bytes.now) result }
-    ensures one { IfOk result (λ text. (node : NodeOf) × IsEntry text.items node) }
+/// heading, or not exactly one root. The text is terminated in place.
+pub fn entry(alloc: Global, mut text: Vec<u8>, states: &States) -> Result<Vec<u8>, CaptureFault>
+    ensures value { AnswersBytes (entry_text text.items) result }
+    ensures one { IfOk result (λ entry. (node : NodeOf) × IsEntry entry.items node) }
 {
-    let text = terminated_copy(alloc, bytes)?;
+    terminate(&mut text)?;
     if !is_entry(alloc, text.as_slice(), states)? {
         return Err(CaptureFault::BadEntry);
     }

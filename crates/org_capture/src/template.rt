@@ -95,7 +95,8 @@ pub fn expand(
 ) -> Result<Vec<u8>, CaptureFault>
     ensures { AnswersBytes (expanded template.now moment initial_text.now) result }
 {
-    let mut text = Vec::with_capacity(alloc, template.len())?;
+    // The newline that a last line may lack finds room too.
+    let mut text = Vec::with_capacity(alloc, template.len().saturating_add(1))?;
     let mut rest = template;
     loop {
         let (plain, behind) = split_plain(rest);

@@ -30,7 +30,7 @@ fn new_entry(alloc: Global, states: &States, command: &Capture) -> Result<Vec<u8
 {
     let template = command.template.as_slice();
     let text = expand(alloc, template, command.moment, command.initial.as_slice())?;
-    entry(alloc, text.as_slice(), states)
+    entry(alloc, text, states)
 }
 
 /// The edit of a text, which is ready, that puts an entry in.

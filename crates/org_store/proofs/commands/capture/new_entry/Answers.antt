@@ -1,4 +1,4 @@
-use Rattle.std.proofs.Common.{◌≡◌, ◌∙◌, Ok, List, ℕ, sym, ap}
+use Rattle.std.proofs.Common.{◌≡◌, Ok}
 use Rattle.org_capture.specs.Template.{expanded}
 use Rattle.org_store.proofs.Captures.{entry_made}
 use Rattle.org_store.proofs.commands.capture.new_entry.Goals as goal
@@ -8,5 +8,4 @@ returns c =
     let command = c.args.command.now in
     let said = expanded command.template command.moment command.initial in
     let told : said ≡ Ok c.in_ok-text.text.items = rw (c.as_slice-template.ensures, c.as_slice.ensures) at c.in_ok-text.ensures in
-    let is : said ≡ Ok c.as_slice-2.result.now = told ∙ ap (λ (b : List ℕ). Ok b) (sym c.as_slice-2.ensures.value) in
-    entry_made c.as_slice-2.result.now said c.entry.result is c.entry.ensures.value
+    entry_made c.in_ok-text.text.items said c.entry.result told c.entry.ensures.value
