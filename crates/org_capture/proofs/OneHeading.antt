@@ -1,57 +1,26 @@
 -- Texts that are one heading with what lies below it.
-use Rattle.std.proofs.Common.{◌≡◌, ℕ, ◌+◌, ◌<◌, List, [], ◌∷◌, ◌++◌, length, slice_index_or, Option, Some, None, Ok, Err, refl, sym, ◌∙◌, ap, arith, length-append, eqb, inl, inr}
+use Rattle.std.proofs.Common.{◌≡◌, ℕ, suc, ◌+◌, ◌<◌, Bool, true, false, ltb, List, [], ◌∷◌, ◌++◌, length, drop, get_or, take, slice_index_or, Option, Some, None, Ok, Err, refl, sym, ◌∙◌, ap, subst, arith, eq-eqb, eqb, inl, inr}
+use Rattle.std.specs.Option.{is_some, option_map_or}
 use Rattle.std.proofs.lemmas.Bool.{cases_Bool}
-use Rattle.std.proofs.lemmas.List.{append-nil}
-use Rattle.org_splice.specs.Lines.{terminated, print_lines}
-use Rattle.org_splice.proofs.Lines.{print_lines-append, terminated_twice, lines_of-terminated}
-use Rattle.org_outline.specs.Tree.{Forest, Empty, Tree, Node, tree, tree_of_lines, print_node, nodes_from, node_at, no_node, lines}
-use Rattle.org_outline.specs.Text.{heading_line}
+use Rattle.std.proofs.lemmas.Bool.Decides.{nat_tests}
+use Rattle.std.proofs.lemmas.List.{append-nil, drop-drop}
+use Rattle.memchr.specs.Find.{IsFirstByte, is_byte}
+use Rattle.org_splice.specs.Lines.{terminated, print_lines, lines_of}
+use Rattle.org_splice.proofs.Lines.{terminated_twice, terminated-drop, lines_of-append, lines_of-terminated}
+use Rattle.org_outline.specs.Text.{heading_line, level_of}
+use Rattle.org_outline.specs.Tree.{Forest, Empty, Tree, Node, Document, tree, tree_of_lines, with_line, deeper, others, print_node, nodes_from, node_at, no_node, lines}
 use Rattle.org_outline.specs.Moves.{IsPrinted}
+use Rattle.org_outline.proofs.LineWalk.{cut_found, no_line}
 use Rattle.org_outline.proofs.Trees.{tree-is}
 use Rattle.org_capture.specs.declared.fault.CaptureFault.TheVariants.{BadEntry}
-use Rattle.org_capture.specs.Entry.{only_root, entry_in, terminated_if_one, entry_text, IsEntry}
-
-length-print : (xs ys : List (List ℕ)) → length (print_lines (xs ++ ys)) ≡ length (print_lines xs) + length (print_lines ys)
-length-print xs ys = ap length (print_lines-append xs ys) ∙ length-append (print_lines xs) (print_lines ys)
-
--- a line has a byte at least
-some_line : (l : List ℕ) (ls : List (List ℕ)) → 0 < length (print_lines (l ∷ ls))
-some_line l ls = omega (arith, length-append l (10 ∷ print_lines ls))
-
--- a document whose print is that of its first node has no other root, and no line before it
-printed_root : (pre : List (List ℕ)) (f : Forest) (k : ℕ) → 0 < length (nodes_from k f) → print_node (slice_index_or (nodes_from k f) 0 no_node).node ≡ print_lines (pre ++ lines f)
-    → only_root pre f ≡ Some (slice_index_or (nodes_from k f) 0 no_node).node
-printed_root pre Empty k some is = absurd (omega arith)
-printed_root [] (Tree n r s kids Empty) k some is = refl
-printed_root [] (Tree n r s kids (Tree m q u more later)) k some is =
-    let own = heading_line n r ∷ s in
-    let rest = lines (Tree m q u more later) in
-    let size = ap length is in
-    let short = length-print own (lines kids) in
-    let long = length-print own (lines kids ++ rest) in
-    let both = length-print (lines kids) rest in
-    let more_than = some_line (heading_line m q) (u ++ (lines more ++ lines later)) in
-    absurd (omega (arith, size, short, long, both, more_than))
-printed_root (l ∷ ls) (Tree n r s kids later) k some is =
-    let own = heading_line n r ∷ s in
-    let size = ap length is in
-    let short = length-print own (lines kids) in
-    let all = length-print (l ∷ ls) (lines (Tree n r s kids later)) in
-    let long = length-print own (lines kids ++ lines later) in
-    let both = length-print (lines kids) (lines later) in
-    let before = some_line l ls in
-    absurd (omega (arith, size, short, all, long, both, before))
+use Rattle.org_capture.specs.Entry.{one_root, only_root, entry_in, terminated_if_one, entry_text, IsEntry}
 
 root_prints : (pre : List (List ℕ)) (f : Forest) (k : ℕ) (node : Node) → only_root pre f ≡ Some node
-    → (0 < length (nodes_from k f)) × (print_node (slice_index_or (nodes_from k f) 0 no_node).node ≡ print_lines (pre ++ lines f))
+    → (0 < length (nodes_from k f)) × (print_node (slice_index_or (nodes_from k f) 0 no_node).node ≡ print_lines (pre ++ lines f)) × (node ≡ (slice_index_or (nodes_from k f) 0 no_node).node)
 root_prints [] Empty k node is = absurd (cc)
-root_prints [] (Tree n r s kids Empty) k node is = (omega arith, ap (λ ls. print_lines (heading_line n r ∷ s ++ ls)) (sym (append-nil (lines kids))))
+root_prints [] (Tree n r s kids Empty) k node is = (omega arith, ap (λ ls. print_lines (heading_line n r ∷ s ++ ls)) (sym (append-nil (lines kids))), cc)
 root_prints [] (Tree n r s kids (Tree m q u more later)) k node is = absurd (cc)
 root_prints (l ∷ ls) f k node is = absurd (cc)
-
-pub printed_entry : (t : List ℕ) → terminated t ≡ t → IsPrinted t → entry_in t ≡ Some (node_at (tree t) 0).node
-printed_entry t ends printed =
-    printed_root (tree t).preamble (tree t).forest (length (print_lines (tree t).preamble)) printed.0 (printed.1 ∙ sym ((tree-is t).prints ∙ ends))
 
 pub entry_printed : (t : List ℕ) (node : Node) → IsEntry t node → IsPrinted t
 entry_printed t node entry =
@@ -60,32 +29,112 @@ entry_printed t node entry =
 
 -- the node that an entry is, is its first
 pub entry_node : (t : List ℕ) (node : Node) → IsEntry t node → node ≡ (node_at (tree t) 0).node
-entry_node t node entry =
-    let first = printed_entry t entry.shut (entry_printed t node entry) in
-    let one = entry.one in
-    cc
+entry_node t node entry = (root_prints (tree t).preamble (tree t).forest (length (print_lines (tree t).preamble)) node entry.one).2
 
--- ---- the terminated copy of a text
+-- ---- line by line
+
+-- the first line of a text, and the text behind its newline
+pub first_line : (t line rest behind : List ℕ) (r : Option ℕ) (e : ℕ) → IsFirstByte (is_byte 10) t r → r ≡ Some e → line ≡ take e t → rest ≡ drop e t → behind ≡ drop 1 rest
+    → lines_of t ≡ line ∷ lines_of behind
+first_line t line rest behind r e found is is_line is_rest is_behind =
+    let Found : Option ℕ → Type 0 = λ r. IsFirstByte (is_byte 10) t r in
+    let c = cut_found t e (subst Found is found) in
+    let k : suc e ≡ e + 1 = omega arith in
+    let after : drop (suc e) t ≡ behind = ap (λ k. drop k t) k ∙ sym (drop-drop 1 e t) ∙ ap (λ (t : List ℕ). drop 1 t) (sym is_rest) ∙ sym is_behind in
+    ap lines_of c.parts ∙ lines_of-append (take e t) (drop (suc e) t) c.line ∙ ap (λ (l : List ℕ). l ∷ lines_of (drop (suc e) t)) (sym is_line) ∙ ap (λ t. line ∷ lines_of t) after
+
+-- a terminated text without a newline is empty
+pub no_first_line : (t : List ℕ) (r : Option ℕ) → terminated t ≡ t → IsFirstByte (is_byte 10) t r → r ≡ None → t ≡ []
+no_first_line t r shut found is =
+    let Found : Option ℕ → Type 0 = λ r. IsFirstByte (is_byte 10) t r in
+    let none = subst Found is found in
+    no_line t (λ k lt same. none k (omega arith) lt (eq-eqb (get_or t k 0) 10 same)) shut
+
+pub behind_terminated : (t rest behind : List ℕ) (e : ℕ) → terminated t ≡ t → rest ≡ drop e t → behind ≡ drop 1 rest → terminated behind ≡ behind
+behind_terminated t rest behind e shut is_rest is_behind =
+    let Shut : List ℕ → Type 0 = λ t. terminated t ≡ t in
+    subst Shut (sym is_behind) (terminated-drop 1 rest (subst Shut (sym is_rest) (terminated-drop e t shut)))
+
+-- trees that lie deeper than m lie deeper than n as well, so that leaving them out first changes nothing
+others_twice : (n m : ℕ) (f : Forest) → n < m → others n (others m f) ≡ others n f
+others_twice n m Empty lt = refl
+others_twice n m (Tree k r s kids later) lt =
+    elim (cases_Bool (ltb m k)) [
+      | inl e ↦ let deep : ltb n k ≡ true = grind (arith, nat_tests) in rw (e, deep) (others_twice n m later lt)
+      | inr e ↦ rw e refl
+    ]
+
+-- a line that is no heading line, or one of a deeper level, leaves no more of them
+deeper_line : (n : ℕ) (o : Option ℕ) (l : List ℕ) (d : Document) → option_map_or (ltb n) o true ≡ true → others n (with_line o l d).forest ≡ others n d.forest
+deeper_line n None l d deep = refl
+deeper_line n (Some m) l d deep = let lt : n < m = grind (arith, nat_tests) in rw deep (others_twice n m d.forest lt)
+
+-- any other line leaves one
+higher_line : (n : ℕ) (o : Option ℕ) (l : List ℕ) (d : Document) → option_map_or (ltb n) o true ≡ false → others n (with_line o l d).forest ≡ Empty → ⊥
+higher_line n None l d high none = absurd (cc)
+higher_line n (Some m) l d high none = let some = rw high at none in absurd (cc)
+
+-- a pass over the lines of a text that has come to `rest`, and has found deeper levels than n alone
+pub record Deeper (n : ℕ) (t rest : List ℕ) : Type 0 where
+  pub shut : terminated rest ≡ rest
+  pub same : others n (tree rest).forest ≡ others n (tree t).forest
+
+pub deeper_on : (n : ℕ) (t rest l behind : List ℕ) → Deeper n t rest → lines_of rest ≡ l ∷ lines_of behind → terminated behind ≡ behind → option_map_or (ltb n) (level_of l) true ≡ true → Deeper n t behind
+deeper_on n t rest l behind so_far is shut deep = record {
+  shut = shut;
+  same = sym (ap (λ ls. others n (tree_of_lines ls).forest) is ∙ deeper_line n (level_of l) l (tree behind) deep) ∙ so_far.same;
+}
+
+pub deeper_all : (n : ℕ) (t rest : List ℕ) → Deeper n t rest → rest ≡ [] → others n (tree t).forest ≡ Empty
+deeper_all n t rest so_far end = sym so_far.same ∙ ap (λ t. others n (tree t).forest) end
+
+pub not_deeper : (n : ℕ) (t rest l behind : List ℕ) → Deeper n t rest → lines_of rest ≡ l ∷ lines_of behind → option_map_or (ltb n) (level_of l) true ≡ false → others n (tree t).forest ≡ Empty → ⊥
+not_deeper n t rest l behind so_far is high none =
+    higher_line n (level_of l) l (tree behind) high (sym (ap (λ ls. others n (tree_of_lines ls).forest) is) ∙ so_far.same ∙ none)
+
+-- a text whose first line is no heading line
+pub no_root : (t l behind : List ℕ) → lines_of t ≡ l ∷ lines_of behind → level_of l ≡ None → is_some (entry_in t) ≡ false
+no_root t l behind is none =
+    let in_lines = λ (ls : List (List ℕ)). is_some (only_root (tree_of_lines ls).preamble (tree_of_lines ls).forest) in
+    let d : Document = tree behind in
+    ap in_lines is ∙ ap (λ o. is_some (only_root (with_line o l d).preamble (with_line o l d).forest)) none
+
+root_alone : (n : ℕ) (r : List ℕ) (s : List (List ℕ)) (kids left : Forest) (b : Bool) → (b ≡ true → left ≡ Empty) → (left ≡ Empty → b ≡ true)
+    → is_some (one_root (Tree n r s kids left)) ≡ b
+root_alone n r s kids Empty b to from = sym (from refl)
+root_alone n r s kids (Tree m q u more later) true to from = let no = to refl in absurd (cc)
+root_alone n r s kids (Tree m q u more later) false to from = refl
+
+-- one whose first line is a heading line is an entry where no other tree is left
+pub one_if_none_left : (t l behind : List ℕ) (n : ℕ) (b : Bool) → lines_of t ≡ l ∷ lines_of behind → level_of l ≡ Some n
+    → (b ≡ true → others n (tree behind).forest ≡ Empty) → (others n (tree behind).forest ≡ Empty → b ≡ true) → is_some (entry_in t) ≡ b
+one_if_none_left t l behind n b is some to from =
+    let in_lines = λ (ls : List (List ℕ)). is_some (only_root (tree_of_lines ls).preamble (tree_of_lines ls).forest) in
+    let d : Document = tree behind in
+    ap in_lines is ∙ ap (λ o. is_some (only_root (with_line o l d).preamble (with_line o l d).forest)) some
+    ∙ root_alone n (drop n l) d.preamble (deeper n d.forest) (others n d.forest) b to from
+
+-- ---- the terminated text
 
 terminated_same : (text : List ℕ) → entry_in (terminated text) ≡ entry_in text
 terminated_same text = ap (λ ls. only_root (tree_of_lines ls).preamble (tree_of_lines ls).forest) (lines_of-terminated text)
 
-no_entry : (o : Option Node) (t : List ℕ) → ((node : Node) → o ≡ Some node → ⊥) → terminated_if_one o t ≡ Err BadEntry
-no_entry None t none = refl
-no_entry (Some node) t none = absurd (none node refl)
+not_one : (o : Option Node) (t : List ℕ) → is_some o ≡ false → terminated_if_one o t ≡ Err BadEntry
+not_one None t none = refl
+not_one (Some node) t none = absurd (cc)
 
-pub entry_bad : (text copy : List ℕ) → copy ≡ terminated text → (IsPrinted copy → ⊥) → entry_text text ≡ Err BadEntry
-entry_bad text copy is unprinted =
-    no_entry (entry_in text) text (λ node one.
-    let shut : terminated copy ≡ copy = ap terminated is ∙ terminated_twice text ∙ sym is in
-    unprinted (entry_printed copy node (record { shut = shut; one = ap entry_in is ∙ terminated_same text ∙ one })))
+some_node : (o : Option Node) → is_some o ≡ true → (node : Node) × (o ≡ Some node)
+some_node None some = absurd (cc)
+some_node (Some node) some = (node, refl)
 
-pub entry_good : (text copy : List ℕ) → copy ≡ terminated text → IsPrinted copy → (entry_text text ≡ Ok copy) × IsEntry copy (node_at (tree copy) 0).node
-entry_good text copy is printed =
-    let shut : terminated copy ≡ copy = ap terminated is ∙ terminated_twice text ∙ sym is in
-    let one = printed_entry copy shut printed in
-    let found : entry_in text ≡ Some (node_at (tree copy) 0).node = sym (terminated_same text) ∙ ap entry_in (sym is) ∙ one in
-    (rw found (ap Ok (sym is)), record { shut = shut; one = one })
+pub entry_bad : (text shut : List ℕ) → shut ≡ terminated text → is_some (entry_in shut) ≡ false → entry_text text ≡ Err BadEntry
+entry_bad text shut is none = not_one (entry_in text) text (ap is_some (sym (ap entry_in is ∙ terminated_same text)) ∙ none)
+
+pub entry_good : (text shut : List ℕ) → shut ≡ terminated text → is_some (entry_in shut) ≡ true → (entry_text text ≡ Ok shut) × ((node : Node) × IsEntry shut node)
+entry_good text shut is some =
+    let one = some_node (entry_in shut) some in
+    let found : entry_in text ≡ Some one.0 = sym (terminated_same text) ∙ ap entry_in (sym is) ∙ one.1 in
+    (rw found (ap Ok (sym is)), (one.0, record { shut = ap terminated is ∙ terminated_twice text ∙ sym is; one = one.1 }))
 
 -- a text that isn't terminated lacks a newline
 pub terminated_ends : (t : List ℕ) → (terminated t ≡ t → ⊥) → terminated t ≡ t ++ 10 ∷ []

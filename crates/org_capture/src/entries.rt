@@ -1,33 +1,65 @@
 //! Entries.
-ghost use Rattle.std.specs.Prelude.{◌≡◌, ◌↔◌, IsTrue, IfOk, OnOk};
-ghost use Rattle.org_splice.specs.Lines.{terminated};
-ghost use Rattle.org_outline.specs.Tree.{Node as NodeOf};
-ghost use Rattle.org_outline.specs.Moves.{IsPrinted};
-ghost use Rattle.org_capture.specs.Entry.{IsEntry, entry_text};
+ghost use Rattle.std.specs.Prelude.{◌≡◌, ◌↔◌, ◌<◌, ◌∷◌, [], true, nat_lt, is_some, length, IsTrue, IfOk, IfSome, MatchOption, OnOk};
+ghost use Rattle.std.specs.Option.{option_map_or};
+ghost use Rattle.org_splice.specs.Lines.{lines_of, terminated};
+ghost use Rattle.org_outline.specs.Text.{level_of};
+ghost use Rattle.org_outline.specs.Tree.{Empty, Node as NodeOf, others, tree};
+ghost use Rattle.org_capture.specs.Entry.{IsEntry, entry_in, entry_text};
 ghost use Rattle.org_capture.specs.Answers.{AnswersBytes};
 
 use crate::fault::CaptureFault;
-use org_outline::{Outline, States, is_terminated};
+use memchr::memchr;
+use org_outline::{States, heading_level, is_terminated};
 use std::alloc::{AllocError, Global};
 
-/// Whether the outline's text is one heading with what lies below it, and nothing stands before it.
-fn is_one_heading(outline: &Outline<'_>) -> bool
-    ensures { IsTrue result ↔ IsPrinted outline.now.text }
+/// The first line of a terminated text, without its newline, and the text behind it; none where the
+/// text is empty.
+fn first_line(text: &[u8]) -> Option<(&[u8], &[u8])>
+    requires { terminated text.now ≡ text.now }
+    ensures lines { MatchOption result (text.now ≡ [])
+        (λ cut. lines_of text.now ≡ cut.0.now ∷ lines_of cut.1.now) }
+    ensures terminated { IfSome result (λ cut. terminated cut.1.now ≡ cut.1.now) }
+    ensures shorter { IfSome result (λ cut. length cut.1.now < length text.now) }
 {
-    if outline.count() == 0 {
-        return false;
+    let (line, rest) = text.split_at(memchr(b'\n', text)?);
+    Some((line, rest.split_at(1).1))
+}
+
+/// Whether a line is no heading line, or one with more stars than this.
+fn lies_deeper(line: &[u8], level: usize) -> bool
+    ensures { result ≡ option_map_or (nat_lt level) (level_of line.now) true }
+{
+    heading_level(line).is_none_or(|stars| stars > level)
+}
+
+/// Whether each heading line of a terminated text has more stars than this, so that no tree is left
+/// behind the deeper ones.
+fn are_deeper(text: &[u8], level: usize) -> bool
+    requires { terminated text.now ≡ text.now }
+    ensures { IsTrue result ↔ (others level (tree text.now).forest ≡ Empty) }
+{
+    let mut rest = text;
+    while let Some((line, behind)) = first_line(rest) {
+        if !lies_deeper(line, level) {
+            return false;
+        }
+        rest = behind;
     }
-    let span = outline.subtree(outline.node(0));
-    span.start == 0 && span.end == outline.text().len()
+    true
 }
 
 /// Whether a terminated text is one heading with what lies below it, and nothing stands before it.
-fn is_entry(alloc: Global, text: &[u8], states: &States) -> Result<bool, AllocError>
+fn is_one_heading(text: &[u8]) -> bool
     requires { terminated text.now ≡ text.now }
-    ensures { IfOk result (λ is. IsTrue is ↔ IsPrinted text.now) }
+    ensures { result ≡ is_some (entry_in text.now) }
 {
-    let outline = Outline::read(alloc, text, states)?;
-    Ok(is_one_heading(&outline))
+    let Some((line, behind)) = first_line(text) else {
+        return false;
+    };
+    match heading_level(line) {
+        Some(level) => are_deeper(behind, level),
+        None => false,
+    }
 }
 
 /// Puts a newline behind the text where it ends without one.
@@ -43,12 +75,12 @@ fn terminate(text: &mut Vec<u8>) -> Result<(), AllocError>
 /// The terminated text of an entry: one heading, of any level, with what lies below it (Org manual,
 /// "Template elements": type `entry`). BadEntry where the text has something before its first
 /// heading, or not exactly one root. The text is terminated in place.
-pub fn entry(alloc: Global, mut text: Vec<u8>, states: &States) -> Result<Vec<u8>, CaptureFault>
+pub fn entry(_alloc: Global, mut text: Vec<u8>, _states: &States) -> Result<Vec<u8>, CaptureFault>
     ensures value { AnswersBytes (entry_text text.items) result }
     ensures one { IfOk result (λ entry. (node : NodeOf) × IsEntry entry.items node) }
 {
     terminate(&mut text)?;
-    if !is_entry(alloc, text.as_slice(), states)? {
+    if !is_one_heading(text.as_slice()) {
         return Err(CaptureFault::BadEntry);
     }
     Ok(text)
