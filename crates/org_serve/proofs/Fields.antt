@@ -1,11 +1,13 @@
--- How many fields a line has, and what its first one says: the command that it is, or none.
-use Rattle.std.proofs.Common.{◌≡◌, ℕ, ◌<◌, ◌≤◌, ◌==◌, false, nat_lt, List, [], ◌∷◌, length, map, get_or, codes, true, Option, Some, None, refl, arith}
+-- How a line is cut into its fields, how many it has, and what its first one says: the command that it is, or none.
+use Rattle.std.proofs.Common.{◌≡◌, ℕ, zero, suc, ◌+◌, ◌-◌, ◌<◌, ◌≤◌, ◌==◌, false, List, [], ◌∷◌, ◌++◌, length, map, get_or, set, take, drop, codes, true, Option, Some, None, refl, sym, ap, ◌∙◌, arith, append_assoc, eq-eqb}
 use Rattle.std.specs.Borrow.{Bor}
-use Rattle.std.specs.List.{slice_split, count_by}
+use Rattle.std.specs.List.{slice_split}
 use Rattle.std.specs.Str.{bytes_eq}
-use Rattle.std.proofs.lemmas.Bool.{ltb-false}
-use Rattle.std.proofs.lemmas.List.{length-map}
-use Rattle.std.proofs.lemmas.List.Splits.{length-slice_split}
+use Rattle.memchr.specs.Find.{IsFirstByte, is_byte}
+use Rattle.std.proofs.lemmas.Bool.{ne_eqb, eqb-true}
+use Rattle.std.proofs.lemmas.List.{length-map, length-set, length-append, length-take, take_rest, take_more_set, map_push}
+use Rattle.std.proofs.lemmas.List.Elements.{All-from_get_or}
+use Rattle.std.proofs.lemmas.List.Splits.{length-slice_split, slice_split_none}
 use Rattle.org_store.specs.declared.command.Command.{Command}
 use Rattle.org_store.specs.declared.command.Command.TheVariants.{Settle}
 use Rattle.org_serve.specs.Grammar.{show_of, capture_of, refile_of, todo_of, clock_in_of, clock_out_of, clocked_of, archive_of, command_of, command_of_fields}
@@ -20,12 +22,6 @@ more_than_seven (a ∷ b ∷ c ∷ d ∷ f ∷ []) e = absurd (omega arith)
 more_than_seven (a ∷ b ∷ c ∷ d ∷ f ∷ g ∷ []) e = absurd (omega arith)
 more_than_seven (a ∷ b ∷ c ∷ d ∷ f ∷ g ∷ h ∷ []) e = absurd (omega arith)
 more_than_seven (a ∷ b ∷ c ∷ d ∷ f ∷ g ∷ h ∷ i ∷ more) e = refl
-
-pub too_many : (line : List ℕ) → nat_lt (count_by (λ b. b == 9) line) 7 ≡ false → command_of line ≡ None
-too_many line e =
-    let split = length-slice_split (λ (b : ℕ). b == 9) line in
-    let many : 7 ≤ count_by (λ b. b == 9) line = ltb-false (count_by (λ b. b == 9) line) 7 e in
-    more_than_seven (slice_split (λ b. b == 9) line) (omega (arith, split, many))
 
 -- Fields that are read where they stand.
 abbrev Fields : Type 0
@@ -42,6 +38,56 @@ nothing = record { ref_ptr = (0, 0); now = [] }
 -- the one at a place
 abbrev at : Fields → ℕ → List ℕ
 at fields i = (get_or fields i nothing).now
+
+-- the fields of a line
+abbrev fields_of : List ℕ → List (List ℕ)
+fields_of line = slice_split (λ b. b == 9) line
+
+-- the first tab ends the first field
+first_field : (line : List ℕ) (e : ℕ) → e < length line → ((k : ℕ) → k < e → get_or line k 0 ≡ 9 → ⊥) → get_or line e 0 ≡ 9 → fields_of line ≡ take e line ∷ fields_of (drop 1 (drop e line))
+first_field [] e lt before here = absurd (omega arith)
+first_field (b ∷ line) zero lt before here = rw here refl
+first_field (b ∷ line) (suc e) lt before here =
+    let other : (b == 9) ≡ false = ne_eqb b 9 (before 0 (omega arith)) in
+    rw (other, first_field line e (omega arith) (λ k lt. before (suc k) (omega arith)) here) refl
+
+-- the first fields of a line are read into the array, and the rest of it is not
+pub record Front (fields : Fields) (n : ℕ) (rest line : List ℕ) : Type 0 where
+  pub size : length fields ≡ 7
+  pub front : fields_of line ≡ now_of (take n fields) ++ fields_of rest
+
+-- up to the next tab is one more
+pub front_more : (fields : Fields) (n e : ℕ) (rest behind line : List ℕ) (field : Bor (List ℕ)) → n < 7 → Front fields n rest line → IsFirstByte (is_byte 9) rest (Some e)
+    → field.now ≡ take e rest → behind ≡ drop e rest → Front (set fields n field) (n + 1) (take (length behind - 1) (drop 1 behind)) line
+front_more fields n e rest behind line field lt read found is rests =
+    let room : n < length fields = omega (arith, read.size) in
+    let more : fields_of rest ≡ take e rest ∷ fields_of (drop 1 (drop e rest)) =
+    first_field rest e found.0.high (λ k lt same. found.0.before k (omega arith) lt (eq-eqb (get_or rest k 0) 9 same)) (eqb-true (get_or rest e 0) 9 found.1) in
+    record {
+      size = length-set fields n field ∙ read.size;
+      front =
+          rw (take_rest behind 1, rests, read.front, more, take_more_set fields n field room, map_push (λ s. s.now) (take n fields) field, is)
+          (sym (append_assoc (now_of (take n fields)) (take e rest ∷ []) (fields_of (drop 1 (drop e rest)))));
+    }
+
+-- a rest without a tab is the last one
+pub front_all : (fields : Fields) (n : ℕ) (rest line : List ℕ) (field : Bor (List ℕ)) → n < 7 → Front fields n rest line → IsFirstByte (is_byte 9) rest None
+    → field.now ≡ rest → command_of line ≡ command_of_fields (now_of (take (n + 1) (set fields n field)))
+front_all fields n rest line field lt read none is =
+    let room : n < length fields = omega (arith, read.size) in
+    let last : fields_of rest ≡ rest ∷ [] =
+    slice_split_none (λ b. b == 9) rest (All-from_get_or (λ b. (b == 9) ≡ false) rest 0 (λ k lt. ne_eqb (get_or rest k 0) 9 (λ same. none k (omega arith) lt (eq-eqb (get_or rest k 0) 9 same)))) in
+    let whole : fields_of line ≡ now_of (take (n + 1) (set fields n field)) =
+    rw (read.front, last, take_more_set fields n field room, map_push (λ s. s.now) (take n fields) field, is) refl in
+    ap command_of_fields whole
+
+-- where there is a rest behind seven fields, the line has too many
+pub too_many : (fields : Fields) (n : ℕ) (rest line : List ℕ) → 7 ≤ n → Front fields n rest line → command_of line ≡ None
+too_many fields n rest line le read =
+    let some = length-slice_split (λ (b : ℕ). b == 9) rest in
+    let size = length-append (now_of (take n fields)) (fields_of rest) in
+    let front : length (now_of (take n fields)) ≡ length (take n fields) = length-map (take n fields) (λ s. s.now) in
+    more_than_seven (fields_of line) (rw read.front (omega (arith, some, size, front, length-take n fields, read.size)))
 
 no_fields : (fields : Fields) → length fields < 1 → now_of fields ≡ []
 no_fields [] few = refl

@@ -1,6 +1,5 @@
 //! The fields of a command line.
-ghost use Rattle.std.specs.Prelude.{◌≡◌, ◌==◌, nat_lt, true, false, IfOk, MatchOption, map};
-ghost use Rattle.std.specs.List.{slice_split, count_by};
+ghost use Rattle.std.specs.Prelude.{◌≡◌, true, false, MatchOption};
 ghost use Rattle.std.specs.Str.{bytes_eq, is_utf8};
 ghost use Rattle.org_serve.specs.Grammar.{escape, unescaped, file_of, path_of, target_of, place_of};
 ghost use Rattle.org_serve.specs.Gives.{Gives, GivesBy};
@@ -10,21 +9,7 @@ use org_capture::Target;
 use org_disk::{FileName, NameFault};
 use org_outline::{Place, Titles};
 use org_splice::Bytes;
-use std::alloc::{AllocError, Global};
-
-/// Whether a line has no more fields than a command may have, which are 7.
-pub fn has_few_fields(line: &[u8]) -> bool
-    ensures { result ≡ nat_lt (count_by (λ b. b == 9) line.now) 7 }
-{
-    line.iter().filter(|b| **b == b'\t').count() < 7
-}
-
-/// The fields of a line. An error comes where memory for them was refused.
-pub fn fields(alloc: Global, line: &[u8]) -> Result<Vec<&[u8]>, AllocError>
-    ensures { IfOk result (λ v. map (λ s. s.now) v.items ≡ slice_split (λ b. b == 9) line.now) }
-{
-    line.split(|b| *b == b'\t').collect(alloc)
-}
+use std::alloc::Global;
 
 /// Whether a field is this word.
 pub fn is(field: &[u8], word: &str) -> bool

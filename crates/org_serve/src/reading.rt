@@ -5,24 +5,34 @@ ghost use Rattle.org_serve.specs.Grammar.{file_of, path_of, show_of, capture_of,
 ghost use Rattle.org_serve.specs.Gives.{Gives};
 
 use crate::fault::LineFault;
-use crate::field::{fields, file, has_few_fields, is, path, place, target, text};
+use crate::field::{file, is, path, place, target, text};
 use crate::moment::moment;
+use memchr::memchr;
 use org_disk::FileName;
 use org_outline::Titles;
 use org_store::{Archive, Capture, ClockIn, Command, Refile, Todo};
 use std::alloc::Global;
 
+/// The most fields of a command, which a capture has.
+const MOST_FIELDS: usize = 7;
+
 /// The command that a line is, given without its newline. `BadLine` comes only where it is none; `OutOfMemory` where
 /// memory for it was refused.
-#[tactic(auto, using(crate::proofs::Fields::too_many))]
 pub fn read_command(alloc: Global, line: &[u8]) -> Result<Command, LineFault>
     ensures { Gives result (command_of line.now) }
 {
-    if !has_few_fields(line) {
-        return Err(LineFault::BadLine);
+    let mut fields = [line; MOST_FIELDS];
+    let mut rest = line;
+    for i in 0..MOST_FIELDS {
+        let Some(end) = memchr(b'\t', rest) else {
+            fields[i] = rest;
+            return command(alloc, &fields[..i + 1]);
+        };
+        let (field, behind) = rest.split_at(end);
+        fields[i] = field;
+        rest = &behind[1..];
     }
-    let fields = fields(alloc, line)?;
-    command(alloc, fields.as_slice())
+    Err(LineFault::BadLine)
 }
 
 fn command(alloc: Global, fields: &[&[u8]]) -> Result<Command, LineFault>
