@@ -1,6 +1,7 @@
 //! The fields of a command line.
-ghost use Rattle.std.specs.Prelude.{◌≡◌, true, false, MatchOption};
+ghost use Rattle.std.specs.Prelude.{◌≡◌, ◌&&◌, true, false, Some, None, MatchOption, if◌then◌else◌};
 ghost use Rattle.std.specs.Str.{bytes_eq, is_utf8};
+ghost use Rattle.org_disk.specs.Names.{is_file_name};
 ghost use Rattle.org_serve.specs.Grammar.{escape, unescaped, file_of, path_of, target_of, place_of};
 ghost use Rattle.org_serve.specs.Gives.{Gives, GivesBy};
 
@@ -77,14 +78,12 @@ fn utf8(bytes: &[u8]) -> Option<&str>
     }
 }
 
-/// The name that a field FILE is. `BadLine` comes only where it is no file name; `OutOfMemory` where memory for it was
-/// refused.
-#[tactic(auto, unfolding(crate::specs::Grammar::file_of))]
-pub fn file(alloc: Global, field: &[u8]) -> Result<FileName, LineFault>
-    ensures { Gives result (file_of field.now) }
+// The name that bytes are.
+fn named(alloc: Global, bytes: &[u8]) -> Result<FileName, LineFault>
+    ensures { Gives result
+        (if is_utf8 bytes.now && is_file_name bytes.now then Some bytes.now else None) }
 {
-    let name = unescape(alloc, field)?;
-    let Some(name) = utf8(&name) else {
+    let Some(name) = utf8(bytes) else {
         return Err(LineFault::BadLine);
     };
     match FileName::new(alloc, name) {
@@ -92,6 +91,20 @@ pub fn file(alloc: Global, field: &[u8]) -> Result<FileName, LineFault>
         Err(NameFault::BadName) => Err(LineFault::BadLine),
         Err(NameFault::OutOfMemory) => Err(LineFault::OutOfMemory),
     }
+}
+
+/// The name that a field FILE is. `BadLine` comes only where it is no file name; `OutOfMemory` where memory for it was
+/// refused.
+#[tactic(auto, unfolding(crate::specs::Grammar::file_of))]
+pub fn file(alloc: Global, field: &[u8]) -> Result<FileName, LineFault>
+    ensures { Gives result (file_of field.now) }
+{
+    // Most fields have no escape, and are the name as they stand.
+    if !field.contains(&b'\\') {
+        return named(alloc, field);
+    }
+    let name = unescape(alloc, field)?;
+    named(alloc, &name)
 }
 
 /// The path that a field PATH is: titles with slashes between them, of which there is one more than slashes. `BadLine`
