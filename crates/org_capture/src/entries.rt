@@ -9,8 +9,8 @@ ghost use Rattle.org_capture.specs.Answers.{AnswersBytes};
 
 use crate::fault::CaptureFault;
 use memchr::memchr;
-use org_outline::{States, heading_level, is_terminated};
-use std::alloc::{AllocError, Global};
+use org_outline::{heading_level, is_terminated};
+use std::alloc::AllocError;
 
 /// The first line of a terminated text, without its newline, and the text behind it; none where the
 /// text is empty.
@@ -75,7 +75,7 @@ fn terminate(text: &mut Vec<u8>) -> Result<(), AllocError>
 /// The terminated text of an entry: one heading, of any level, with what lies below it (Org manual,
 /// "Template elements": type `entry`). BadEntry where the text has something before its first
 /// heading, or not exactly one root. The text is terminated in place.
-pub fn entry(_alloc: Global, mut text: Vec<u8>, _states: &States) -> Result<Vec<u8>, CaptureFault>
+pub fn entry(mut text: Vec<u8>) -> Result<Vec<u8>, CaptureFault>
     ensures value { AnswersBytes (entry_text text.items) result }
     ensures one { IfOk result (λ entry. (node : NodeOf) × IsEntry entry.items node) }
 {

@@ -24,13 +24,13 @@ use org_texts::{Held, Plan};
 use std::alloc::Global;
 
 /// The entry that the template of a capture stands for.
-fn new_entry(alloc: Global, states: &States, command: &Capture) -> Result<Vec<u8>, CaptureFault>
+fn new_entry(alloc: Global, command: &Capture) -> Result<Vec<u8>, CaptureFault>
     ensures { MakesEntry
         (new_entry command.now.moment command.now.template command.now.initial) result }
 {
     let template = command.template.as_slice();
     let text = expand(alloc, template, command.moment, command.initial.as_slice())?;
-    entry(alloc, text, states)
+    entry(text)
 }
 
 /// The edit of a text, which is ready, that puts an entry in.
@@ -109,6 +109,6 @@ pub(crate) fn plan_capture<D: Disk>(
     if !files.has(&command.file) {
         return Err(RunFault::Refused(Refusal::NoSuchFile));
     }
-    let entry = new_entry(files.alloc(), states, command)?;
+    let entry = new_entry(files.alloc(), command)?;
     plan_entry(files, states, command, &entry)
 }
