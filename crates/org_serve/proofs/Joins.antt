@@ -70,10 +70,6 @@ pub on_err : {A E P : Type 0} (r : Result A E) → P → OnErr r P
 on_err (Ok x) held = tt
 on_err (Err e) held = held
 
-pub on_err_more : {A E P Q : Type 0} (r : Result A E) → (P → Q) → OnErr r P → OnErr r Q
-on_err_more (Ok x) more held = tt
-on_err_more (Err e) more held = more held
-
 -- what a `?` passed on
 pub passed_never : {A E : Type 0} (P : E → Type 0) (Q : Type 0) (answer : Result A E) → IsErrAnd answer P → OnOk answer Q
 passed_never P Q (Ok x) is = absurd is

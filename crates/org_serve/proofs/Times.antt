@@ -1,11 +1,8 @@
 -- The bytes of a time.
-use Rattle.std.specs.Prelude.{OnOk}
-use Rattle.std.specs.Io.KnownBytes.{Appends}
-use Rattle.std.proofs.Common.{Option, Result, Ok, Err, ◌≡◌, ℕ, ◌+◌, ◌-◌, ◌/◌, ◌%◌, ◌<◌, ◌^◌, List, [], ◌∷◌, ◌++◌, length, replicate, codes, append_assoc, sym, ◌∙◌, ap, arith}
+use Rattle.std.proofs.Common.{◌≡◌, ℕ, ◌+◌, ◌-◌, ◌/◌, ◌%◌, ◌<◌, ◌^◌, List, [], ◌∷◌, ◌++◌, length, replicate, codes, append_assoc, sym, ◌∙◌, ap, arith}
 use Rattle.std.specs.Fmt.{decimal}
 use Rattle.std.proofs.lemmas.Fmt.{decimal_nonempty}
 use Rattle.org_stamp.specs.Stamp.{duration_text, two_digits}
-use Rattle.org_serve.proofs.Joins.{Appends-append}
 
 -- hours, which are one digit at least, and minutes
 pub hours_and_minutes : (minutes : ℕ) → minutes < 2 ^ 64 → duration_text minutes 1 ≡ decimal (minutes / 60) ++ (58 ∷ two_digits (minutes % 60))
@@ -25,8 +22,3 @@ time_reply minutes first second small is also =
     ∙ sym (append_assoc (codes "time " ++ decimal (minutes / 60)) (58 ∷ two_digits (minutes % 60)) (codes "\n"))
     ∙ ap (λ (l : List ℕ). l ++ codes "\n") (append_assoc (codes "time ") (decimal (minutes / 60)) (58 ∷ two_digits (minutes % 60)))
     ∙ ap (λ (l : List ℕ). codes "time " ++ l ++ codes "\n") (sym (hours_and_minutes minutes small))
-
--- a write after others
-pub appends_then : {E : Type 0} (result : Result (Unit {0}) E) (old mid new : Option (List ℕ)) (front back : List ℕ) → Appends old mid front → OnOk result (Appends mid new back) → OnOk result (Appends old new (front ++ back))
-appends_then (Ok _) old mid new front back first later = Appends-append old mid new front back first later
-appends_then (Err e) old mid new front back first later = tt

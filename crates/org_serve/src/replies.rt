@@ -1,7 +1,8 @@
 //! Replies, written line by line.
-ghost use Rattle.std.specs.Prelude.{◌≡◌, ◌++◌, length, OnOk, OnErr, codes, decimal};
+ghost use Rattle.std.specs.Prelude.{◌≡◌, ◌+◌, ◌≤◌, ◌++◌, length, OnOk, OnErr, codes, decimal};
 ghost use Rattle.std.specs.Io.KnownBytes.{Appends};
 ghost use Rattle.std.specs.List.{flat_map};
+ghost use Rattle.arrayvec.specs.ArrayVec.{array_vec_len};
 ghost use Rattle.org_stamp.specs.Stamp.{duration_text};
 ghost use Rattle.org_store.specs.declared.command.RunFault.TheVariants.{Refused};
 ghost use Rattle.org_disk.specs.Disk.{IsCounted};
@@ -11,8 +12,13 @@ ghost use Rattle.org_serve.specs.Replies.{safe_line, safe_if_risen, fault_line, 
 
 use crate::fault::LineFault;
 use crate::pipes::{PipeFault, Sink};
+use arrayvec::ArrayVec;
 use itoa::Buffer;
 use org_store::{Refusal, Reply, RunFault};
+
+/// The most bytes that are written for a command that is done: `ok ` and `safe `, a number of at most 20 digits behind
+/// each, and two newlines.
+const DONE_BYTES: usize = 50;
 
 /// Writes the answer to a command, and flushes. Before the command, `before` commands were on the disk; now `safe` are.
 pub fn write_answer<W: Sink>(
@@ -82,12 +88,34 @@ fn write_done<W: Sink>(writer: &mut W, n: u64, before: u64, safe: u64) -> Result
     ensures same { OnOk result (W.failures writer.new ≡ W.failures writer.old) }
     ensures err { OnErr result (IsCounted (W.failures writer.old) (W.failures writer.new)) }
 {
-    write_pieces(writer, &[b"ok ", Buffer::new().format(n).as_bytes(), b"\n"])?;
+    let lines = done_lines(n, before, safe);
+    writer.write(lines.as_slice())
+}
+
+// The lines that are written for a command that is done, at once: each write has a cost of its own.
+fn done_lines(n: u64, before: u64, safe: u64) -> ArrayVec<u8, DONE_BYTES>
+    ensures { result.items ≡ codes "ok " ++ decimal n ++ codes "\n" ++ safe_if_risen before safe }
+{
+    let mut lines = ArrayVec::new();
+    push_line(&mut lines, b"ok ", n);
     if before < safe {
-        write_safe(writer, safe)
-    } else {
-        Ok(())
+        push_line(&mut lines, b"safe ", safe);
     }
+    lines
+}
+
+// Appends a line of a word and a number, which has at most 20 digits.
+fn push_line(lines: &mut ArrayVec<u8, DONE_BYTES>, word: &[u8], n: u64)
+    requires { array_vec_len lines.old + length word.now + 21 ≤ 50 }
+    ensures bytes { lines.new.items ≡ lines.old.items ++ word.now ++ decimal n ++ codes "\n" }
+    ensures len { array_vec_len lines.new ≤ array_vec_len lines.old + length word.now + 21 }
+{
+    lines.try_extend_from_slice(word).unwrap();
+    let mut digits = Buffer::new();
+    lines
+        .try_extend_from_slice(digits.format(n).as_bytes())
+        .unwrap();
+    lines.push(b'\n');
 }
 
 fn write_safe<W: Sink>(writer: &mut W, safe: u64) -> Result<(), PipeFault>
