@@ -38,12 +38,12 @@ fn below_head(
     outline: &Outline<'_>,
     title: &[u8],
     place: Place,
-    entry: &[u8],
+    entry: Vec<u8>,
 ) -> Result<Edit, CaptureFault>
-    requires { (node : NodeOf) × IsEntry entry.now node }
+    requires { (node : NodeOf) × IsEntry entry.items node }
     ensures { let states = outline.now.states in
         let d = tree outline.now.text in
-        (node : NodeOf) → IsEntry entry.now node
+        (node : NodeOf) → IsEntry entry.items node
         → AnswersEdit (below_head states title.now place node d
         (find_headed states d title.now)) outline.now.text result }
 {
@@ -53,7 +53,7 @@ fn below_head(
     if !can_be_title(alloc, title, outline.states())? {
         return Err(CaptureFault::NotFound);
     }
-    Ok(made_head(alloc, outline, title, place, entry)?)
+    Ok(made_head(alloc, outline, title, place, &entry)?)
 }
 
 /// The one edit of a text that puts an entry below its target, with the headings that are made for
@@ -68,10 +68,10 @@ pub fn capture(
     target: &Target,
     place: Place,
     moment: Moment,
-    entry: &[u8],
+    entry: Vec<u8>,
 ) -> Result<Edit, CaptureFault>
-    requires { (node : NodeOf) × IsEntry entry.now node }
-    ensures { (node : NodeOf) → IsEntry entry.now node
+    requires { (node : NodeOf) × IsEntry entry.items node }
+    ensures { (node : NodeOf) → IsEntry entry.items node
         → AnswersEdit (captured outline.now.states target.now place moment node
         (tree outline.now.text)) outline.now.text result }
 {

@@ -91,12 +91,12 @@ pub(crate) fn dated_insertion(
     kinds: &[DateKind],
     place: Place,
     moment: Moment,
-    entry: &[u8],
+    entry: Vec<u8>,
 ) -> Result<Edit, CaptureFault>
     requires parent { ForSome parent.now (λ node. node < node_count (tree outline.now.text)) }
     requires few { length kinds.now < 2 ^ 32 }
-    requires entry { (node : NodeOf) × IsEntry entry.now node }
-    ensures { (node : NodeOf) → IsEntry entry.now node
+    requires entry { (node : NodeOf) × IsEntry entry.items node }
+    ensures { (node : NodeOf) → IsEntry entry.items node
         → AnswersEdit (Ok (dated outline.now.states place moment.day node
         (tree outline.now.text) kinds.now parent.now)) outline.now.text result }
 {
@@ -113,7 +113,7 @@ pub(crate) fn dated_insertion(
     }
     let at = dated_place(outline, parent, *kind, key.as_slice());
     prove!(at <= outline.text().len());
-    let bytes = Bytes::new(made_dates(alloc, level, kinds, moment, entry)?);
+    let bytes = Bytes::new(made_dates(alloc, level, kinds, moment, &entry)?);
     Ok(Edit {
         at,
         removed: 0,

@@ -1,15 +1,15 @@
 //! Entries put below a heading that is there.
-ghost use Rattle.std.specs.Prelude.{◌≡◌, ◌<◌, ◌≤◌, ◌^◌, ◌++◌, ◌∷◌, [], OnOk, Ok};
+ghost use Rattle.std.specs.Prelude.{◌≡◌, ◌<◌, ◌≤◌, ◌^◌, ◌++◌, ◌∷◌, [], IfOk, OnOk, Ok};
 ghost use Rattle.std.specs.Option.{ForSome};
 ghost use Rattle.org_outline.specs.Text.{heading_line};
-ghost use Rattle.org_outline.specs.Tree.{Node as NodeOf, node_count, tree};
-ghost use Rattle.org_outline.specs.Moves.{insert, level_below};
+ghost use Rattle.org_outline.specs.Tree.{Node as NodeOf, node_at, node_count, print_node, tree};
+ghost use Rattle.org_outline.specs.Moves.{IsPrinted, insert, level_below, shift_node};
 ghost use Rattle.org_capture.specs.Entry.{IsEntry};
 ghost use Rattle.org_capture.specs.Capture.{rest_of};
 ghost use Rattle.org_capture.specs.Answers.{AnswersEdit};
 
 use crate::fault::CaptureFault;
-use org_outline::{Node, Outline, Place, shift};
+use org_outline::{Node, Outline, Place, heading_level, shift};
 use org_splice::{Bytes, Edit};
 use std::alloc::{AllocError, Global};
 
@@ -30,24 +30,38 @@ pub(crate) fn level_below(outline: &Outline<'_>, parent: Option<Node>) -> usize
     }
 }
 
+/// The print of a node with its root at another level, as `shift` gives it. At its own level it is not copied.
+fn shifted(alloc: Global, bytes: Vec<u8>, level: usize) -> Result<Vec<u8>, AllocError>
+    requires node { IsPrinted bytes.items }
+    requires low { 1 ≤ level }
+    requires high { level < 2 ^ 63 }
+    ensures { IfOk result (λ shifted. shifted.items
+        ≡ print_node (shift_node level (node_at (tree bytes.items) 0).node)) }
+{
+    match heading_level(&bytes) {
+        Some(root) if root == level => Ok(bytes),
+        _ => shift(alloc, &bytes, level),
+    }
+}
+
 /// The edit that puts an entry below a heading, or at top level.
 pub(crate) fn insertion(
     alloc: Global,
     outline: &Outline<'_>,
     parent: Option<Node>,
     place: Place,
-    entry: &[u8],
+    entry: Vec<u8>,
 ) -> Result<Edit, CaptureFault>
     requires parent { ForSome parent (λ node. node < node_count (tree outline.now.text)) }
-    requires entry { (node : NodeOf) × IsEntry entry.now node }
-    ensures { (node : NodeOf) → IsEntry entry.now node
+    requires entry { (node : NodeOf) × IsEntry entry.items node }
+    ensures { (node : NodeOf) → IsEntry entry.items node
         → AnswersEdit (Ok (insert parent place node (tree outline.now.text)))
         outline.now.text result }
 {
     let level = level_below(outline, parent);
     let at = outline.place(parent, place);
     prove!(at <= outline.text().len());
-    let bytes = Bytes::new(shift(alloc, entry, level)?);
+    let bytes = Bytes::new(shifted(alloc, entry, level)?);
     Ok(Edit {
         at,
         removed: 0,

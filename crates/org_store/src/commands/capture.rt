@@ -39,11 +39,11 @@ fn plan_insertion(
     states: &States,
     held: &Held,
     command: &Capture,
-    entry: &[u8],
+    entry: Vec<u8>,
 ) -> Result<Plan, CaptureFault>
     requires ready { held.now.ready ≡ true }
-    requires entry { (node : Node) × IsEntry entry.now node }
-    ensures { (node : Node) → IsEntry entry.now node
+    requires entry { (node : Node) × IsEntry entry.items node }
+    ensures { (node : Node) → IsEntry entry.items node
         → PlansDocument command.now.file held.now.text.bytes
         (captured states.now command.now.target command.now.place command.now.moment node
         (tree held.now.text.bytes)) result }
@@ -65,13 +65,13 @@ fn plan_entry<D: Disk>(
     files: &mut Files<D>,
     states: &States,
     command: &Capture,
-    entry: &[u8],
+    entry: Vec<u8>,
 ) -> Result<Plan, RunFault>
     requires file { is_name files.old.names command.now.file ≡ true }
     requires between { AreBetweenCommands files.old }
-    requires entry { (node : Node) × IsEntry entry.now node }
+    requires entry { (node : Node) × IsEntry entry.items node }
     ensures plan { IfOk result (λ plan. IsPlanFor files.new.names files.new.held plan) }
-    ensures plans { (tally : Tally) (node : Node) → IsEntry entry.now node
+    ensures plans { (tally : Tally) (node : Node) → IsEntry entry.items node
         → D.honest files.new.disk
         → let session = (kept_over D.files states.now files.old tally).session in
         let text = unwrap_or (text_at session.names session.files command.now.file) [] in
@@ -110,5 +110,5 @@ pub(crate) fn plan_capture<D: Disk>(
         return Err(RunFault::Refused(Refusal::NoSuchFile));
     }
     let entry = new_entry(files.alloc(), command)?;
-    plan_entry(files, states, command, &entry)
+    plan_entry(files, states, command, entry)
 }

@@ -1,8 +1,9 @@
-use Rattle.std.proofs.Common.{◌≡◌, ◌∙◌, ℕ, List, true, Ok, None, sym, ap}
+use Rattle.std.proofs.Common.{◌≡◌, ◌∙◌, ℕ, List, true, Ok, None, sym, ap, subst}
 use Rattle.org_outline.specs.States.{Keywords}
 use Rattle.org_outline.specs.Tree.{Document, tree}
 use Rattle.org_outline.specs.Paths.{find_headed}
 use Rattle.org_capture.specs.Capture.{below_made, can_be_title}
+use Rattle.org_capture.specs.Entry.{IsEntry}
 use Rattle.org_capture.proofs.Insertions.{head_made}
 use Rattle.org_capture.proofs.capturing.below_head.Goals as goal
 
@@ -13,4 +14,4 @@ returns c = λ node entry.
     let title : List ℕ = c.args.title.now in
     let none : find_headed states d title ≡ Ok None = sym c.headed.ensures.value ∙ c.in_ok-node.was ∙ ap Ok c.in_default.is in
     let can : can_be_title states title ≡ true = ap (λ s. can_be_title s title) (sym c.states.ensures.value) ∙ sym c.in_ok-can_be_title.ensures ∙ c.if-not-branch.false in
-    (below_made c.args.place node title d, head_made states title c.args.place node d (find_headed states d title) none can, c.in_ok-made_head.ensures node entry)
+    (below_made c.args.place node title d, head_made states title c.args.place node d (find_headed states d title) none can, c.in_ok-made_head.ensures node (subst (λ (t : List ℕ). IsEntry t node) (sym c.deref.ensures.value) entry))

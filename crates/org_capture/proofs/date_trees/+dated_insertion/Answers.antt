@@ -1,5 +1,6 @@
 use Rattle.std.proofs.Common.{rules, ◌≡◌, ◌≤◌, ◌∙◌, ◌∷◌, ℕ, List, Option, Some, None, Ok, length, refl, sym, ap, subst, arith}
 use Rattle.std.specs.declared.cmp.Ordering.TheVariants.{Equal, Greater}
+use Rattle.std.proofs.lemmas.List.{nil_from_length}
 use Rattle.org_splice.specs.declared.edit.Edit.{Edit}
 use Rattle.org_outline.specs.States.{Keywords}
 use Rattle.org_outline.specs.Tree.{Node, Document, tree, print, print_node}
@@ -9,9 +10,13 @@ use Rattle.org_stamp.specs.Calendar.{CivilDay}
 use Rattle.org_capture.specs.declared.dates.DateKind.{DateKind}
 use Rattle.org_capture.specs.Dates.{key_on, first_dated, put_dated, made_over}
 use Rattle.org_capture.specs.Answers.{AnswersEdit}
+use Rattle.org_capture.specs.Entry.{IsEntry}
 use Rattle.org_capture.proofs.Insertions.{makes}
 use Rattle.org_capture.proofs.DateTrees.{dated_found, dated_made, made_shift}
 use Rattle.org_capture.proofs.date_trees.+dated_insertion.Goals as goal
+
+pub returns-in_default : goal.returns-in_default
+returns-in_default t c = λ node entry. rw (nil_from_length c.args.kinds.now c.in_default.ensures.cases) (c.insertion.ensures node entry)
 
 pub returns-in-Some-first_dated : goal.returns-in-Some-first_dated
 returns-in-Some-first_dated t c = λ node entry.
@@ -55,7 +60,7 @@ returns t c = λ node entry.
     let key2 : c.as_slice-2.result.now ≡ key_on kind day = c.as_slice-2.ensures.value ∙ c.in_ok-key.ensures in
     let none : first_dated states d up kind (key_on kind day) Equal ≡ None =
     ap (λ k. first_dated states d up kind k Equal) (sym key) ∙ sym c.first_dated.ensures.value ∙ c.in_default-first_dated.is in
-    let bytes : c.new-bytes.result ≡ print_node (shift_node level made) = c.new-bytes.ensures ∙ c.in_ok-made_dates.ensures node entry
+    let bytes : c.new-bytes.result ≡ print_node (shift_node level made) = c.new-bytes.ensures ∙ c.in_ok-made_dates.ensures node (subst (λ (t : List ℕ). IsEntry t node) (sym c.deref.ensures.value) entry)
     ∙ ap (λ l. print_node (made_over l c.args.kinds.now day node)) c.level_below-level.ensures.value
     ∙ ap (λ ks. print_node (made_over level ks day node)) cut ∙ ap print_node (sym (made_shift level kind rest day node)) in
     let new : Document = put_dated (first_dated states d up kind (key_on kind day) Greater) up made d in

@@ -7,17 +7,17 @@ use Rattle.org_capture.proofs.OneHeading.{entry_printed, entry_node}
 use Rattle.org_capture.proofs.Insertions.{makes}
 use Rattle.org_capture.proofs.inserting.insertion.Goals as goal
 
-pub shift-requires-clause-node : goal.shift-requires-clause-node
-shift-requires-clause-node c = entry_printed c.args.entry.now c.requires.entry.0 c.requires.entry.1
+pub shifted-requires-clause-node : goal.shifted-requires-clause-node
+shifted-requires-clause-node c = entry_printed c.args.entry.items c.requires.entry.0 c.requires.entry.1
 
 pub returns : goal.returns
 returns c = λ node entry.
     let text : List ℕ = c.args.outline.now.text in
     let d : Document = tree text in
-    let first : Node = (node_at (tree c.args.entry.now) 0).node in
+    let first : Node = (node_at (tree c.args.entry.items) 0).node in
     let level : ℕ = level_below c.args.parent d in
-    let bytes : c.new-bytes.result ≡ print_node (shift_node level node) = c.new-bytes.ensures ∙ c.in_ok-shift.ensures
-    ∙ ap (λ l. print_node (shift_node l first)) c.level_below-level.ensures.value ∙ ap (λ n. print_node (shift_node level n)) (sym (entry_node c.args.entry.now node entry)) in
+    let bytes : c.new-bytes.result ≡ print_node (shift_node level node) = c.new-bytes.ensures ∙ c.in_ok-shifted.ensures
+    ∙ ap (λ l. print_node (shift_node l first)) c.level_below-level.ensures.value ∙ ap (λ n. print_node (shift_node level n)) (sym (entry_node c.args.entry.items node entry)) in
     let edit : Edit = record { at = c.place-at.result; removed = 0; bytes = c.new-bytes.result } in
     let new : Document = insert c.args.parent c.args.place node d in
     (new, refl, makes text new edit (print_node (shift_node level node)) c.text.ensures.terminated refl bytes (c.place-at.ensures node))

@@ -42,7 +42,7 @@ returns-in_err-entry-clause-plans g c tally honest =
 pub plan_entry-requires-clause-entry : goal.plan_entry-requires-clause-entry
 plan_entry-requires-clause-entry g c =
     let made = c.in_ok-entry.ensures in
-    (made.0, subst (λ (t : List ℕ). IsEntry t made.0) (sym c.deref.ensures.value) made.2)
+    (made.0, made.2)
 
 pub returns-clause-plan : goal.returns-clause-plan
 returns-clause-plan g c = c.plan_entry.ensures.plan
@@ -59,7 +59,7 @@ returns-clause-plans g c tally honest =
     let there : is_name files.names file ≡ true = search rules in
     let some : IsSome old = sym (text_there (held_over files.held.before (texts files.disk)) files.names file) ∙ there in
     let made : MakesEntry (new_entry a.command.now.moment a.command.now.template a.command.now.initial) (Ok c.in_ok-entry.entry) = c.in_ok-entry.ensures in
-    let entry : IsEntry c.deref.result.now made.0 = subst (λ (t : List ℕ). IsEntry t made.0) (sym c.deref.ensures.value) made.2 in
+    let entry : IsEntry c.in_ok-entry.entry.items made.0 = made.2 in
     subst (λ (o : Outcome). Plans s o c.plan_entry.result c.plan_entry.new.files.held new)
     (sym (entry_is s file a.command.now.target a.command.now.place a.command.now.moment a.command.now.template a.command.now.initial old made.0 some made.1)) (c.plan_entry.ensures.plans tally made.0 entry honest)
 
