@@ -27,6 +27,8 @@ pub struct Editing {
     changed: Vec<Span>,
     // What takes each edit back, in the order of the edits.
     undos: Vec<Undo>,
+    // The room of ranges that were kept for an undo: the next edit puts its own there.
+    room: Vec<Span>,
 }
 
 impl Model for Editing {
@@ -56,6 +58,7 @@ impl Editing {
             bytes,
             changed: Vec::new(alloc),
             undos: Vec::new(alloc),
+            room: Vec::new(alloc),
         }
     }
 
@@ -87,6 +90,7 @@ impl Editing {
             &mut self.bytes,
             &mut self.changed,
             &mut self.undos,
+            &mut self.room,
             at,
             removed,
             bytes,
@@ -134,6 +138,9 @@ impl Editing {
     pub fn keep(&mut self)
         ensures { self.new ≡ unedited self.old.text }
     {
+        if let Some(undo) = self.undos.pop() {
+            self.room = undo.changed;
+        }
         self.undos.clear();
     }
 
@@ -166,6 +173,7 @@ fn prepared(
     text: &[u8],
     changed: &[Span],
     undos: &mut Vec<Undo>,
+    room: &mut Vec<Span>,
     at: usize,
     removed: usize,
     bytes: &[u8],
@@ -187,7 +195,8 @@ fn prepared(
         size
     };
     undos.reserve(1)?;
-    let new_changed = ranges::with_range(alloc, Span { start: at, end }, size, changed)?;
+    let room = mem::replace(room, Vec::new(alloc));
+    let new_changed = ranges::with_range(room, Span { start: at, end }, size, changed)?;
     let old_bytes = Vec::from_slice(alloc, &text[at..at + removed])?;
     Ok((old_bytes, new_changed))
 }
@@ -197,6 +206,7 @@ fn splice(
     text: &mut Vec<u8>,
     changed: &mut Vec<Span>,
     undos: &mut Vec<Undo>,
+    room: &mut Vec<Span>,
     at: usize,
     removed: usize,
     bytes: &[u8],
@@ -218,7 +228,7 @@ fn splice(
         (text_of_parts text.new.items changed.new.items) }
 {
     // All memory is taken before anything changes.
-    let (old_bytes, new_changed) = prepared(text, changed, undos, at, removed, bytes)?;
+    let (old_bytes, new_changed) = prepared(text, changed, undos, room, at, removed, bytes)?;
     replace(text, at, removed, bytes)?;
     let old_changed = mem::replace(changed, new_changed);
     let undo = Undo {

@@ -3,16 +3,17 @@ ghost use Rattle.std.specs.Prelude.{◌≡◌, ◌<◌, ◌≤◌, IfOk};
 ghost use Rattle.org_splice.specs.Ranges.{AreChanged, cut_at, joined, a_thousand_of, with_range};
 
 use crate::Span;
-use std::alloc::{AllocError, Global};
+use std::alloc::AllocError;
 
 /// How many changed ranges a text keeps apart, and so how many patches it has at most.
 const MAX_PATCHES: usize = 1_000;
 
-/// The ranges, cut at the end of a text of this size.
-fn cut_at(alloc: Global, size: usize, ranges: &[Span]) -> Result<Vec<Span>, AllocError>
+/// The ranges, cut at the end of a text of this size. They are put into a list that isn't needed any more.
+fn cut_at(room: Vec<Span>, size: usize, ranges: &[Span]) -> Result<Vec<Span>, AllocError>
     ensures { IfOk result (λ kept. kept.items ≡ cut_at size ranges.now) }
 {
-    let mut kept = Vec::new(alloc);
+    let mut kept = room;
+    kept.clear();
     for range in ranges {
         if range.start < size {
             kept.push(Span {
@@ -25,14 +26,16 @@ fn cut_at(alloc: Global, size: usize, ranges: &[Span]) -> Result<Vec<Span>, Allo
 }
 
 /// The ranges, cut at the end of a text of this size, with one more, which becomes one with those that it touches or
-/// overlaps.
-fn joined(alloc: Global, own: Span, size: usize, ranges: &[Span]) -> Result<Vec<Span>, AllocError>
+/// overlaps. They are put into a list that isn't needed any more.
+fn joined(room: Vec<Span>, own: Span, size: usize, ranges: &[Span]) -> Result<Vec<Span>, AllocError>
     requires full { own.start < own.end }
     requires changed { AreChanged usize.MAX ranges.now }
     ensures { IfOk result (λ all. all.items ≡ joined own (cut_at size ranges.now)) }
 {
     let mut own = own;
-    let mut all = Vec::with_capacity(alloc, ranges.len() + 1)?;
+    let mut all = room;
+    all.clear();
+    all.reserve(ranges.len() + 1)?;
     for range in ranges {
         if range.start >= size {
             continue;
@@ -69,9 +72,10 @@ fn keep_a_thousand(ranges: &mut Vec<Span>)
     }
 }
 
-/// The ranges, cut at the end of a text of this size, with one more, if it isn't empty.
+/// The ranges, cut at the end of a text of this size, with one more, if it isn't empty. They are put into a list that
+/// isn't needed any more, so that no memory is taken where it has room.
 pub fn with_range(
-    alloc: Global,
+    room: Vec<Span>,
     own: Span,
     size: usize,
     ranges: &[Span],
@@ -81,9 +85,9 @@ pub fn with_range(
     ensures { IfOk result (λ all. all.items ≡ with_range own (cut_at size ranges.now)) }
 {
     if own.start == own.end {
-        return cut_at(alloc, size, ranges);
+        return cut_at(room, size, ranges);
     }
-    let mut all = joined(alloc, own, size, ranges)?;
+    let mut all = joined(room, own, size, ranges)?;
     keep_a_thousand(&mut all);
     Ok(all)
 }

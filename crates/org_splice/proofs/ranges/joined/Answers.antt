@@ -1,4 +1,4 @@
-use Rattle.std.proofs.Common.{◌≡◌, ◌-◌, ◌^◌, ◌<◌, ◌+◌, ◌∷◌, ◌++◌, List, length, get_or, drop, refl, sym, ◌∙◌, ap, subst, arith}
+use Rattle.std.proofs.Common.{◌≡◌, [], ◌-◌, ◌^◌, ◌<◌, ◌+◌, ◌∷◌, ◌++◌, List, length, get_or, drop, refl, sym, ◌∙◌, ap, subst, arith}
 use Rattle.std.proofs.lemmas.List.{drop_more, drop_all}
 use Rattle.org_splice.specs.declared.Span.{Span}
 use Rattle.org_splice.specs.Ranges.{cut_at, joined}
@@ -9,10 +9,10 @@ use Rattle.org_splice.proofs.ranges.joined.Goals as goal
 use Rattle.org_splice.proofs.ranges.joined.Goals.{then-cut-own+in_ok-push, else-cut-own+then-own-cut+in_ok-push-2, else-cut-own+else-own-cut}
 
 pub loop-range-init : goal.loop-range-init
-loop-range-init c = rw c.in_ok-all.ensures.items (record { so_far = refl; full = c.requires.full; apart = LieApart-cut_at 0 (2 ^ 64 - 1) c.args.size c.args.ranges.now c.requires.changed.apart })
+loop-range-init c = let none : c.reserve.new.self.items ≡ [] = c.reserve.ensures.items ∙ c.clear.ensures.items in rw none (record { so_far = refl; full = c.requires.full; apart = LieApart-cut_at 0 (2 ^ 64 - 1) c.args.size c.args.ranges.now c.requires.changed.apart })
 
-pub returns-in_err-all : goal.returns-in_err-all
-returns-in_err-all c = no_value _ _ c.from_residual.ensures.0
+pub returns-in_err-reserve : goal.returns-in_err-reserve
+returns-in_err-reserve c = no_value _ _ c.from_residual.ensures.0
 
 pub returns-in_err-push : goal.returns-in_err-push
 returns-in_err-push c = no_value _ _ c.from_residual-in_err-push.ensures.0
