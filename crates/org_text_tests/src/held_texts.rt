@@ -7,7 +7,7 @@ use crate::edits::{NONE, Splice, edits_of, has, make, patch_count, states};
 use org_disk::FileName;
 use org_outline::{Outline, States};
 use org_splice::{Changes, Edit, Editing, Span};
-use org_texts::{FileEdits, Held, Plan, Texts};
+use org_texts::{Edits, FileEdits, Held, Plan, Texts};
 use std::alloc::Global;
 use std::process::Abort;
 
@@ -67,12 +67,17 @@ fn file_edits(rt: &impl Abort, alloc: Global, texts: &Texts, change: Change) -> 
 {
     let (name, rows) = change;
     let file = file(rt, alloc, name);
-    let edits = edits_of(rt, alloc, rows);
+    let mut edits = edits_of(rt, alloc, rows);
     let Some(held) = texts.get(&file) else {
         panic!(rt; "not held");
     };
     assert_applies(rt, alloc, held.bytes(), &edits);
-    FileEdits { file, edits }
+    assert!(rt; !edits.is_empty());
+    let first = edits.remove(0);
+    FileEdits {
+        file,
+        edits: Edits::new(first, edits),
+    }
 }
 
 /// A plan of two files.

@@ -3,3 +3,4 @@ pub mod Texts
 pub mod Plan
 pub mod Inside
 pub mod Files
+pub mod Edits

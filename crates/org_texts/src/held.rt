@@ -5,6 +5,7 @@ ghost use Rattle.org_splice.specs.Lines.{terminated};
 ghost use Rattle.org_splice.specs.Texts.{terminated_text, settled, spliced, spliced_each};
 ghost use Rattle.org_outline.specs.Outline.{headings_of};
 
+use crate::plan::Edits;
 use org_outline::Heads;
 use org_splice::{Edit, Editing};
 use std::alloc::{AllocError, Global};
@@ -89,7 +90,19 @@ impl Held {
 
     /// Makes edits, one after another, in place. The headings follow. `AllocError` comes where there is no memory; some
     /// of the edits may be made then.
-    pub fn apply(&mut self, edits: &[Edit]) -> Result<(), AllocError>
+    pub fn apply(&mut self, edits: &Edits) -> Result<(), AllocError>
+        requires { CanApply edits.now.items self.old.text.bytes }
+        ensures text { OnOk result
+            (self.new.text ≡ spliced_each edits.now.items self.old.text) }
+        ensures before { self.new.before ≡ self.old.before }
+    {
+        let (first, rest) = edits.parts();
+        self.apply_one(first)?;
+        self.apply_each(rest)
+    }
+
+    // `apply` of the edits behind the first.
+    fn apply_each(&mut self, edits: &[Edit]) -> Result<(), AllocError>
         requires { CanApply edits.now self.old.text.bytes }
         ensures text { OnOk result (self.new.text ≡ spliced_each edits.now self.old.text) }
         ensures before { self.new.before ≡ self.old.before }

@@ -11,10 +11,10 @@ ghost use Rattle.org_texts.specs.Plan.{CanEdit, IsPlan, planned, with_edits};
 ghost use Rattle.org_texts.specs.Texts.{before_of, terminated_in, nothing_held, now_of, on_disk, pairs, ready_of, settled_set, text_of, with_change, with_name, with_text};
 
 use crate::held::Held;
-use crate::plan::{FileEdits, Plan};
+use crate::plan::{Edits, FileEdits, Plan};
 use indexmap::{IndexMap, IndexSet};
 use org_disk::FileName;
-use org_splice::{Changes, Edit, Editing};
+use org_splice::{Changes, Editing};
 use std::alloc::{AllocError, Global};
 use std::marker::Model;
 
@@ -291,13 +291,13 @@ fn apply_at(
     held: &mut IndexMap<FileName, Held>,
     guess: usize,
     name: &FileName,
-    edits: &[Edit],
+    edits: &Edits,
 ) -> Result<(), AllocError>
     requires { IsSomeAnd (lookup (bytes_eq name.now) (map now_of held.old.entries))
-        (λ text. CanApply edits.now text.bytes) }
+        (λ text. CanApply edits.now.items text.bytes) }
     ensures now { OnOk result
         (map now_of held.new.entries
-        ≡ with_change name.now (spliced_each edits.now) (map now_of held.old.entries)) }
+        ≡ with_change name.now (spliced_each edits.now.items) (map now_of held.old.entries)) }
     ensures before { map before_of held.new.entries ≡ map before_of held.old.entries }
     ensures names { keys_of held.new.entries ≡ keys_of held.old.entries }
 {

@@ -15,7 +15,7 @@ ghost use Rattle.org_store.specs.Refile.{MakesDocument, MakesDocuments};
 ghost use Rattle.org_store.specs.Session.{kept_over};
 
 use crate::command::{Archive, Refusal, RunFault};
-use crate::commands::edits::{plan_of_one, plan_of_two};
+use crate::commands::edits::{plan_of_two, plan_of_two_edits};
 use crate::commands::outline::outline_of;
 use crate::files::Files;
 use org_disk::{Disk, FileName};
@@ -73,7 +73,7 @@ fn plan_within<D: Disk>(
         command.moment,
         to,
     )?;
-    Ok(plan_of_one(alloc, &command.file, edits)?)
+    Ok(plan_of_two_edits(alloc, &command.file, edits)?)
 }
 
 /// The edits of two files, whose texts are ready, that archive a subtree of the first in the second, the location's file.

@@ -57,7 +57,7 @@ fn plan_insertion(
         command.moment,
         entry,
     )?;
-    Ok(plan_of_one(alloc, &command.file, [edit])?)
+    Ok(plan_of_one(alloc, &command.file, edit)?)
 }
 
 /// What a capture of this entry into one of the files is to change.

@@ -58,7 +58,7 @@ fn plan_start(
         command.path.as_slice(),
         command.moment,
     )?;
-    Ok(Some(plan_of_one(alloc, &command.file, [edit])?))
+    Ok(Some(plan_of_one(alloc, &command.file, edit)?))
 }
 
 /// The edits of a file, whose text is ready, that clock in at one of its headings, where this clock runs in it; none where
@@ -122,7 +122,7 @@ fn plan_stop(
         clock.running,
         moment,
     )?;
-    Ok(Some(plan_of_one(alloc, &clock.file, [edit])?))
+    Ok(Some(plan_of_one(alloc, &clock.file, edit)?))
 }
 
 /// The edits of two files, whose texts are ready, that stop the clock that runs in the first, and clock in at a heading of

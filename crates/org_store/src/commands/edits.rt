@@ -3,40 +3,47 @@ ghost use Rattle.std.specs.Prelude.{◌≡◌, ◌≢◌, ◌∷◌, [], None, I
 
 use org_disk::FileName;
 use org_splice::Edit;
-use org_texts::{FileEdits, Plan};
+use org_texts::{Edits, FileEdits, Plan};
 use std::alloc::{AllocError, Global};
 
 /// These edits of a file.
-fn edits_of<const N: usize>(
-    alloc: Global,
-    file: &FileName,
-    edits: [Edit; N],
-) -> Result<FileEdits, AllocError>
-    ensures { IfOk result (λ change. (change.file ≡ file.now)
-        × (change.edits.items ≡ edits.entry)) }
+fn edits_of(file: &FileName, edits: Edits) -> Result<FileEdits, AllocError>
+    ensures { IfOk result (λ change. (change.file ≡ file.now) × (change.edits ≡ edits)) }
 {
     let file = file.clone()?;
-    let edits = Vec::from_array(alloc, edits)?;
     Ok(FileEdits { file, edits })
 }
 
-/// The plan of these edits of one file.
-pub(crate) fn plan_of_one<const N: usize>(
-    alloc: Global,
-    file: &FileName,
-    edits: [Edit; N],
-) -> Result<Plan, AllocError>
+/// The plan of one edit of one file.
+pub(crate) fn plan_of_one(alloc: Global, file: &FileName, edit: Edit) -> Result<Plan, AllocError>
     ensures { IfOk result (λ plan. (plan.first.file ≡ file.now) × (plan.second ≡ None)
-        × (plan.first.edits.items ≡ edits.entry)) }
+        × (plan.first.edits.items ≡ edit ∷ [])) }
 {
     Ok(Plan {
-        first: edits_of(alloc, file, edits)?,
+        first: edits_of(file, Edits::new(edit, Vec::new(alloc)))?,
+        second: None,
+    })
+}
+
+/// The plan of two edits of one file.
+pub(crate) fn plan_of_two_edits(
+    alloc: Global,
+    file: &FileName,
+    edits: [Edit; 2],
+) -> Result<Plan, AllocError>
+    ensures { IfOk result (λ plan. (plan.first.file ≡ file.now) × (plan.second ≡ None)
+        × (plan.first.edits.items ≡ edits)) }
+{
+    let mut edits = Vec::from_array(alloc, edits)?;
+    let first = edits.remove(0);
+    Ok(Plan {
+        first: edits_of(file, Edits::new(first, edits))?,
         second: None,
     })
 }
 
 /// The plan of these edits of one file. There is none where there is no edit.
-pub(crate) fn plan_of(file: &FileName, edits: Vec<Edit>) -> Result<Option<Plan>, AllocError>
+pub(crate) fn plan_of(file: &FileName, mut edits: Vec<Edit>) -> Result<Option<Plan>, AllocError>
     ensures none { IfOk result (λ plan. IfNone plan (edits.items ≡ [])) }
     ensures some { IfOk result (λ plan. IfSome plan (λ plan. (edits.items ≢ [])
         × (plan.first.file ≡ file.now) × (plan.second ≡ None)
@@ -45,9 +52,9 @@ pub(crate) fn plan_of(file: &FileName, edits: Vec<Edit>) -> Result<Option<Plan>,
     if edits.is_empty() {
         return Ok(None);
     }
-    let file = file.clone()?;
+    let first = edits.remove(0);
     Ok(Some(Plan {
-        first: FileEdits { file, edits },
+        first: edits_of(file, Edits::new(first, edits))?,
         second: None,
     }))
 }
@@ -66,7 +73,7 @@ pub(crate) fn plan_of_two(
         × (second.edits.items ≡ to_edit ∷ []))) }
 {
     Ok(Plan {
-        first: edits_of(alloc, file, [edit])?,
-        second: Some(edits_of(alloc, to_file, [to_edit])?),
+        first: edits_of(file, Edits::new(edit, Vec::new(alloc)))?,
+        second: Some(edits_of(to_file, Edits::new(to_edit, Vec::new(alloc)))?),
     })
 }

@@ -19,7 +19,7 @@ unreachable-requires c =
     let es = c.args.held.now.entries in
     let name = c.args.name.now in
     let none : is_some (lookup (bytes_eq name) es) ≡ false = sym c.place_of.ensures.found ∙ ap is_some c.in_default.is in
-    missing name es none (some_of (λ (t : EditedText). CanApply c.args.edits.now t.bytes) (lookup (bytes_eq name) (map now_of es)) c.requires)
+    missing name es none (some_of (λ (t : EditedText). CanApply c.args.edits.now.items t.bytes) (lookup (bytes_eq name) (map now_of es)) c.requires)
 
 pub apply-requires : goal.apply-requires
 apply-requires c =
@@ -27,7 +27,7 @@ apply-requires c =
     let name = c.args.name.now in
     let at : slice_get (values_of es) c.in-Some.place ≡ Some c.index_mut.result.now = c.index_mut.ensures.value in
     let is : slice_get (values_of es) c.in-Some.place ≡ lookup (bytes_eq name) es = search rules in
-    subst (λ o. IsSomeAnd o (λ (t : EditedText). CanApply c.args.edits.now t.bytes)) (found name es c.in-Some.place c.index_mut.result.now is at) c.requires
+    subst (λ o. IsSomeAnd o (λ (t : EditedText). CanApply c.args.edits.now.items t.bytes)) (found name es c.in-Some.place c.index_mut.result.now is at) c.requires
 
 pub returns-clause-now : goal.returns-clause-now
 returns-clause-now c =
@@ -36,7 +36,7 @@ returns-clause-now c =
     let place : position (bytes_eq name) (keys_of es) ≡ Some c.in-Some.place = search rules in
     let first = position-Some (bytes_eq name) (keys_of es) c.in-Some.place [] place in
     on_ok_weaker c.apply.result
-    (λ is. map_changed (λ (h : HeldText). h.text) (spliced_each c.args.edits.now) name [] es c.in-Some.place c.index_mut.result.now c.apply.new.self first.0 first.1 first.2 c.index_mut.ensures.value is)
+    (λ is. map_changed (λ (h : HeldText). h.text) (spliced_each c.args.edits.now.items) name [] es c.in-Some.place c.index_mut.result.now c.apply.new.self first.0 first.1 first.2 c.index_mut.ensures.value is)
     c.apply.ensures.text
 
 pub returns-clause-before : goal.returns-clause-before

@@ -1,7 +1,7 @@
 use Rattle.std.proofs.Common.{◌≡◌, drop}
 use Rattle.org_splice.specs.Edits.{CanApply}
 use Rattle.org_splice.specs.Texts.{spliced_each}
-use Rattle.org_texts.proofs.held.Held.apply.Given as goal
+use Rattle.org_texts.proofs.held.Held.apply_each.Given as goal
 
 -- the other edits can be made, and make the same
 abbrev pub invariant-loop-edit : goal.invariant-loop-edit
