@@ -1,0 +1,5 @@
+use Rattle.std.proofs.Common.{rules}
+use Rattle.org_program.proofs.fault.Fault.status.Goals as goal
+
+pub returns-in-Locked : goal.returns-in-Locked
+returns-in-Locked c = search rules
