@@ -168,8 +168,8 @@ fn a_read_that_fails_and_turns_that_end(rt: HostRuntime) {
     }
 }
 
-// A text takes five writes, a change and its settling six, a bad line one; each line is flushed.
-const WRITES: u64 = 17;
+// A text takes five writes, a change with its settling one, a bad line one; each line is flushed.
+const WRITES: u64 = 12;
 
 const WRITTEN: &[u8] = b"text 4\n* Z\n\nok 1\nsafe 1\nrefused 20 BadLine\nrefused 20 BadLine\n";
 
