@@ -133,17 +133,34 @@ fn answer<D: Disk, W: Sink>(
     ensures accounts { Accounts D.steady D.honest D.failures store.old.disk store.new.disk
         (HasBroken store.old.session store.new.session) }
 {
-    pending.add(last);
-    let read = read_line(alloc, pending);
-    pending.clear();
+    let read = read_line(alloc, pending, last);
     let answered = answer_read(store, &read, writer);
     // By name, or all fields of each command would be dropped here, one by one.
     drop(read);
     answered
 }
 
+// What the line that ends with these bytes is read as. Nothing of it is kept then.
+fn read_line(
+    alloc: Global,
+    pending: &mut Pending,
+    last: &[u8],
+) -> Result<Command, LineFault>
+    ensures read { (part : List ℕ) → Stands pending.old part → IsReadAs (part ++ last.now) result }
+    ensures cleared { Stands pending.new [] }
+{
+    // Most lines lie whole in one piece, and are read where they stand.
+    if pending.is_whole(last) {
+        return read_command(alloc, last);
+    }
+    pending.add(last);
+    let read = read_kept(alloc, pending);
+    pending.clear();
+    read
+}
+
 // What a line that was kept is read as.
-fn read_line(alloc: Global, pending: &Pending) -> Result<Command, LineFault>
+fn read_kept(alloc: Global, pending: &Pending) -> Result<Command, LineFault>
     ensures { (line : List ℕ) → Stands pending.now line → IsReadAs line result }
 {
     match pending.line() {
