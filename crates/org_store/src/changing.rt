@@ -119,7 +119,11 @@ fn count<D: Disk>(files: &mut Files<D>, tally: &mut Tally) -> Result<Reply, RunF
 
 /// Accepts one more command, which makes these edits. Where it is refused, or there is no memory, all of its edits are
 /// taken back.
-fn accept<D: Disk>(files: &mut Files<D>, tally: &mut Tally, plan: &Plan) -> Result<Reply, RunFault>
+fn accept<D: Disk>(
+    files: &mut Files<D>,
+    tally: &mut Tally,
+    plan: &Plan<'_>,
+) -> Result<Reply, RunFault>
     requires unbroken { files.old.broken ≡ false }
     requires counted { tally.old.acknowledged ≤ tally.old.accepted }
     requires plan { IsPlanFor files.old.names files.old.held plan.now }
@@ -162,11 +166,11 @@ fn accept_unchanged<D: Disk>(files: &mut Files<D>, tally: &mut Tally) -> Result<
 
 /// What a command that changes files is to change: its files are read where they aren't held, and made ready. Nothing is
 /// edited. There is no plan where nothing changes.
-fn plan<D: Disk>(
+fn plan<'a, D: Disk>(
     files: &mut Files<D>,
     states: &States,
-    command: &Command,
-) -> Result<Option<Plan>, RunFault>
+    command: &'a Command,
+) -> Result<Option<Plan<'a>>, RunFault>
     requires change { IsChange command.now }
     requires between { AreBetweenCommands files.old }
     ensures plan { IfOk result (λ plan. ForSome plan

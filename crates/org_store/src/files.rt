@@ -243,7 +243,7 @@ impl<D: Disk> Files<D> {
 
     /// Makes the edits of a plan, in memory. `TooLarge` where one of the texts would be past the limit; then, and where
     /// there is no memory, all edits of the command are taken back.
-    pub(crate) fn put(&mut self, plan: &Plan) -> Result<(), RunFault>
+    pub(crate) fn put(&mut self, plan: &Plan<'_>) -> Result<(), RunFault>
         requires { IsPlanFor self.old.names self.old.held plan.now }
         ensures memory { StaysInMemory self.old self.new }
         ensures before { self.new.held.before ≡ self.old.held.before }
@@ -320,17 +320,17 @@ fn is_large_text(texts: &Texts, name: &FileName) -> bool
 }
 
 /// Whether a text that a plan changed is past the limit.
-fn is_large(texts: &Texts, plan: &Plan) -> bool
+fn is_large(texts: &Texts, plan: &Plan<'_>) -> bool
     requires first { IsSome (text_of texts.now.now plan.now.first.file) }
     requires second { ForSome plan.now.second
         (λ change. IsSome (text_of texts.now.now change.file)) }
     ensures { result ≡ has_large (texts_in texts.now.now (files_of plan.now)) }
 {
-    if is_large_text(texts, &plan.first.file) {
+    if is_large_text(texts, plan.first.file.name()) {
         return true;
     }
     match &plan.second {
-        Some(change) => is_large_text(texts, &change.file),
+        Some(change) => is_large_text(texts, change.file.name()),
         None => false,
     }
 }
@@ -366,11 +366,11 @@ fn forget(quiet: &mut Vec<bool>, names: &[FileName], file: &FileName)
 }
 
 /// Forgets what was noted of the files that a plan changes.
-fn forget_plan(quiet: &mut Vec<bool>, names: &[FileName], plan: &Plan)
+fn forget_plan(quiet: &mut Vec<bool>, names: &[FileName], plan: &Plan<'_>)
     ensures { Forgets names.now (files_of plan.now) quiet.old.items quiet.new.items }
 {
-    forget(quiet, names, &plan.first.file);
+    forget(quiet, names, plan.first.file.name());
     if let Some(change) = &plan.second {
-        forget(quiet, names, &change.file);
+        forget(quiet, names, change.file.name());
     }
 }

@@ -7,7 +7,7 @@ use crate::edits::{NONE, Splice, edits_of, has, make, patch_count, states};
 use org_disk::FileName;
 use org_outline::{Outline, States};
 use org_splice::{Changes, Edit, Editing, Span};
-use org_texts::{Edits, FileEdits, Held, Plan, Texts};
+use org_texts::{Edits, FileEdits, Held, NameOf, Plan, Texts};
 use std::alloc::Global;
 use std::process::Abort;
 
@@ -62,7 +62,7 @@ fn assert_applies(rt: &impl Abort, alloc: Global, text: &[u8], edits: &[Edit])
 }
 
 /// Edits of a held text.
-fn file_edits(rt: &impl Abort, alloc: Global, texts: &Texts, change: Change) -> FileEdits
+fn file_edits<'a>(rt: &impl Abort, alloc: Global, texts: &Texts, change: Change) -> FileEdits<'a>
     ensures { CanEdit result texts.now.now }
 {
     let (name, rows) = change;
@@ -75,19 +75,24 @@ fn file_edits(rt: &impl Abort, alloc: Global, texts: &Texts, change: Change) -> 
     assert!(rt; !edits.is_empty());
     let first = edits.remove(0);
     FileEdits {
-        file,
+        file: NameOf::made(file),
         edits: Edits::new(first, edits),
     }
 }
 
 /// A plan of two files.
-fn plan_of(rt: &impl Abort, texts: &Texts, first: FileEdits, second: FileEdits) -> Plan
+fn plan_of<'a>(
+    rt: &impl Abort,
+    texts: &Texts,
+    first: FileEdits<'a>,
+    second: FileEdits<'a>,
+) -> Plan<'a>
     requires first { CanEdit first texts.now.now }
     requires second { CanEdit second texts.now.now }
     ensures { IsPlan result texts.now.now }
 {
     let _ = texts;
-    if first.file == second.file {
+    if first.file.name() == second.file.name() {
         panic!(rt; "one file");
     }
     Plan {

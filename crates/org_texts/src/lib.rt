@@ -10,5 +10,5 @@ mod plan;
 mod texts;
 
 pub use held::Held;
-pub use plan::{Edits, FileEdits, Plan};
+pub use plan::{Edits, FileEdits, NameOf, Plan};
 pub use texts::Texts;

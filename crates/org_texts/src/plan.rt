@@ -3,7 +3,52 @@ ghost use Rattle.std.specs.Prelude.{◌≡◌, ◌∷◌};
 
 use org_disk::FileName;
 use org_splice::Edit;
+use std::borrow::Cow;
 use std::marker::Model;
+
+/// The name of a file that a command changes: one that was given with it, which isn't copied, or one that was made for it.
+///
+/// A clause sees its bytes.
+#[derive(Drop)]
+pub struct NameOf<'a> {
+    name: Cow<'a, FileName>,
+}
+
+impl<'a> Model for NameOf<'a> {
+    ghost use Rattle.std.specs.Prelude.{List, ℕ};
+    ghost use Rattle.std.specs.Cow.{cow_value};
+
+    ghost Value = { List ℕ };
+
+    ghost view = { λ n. cow_value n.name };
+}
+
+impl<'a> NameOf<'a> {
+    /// A name that was given. Takes no memory.
+    pub fn given(name: &'a FileName) -> NameOf<'a>
+        ensures { result ≡ name.now }
+    {
+        NameOf {
+            name: Cow::Borrowed(name),
+        }
+    }
+
+    /// A name that was made.
+    pub fn made(name: FileName) -> NameOf<'a>
+        ensures { result ≡ name }
+    {
+        NameOf {
+            name: Cow::Owned(name),
+        }
+    }
+
+    /// The name.
+    pub fn name(&self) -> &FileName
+        ensures { result.now ≡ self.now }
+    {
+        &self.name
+    }
+}
 
 /// Edits in order, of which there is one at least: each is one of the text that those before it leave. A single one takes
 /// no memory of its own.
@@ -42,14 +87,14 @@ impl Edits {
 
 /// The edits of one file.
 #[derive(Drop)]
-pub struct FileEdits {
-    pub file: FileName,
+pub struct FileEdits<'a> {
+    pub file: NameOf<'a>,
     pub edits: Edits,
 }
 
 /// What a command changes: one file, or two. The second file's edits are made behind the first's.
 #[derive(Drop)]
-pub struct Plan {
-    pub first: FileEdits,
-    pub second: Option<FileEdits>,
+pub struct Plan<'a> {
+    pub first: FileEdits<'a>,
+    pub second: Option<FileEdits<'a>>,
 }

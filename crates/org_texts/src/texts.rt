@@ -123,7 +123,7 @@ impl Texts {
     }
 
     /// Makes the edits of a plan, in place. `AllocError` takes all edits of the command back.
-    pub fn apply(&mut self, plan: &Plan) -> Result<(), AllocError>
+    pub fn apply(&mut self, plan: &Plan<'_>) -> Result<(), AllocError>
         requires { IsPlan plan.now self.old.now }
         ensures now { OnOk result (self.new.now ≡ planned plan.now self.old.now) }
         ensures before { self.new.before ≡ self.old.before }
@@ -137,7 +137,7 @@ impl Texts {
     }
 
     // `apply` as far as there is memory.
-    fn apply_each(&mut self, plan: &Plan) -> Result<(), AllocError>
+    fn apply_each(&mut self, plan: &Plan<'_>) -> Result<(), AllocError>
         requires { IsPlan plan.now self.old.now }
         ensures now { OnOk result (self.new.now ≡ planned plan.now self.old.now) }
         ensures before { self.new.before ≡ self.old.before }
@@ -150,13 +150,14 @@ impl Texts {
     }
 
     // The edits of one file, as far as there is memory.
-    fn apply_one(&mut self, change: &FileEdits) -> Result<(), AllocError>
+    fn apply_one(&mut self, change: &FileEdits<'_>) -> Result<(), AllocError>
         requires { CanEdit change.now self.old.now }
         ensures now { OnOk result (self.new.now ≡ with_edits change.now self.old.now) }
         ensures before { self.new.before ≡ self.old.before }
     {
-        wait(&mut self.waiting, &change.file)?;
-        apply_at(&mut self.held, self.last, &change.file, &change.edits)
+        let name = change.file.name();
+        wait(&mut self.waiting, name)?;
+        apply_at(&mut self.held, self.last, name, &change.edits)
     }
 
     /// Takes all edits of the command back. Takes no memory, and can't fail.

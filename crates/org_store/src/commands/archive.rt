@@ -21,7 +21,7 @@ use crate::files::Files;
 use org_disk::{Disk, FileName};
 use org_move::{Location, MoveFault, archive, archive_within, location};
 use org_outline::{Outline, States};
-use org_texts::Plan;
+use org_texts::{NameOf, Plan};
 
 /// The outline of one of the files, whose text is ready. Takes no memory.
 fn outline_in<'a, D: Disk>(files: &'a Files<D>, states: &'a States, file: &FileName) -> Outline<'a>
@@ -52,12 +52,12 @@ fn find_location<D: Disk>(
 }
 
 /// The edits of one of the files, whose text is ready, that archive a subtree within it.
-fn plan_within<D: Disk>(
+fn plan_within<'a, D: Disk>(
     files: &Files<D>,
     states: &States,
-    command: &Archive,
+    command: &'a Archive,
     to: &Location,
-) -> Result<Plan, MoveFault>
+) -> Result<Plan<'a>, MoveFault>
     requires { IsReady command.now.file files.now.held }
     ensures { let seen = bytes_or [] (text_of files.now.held.now command.now.file) in
         Gives (archive_within states.now command.now.file command.now.path command.now.moment
@@ -77,12 +77,12 @@ fn plan_within<D: Disk>(
 }
 
 /// The edits of two files, whose texts are ready, that archive a subtree of the first in the second, the location's file.
-fn plan_across<D: Disk>(
+fn plan_across<'a, D: Disk>(
     files: &Files<D>,
     states: &States,
-    command: &Archive,
+    command: &'a Archive,
     to: &Location,
-) -> Result<Plan, MoveFault>
+) -> Result<Plan<'a>, MoveFault>
     requires source { IsReady command.now.file files.now.held }
     requires target { IsReady to.now.file files.now.held }
     ensures { let seen = bytes_or [] (text_of files.now.held.now command.now.file) in
@@ -101,17 +101,21 @@ fn plan_across<D: Disk>(
         command.moment,
         to,
     )?;
-    Ok(plan_of_two(alloc, &command.file, goes_out, to.file(), goes_in)?)
+    let (file, to_file) = (
+        NameOf::given(&command.file),
+        NameOf::made(to.file().clone()?),
+    );
+    Ok(plan_of_two(alloc, file, goes_out, to_file, goes_in))
 }
 
 /// What an archiving to this location is to change, from a file that is ready. It is refused for the location's file first,
 /// then for the heading there.
-fn plan_archive_to<D: Disk>(
+fn plan_archive_to<'a, D: Disk>(
     files: &mut Files<D>,
     states: &States,
-    command: &Archive,
+    command: &'a Archive,
     to: &Location,
-) -> Result<Plan, RunFault>
+) -> Result<Plan<'a>, RunFault>
     requires unbroken { files.old.broken ≡ false }
     requires name { is_name files.old.names command.now.file ≡ true }
     requires ready { AreReady (command.now.file ∷ []) files.old.held }
@@ -138,11 +142,11 @@ fn plan_archive_to<D: Disk>(
 
 /// What an archiving is to change. It is refused for its file first, then for its path, then where the file is an archive
 /// file, then for its location, then for the location's file and the heading there.
-pub(crate) fn plan_archive<D: Disk>(
+pub(crate) fn plan_archive<'a, D: Disk>(
     files: &mut Files<D>,
     states: &States,
-    command: &Archive,
-) -> Result<Plan, RunFault>
+    command: &'a Archive,
+) -> Result<Plan<'a>, RunFault>
     requires between { AreBetweenCommands files.old }
     ensures plan { IfOk result (λ plan. IsPlanFor files.new.names files.new.held plan) }
     ensures plans { (tally : Tally) → D.honest files.new.disk

@@ -20,7 +20,7 @@ use crate::files::Files;
 use org_capture::{CaptureFault, capture, entry, expand};
 use org_disk::Disk;
 use org_outline::States;
-use org_texts::{Held, Plan};
+use org_texts::{Held, NameOf, Plan};
 use std::alloc::Global;
 
 /// The entry that the template of a capture stands for.
@@ -34,13 +34,13 @@ fn new_entry(alloc: Global, command: &Capture) -> Result<Vec<u8>, CaptureFault>
 }
 
 /// The edit of a text, which is ready, that puts an entry in.
-fn plan_insertion(
+fn plan_insertion<'a>(
     alloc: Global,
     states: &States,
     held: &Held,
-    command: &Capture,
+    command: &'a Capture,
     entry: Vec<u8>,
-) -> Result<Plan, CaptureFault>
+) -> Result<Plan<'a>, CaptureFault>
     requires ready { held.now.ready ≡ true }
     requires entry { (node : Node) × IsEntry entry.items node }
     ensures { (node : Node) → IsEntry entry.items node
@@ -57,16 +57,16 @@ fn plan_insertion(
         command.moment,
         entry,
     )?;
-    Ok(plan_of_one(alloc, &command.file, edit)?)
+    Ok(plan_of_one(alloc, NameOf::given(&command.file), edit))
 }
 
 /// What a capture of this entry into one of the files is to change.
-fn plan_entry<D: Disk>(
+fn plan_entry<'a, D: Disk>(
     files: &mut Files<D>,
     states: &States,
-    command: &Capture,
+    command: &'a Capture,
     entry: Vec<u8>,
-) -> Result<Plan, RunFault>
+) -> Result<Plan<'a>, RunFault>
     requires file { is_name files.old.names command.now.file ≡ true }
     requires between { AreBetweenCommands files.old }
     requires entry { (node : Node) × IsEntry entry.items node }
@@ -88,11 +88,11 @@ fn plan_entry<D: Disk>(
 
 /// What a capture into a file is to change. It is refused for its file first, then for its template, then for its entry,
 /// then for its target.
-pub(crate) fn plan_capture<D: Disk>(
+pub(crate) fn plan_capture<'a, D: Disk>(
     files: &mut Files<D>,
     states: &States,
-    command: &Capture,
-) -> Result<Plan, RunFault>
+    command: &'a Capture,
+) -> Result<Plan<'a>, RunFault>
     requires between { AreBetweenCommands files.old }
     ensures plan { IfOk result (λ plan. IsPlanFor files.new.names files.new.held plan) }
     ensures plans { (tally : Tally) → D.honest files.new.disk

@@ -27,7 +27,7 @@ use org_disk::Disk;
 use org_outline::States;
 use org_stamp::Moment;
 use org_state::{Running, StateFault, clock_in, clock_out, switch_clock};
-use org_texts::{Held, Plan};
+use org_texts::{Held, NameOf, Plan};
 use std::alloc::Global;
 
 /// Tests that a text that is ready has a heading at a path.
@@ -41,12 +41,12 @@ fn look_up(states: &States, held: &Held, command: &ClockIn) -> Result<(), StateF
 }
 
 /// The edits of a file, whose text is ready, that clock in at one of its headings. No clock runs in it.
-fn plan_start(
+fn plan_start<'a>(
     alloc: Global,
     states: &States,
     held: &Held,
-    command: &ClockIn,
-) -> Result<Option<Plan>, StateFault>
+    command: &'a ClockIn,
+) -> Result<Option<Plan<'a>>, StateFault>
     requires ready { held.now.ready ≡ true }
     ensures { let d = tree held.now.text.bytes in
         PlansState command.now.file held.now.text.bytes (clocked_in command.now.moment None d
@@ -58,18 +58,18 @@ fn plan_start(
         command.path.as_slice(),
         command.moment,
     )?;
-    Ok(Some(plan_of_one(alloc, &command.file, edit)?))
+    Ok(Some(plan_of_one(alloc, NameOf::given(&command.file), edit)))
 }
 
 /// The edits of a file, whose text is ready, that clock in at one of its headings, where this clock runs in it; none where
 /// it is the heading's own.
-fn plan_switch(
+fn plan_switch<'a>(
     alloc: Global,
     states: &States,
     held: &Held,
-    command: &ClockIn,
+    command: &'a ClockIn,
     running: Running,
-) -> Result<Option<Plan>, StateFault>
+) -> Result<Option<Plan<'a>>, StateFault>
     requires ready { held.now.ready ≡ true }
     requires runs { running_in (tree held.now.text.bytes) ≡ Some running }
     ensures { let d = tree held.now.text.bytes in
@@ -79,17 +79,17 @@ fn plan_switch(
     let outline = outline_of(held, states);
     let path = command.path.as_slice();
     let edits = switch_clock(alloc, &outline, path, running, command.moment)?;
-    Ok(plan_of(&command.file, edits)?)
+    Ok(plan_of(&command.file, edits))
 }
 
 /// The edits of a file, whose text is ready, that clock in at one of its headings. This clock runs in it, or none.
-fn plan_in_text(
+fn plan_in_text<'a>(
     alloc: Global,
     states: &States,
     held: &Held,
-    command: &ClockIn,
+    command: &'a ClockIn,
     running: Option<Running>,
-) -> Result<Option<Plan>, StateFault>
+) -> Result<Option<Plan<'a>>, StateFault>
     requires ready { held.now.ready ≡ true }
     requires runs { ForSome running
         (λ running. running_in (tree held.now.text.bytes) ≡ Some running) }
@@ -104,13 +104,13 @@ fn plan_in_text(
 }
 
 /// The edits of a file, whose text is ready, that stop the clock that runs in it.
-fn plan_stop(
+fn plan_stop<'a>(
     alloc: Global,
     states: &States,
     held: &Held,
     clock: &Clock,
     moment: Moment,
-) -> Result<Option<Plan>, StateFault>
+) -> Result<Option<Plan<'a>>, StateFault>
     requires ready { held.now.ready ≡ true }
     requires runs { running_in (tree held.now.text.bytes) ≡ Some clock.now.running }
     ensures { PlansState clock.now.file held.now.text.bytes
@@ -122,19 +122,20 @@ fn plan_stop(
         clock.running,
         moment,
     )?;
-    Ok(Some(plan_of_one(alloc, &clock.file, edit)?))
+    let file = NameOf::made(clock.file.clone()?);
+    Ok(Some(plan_of_one(alloc, file, edit)))
 }
 
 /// The edits of two files, whose texts are ready, that stop the clock that runs in the first, and clock in at a heading of
 /// the second.
-fn plan_move(
+fn plan_move<'a>(
     alloc: Global,
     states: &States,
     other: &Held,
     held: &Held,
     clock: &Clock,
-    command: &ClockIn,
-) -> Result<Plan, StateFault>
+    command: &'a ClockIn,
+) -> Result<Plan<'a>, StateFault>
     requires other { other.now.ready ≡ true }
     requires ready { held.now.ready ≡ true }
     requires runs { running_in (tree other.now.text.bytes) ≡ Some clock.now.running }
@@ -155,7 +156,11 @@ fn plan_move(
         clock.running,
         command.moment,
     )?;
-    Ok(plan_of_two(alloc, &clock.file, stop, &command.file, start)?)
+    let (file, to_file) = (
+        NameOf::made(clock.file.clone()?),
+        NameOf::given(&command.file),
+    );
+    Ok(plan_of_two(alloc, file, stop, to_file, start))
 }
 
 /// Tests that one of the files has a heading at a path. No text changes.
@@ -183,12 +188,12 @@ fn look_up_in<D: Disk>(
 
 /// What clocking in at a heading of one of the files is to change, where no clock runs in another one. This clock runs in
 /// it, or none.
-fn start_in_one<D: Disk>(
+fn start_in_one<'a, D: Disk>(
     files: &mut Files<D>,
     states: &States,
-    command: &ClockIn,
+    command: &'a ClockIn,
     running: Option<Running>,
-) -> Result<Option<Plan>, RunFault>
+) -> Result<Option<Plan<'a>>, RunFault>
     requires file { is_name files.old.names command.now.file ≡ true }
     requires between { AreBetweenCommands files.old }
     requires runs { ForSome running
@@ -210,12 +215,12 @@ fn start_in_one<D: Disk>(
 }
 
 /// What clocking in at a heading of one of the files is to change, where this clock runs in another one.
-fn start_beside<D: Disk>(
+fn start_beside<'a, D: Disk>(
     files: &mut Files<D>,
     states: &States,
     clock: &Clock,
-    command: &ClockIn,
-) -> Result<Option<Plan>, RunFault>
+    command: &'a ClockIn,
+) -> Result<Option<Plan<'a>>, RunFault>
     requires other { is_name files.old.names clock.now.file ≡ true }
     requires file { is_name files.old.names command.now.file ≡ true }
     requires apart { clock.now.file ≢ command.now.file }
@@ -244,11 +249,11 @@ fn start_beside<D: Disk>(
 /// What clocking in is to change; no plan where the clock that runs is the heading's own. It is refused for its file first,
 /// then for its path, then where the moment is before the start of the clock that is to be stopped. Where that one runs in
 /// another file, its text is the plan's first.
-pub(crate) fn plan_clock_in<D: Disk>(
+pub(crate) fn plan_clock_in<'a, D: Disk>(
     files: &mut Files<D>,
     states: &States,
-    command: &ClockIn,
-) -> Result<Option<Plan>, RunFault>
+    command: &'a ClockIn,
+) -> Result<Option<Plan<'a>>, RunFault>
     requires between { AreBetweenCommands files.old }
     ensures plan { IfOk result (λ plan. ForSome plan
         (λ plan. IsPlanFor files.new.names files.new.held plan)) }
@@ -274,12 +279,12 @@ pub(crate) fn plan_clock_in<D: Disk>(
 }
 
 /// What stopping the clock that runs in one of the files is to change.
-fn stop_running<D: Disk>(
+fn stop_running<'a, D: Disk>(
     files: &mut Files<D>,
     states: &States,
     clock: &Clock,
     moment: Moment,
-) -> Result<Option<Plan>, RunFault>
+) -> Result<Option<Plan<'a>>, RunFault>
     requires file { is_name files.old.names clock.now.file ≡ true }
     requires between { AreBetweenCommands files.old }
     requires runs { RunsHeld files.old.held clock.now.file clock.now.running }
@@ -301,11 +306,11 @@ fn stop_running<D: Disk>(
 
 /// What clocking out is to change. It is refused where no clock runs, and where the moment is before the start of the one
 /// that does.
-pub(crate) fn plan_clock_out<D: Disk>(
+pub(crate) fn plan_clock_out<'a, D: Disk>(
     files: &mut Files<D>,
     states: &States,
     moment: Moment,
-) -> Result<Option<Plan>, RunFault>
+) -> Result<Option<Plan<'a>>, RunFault>
     requires between { AreBetweenCommands files.old }
     ensures plan { IfOk result (λ plan. ForSome plan
         (λ plan. IsPlanFor files.new.names files.new.held plan)) }

@@ -20,16 +20,16 @@ use crate::files::Files;
 use org_disk::{Disk, FileName};
 use org_move::{MoveFault, refile_across, refile_within};
 use org_outline::States;
-use org_texts::{Held, Plan};
+use org_texts::{Held, NameOf, Plan};
 use std::alloc::Global;
 
 /// The edits of a file, whose text is ready, that move a subtree within it.
-fn plan_within(
+fn plan_within<'a>(
     alloc: Global,
     states: &States,
     held: &Held,
-    command: &Refile,
-) -> Result<Plan, MoveFault>
+    command: &'a Refile,
+) -> Result<Plan<'a>, MoveFault>
     requires ready { held.now.ready ≡ true }
     ensures { Gives (refile_within states.now command.now.path command.now.to_path
         command.now.place (tree held.now.text.bytes))
@@ -47,13 +47,13 @@ fn plan_within(
 }
 
 /// The edits of two files, whose texts are ready, that move a subtree from the first into the second.
-fn plan_across(
+fn plan_across<'a>(
     alloc: Global,
     states: &States,
     source: &Held,
     target: &Held,
-    command: &Refile,
-) -> Result<Plan, MoveFault>
+    command: &'a Refile,
+) -> Result<Plan<'a>, MoveFault>
     requires source { source.now.ready ≡ true }
     requires target { target.now.ready ≡ true }
     ensures { Gives (refile_across states.now command.now.path (tree source.now.text.bytes)
@@ -69,7 +69,11 @@ fn plan_across(
         command.to_path.as_slice(),
         command.place,
     )?;
-    Ok(plan_of_two(alloc, &command.file, goes_out, &command.to_file, goes_in)?)
+    let (file, to_file) = (
+        NameOf::given(&command.file),
+        NameOf::given(&command.to_file),
+    );
+    Ok(plan_of_two(alloc, file, goes_out, to_file, goes_in))
 }
 
 /// Makes two files ready: see `Files::ready`.
@@ -95,11 +99,11 @@ pub(crate) fn both_ready<D: Disk>(
 }
 
 /// What a refile within one of the files is to change.
-fn refile_in_one<D: Disk>(
+fn refile_in_one<'a, D: Disk>(
     files: &mut Files<D>,
     states: &States,
-    command: &Refile,
-) -> Result<Plan, RunFault>
+    command: &'a Refile,
+) -> Result<Plan<'a>, RunFault>
     requires file { is_name files.old.names command.now.file ≡ true }
     requires between { AreBetweenCommands files.old }
     ensures plan { IfOk result (λ plan. IsPlanFor files.new.names files.new.held plan) }
@@ -118,11 +122,11 @@ fn refile_in_one<D: Disk>(
 }
 
 /// What a refile from one of the files into another one is to change.
-fn refile_in_two<D: Disk>(
+fn refile_in_two<'a, D: Disk>(
     files: &mut Files<D>,
     states: &States,
-    command: &Refile,
-) -> Result<Plan, RunFault>
+    command: &'a Refile,
+) -> Result<Plan<'a>, RunFault>
     requires file { is_name files.old.names command.now.file ≡ true }
     requires to_file { is_name files.old.names command.now.to_file ≡ true }
     requires apart { command.now.file ≢ command.now.to_file }
@@ -146,11 +150,11 @@ fn refile_in_two<D: Disk>(
 
 /// What a refile is to change. It is refused for the name of its source first, then for that of its target, then for the
 /// path in the source, then for the one in the target, then where the target lies in what is moved.
-pub(crate) fn plan_refile<D: Disk>(
+pub(crate) fn plan_refile<'a, D: Disk>(
     files: &mut Files<D>,
     states: &States,
-    command: &Refile,
-) -> Result<Plan, RunFault>
+    command: &'a Refile,
+) -> Result<Plan<'a>, RunFault>
     requires between { AreBetweenCommands files.old }
     ensures plan { IfOk result (λ plan. IsPlanFor files.new.names files.new.held plan) }
     ensures plans { (tally : Tally) → D.honest files.new.disk

@@ -23,12 +23,12 @@ use org_texts::{Held, Plan};
 use std::alloc::Global;
 
 /// The edits of a file, whose text is ready, that put one of its headings into another state; none where nothing changes.
-fn plan_state(
+fn plan_state<'a>(
     alloc: Global,
     states: &States,
     held: &Held,
-    command: &Todo,
-) -> Result<Option<Plan>, StateFault>
+    command: &'a Todo,
+) -> Result<Option<Plan<'a>>, StateFault>
     requires ready { held.now.ready ≡ true }
     ensures { PlansState command.now.file held.now.text.bytes
         (todo states.now command.now.path command.now.state command.now.moment
@@ -41,16 +41,16 @@ fn plan_state(
         command.state.as_slice(),
         command.moment,
     )?;
-    Ok(plan_of(&command.file, edits)?)
+    Ok(plan_of(&command.file, edits))
 }
 
 /// What a change of a state is to change; no plan where nothing changes. It is refused for its file first, then for its
 /// path, then for its state, then for the heading's planning.
-pub(crate) fn plan_todo<D: Disk>(
+pub(crate) fn plan_todo<'a, D: Disk>(
     files: &mut Files<D>,
     states: &States,
-    command: &Todo,
-) -> Result<Option<Plan>, RunFault>
+    command: &'a Todo,
+) -> Result<Option<Plan<'a>>, RunFault>
     requires between { AreBetweenCommands files.old }
     ensures plan { IfOk result (λ plan. ForSome plan
         (λ plan. IsPlanFor files.new.names files.new.held plan)) }

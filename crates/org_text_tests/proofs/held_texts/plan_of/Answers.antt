@@ -12,7 +12,7 @@ returns g c =
     let second = c.args.second in
     let set = c.args.texts.now.now in
     let able : CanEdit second (with_edits first set) =
-    CanEdit-second first second set c.requires.first c.requires.second (λ same. false≢true (c.if-eq.ensures ∙ (bytes_eq-Decides first.file second.file).1 same)) in
+    CanEdit-second first second set c.requires.first c.requires.second (λ same. false≢true ((rw (c.name.ensures, c.name-2.ensures) at c.if-eq.ensures) ∙ (bytes_eq-Decides first.file second.file).1 same)) in
     record {
       first = c.requires.first;
       second = λ x is. let same : second ≡ x = cc in subst (λ (f : FileEdits). CanEdit f (with_edits first set)) same able;

@@ -1,4 +1,4 @@
-use Rattle.std.proofs.Common.{◌≡◌, Ok, Err, List, ℕ, sym, subst, rules}
+use Rattle.std.proofs.Common.{◌≡◌, ◌∙◌, Ok, Err, List, ℕ, sym, subst, rules}
 use Rattle.org_splice.specs.declared.edit.Edit.{Edit}
 use Rattle.org_splice.specs.Edits.{AreEdits}
 use Rattle.org_outline.specs.States.{Keywords}
@@ -25,5 +25,5 @@ returns c node is =
     let seen : c.outline_of-outline.result.text ≡ text = c.outline_of-outline.ensures.0 in
     let answers = subst (λ (s : Keywords). AnswersEdit (captured s c.args.command.now.target c.args.command.now.place c.args.command.now.moment node (tree text)) text (Ok c.in_ok-edit.edit)) c.outline_of-outline.ensures.1
     (subst (λ (t : List ℕ). AnswersEdit (captured c.outline_of-outline.result.states c.args.command.now.target c.args.command.now.place c.args.command.now.moment node (tree t)) t (Ok c.in_ok-edit.edit)) seen (c.in_ok-edit.ensures node is)) in
-    let made = c.in_ok-plan_of_one.ensures in
-    (answers.0, answers.1, made.0, made.1, subst (λ (es : List Edit). AreEdits es text (print answers.0)) (sym made.2) answers.2.edits)
+    let made = c.plan_of_one.ensures in
+    (answers.0, answers.1, made.0 ∙ c.given.ensures, made.1, subst (λ (es : List Edit). AreEdits es text (print answers.0)) (sym made.2) answers.2.edits)

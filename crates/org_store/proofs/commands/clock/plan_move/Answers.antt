@@ -1,4 +1,5 @@
-use Rattle.std.proofs.Common.{◌≡◌, ◌∙◌, Ok, Err, rules}
+use Rattle.std.proofs.Common.{◌≡◌, ◌∙◌, Ok, Err, List, ℕ, [], ◌∷◌, subst, rules}
+use Rattle.std.specs.Prelude.{IsSomeAnd}
 use Rattle.org_outline.specs.Paths.{find_path, titles_of}
 use Rattle.org_outline.specs.Tree.{tree}
 use Rattle.org_store.specs.Clocking.{clock_moved}
@@ -43,6 +44,8 @@ returns c =
     let stop = c.in_ok-stop.stop in
     let answers = opening_told a.states.now c.outline_of.result.states a.command.now.path (titles_of c.as_slice.result.now) a.command.now.moment text c.outline_of.result.text (Ok start)
     c.outline_of.ensures.1 c.as_slice.ensures c.outline_of.ensures.0 c.in_ok-start.ensures in
+    let e = c.plan_of_two.ensures in
+    let second = subst (λ (n : List ℕ). IsSomeAnd c.plan_of_two.result.second (λ second. (second.file ≡ n) × (second.edits.items ≡ start ∷ []))) c.given-to_file.ensures e.2 in
     move_made a.states.now a.command.now.path a.command.now.moment other text clock.running clock.file a.command.now.file start stop
-    c.in_ok-plan_of_two.field-0 c.text-2.result.now (c.text-2.ensures.value ∙ c.outline_of-2.ensures.0) answers c.in_ok-stop.ensures
-    (λ new closes opens. two_made clock.file a.command.now.file other text stop start new c.in_ok-plan_of_two.field-0 c.in_ok-plan_of_two.ensures closes opens)
+    c.plan_of_two.result c.text-2.result.now (c.text-2.ensures.value ∙ c.outline_of-2.ensures.0) answers c.in_ok-stop.ensures
+    (λ new closes opens. two_made clock.file a.command.now.file other text stop start new c.plan_of_two.result (e.0 ∙ c.made-file.ensures ∙ c.in_ok-clone.ensures.cases, e.1, second) closes opens)

@@ -1,4 +1,4 @@
-use Rattle.std.proofs.Common.{◌≡◌, Ok, Err, rules}
+use Rattle.std.proofs.Common.{◌≡◌, ◌∙◌, Ok, Err, rules}
 use Rattle.org_outline.specs.Paths.{find_path, titles_of}
 use Rattle.org_outline.specs.Tree.{tree}
 use Rattle.std.specs.Prelude.{None}
@@ -24,5 +24,5 @@ returns c =
     let edit = c.in_ok-edit.edit in
     let answers = opening_told a.states.now c.outline_of.result.states a.command.now.path (titles_of c.as_slice.result.now) a.command.now.moment text c.outline_of.result.text (Ok edit)
     c.outline_of.ensures.1 c.as_slice.ensures c.outline_of.ensures.0 c.in_ok-edit.ensures in
-    let made = start_made a.states.now a.command.now.path a.command.now.moment text edit c.in_ok-plan_of_one.field-0.first.edits.items c.in_ok-plan_of_one.ensures.2 answers in
-    (made.0, made.1, (c.in_ok-plan_of_one.ensures.0, c.in_ok-plan_of_one.ensures.1, made.2))
+    let made = start_made a.states.now a.command.now.path a.command.now.moment text edit c.plan_of_one.result.first.edits.items c.plan_of_one.ensures.2 answers in
+    (made.0, made.1, (c.plan_of_one.ensures.0 ∙ c.given.ensures, c.plan_of_one.ensures.1, made.2))

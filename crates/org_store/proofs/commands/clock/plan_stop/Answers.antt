@@ -17,5 +17,5 @@ pub returns : goal.returns
 returns c =
     let a = c.args in
     let text = a.held.now.text.bytes in
-    let made = stop_made a.moment text c.text-2.result.now a.clock.now.running c.in_ok-edit.edit c.in_ok-plan_of_one.field-0.first.edits.items (c.text-2.ensures.value ∙ c.outline_of.ensures.0) c.in_ok-plan_of_one.ensures.2 c.in_ok-edit.ensures in
-    (made.0, made.1, (c.in_ok-plan_of_one.ensures.0, c.in_ok-plan_of_one.ensures.1, made.2))
+    let made = stop_made a.moment text c.text-2.result.now a.clock.now.running c.in_ok-edit.edit c.plan_of_one.result.first.edits.items (c.text-2.ensures.value ∙ c.outline_of.ensures.0) c.plan_of_one.ensures.2 c.in_ok-edit.ensures in
+    (made.0, made.1, (c.plan_of_one.ensures.0 ∙ c.made-file.ensures ∙ c.in_ok-clone.ensures.cases, c.plan_of_one.ensures.1, made.2))

@@ -25,6 +25,6 @@ returns c =
     let edits = c.in_ok-edits.edits in
     let answers = switch_told a.states.now c.outline_of-outline.result.states a.command.now.path (titles_of c.as_slice-path.result.now) a.command.now.moment a.running.heading text c.outline_of-outline.result.text (Ok edits)
     c.outline_of-outline.ensures.1 c.as_slice-path.ensures c.outline_of-outline.ensures.0 c.in_ok-edits.ensures in
-    plan_made a.command.now.file text (switched_at a.command.now.moment a.running.heading (tree text) found) edits.items c.in_ok-plan_of.field-0 c.in_ok-plan_of.ensures.none c.in_ok-plan_of.ensures.some
+    plan_made a.command.now.file text (switched_at a.command.now.moment a.running.heading (tree text) found) edits.items c.plan_of.result c.plan_of.ensures.none c.plan_of.ensures.some
     (λ none. switch_stays a.command.now.moment text a.running.heading found edits none answers)
     (λ some. switch_made a.command.now.moment text a.running.heading found edits some answers)

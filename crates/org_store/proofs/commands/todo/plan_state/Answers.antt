@@ -35,6 +35,6 @@ returns c =
     let edits = c.in_ok-edits.edits in
     let answers = told a.states.now c.outline_of.result.states a.command.now.path (titles_of c.as_slice.result.now) a.command.now.state c.as_slice-2.result.now a.command.now.moment a.held.now.text.bytes c.outline_of.result.text (Ok edits)
     c.outline_of.ensures.1 c.as_slice.ensures c.as_slice-2.ensures c.outline_of.ensures.0 c.in_ok-edits.ensures in
-    plan_made a.command.now.file a.held.now.text.bytes (todo a.states.now a.command.now.path a.command.now.state a.command.now.moment (tree a.held.now.text.bytes)) edits.items c.in_ok-plan_of.field-0 c.in_ok-plan_of.ensures.none c.in_ok-plan_of.ensures.some
+    plan_made a.command.now.file a.held.now.text.bytes (todo a.states.now a.command.now.path a.command.now.state a.command.now.moment (tree a.held.now.text.bytes)) edits.items c.plan_of.result c.plan_of.ensures.none c.plan_of.ensures.some
     (λ none. state_stays a.states.now a.command.now.path a.command.now.state a.command.now.moment a.held.now.text.bytes edits none answers)
     (λ some. state_made a.states.now a.command.now.path a.command.now.state a.command.now.moment a.held.now.text.bytes edits some answers)
