@@ -9,14 +9,14 @@ use Rattle.org_outline.specs.declared.moves.Place.{Place}
 use Rattle.org_outline.specs.Tree.{Document, Node, print, tree}
 use Rattle.org_outline.proofs.Trees.{tree-terminated}
 use Rattle.org_stamp.specs.Calendar.{CivilMinute}
-use Rattle.org_texts.specs.declared.plan.Plan.{Plan}
+use Rattle.org_splice.specs.declared.edit.Edit.{Edit}
 use Rattle.org_capture.specs.declared.fault.CaptureFault.{CaptureFault}
 use Rattle.org_capture.specs.declared.fault.CaptureFault.TheVariants as fault
 use Rattle.org_capture.specs.declared.target.Target.{Target}
 use Rattle.org_capture.specs.Answers.{AnswersBytes, AnswersEdit}
 use Rattle.org_capture.specs.Capture.{captured}
 use Rattle.org_capture.specs.Entry.{IsEntry, terminated_if_one, entry_in, entry_text, only_root}
-use Rattle.org_store.specs.Capture.{MakesEntry, PlansDocument, entry_of_text, new_entry, one_entry}
+use Rattle.org_store.specs.Capture.{MakesEntry, entry_of_text, new_entry, one_entry}
 use Rattle.org_store.specs.Keeping.{fault_of_capture}
 use Rattle.org_store.specs.Outcome.{Outcome, Refuses, capture, changed, refusal_of, with_document, with_entry}
 use Rattle.org_store.specs.Session.{Session}
@@ -66,16 +66,6 @@ no_entry_made said result given why was is answers =
 
 -- ---- the edit
 
-pub edit_refused : (file text : List ℕ) (said : Result Document CaptureFault) (result : Result Plan CaptureFault) (why : CaptureFault) → result ≡ Err why → AnswersEdit said text (Err why) → PlansDocument file text said result
-edit_refused file text said result why is answers = subst (PlansDocument file text said) (sym is) (go why answers)
-  where
-    go : (w : CaptureFault) → AnswersEdit said text (Err w) → PlansDocument file text said (Err w)
-    go fault.OutOfMemory answers = tt
-    go fault.BadTemplate answers = answers
-    go fault.BadEntry answers = answers
-    go fault.NotFound answers = answers
-    go fault.NotUnique answers = answers
-
 -- ---- the outcome
 
 -- what is refused before the text is looked at
@@ -113,20 +103,20 @@ module _ (s : Session) (name : List ℕ) (target : Target) (place : Place) (mome
       ap (λ (d : Document). with_document s name (captured s.states target place moment node d)) (sym (ap tree shut ∙ tree-terminated text)) ∙ ap (with_document s name) is
 
   -- what is refused for its target
-  pub target_refused : (result : Result Plan CaptureFault) (why : CaptureFault) → s.broken ≡ false → result ≡ Err why → PlansDocument name seen (captured s.states target place moment node (tree seen)) result
+  pub target_refused : (result : Result Edit CaptureFault) (why : CaptureFault) → s.broken ≡ false → result ≡ Err why → AnswersEdit (captured s.states target place moment node (tree seen)) seen result
       → Does s told (Err (fault_of_capture why)) s
-  target_refused result why unbroken was plans = go why (subst (PlansDocument name seen said) was plans)
+  target_refused result why unbroken was answers = go why (subst (AnswersEdit said seen) was answers)
     where
       refuses : (w : CaptureFault) → said ≡ Err w → told ≡ Refuses (refusal_of w)
       refuses w is = document_is (Err w) is
 
-      go : (w : CaptureFault) → PlansDocument name seen said (Err w) → Does s told (Err (fault_of_capture w)) s
-      go fault.OutOfMemory plans = (unbroken, refl)
-      go fault.BadTemplate plans = (unbroken, refuses fault.BadTemplate plans, refl)
-      go fault.BadEntry plans = (unbroken, refuses fault.BadEntry plans, refl)
-      go fault.NotFound plans = (unbroken, refuses fault.NotFound plans, refl)
-      go fault.NotUnique plans = (unbroken, refuses fault.NotUnique plans, refl)
+      go : (w : CaptureFault) → AnswersEdit said seen (Err w) → Does s told (Err (fault_of_capture w)) s
+      go fault.OutOfMemory answers = (unbroken, refl)
+      go fault.BadTemplate answers = (unbroken, refuses fault.BadTemplate answers, refl)
+      go fault.BadEntry answers = (unbroken, refuses fault.BadEntry answers, refl)
+      go fault.NotFound answers = (unbroken, refuses fault.NotFound answers, refl)
+      go fault.NotUnique answers = (unbroken, refuses fault.NotUnique answers, refl)
 
-  pub target_planned : (plan : Plan) (changes : List (List ℕ × List ℕ)) → (plans : PlansDocument name seen (captured s.states target place moment node (tree seen)) (Ok plan)) → changes ≡ (name, print plans.0) ∷ []
+  pub target_planned : (edit : Edit) (changes : List (List ℕ × List ℕ)) → (answers : AnswersEdit (captured s.states target place moment node (tree seen)) seen (Ok edit)) → changes ≡ (name, print answers.0) ∷ []
       → told ≡ changed s changes
-  target_planned plan changes plans are = document_is (Ok plans.0) plans.1 ∙ ap (changed s) (sym are)
+  target_planned edit changes answers are = document_is (Ok answers.0) answers.1 ∙ ap (changed s) (sym are)

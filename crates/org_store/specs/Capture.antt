@@ -27,11 +27,3 @@ abbrev pub MakesEntry : Result Node CaptureFault → Result (Vec ℕ Global) Cap
 MakesEntry said (Ok text) = (node : Node) × (said ≡ Ok node) × IsEntry text.items node
 MakesEntry said (Err OutOfMemory) = Unit {0}
 MakesEntry said (Err fault) = said ≡ Err fault
-
--- The plan makes this document of a file's text, and changes no other; or there is none, for this reason, or no memory
--- for it.
-abbrev pub PlansDocument : List ℕ → List ℕ → Result Document CaptureFault → Result Plan CaptureFault → Type 0
-PlansDocument file text said (Ok plan) =
-    (new : Document) × (said ≡ Ok new) × (plan.first.file ≡ file) × (plan.second ≡ None) × AreEdits plan.first.edits.items text (print new)
-PlansDocument file text said (Err OutOfMemory) = Unit {0}
-PlansDocument file text said (Err fault) = said ≡ Err fault

@@ -2,10 +2,11 @@
 ghost use Rattle.std.specs.Prelude.{◌≡◌, [], Ok, IfOk, true};
 ghost use Rattle.std.specs.Option.{unwrap_or};
 ghost use Rattle.org_outline.specs.Tree.{Node, tree};
+ghost use Rattle.org_capture.specs.Answers.{AnswersEdit};
 ghost use Rattle.org_capture.specs.Capture.{captured};
 ghost use Rattle.org_capture.specs.Entry.{IsEntry};
 ghost use Rattle.org_store.specs.declared.tally.Tally.{Tally};
-ghost use Rattle.org_store.specs.Capture.{MakesEntry, PlansDocument, new_entry};
+ghost use Rattle.org_store.specs.Capture.{MakesEntry, new_entry};
 ghost use Rattle.org_store.specs.Files.{AreBetweenCommands, IsPlanFor};
 ghost use Rattle.org_store.specs.InOrder.{is_name, text_at};
 ghost use Rattle.org_store.specs.Keeping.{Plans};
@@ -20,6 +21,7 @@ use crate::files::Files;
 use org_capture::{CaptureFault, capture, entry, expand};
 use org_disk::Disk;
 use org_outline::States;
+use org_splice::Edit;
 use org_texts::{Held, NameOf, Plan};
 use std::alloc::Global;
 
@@ -34,30 +36,28 @@ fn new_entry(alloc: Global, command: &Capture) -> Result<Vec<u8>, CaptureFault>
 }
 
 /// The edit of a text, which is ready, that puts an entry in.
-fn plan_insertion<'a>(
+fn insertion(
     alloc: Global,
     states: &States,
     held: &Held,
-    command: &'a Capture,
+    command: &Capture,
     entry: Vec<u8>,
-) -> Result<Plan<'a>, CaptureFault>
+) -> Result<Edit, CaptureFault>
     requires ready { held.now.ready ≡ true }
     requires entry { (node : Node) × IsEntry entry.items node }
     ensures { (node : Node) → IsEntry entry.items node
-        → PlansDocument command.now.file held.now.text.bytes
-        (captured states.now command.now.target command.now.place command.now.moment node
-        (tree held.now.text.bytes)) result }
+        → AnswersEdit (captured states.now command.now.target command.now.place
+        command.now.moment node (tree held.now.text.bytes)) held.now.text.bytes result }
 {
     let outline = outline_of(held, states);
-    let edit = capture(
+    capture(
         alloc,
         &outline,
         &command.target,
         command.place,
         command.moment,
         entry,
-    )?;
-    Ok(plan_of_one(alloc, NameOf::given(&command.file), edit))
+    )
 }
 
 /// What a capture of this entry into one of the files is to change.
@@ -83,7 +83,8 @@ fn plan_entry<'a, D: Disk>(
 {
     files.ready(&command.file)?;
     let held = files.held(&command.file);
-    Ok(plan_insertion(files.alloc(), states, held, command, entry)?)
+    let edit = insertion(files.alloc(), states, held, command, entry)?;
+    Ok(plan_of_one(files.alloc(), NameOf::given(&command.file), edit))
 }
 
 /// What a capture into a file is to change. It is refused for its file first, then for its template, then for its entry,

@@ -1,6 +1,8 @@
 use Rattle.std.proofs.Common.{◌≡◌, ◌∙◌, ◌∷◌, [], true, Option, Some, Result, Ok, Err, List, ℕ, sym, ap, subst, rules}
 use Rattle.std.specs.Option.{unwrap_or}
 use Rattle.org_journal.specs.Recovered.{Image, contents}
+use Rattle.org_splice.specs.declared.edit.Edit.{Edit}
+use Rattle.org_splice.specs.Edits.{AreEdits}
 use Rattle.org_outline.specs.Tree.{print}
 use Rattle.org_texts.specs.declared.plan.Plan.{Plan}
 use Rattle.org_texts.specs.Texts.{text_of}
@@ -36,8 +38,8 @@ held-held-requires g c =
     let ready : AreReady (file ∷ []) held = c.in_ok-ready.ensures.ready [] (none_ready c.args.files.now.held c.requires.between.begun) in
     is_ready (file ∷ []) held file ready (one_name file)
 
-pub returns-in_err-plan_insertion-clause-plans : goal.returns-in_err-plan_insertion-clause-plans
-returns-in_err-plan_insertion-clause-plans g c tally node entry honest =
+pub returns-in_err-edit-clause-plans : goal.returns-in_err-edit-clause-plans
+returns-in_err-edit-clause-plans g c tally node entry honest =
     let a = c.args in
     let texts : g.row.D.Denot → Image = λ disk. contents (g.D.Disk.files disk) in
     let s = session_over texts a.states.now a.files.now tally in
@@ -46,8 +48,8 @@ returns-in_err-plan_insertion-clause-plans g c tally node entry honest =
     let file = a.command.now.file in
     let text = c.held-held.result.now.text in
     let said = λ (o : Option (List ℕ)). with_entry s file a.command.now.target a.command.now.place a.command.now.moment (Ok node) (unwrap_or o []) in
-    let why = c.in_err-plan_insertion.field-0.0 in
-    let given : c.from_residual-in_err-plan_insertion.result ≡ Err (fault_of_capture why) = search rules in
+    let why = c.in_err-edit.field-0.0 in
+    let given : c.from_residual-in_err-edit.result ≡ Err (fault_of_capture why) = search rules in
     let read : new ≡ s = c.in_ok-ready.ensures.reads a.states.now tally honest in
     let ready : AreReady (file ∷ []) held = c.in_ok-ready.ensures.ready [] (none_ready a.files.now.held c.requires.between.begun) in
     let named : is_name c.ready.new.self.names file ≡ true = ap (λ (ns : List (List ℕ)). is_name ns file) c.ready.ensures.disk.names ∙ c.requires.file in
@@ -55,7 +57,7 @@ returns-in_err-plan_insertion-clause-plans g c tally node entry honest =
     let old = ready_text (file ∷ []) held file text ready (one_name file) at in
     let seen : text_at new.names new.files file ≡ Some old.0.bytes = text_held c.ready.new.self.names held (texts c.ready.new.self.disk) file old.0 named old.1 in
     let found : text_at s.names s.files file ≡ Some old.0.bytes = subst (λ (t : Session). text_at t.names t.files file ≡ Some old.0.bytes) read seen in
-    let refused = target_refused s file a.command.now.target a.command.now.place a.command.now.moment old.0.bytes text.bytes node old.2 c.plan_insertion.result why c.requires.between.unbroken c.in_err-plan_insertion.was (c.plan_insertion.ensures node entry) in
+    let refused = target_refused s file a.command.now.target a.command.now.place a.command.now.moment old.0.bytes text.bytes node old.2 c.insertion.result why c.requires.between.unbroken c.in_err-edit.was (c.insertion.ensures node entry) in
     subst (λ (r : Result Plan RunFault). Plans s (said (text_at s.names s.files file)) r held new) (sym given)
     (subst (λ (o : Option (List ℕ)). Does s (said o) (Err (fault_of_capture why)) new) (sym found)
     (subst (λ (t : Session). Does s (said (Some old.0.bytes)) (Err (fault_of_capture why)) t) (sym read) refused))
@@ -68,8 +70,11 @@ returns-clause-plan g c =
     let ready : AreReady (file ∷ []) held = c.in_ok-ready.ensures.ready [] (none_ready a.files.now.held c.requires.between.begun) in
     let named : is_name c.ready.new.self.names file ≡ true = ap (λ (ns : List (List ℕ)). is_name ns file) c.ready.ensures.disk.names ∙ c.requires.file in
     let at : text_of held.now file ≡ Some c.held-held.result.now.text = search rules in
-    let plans = c.in_ok-plan_insertion.ensures c.requires.entry.0 c.requires.entry.1 in
-    plan_of_one c.in_ok-plan_insertion.field-0 c.ready.new.self.names held file c.held-held.result.now.text (print plans.0) plans.2 plans.3 at plans.4 named ready
+    let text = c.held-held.result.now.text in
+    let made = c.plan_of_one.ensures in
+    let answers = c.in_ok-edit.ensures c.requires.entry.0 c.requires.entry.1 in
+    let edits = subst (λ (es : List Edit). AreEdits es text.bytes (print answers.0)) (sym made.2) answers.2.edits in
+    plan_of_one c.plan_of_one.result c.ready.new.self.names held file text (print answers.0) (made.0 ∙ c.given.ensures) made.1 at edits named ready
 
 pub returns-clause-plans : goal.returns-clause-plans
 returns-clause-plans g c tally node entry honest =
@@ -80,7 +85,8 @@ returns-clause-plans g c tally node entry honest =
     let held = c.ready.new.self.held in
     let file = a.command.now.file in
     let text = c.held-held.result.now.text in
-    let plan = c.in_ok-plan_insertion.field-0 in
+    let plan = c.plan_of_one.result in
+    let made = c.plan_of_one.ensures in
     let read : new ≡ s = c.in_ok-ready.ensures.reads a.states.now tally honest in
     let ready : AreReady (file ∷ []) held = c.in_ok-ready.ensures.ready [] (none_ready a.files.now.held c.requires.between.begun) in
     let named : is_name c.ready.new.self.names file ≡ true = ap (λ (ns : List (List ℕ)). is_name ns file) c.ready.ensures.disk.names ∙ c.requires.file in
@@ -88,9 +94,10 @@ returns-clause-plans g c tally node entry honest =
     let old = ready_text (file ∷ []) held file text ready (one_name file) at in
     let seen : text_at new.names new.files file ≡ Some old.0.bytes = text_held c.ready.new.self.names held (texts c.ready.new.self.disk) file old.0 named old.1 in
     let found : text_at s.names s.files file ≡ Some old.0.bytes = subst (λ (t : Session). text_at t.names t.files file ≡ Some old.0.bytes) read seen in
-    let plans = c.in_ok-plan_insertion.ensures node entry in
-    let changes = one_text plan held file text (print plans.0) plans.2 plans.3 at plans.4 in (
+    let answers = c.in_ok-edit.ensures node entry in
+    let edits = subst (λ (es : List Edit). AreEdits es text.bytes (print answers.0)) (sym made.2) answers.2.edits in
+    let changes = one_text plan held file text (print answers.0) (made.0 ∙ c.given.ensures) made.1 at edits in (
       ap (λ (o : Option (List ℕ)). with_entry s file a.command.now.target a.command.now.place a.command.now.moment (Ok node) (unwrap_or o [])) found
-          ∙ target_planned s file a.command.now.target a.command.now.place a.command.now.moment old.0.bytes text.bytes node old.2 plan (new_texts plan held.now) plans changes,
+          ∙ target_planned s file a.command.now.target a.command.now.place a.command.now.moment old.0.bytes text.bytes node old.2 c.in_ok-edit.edit (new_texts plan held.now) answers changes,
       read,
     )
