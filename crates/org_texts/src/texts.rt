@@ -237,8 +237,22 @@ fn place_of(held: &IndexMap<FileName, Held>, guess: usize, name: &FileName) -> O
 {
     match held.as_slice().get_index(guess) {
         Some((at, _)) if at == name => Some(guess),
-        _ => held.get_index_of(name),
+        _ => find(held, name),
     }
+}
+
+/// `place_of` without a guess. It stands apart so that a right guess costs little.
+#[cold]
+#[inline(never)]
+fn find(held: &IndexMap<FileName, Held>, name: &FileName) -> Option<usize>
+    ensures place { result ≡ position (bytes_eq name.now) (keys_of held.now.entries) }
+    ensures found { is_some result
+        ≡ is_some (lookup (bytes_eq name.now) held.now.entries) }
+    ensures within { IfSome result (λ i. i < length held.now.entries) }
+    ensures value { IfSome result (λ i. slice_get (values_of held.now.entries) i
+        ≡ lookup (bytes_eq name.now) held.now.entries) }
+{
+    held.get_index_of(name)
 }
 
 /// Whether a name is one of these. The last one is looked at first.
@@ -247,8 +261,17 @@ fn has(names: &IndexSet<FileName>, name: &FileName) -> bool
 {
     match names.last() {
         Some(last) if last == name => true,
-        _ => names.contains(name),
+        _ => is_among(names, name),
     }
+}
+
+/// `has` without a look at the last one, apart for the same reason as `find`.
+#[cold]
+#[inline(never)]
+fn is_among(names: &IndexSet<FileName>, name: &FileName) -> bool
+    ensures { result ≡ list_any (bytes_eq name.now) names.now.keys }
+{
+    names.contains(name)
 }
 
 /// Puts a name behind the others, if it isn't there. `AllocError` leaves them as they are.
@@ -259,6 +282,16 @@ fn wait(names: &mut IndexSet<FileName>, name: &FileName) -> Result<(), AllocErro
     if has(names, name) {
         return Ok(());
     }
+    add(names, name)
+}
+
+/// Puts a name behind the others, where it isn't. `AllocError` leaves them as they are.
+#[cold]
+#[inline(never)]
+fn add(names: &mut IndexSet<FileName>, name: &FileName) -> Result<(), AllocError>
+    ensures ok { OnOk result (names.new.keys ≡ with_name name.now names.old.keys) }
+    ensures err { OnErr result (names.new.keys ≡ names.old.keys) }
+{
     names.insert(name.clone()?)?;
     Ok(())
 }
