@@ -141,18 +141,25 @@ fn answer<D: Disk, W: Sink>(
 }
 
 // What the line that ends with these bytes is read as. Nothing of it is kept then.
-fn read_line(
-    alloc: Global,
-    pending: &mut Pending,
-    last: &[u8],
-) -> Result<Command, LineFault>
+fn read_line(alloc: Global, pending: &mut Pending, last: &[u8]) -> Result<Command, LineFault>
     ensures read { (part : List ℕ) → Stands pending.old part → IsReadAs (part ++ last.now) result }
     ensures cleared { Stands pending.new [] }
 {
     // Most lines lie whole in one piece, and are read where they stand.
     if pending.is_whole(last) {
-        return read_command(alloc, last);
+        read_command(alloc, last)
+    } else {
+        read_end(alloc, pending, last)
     }
+}
+
+// `read_line` where the line began in an earlier piece, or is too long.
+#[cold]
+#[inline(never)]
+fn read_end(alloc: Global, pending: &mut Pending, last: &[u8]) -> Result<Command, LineFault>
+    ensures read { (part : List ℕ) → Stands pending.old part → IsReadAs (part ++ last.now) result }
+    ensures cleared { Stands pending.new [] }
+{
     pending.add(last);
     let read = read_kept(alloc, pending);
     pending.clear();
