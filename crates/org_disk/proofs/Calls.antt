@@ -249,12 +249,12 @@ module _ (name : List ℕ) (copy : Vec ℕ Global) (calls later : List Call) whe
   set_others (Ok tt) made same other apart = (changes_made calls later (call_of name (Set copy) false) made).others other apart
   set_others (Err e) made same other apart = ap (λ (cs : List Call). files_after cs other) same
 
--- A call within which the disk crashes.
-pub tried_crashed : (name : List ℕ) (effect made : Effect) (calls later : List Call) → (made ≡ effect) ⊎ (made ≡ Nothing) → (r : Result (Unit {0}) AllocError)
-    → OnOk r (later ≡ calls ++ call_of name made true ∷ []) → OnErr r (later ≡ calls) → IsTried name effect calls later
-tried_crashed name effect made calls later which (Err e) ok err = inl err
-tried_crashed name effect made calls later (inl same) (Ok tt) ok err = inr (inl (true, ok ∙ ap (λ (e : Effect). calls ++ call_of name e true ∷ []) same))
-tried_crashed name effect made calls later (inr none) (Ok tt) ok err = inr (inr (true, ok ∙ ap (λ (e : Effect). calls ++ call_of name e true ∷ []) none))
+-- A call that failed: the record has it with its effect or with none, or has no memory for it.
+pub tried_recorded : (name : List ℕ) (effect made : Effect) (crashed : Bool) (calls later : List Call) → (made ≡ effect) ⊎ (made ≡ Nothing) → (r : Result (Unit {0}) AllocError)
+    → OnOk r (later ≡ calls ++ call_of name made crashed ∷ []) → OnErr r (later ≡ calls) → IsTried name effect calls later
+tried_recorded name effect made crashed calls later which (Err e) ok err = inl err
+tried_recorded name effect made crashed calls later (inl same) (Ok tt) ok err = inr (inl (crashed, ok ∙ ap (λ (e : Effect). calls ++ call_of name e crashed ∷ []) same))
+tried_recorded name effect made crashed calls later (inr none) (Ok tt) ok err = inr (inr (crashed, ok ∙ ap (λ (e : Effect). calls ++ call_of name e crashed ∷ []) none))
 
 -- what a call that was made adds to the count
 pub count_made : (name : List ℕ) (effect : Effect) (calls later : List Call) (result : Result (Unit {0}) DiskFault) → is_call_effect effect ≡ true
