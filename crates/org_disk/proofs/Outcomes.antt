@@ -1,8 +1,9 @@
 -- What an outcome leaves of a file stays an image, call by call.
-use Rattle.std.proofs.Common.{◌⊎◌, inl, inr, ℕ, ◌+◌, ◌<◌, ◌≤◌, List, length, sym, ◌∙◌, arith}
+use Rattle.std.proofs.Common.{◌⊎◌, inl, inr, ℕ, ◌+◌, ◌<◌, ◌≤◌, List, length, take, sym, ◌∙◌, arith}
+use Rattle.std.proofs.lemmas.List.{get_or-take, length-take}
 use Rattle.org_splice.specs.Overwritten.{overwritten}
 use Rattle.org_splice.proofs.Overwritten.{overwritten-beside, overwritten-bounds}
-use Rattle.org_disk.specs.Disk.{FileState, IsImage, write}
+use Rattle.org_disk.specs.Disk.{FileState, IsImage, cut, write}
 use Rattle.org_disk.proofs.Ranges.{outside_range}
 
 module _ (from : ℕ) (bytes : List ℕ) (file : FileState) (left : List ℕ) (own : IsImage file file.content) (image : IsImage file left) where
@@ -32,3 +33,20 @@ module _ (from : ℕ) (bytes : List ℕ) (file : FileState) (left : List ℕ) (o
       nearer : (i : ℕ) → (i < from) ⊎ (from + length bytes ≤ i) → (i < from) ⊎ (from + length piece ≤ i)
       nearer i (inl before) = inl before
       nearer i (inr after) = inr (omega (arith, after, short))
+
+module _ (n : ℕ) (file : FileState) (left : List ℕ) (image : IsImage file left) where
+  -- nothing of a cut took place
+  pub cut_none : IsImage (cut n file) left
+  cut_none = record {
+    no_shorter = omega (arith, image.no_shorter);
+    no_longer = image.no_longer;
+    fixed = λ i fixed. image.fixed i (omega (arith, fixed.0), fixed.1) ∙ sym (get_or-take n file.content i 0 (omega (arith, fixed.0)));
+  }
+
+  -- a cut took place
+  pub cut_all : IsImage (cut n file) (take n left)
+  cut_all = record {
+    no_shorter = omega (arith, image.no_shorter, length-take n left);
+    no_longer = omega (arith, image.no_longer, length-take n left);
+    fixed = λ i fixed. get_or-take n left i 0 (omega (arith, fixed.0)) ∙ image.fixed i (omega (arith, fixed.0), fixed.1) ∙ sym (get_or-take n file.content i 0 (omega (arith, fixed.0)));
+  }
