@@ -65,3 +65,15 @@ returns-in_default-clause-least c = λ j some lt.
                 absurd (cc)
           ])
     ]
+
+pub overflow_add-from : goal.overflow_add-from
+overflow_add-from c = omega arith
+
+pub overflow_sub-whole : goal.overflow_sub-whole
+overflow_sub-whole c = omega arith
+
+pub returns-then-to-from-clause-bound : goal.returns-then-to-from-clause-bound
+returns-then-to-from-clause-bound c = omega arith
+
+pub nonzero_div-whole : goal.nonzero_div-whole
+nonzero_div-whole c = omega arith

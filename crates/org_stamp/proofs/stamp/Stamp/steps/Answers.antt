@@ -120,3 +120,12 @@ returns-in-Year-clause-least c = λ j some lt later.
     let few = c.least_month_steps-in-Year.ensures.least j some lt in
     let missed : day_number there <ℤ c.target-in-Year.result = omega (arith, ints, few, c.target-in-Year.ensures.bound) in
     not_by_day s c.args.interval.unit Year (j * v) c.args.now there c.target-in-Year.result c.in-Year.is (year_is s c.self.inside.day j v day) stamp.behind.time c.target-in-Year.ensures.minute c.target-in-Year.ensures.value missed later
+
+pub overflow_mul-value : goal.overflow_mul-value
+overflow_mul-value c = omega arith
+
+pub overflow_mul-value-in-Week : goal.overflow_mul-value-in-Week
+overflow_mul-value-in-Week c = omega arith
+
+pub overflow_mul-value-in-Year : goal.overflow_mul-value-in-Year
+overflow_mul-value-in-Year c = omega arith
