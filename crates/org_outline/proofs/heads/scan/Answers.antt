@@ -43,3 +43,6 @@ pub returns-clause-ok : goal.returns-clause-ok
 returns-clause-ok c =
     let i = c.loop-skipped.invariant in
     i.behind ∙ ap (λ hs. c.args.headings.now.items ++ hs) (scanned_all _ _ _ _ _ i.scanned (record { first = c.memchr.ensures }) c.in_default.is)
+
+pub slice_bounds-memchr-count : goal.slice_bounds-memchr-count
+slice_bounds-memchr-count c = omega arith

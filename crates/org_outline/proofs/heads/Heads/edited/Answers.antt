@@ -59,3 +59,18 @@ returns-clause-ok c =
     let at_cut = c.len-2.ensures ∙ c.scan-2.new.headings.ok.0 in
     let now = c.as_mut_slice.ensures.value ∙ c.in_ok-replace.ensures.ok in
     edited_now _ _ _ _ _ _ _ _ _ _ _ _ _ _ m at_cut now c.self.view_is c.move_from.ensures c.as_mut_slice.ensures.len
+
+pub overflow_add-at : goal.overflow_add-at
+overflow_add-at c = omega arith
+
+pub slice_bounds-lines-count : goal.slice_bounds-lines-count
+slice_bounds-lines-count c = omega arith
+
+pub overflow_sub-to : goal.overflow_sub-to
+overflow_sub-to c = omega arith
+
+pub overflow_add-behind : goal.overflow_add-behind
+overflow_add-behind c = omega arith
+
+pub replace-requires-clause-within : goal.replace-requires-clause-within
+replace-requires-clause-within c = omega arith
