@@ -159,7 +159,7 @@ pub(crate) fn is_closed(entry: &Entry) -> bool
 pub(crate) fn has_closed(entries: &[Entry]) -> bool
     ensures { result ≡ has_closed entries.now }
 {
-    entries.iter().any(|entry| is_closed(entry))
+    entries.iter().any(is_closed)
 }
 
 /// Whether there are other entries than CLOSED.

@@ -290,5 +290,5 @@ pub fn repeat_planning(
 fn has_repeater(entries: &[Entry]) -> bool
     ensures { result ≡ has_repeater entries.now }
 {
-    entries.iter().any(|entry| is_repeating(entry))
+    entries.iter().any(is_repeating)
 }
