@@ -24,7 +24,10 @@ enum Record {
 const ENTRY: &[u8] =
     b"\0\x09inbox.org\0\0\0\0\0\0\0\0\0\0\0\0\0\0\0\x10\0\0\0\0\0\0\0\x10* TODO Call Ann\n";
 
-static ROWS: &[(Body, Record)] = &[
+// A body, and what its bytes are.
+type Row = (Body, Record);
+
+static FORMED: &[Row] = &[
     // both versions are read, and version 2 is written
     ((&OLD, ALL, &[], b""), Record::Capture),
     ((&NEW, ALL, &[], b""), Record::Capture),
@@ -49,7 +52,9 @@ static ROWS: &[(Body, Record)] = &[
         (&OLD, ALL, &[(14, &[106, 0, 0, 0, 2]), (72, b"j")], ENTRY),
         Record::Formed,
     ),
-    // version 1
+];
+
+static VERSION_1: &[Row] = &[
     ((&OLD, ALL, &[(3, &[0x4b])], b""), Record::Malformed), // a wrong letter
     ((&OLD, ALL, &[(4, &[3])], b""), Record::Malformed), // version 3
     ((&OLD, ALL, &[(6, &[1])], b""), Record::Malformed), // a byte that is to be 0
@@ -69,7 +74,9 @@ static ROWS: &[(Body, Record)] = &[
         (&OLD, ALL, &[(14, &[4, 0, 0, 0, 0])], b""),
         Record::Malformed,
     ), // no entry
-    // version 2
+];
+
+static VERSION_2: &[Row] = &[
     ((&TWO, ALL, &[(66, &[2])], b""), Record::Malformed), // the second patch begins within the first
     ((&TWO, ALL, &[(66, &[8])], b""), Record::Malformed), // the second patch ends past the final length
     ((&TWO, ALL, &[(38, &[0, 0, 0, 0])], b""), Record::Malformed), // no patch
@@ -120,14 +127,25 @@ fn is_as_told(rt: &impl Abort, alloc: Global, bytes: &[u8], record: &Record) -> 
     }
 }
 
+// Stops the test where a row isn't as it says.
+fn hold_rows(rt: &impl Abort, alloc: Global, rows: &[Row]) {
+    for (i, (body, record)) in rows.iter().enumerate() {
+        let bytes = body_of(rt, alloc, body);
+        hold_row(rt, is_as_told(rt, alloc, &bytes, record), i);
+    }
+}
+
 #[test]
 fn records(rt: HostRuntime) {
-    let alloc = rt.alloc();
-    for (i, (body, record)) in ROWS.iter().enumerate() {
-        hold_row(
-            &rt,
-            is_as_told(&rt, alloc, &body_of(&rt, alloc, body), record),
-            i,
-        );
-    }
+    hold_rows(&rt, rt.alloc(), FORMED);
+}
+
+#[test]
+fn records_of_version_1(rt: HostRuntime) {
+    hold_rows(&rt, rt.alloc(), VERSION_1);
+}
+
+#[test]
+fn records_of_version_2(rt: HostRuntime) {
+    hold_rows(&rt, rt.alloc(), VERSION_2);
 }
