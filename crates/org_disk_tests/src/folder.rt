@@ -181,9 +181,10 @@ fn answer(
 
 // Whether a call on a file answers this, and so many have failed then.
 fn answers<C: Calls + Drop>(
+    rt: &impl Abort,
     system: &HostRuntime,
     disk: &mut CallsDisk<C>,
-    name: &FileName,
+    file: &str,
     call: &Call,
     expected: &Result<u64, DiskFault>,
     failures: u64,
@@ -191,7 +192,8 @@ fn answers<C: Calls + Drop>(
 where
     C::File: Drop,
 {
-    answer(system, disk, name, call) == *expected && disk.failures() == failures
+    let name = name_of(rt, system.alloc(), file);
+    answer(system, disk, &name, call) == *expected && disk.failures() == failures
 }
 
 // Whether a step goes as it says.
@@ -207,11 +209,26 @@ where
     match step {
         Step::Other(path, entry) => make(system, path, entry).is_ok(),
         Step::Call(file, call, expected, failures) => {
-            let name = name_of(rt, system.alloc(), file);
-            answers(system, disk, &name, call, expected, *failures)
+            answers(rt, system, disk, file, call, expected, *failures)
         }
         Step::Holds(path, bytes) => holds(rt, system, path, bytes),
         Step::IsAbsent(path) => !is_there(system, path),
+    }
+}
+
+// The steps on a disk, which is that of a folder.
+fn go_each<C: Calls + Drop>(
+    rt: &impl Abort,
+    system: &HostRuntime,
+    disk: &mut CallsDisk<C>,
+    folder: &str,
+    steps: &[Step],
+)
+where
+    C::File: Drop,
+{
+    for (i, step) in steps.iter().enumerate() {
+        assert!(rt; goes(rt, system, disk, step), "{folder}, step {i}");
     }
 }
 
@@ -219,9 +236,7 @@ where
 fn go_on(rt: &impl Abort, system: &HostRuntime, folder: &str, steps: &[Step]) {
     let own = system.clone().expect(rt, "memory");
     let mut disk: Folder = disk(rt, system, folder, own);
-    for (i, step) in steps.iter().enumerate() {
-        assert!(rt; goes(rt, system, &mut disk, step), "{folder}, step {i}");
-    }
+    go_each(rt, system, &mut disk, folder, steps);
     drop(disk);
 }
 

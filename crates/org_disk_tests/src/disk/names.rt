@@ -6,10 +6,7 @@ use std::process::Abort;
 
 // So many letters in front of this.
 fn with_letters(rt: &impl Abort, alloc: Global, letters: usize, end: &str) -> String {
-    let mut text = String::new(alloc);
-    for _ in 0..letters {
-        text.push('a').expect(rt, "memory");
-    }
+    let mut text = "a".repeat(alloc, letters).expect(rt, "memory");
     text.push_str(end).expect(rt, "memory");
     text
 }

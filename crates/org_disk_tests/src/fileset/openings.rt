@@ -113,10 +113,10 @@ fn too_many_names_are_refused(rt: HostRuntime) {
 
 // Whether a file is refused as too large, or none where it is none.
 fn is_refusal(fault: &Option<OpenFault>, file: Option<&str>) -> bool {
-    match fault {
-        Some(OpenFault::TooLarge(name)) => file == Some(name.as_str()),
-        Some(_) => false,
-        None => file.is_none(),
+    match (fault, file) {
+        (Some(OpenFault::TooLarge(name)), Some(file)) => name.as_str() == file,
+        (None, None) => true,
+        _ => false,
     }
 }
 
