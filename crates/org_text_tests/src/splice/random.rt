@@ -16,14 +16,12 @@ fn below(state: &mut u64, bound: usize) -> usize
     (*state >> 40) as usize % bound
 }
 
-/// Writes bytes over a text, from a place on.
+/// Writes bytes over a text, from a place on, or behind it where it ends before that place.
 fn write(rt: &impl Abort, text: &mut Vec<u8>, from: usize, bytes: &[u8]) {
-    for (i, byte) in bytes.iter().enumerate() {
-        match text.get_mut(from.saturating_add(i)) {
-            Some(place) => *place = *byte,
-            None => text.push(*byte).expect(rt, "memory"),
-        }
-    }
+    let from = from.min(text.len());
+    let (over, added) = bytes.split_at(bytes.len().min(text.len() - from));
+    text[from..from + over.len()].copy_from_slice(over);
+    text.extend_from_slice(added).expect(rt, "memory");
 }
 
 /// Splices a text once, at random.
