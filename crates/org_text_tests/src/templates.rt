@@ -17,14 +17,8 @@ enum Made {
 type Row = (&'static str, usize, &'static str, usize, Made);
 
 /// This text, so often.
-fn repeated(rt: &impl Abort, alloc: Global, unit: &str, times: usize) -> Vec<u8> {
-    let mut bytes = Vec::new(alloc);
-    for _ in 0..times {
-        bytes
-            .extend_from_slice(unit.as_bytes())
-            .expect(rt, "memory");
-    }
-    bytes
+fn repeated(rt: &impl Abort, alloc: Global, unit: &str, times: usize) -> String {
+    unit.repeat(alloc, times).expect(rt, "memory")
 }
 
 /// Whether a template makes what it should, as many bytes as are told of it.
@@ -41,7 +35,7 @@ fn is_made(
         Made::Text(unit, times) => {
             let wanted = repeated(rt, alloc, unit, *times);
             let text = expand(alloc, template, now, initial).expect(rt, "a text");
-            length == wanted.len() && text.as_slice() == wanted.as_slice()
+            length == wanted.len() && text.as_slice() == wanted.as_bytes()
         }
         Made::Length(wanted) => length == *wanted,
     }
@@ -52,7 +46,14 @@ fn is_right(rt: &impl Abort, alloc: Global, row: &Row) -> bool {
     let (unit, times, initial, often, made) = row;
     let template = repeated(rt, alloc, unit, *times);
     let initial = repeated(rt, alloc, initial, *often);
-    is_made(rt, alloc, &template, &initial, made, now(rt))
+    is_made(
+        rt,
+        alloc,
+        template.as_bytes(),
+        initial.as_bytes(),
+        made,
+        now(rt),
+    )
 }
 
 /// A mebibyte.
