@@ -8,6 +8,7 @@
 //! (`changing`); the planner of each command stands under `commands`.
 #![tactic(auto)]
 
+mod act;
 mod changing;
 mod command;
 mod commands;

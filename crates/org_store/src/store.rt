@@ -19,10 +19,8 @@ ghost use Rattle.org_store.specs.Outcome.{AsksToSettle, outcome};
 ghost use Rattle.org_store.specs.Counts.{Counts, SettledCounts};
 ghost use Rattle.org_store.specs.Waiting.{Waits, WaitsSettled};
 
-use crate::changing::change;
+use crate::act::act;
 use crate::command::{Command, Reply, RunFault};
-use crate::commands::show::show;
-use crate::commands::time::time;
 use crate::files::Files;
 use crate::tally::Tally;
 use org_disk::{Disk, FileName};
@@ -239,15 +237,15 @@ impl<D: Disk> Store<D> {
                 self.settle()?;
                 Ok(Reply::Safe(self.tally.acknowledged))
             }
-            Command::Time { file, path } => time(&mut self.files, &self.states, file, path),
-            Command::Show { file } => show(&mut self.files, file),
             Command::Capture(_)
             | Command::Refile(_)
             | Command::Todo(_)
             | Command::Archive(_)
             | Command::ClockIn(_)
-            | Command::ClockOut { .. } => {
-                change(&mut self.files, &self.states, &mut self.tally, command)
+            | Command::ClockOut { .. }
+            | Command::Time { .. }
+            | Command::Show { .. } => {
+                act(&mut self.files, &self.states, &mut self.tally, command)
             }
         }
     }
