@@ -6,10 +6,15 @@ a time, in memory (/dev/shm): from its journal after each reply the bytes of eac
 of the bare loop. Then, in rounds, the program and the loop run the same lines on the same files by turns, each in a new
 folder. The clock runs from the first line behind a few that warm up (they read the files) to the last reply; the
 processor time is that of the process (/proc/PID/schedstat). Replies, files and journals of both are compared.
+
+While the clock runs nobody waits at the pipe of the replies: it is looked into now and then. A reader that waits is woken
+by each write that finds it waiting. That is a cost of the writer's, which its own calls don't make, and the slower of two
+writers finds the reader waiting more often: so it would count more than what is measured.
 """
 
 import argparse
 import collections
+import fcntl
 import filecmp
 import os
 import re
@@ -26,6 +31,8 @@ JOURNAL = "orgstore.journal"
 MOMENT = "2026-07-01 10:00"
 WARM_UP = 2         # groups of commands before the clock runs
 SETTLED = 10        # commands after which no memory should be mapped or given back, if a group is full by then
+PIPE = 1 << 20      # bytes of replies that wait to be read, at most
+LOOK = 0.0005       # seconds between two looks for replies
 MAPPINGS = ("mmap", "munmap", "mremap", "brk", "madvise")
 
 # Files of a folder by name, the lines that are run on it, and how many of them are settled together.
@@ -82,6 +89,7 @@ class Run:
     def __init__(self, words):
         self.process = subprocess.Popen(words, stdin=subprocess.PIPE, stdout=subprocess.PIPE, stderr=subprocess.PIPE)
         self.replies = bytearray()
+        fcntl.fcntl(self.process.stdout.fileno(), fcntl.F_SETPIPE_SZ, PIPE)
 
     def send(self, lines):
         """Sends lines by a thread of its own, so that no pipe blocks another."""
@@ -100,6 +108,21 @@ class Run:
             if not piece:
                 fail("ended early: %r" % self.process.stderr.read().decode(errors="replace"))
             self.replies += piece
+
+    def look_for(self, count):
+        """Looks now and then whether so many bytes of replies are there, and waits at no pipe."""
+        output = self.process.stdout.fileno()
+        os.set_blocking(output, False)
+        while len(self.replies) < count:
+            time.sleep(LOOK)
+            try:
+                piece = os.read(output, PIPE)
+            except BlockingIOError:
+                continue
+            if not piece:
+                fail("ended early: %r" % self.process.stderr.read().decode(errors="replace"))
+            self.replies += piece
+        os.set_blocking(output, True)
 
     def ask(self, one, settles):
         """Sends one line, and answers its reply up to the line `safe N`, if it settles."""
@@ -214,7 +237,7 @@ class Bench:
         rest = b"".join(case.lines[warm:])
         processor, clock = run.processor(), time.perf_counter()
         run.send(rest)
-        run.wait_for(end_of_replies(replies, len(case.lines)))
+        run.look_for(end_of_replies(replies, len(case.lines)))
         clock, processor = time.perf_counter() - clock, run.processor() - processor
         used = run.end()
         if run.replies != replies:
