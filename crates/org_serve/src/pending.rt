@@ -1,5 +1,5 @@
 //! The start of a line whose newline hasn't come.
-ghost use Rattle.std.specs.Prelude.{◌≡◌, ◌<◌, ◌≤◌, ◌++◌, List, ℕ, [], length, IsTrue, MatchOption, MatchResult};
+ghost use Rattle.std.specs.Prelude.{◌≡◌, ◌↔◌, ◌<◌, ◌≤◌, ◌++◌, List, ℕ, [], length, IsTrue, MatchOption, MatchResult};
 ghost use Rattle.org_serve.specs.Pending.{limit, IsCause, Stands};
 
 use crate::fault::LineFault;
@@ -42,9 +42,9 @@ impl Pending {
 
     /// Whether these bytes are a whole line by themselves: nothing of it is kept, and they are within the limit.
     pub fn is_whole(&self, last: &[u8]) -> bool
+        ensures exact { (part : List ℕ) → Stands self.now part
+            → IsTrue result ↔ ((part ≡ []) × (length last.now ≤ limit)) }
         ensures none { IsTrue result → Stands self.now [] }
-        ensures only { IsTrue result → (part : List ℕ) → Stands self.now part → part ≡ [] }
-        ensures within { IsTrue result → length last.now ≤ limit }
     {
         self.fault.is_none() && self.bytes.is_empty() && last.len() <= LIMIT
     }
