@@ -1,7 +1,7 @@
 -- What is filled in stays.
 use Rattle.std.proofs.Common.{◌≡◌, arith, length, take, drop, ℕ, Bool, true, false, not, ◌&&◌, eqb, List, [], ◌∷◌, ◌++◌, Option, Some, None, Result, Ok, Err, refl, sym, ◌∙◌, ap, subst, append_assoc, inl, inr}
 use Rattle.std.specs.Prelude.{◌≢◌, unwrap_or}
-use Rattle.std.specs.List.{list_all, AllByRecursion}
+use Rattle.std.specs.List.{list_all, list_any, AllByRecursion}
 use Rattle.memchr.specs.Find.{IsFirstByte, is_byte}
 use Rattle.org_outline.proofs.HeadsFrom.{first_found, none_found}
 use Rattle.std.proofs.lemmas.Bool.{cases_Bool, eqb-true}
@@ -72,6 +72,18 @@ behind plain template moment initial all = filled_plain moment initial [] plain 
 
 pub plain_stays : (template : List ℕ) (moment : CivilMinute) (initial : List ℕ) → list_all (λ b. not (eqb b 37)) template ≡ true → expanded template moment initial ≡ Ok template
 plain_stays template moment initial all = ap (λ t. expanded t moment initial) (sym (append-nil template)) ∙ behind template [] moment initial all
+
+-- a template without a percent sign stands for itself
+no_sign_all : (template : List ℕ) → list_any (λ b. eqb b 37) template ≡ false → list_all (λ b. not (eqb b 37)) template ≡ true
+no_sign_all [] none = refl
+no_sign_all (b ∷ template) none =
+    elim (cases_Bool (eqb b 37)) [
+      | inl e ↦ absurd (let found = rw e at none in cc)
+      | inr e ↦ rw e (no_sign_all template (rw e at none))
+    ]
+
+pub no_sign_stays : (template : List ℕ) (moment : CivilMinute) (initial : List ℕ) → list_any (λ b. eqb b 37) template ≡ false → expanded template moment initial ≡ Ok template
+no_sign_stays template moment initial none = plain_stays template moment initial (no_sign_all template none)
 
 pub kept : (moment : CivilMinute) (initial text whole : List ℕ) (pieces : List Piece) → filled moment initial text pieces ≡ Ok whole → (more : List ℕ) × (whole ≡ text ++ more)
 kept moment initial text whole [] is =

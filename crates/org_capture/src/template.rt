@@ -97,6 +97,11 @@ pub fn expand(
 {
     // The newline that a last line may lack finds room too.
     let mut text = Vec::with_capacity(alloc, template.len().saturating_add(1))?;
+    // Most templates have no escape, and stand for themselves.
+    if !template.contains(&b'%') {
+        text.extend_from_slice(template)?;
+        return Ok(text);
+    }
     let mut rest = template;
     loop {
         let (plain, behind) = split_plain(rest);

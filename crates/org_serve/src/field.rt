@@ -10,6 +10,7 @@ use org_capture::Target;
 use org_disk::{FileName, NameFault};
 use org_outline::{Place, Titles};
 use org_splice::Bytes;
+use org_store::TextOf;
 use std::alloc::Global;
 
 /// Whether a field is this word.
@@ -31,13 +32,10 @@ fn escape(b: u8) -> Option<u8>
     }
 }
 
-fn unescape(alloc: Global, field: &[u8]) -> Result<Vec<u8>, LineFault>
+// What a field with an escape stands for.
+fn read_escapes(alloc: Global, field: &[u8]) -> Result<Vec<u8>, LineFault>
     ensures { GivesBy (λ v. v.items) result (unescaped field.now) }
 {
-    // Most fields have no escape, and are copied at once.
-    if !field.contains(&b'\\') {
-        return Ok(field.to_vec(alloc)?);
-    }
     let mut text = Vec::with_capacity(alloc, field.len())?;
     let mut is_escaped = false;
     for b in field {
@@ -59,12 +57,25 @@ fn unescape(alloc: Global, field: &[u8]) -> Result<Vec<u8>, LineFault>
     Ok(text)
 }
 
-/// The text that a field TEMPLATE, INITIAL or STATE is. `BadLine` comes only where it has a wrong escape; `OutOfMemory`
-/// where memory for it was refused.
-pub fn text(alloc: Global, field: &[u8]) -> Result<Bytes, LineFault>
+// What a field stands for. Most have no escape, and are copied at once.
+fn unescape(alloc: Global, field: &[u8]) -> Result<Vec<u8>, LineFault>
+    ensures { GivesBy (λ v. v.items) result (unescaped field.now) }
+{
+    if !field.contains(&b'\\') {
+        return Ok(field.to_vec(alloc)?);
+    }
+    read_escapes(alloc, field)
+}
+
+/// The text that a field TEMPLATE, INITIAL or STATE is: the field as it stands, which isn't copied, where it has no escape.
+/// `BadLine` comes only where it has a wrong escape; `OutOfMemory` where memory for it was refused.
+pub fn text(alloc: Global, field: &[u8]) -> Result<TextOf<'_>, LineFault>
     ensures { Gives result (unescaped field.now) }
 {
-    Ok(Bytes::new(unescape(alloc, field)?))
+    if !field.contains(&b'\\') {
+        return Ok(TextOf::given(field));
+    }
+    Ok(TextOf::made(read_escapes(alloc, field)?))
 }
 
 #[tactic(auto, using(crate::proofs::Utf8::is_no_utf8, crate::proofs::Utf8::is_some_utf8))]
@@ -103,7 +114,7 @@ pub fn file(alloc: Global, field: &[u8]) -> Result<FileName, LineFault>
     if !field.contains(&b'\\') {
         return named(alloc, field);
     }
-    let name = unescape(alloc, field)?;
+    let name = read_escapes(alloc, field)?;
     named(alloc, &name)
 }
 
@@ -130,7 +141,7 @@ pub fn target(alloc: Global, field: &[u8]) -> Result<Target, LineFault>
     } else if is(field, "date") {
         Ok(Target::Date(Titles::new(Vec::new(alloc))))
     } else if let Some(title) = field.strip_prefix(b"head:") {
-        Ok(Target::Head(text(alloc, title)?))
+        Ok(Target::Head(Bytes::new(unescape(alloc, title)?)))
     } else if let Some(titles) = field.strip_prefix(b"path:") {
         Ok(Target::Path(path(alloc, titles)?))
     } else if let Some(titles) = field.strip_prefix(b"date:") {

@@ -18,7 +18,7 @@ const MOST_FIELDS: usize = 7;
 
 /// The command that a line is, given without its newline. `BadLine` comes only where it is none; `OutOfMemory` where
 /// memory for it was refused.
-pub fn read_command(alloc: Global, line: &[u8]) -> Result<Command, LineFault>
+pub fn read_command(alloc: Global, line: &[u8]) -> Result<Command<'_>, LineFault>
     ensures { Gives result (command_of line.now) }
 {
     let mut fields = [line; MOST_FIELDS];
@@ -35,7 +35,7 @@ pub fn read_command(alloc: Global, line: &[u8]) -> Result<Command, LineFault>
     Err(LineFault::BadLine)
 }
 
-fn command(alloc: Global, fields: &[&[u8]]) -> Result<Command, LineFault>
+fn command<'a>(alloc: Global, fields: &[&'a [u8]]) -> Result<Command<'a>, LineFault>
     ensures { Gives result (command_of_fields (map (λ s. s.now) fields.now)) }
 {
     match *fields {
@@ -48,13 +48,13 @@ fn command(alloc: Global, fields: &[&[u8]]) -> Result<Command, LineFault>
 }
 
 // A command within a file: its fields are the name, titles or a target, and more.
-fn command_within(
+fn command_within<'a>(
     alloc: Global,
     word: &[u8],
     name: &[u8],
     titles: &[u8],
-    more: &[&[u8]],
-) -> Result<Command, LineFault>
+    more: &[&'a [u8]],
+) -> Result<Command<'a>, LineFault>
     ensures { Gives result
         (command_of_fields (word.now ∷ name.now ∷ titles.now ∷ map (λ s. s.now) more.now)) }
 {
@@ -84,7 +84,7 @@ fn node(alloc: Global, name: &[u8], titles: &[u8]) -> Result<(FileName, Titles),
 }
 
 #[tactic(auto, unfolding(crate::specs::Grammar::show_of))]
-fn show(alloc: Global, name: &[u8]) -> Result<Command, LineFault>
+fn show<'a>(alloc: Global, name: &[u8]) -> Result<Command<'a>, LineFault>
     ensures { Gives result (show_of name.now) }
 {
     let file = file(alloc, name)?;
@@ -92,15 +92,15 @@ fn show(alloc: Global, name: &[u8]) -> Result<Command, LineFault>
 }
 
 #[tactic(auto, unfolding(crate::specs::Grammar::capture_of))]
-fn capture(
+fn capture<'a>(
     alloc: Global,
     name: &[u8],
     to: &[u8],
     at: &[u8],
     when: &[u8],
-    template: &[u8],
-    initial: &[u8],
-) -> Result<Command, LineFault>
+    template: &'a [u8],
+    initial: &'a [u8],
+) -> Result<Command<'a>, LineFault>
     ensures { Gives result (capture_of name.now to.now at.now when.now template.now initial.now) }
 {
     let place = place(at).ok_or(LineFault::BadLine)?;
@@ -120,14 +120,14 @@ fn capture(
 }
 
 #[tactic(auto, unfolding(crate::specs::Grammar::refile_of))]
-fn refile(
+fn refile<'a>(
     alloc: Global,
     name: &[u8],
     titles: &[u8],
     to_name: &[u8],
     to_titles: &[u8],
     at: &[u8],
-) -> Result<Command, LineFault>
+) -> Result<Command<'a>, LineFault>
     ensures { Gives result (refile_of name.now titles.now to_name.now to_titles.now at.now) }
 {
     let place = place(at).ok_or(LineFault::BadLine)?;
@@ -143,13 +143,13 @@ fn refile(
 }
 
 #[tactic(auto, unfolding(crate::specs::Grammar::todo_of))]
-fn todo(
+fn todo<'a>(
     alloc: Global,
     name: &[u8],
     titles: &[u8],
-    state: &[u8],
+    state: &'a [u8],
     when: &[u8],
-) -> Result<Command, LineFault>
+) -> Result<Command<'a>, LineFault>
     ensures { Gives result (todo_of name.now titles.now state.now when.now) }
 {
     let moment = moment(when).ok_or(LineFault::BadLine)?;
@@ -164,7 +164,12 @@ fn todo(
 }
 
 #[tactic(auto, unfolding(crate::specs::Grammar::archive_of))]
-fn archive(alloc: Global, name: &[u8], titles: &[u8], when: &[u8]) -> Result<Command, LineFault>
+fn archive<'a>(
+    alloc: Global,
+    name: &[u8],
+    titles: &[u8],
+    when: &[u8],
+) -> Result<Command<'a>, LineFault>
     ensures { Gives result (archive_of name.now titles.now when.now) }
 {
     let moment = moment(when).ok_or(LineFault::BadLine)?;
@@ -173,7 +178,12 @@ fn archive(alloc: Global, name: &[u8], titles: &[u8], when: &[u8]) -> Result<Com
 }
 
 #[tactic(auto, unfolding(crate::specs::Grammar::clock_in_of))]
-fn clock_in(alloc: Global, name: &[u8], titles: &[u8], when: &[u8]) -> Result<Command, LineFault>
+fn clock_in<'a>(
+    alloc: Global,
+    name: &[u8],
+    titles: &[u8],
+    when: &[u8],
+) -> Result<Command<'a>, LineFault>
     ensures { Gives result (clock_in_of name.now titles.now when.now) }
 {
     let moment = moment(when).ok_or(LineFault::BadLine)?;
@@ -182,7 +192,7 @@ fn clock_in(alloc: Global, name: &[u8], titles: &[u8], when: &[u8]) -> Result<Co
 }
 
 #[tactic(auto, unfolding(crate::specs::Grammar::clock_out_of))]
-fn clock_out(when: &[u8]) -> Result<Command, LineFault>
+fn clock_out<'a>(when: &[u8]) -> Result<Command<'a>, LineFault>
     ensures { Gives result (clock_out_of when.now) }
 {
     let moment = moment(when).ok_or(LineFault::BadLine)?;
@@ -190,7 +200,7 @@ fn clock_out(when: &[u8]) -> Result<Command, LineFault>
 }
 
 #[tactic(auto, unfolding(crate::specs::Grammar::clocked_of))]
-fn time(alloc: Global, name: &[u8], titles: &[u8]) -> Result<Command, LineFault>
+fn time<'a>(alloc: Global, name: &[u8], titles: &[u8]) -> Result<Command<'a>, LineFault>
     ensures { Gives result (clocked_of name.now titles.now) }
 {
     let (file, path) = node(alloc, name, titles)?;

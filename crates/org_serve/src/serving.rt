@@ -133,41 +133,50 @@ fn answer<D: Disk, W: Sink>(
     ensures accounts { Accounts D.steady D.honest D.failures store.old.disk store.new.disk
         (HasBroken store.old.session store.new.session) }
 {
-    let read = read_line(alloc, pending, last);
+    // Most lines lie whole in one piece, and are read where they stand.
+    if !pending.is_whole(last) {
+        return answer_kept(alloc, store, pending, last, writer);
+    }
+    let read = read_command(alloc, last);
     let answered = answer_read(store, &read, writer);
     // By name, or all fields of each command would be dropped here, one by one.
     drop(read);
     answered
 }
 
-// What the line that ends with these bytes is read as. Nothing of it is kept then.
-fn read_line(alloc: Global, pending: &mut Pending, last: &[u8]) -> Result<Command, LineFault>
-    ensures read { (part : List ℕ) → Stands pending.old part → IsReadAs (part ++ last.now) result }
-    ensures cleared { Stands pending.new [] }
-{
-    // Most lines lie whole in one piece, and are read where they stand.
-    if pending.is_whole(last) {
-        read_command(alloc, last)
-    } else {
-        read_end(alloc, pending, last)
-    }
-}
-
-// `read_line` where the line began in an earlier piece, or is too long.
+// `answer` where the line began in an earlier piece, or is too long.
 #[cold]
 #[inline(never)]
-fn read_end(alloc: Global, pending: &mut Pending, last: &[u8]) -> Result<Command, LineFault>
-    ensures read { (part : List ℕ) → Stands pending.old part → IsReadAs (part ++ last.now) result }
+fn answer_kept<D: Disk, W: Sink>(
+    alloc: Global,
+    store: &mut Store<D>,
+    pending: &mut Pending,
+    last: &[u8],
+    writer: &mut W,
+) -> Result<(), PipeFault>
+    ensures step { (part : List ℕ) → Stands pending.old part
+        → (out : List ℕ) × RunsLine D.honest D.files D.moment D.left_since store.old (part ++
+        last.now) out
+        store.new
+        × OnOk result (Appends (W.written writer.old) (W.written writer.new) out)
+        × OnErr result (AppendsSome (W.written writer.old) (W.written writer.new) out) }
     ensures cleared { Stands pending.new [] }
+    ensures same { OnOk result (W.failures writer.new ≡ W.failures writer.old) }
+    ensures err { OnErr result (IsCounted (W.failures writer.old) (W.failures writer.new)) }
+    ensures untouched { IsTrue store.old.session.broken → store.new ≡ store.old }
+    ensures accounts { Accounts D.steady D.honest D.failures store.old.disk store.new.disk
+        (HasBroken store.old.session store.new.session) }
 {
     pending.add(last);
     let read = read_kept(alloc, pending);
+    let answered = answer_read(store, &read, writer);
+    drop(read);
     pending.clear();
-    read
+    answered
 }
 
 // What a line that was kept is read as.
-fn read_kept(alloc: Global, pending: &Pending) -> Result<Command, LineFault>
+fn read_kept(alloc: Global, pending: &Pending) -> Result<Command<'_>, LineFault>
     ensures { (line : List ℕ) → Stands pending.now line → IsReadAs line result }
 {
     match pending.line() {
@@ -179,7 +188,7 @@ fn read_kept(alloc: Global, pending: &Pending) -> Result<Command, LineFault>
 // Runs what a line was read as, and writes the answer.
 fn answer_read<D: Disk, W: Sink>(
     store: &mut Store<D>,
-    read: &Result<Command, LineFault>,
+    read: &Result<Command<'_>, LineFault>,
     writer: &mut W,
 ) -> Result<(), PipeFault>
     ensures step { (out : List ℕ)

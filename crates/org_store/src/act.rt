@@ -21,7 +21,7 @@ pub(crate) fn act<D: Disk>(
     files: &mut Files<D>,
     states: &States,
     tally: &mut Tally,
-    command: &Command,
+    command: &Command<'_>,
 ) -> Result<Reply, RunFault>
     requires other { command.now ≢ Command.Settle }
     requires between { AreBetweenCommands files.old }

@@ -169,7 +169,7 @@ fn accept_unchanged<D: Disk>(files: &mut Files<D>, tally: &mut Tally) -> Result<
 fn plan<'a, D: Disk>(
     files: &mut Files<D>,
     states: &States,
-    command: &'a Command,
+    command: &'a Command<'_>,
 ) -> Result<Option<Plan<'a>>, RunFault>
     requires change { IsChange command.now }
     requires between { AreBetweenCommands files.old }
@@ -198,7 +198,7 @@ pub(crate) fn change<D: Disk>(
     files: &mut Files<D>,
     states: &States,
     tally: &mut Tally,
-    command: &Command,
+    command: &Command<'_>,
 ) -> Result<Reply, RunFault>
     requires change { IsChange command.now }
     requires between { AreBetweenCommands files.old }

@@ -12,10 +12,56 @@ use org_splice::Bytes;
 use org_stamp::Moment;
 use org_state::StateFault;
 use std::alloc::AllocError;
+use std::borrow::CowSlice;
+use std::marker::Model;
+
+/// A text of a command: bytes of the line that it was read from, which aren't copied, or bytes that were made for it.
+///
+/// A clause sees them as a list.
+#[derive(Drop)]
+pub struct TextOf<'a> {
+    bytes: CowSlice<'a, u8>,
+}
+
+impl<'a> Model for TextOf<'a> {
+    ghost use Rattle.std.specs.Prelude.{List, ℕ};
+    ghost use Rattle.std.specs.Cow.{cow_slice_items};
+
+    ghost Value = { List ℕ };
+
+    ghost view = { λ text. cow_slice_items text.bytes };
+}
+
+impl<'a> TextOf<'a> {
+    /// Bytes that were given. Takes no memory.
+    pub fn given(bytes: &'a [u8]) -> TextOf<'a>
+        ensures { result ≡ bytes.now }
+    {
+        TextOf {
+            bytes: CowSlice::Borrowed(bytes),
+        }
+    }
+
+    /// Bytes that were made.
+    pub fn made(bytes: Vec<u8>) -> TextOf<'a>
+        ensures { result ≡ bytes.items }
+    {
+        TextOf {
+            bytes: CowSlice::Owned(bytes),
+        }
+    }
+
+    /// The bytes as a slice.
+    pub fn as_slice(&self) -> &[u8]
+        ensures { result.now ≡ self.now }
+    {
+        self.bytes.as_slice()
+    }
+}
 
 /// A new entry for a file: the expanded template (Org manual, "Capture templates").
 #[derive(Drop)]
-pub struct Capture {
+pub struct Capture<'a> {
     /// The file that the entry goes into.
     pub file: FileName,
     /// What the entry goes below.
@@ -25,9 +71,9 @@ pub struct Capture {
     /// The moment of the capture.
     pub moment: Moment,
     /// The template as it was given, not expanded yet.
-    pub template: Bytes,
+    pub template: TextOf<'a>,
     /// The text that was selected when the capture began.
-    pub initial: Bytes,
+    pub initial: TextOf<'a>,
 }
 
 /// A subtree that becomes a child of another heading, of its file or of another one (Org manual, "Refile and Copy").
@@ -47,13 +93,13 @@ pub struct Refile {
 
 /// Another TODO state of a heading (Org manual, "Basic TODO functionality", "Closing items", "Repeated tasks").
 #[derive(Drop)]
-pub struct Todo {
+pub struct Todo<'a> {
     /// The file of the heading.
     pub file: FileName,
     /// Its path there.
     pub path: Titles,
     /// The state, one of the store's, or no byte for none.
-    pub state: Bytes,
+    pub state: TextOf<'a>,
     /// The moment of the change.
     pub moment: Moment,
 }
@@ -82,14 +128,14 @@ pub struct ClockIn {
 
 /// What a store is asked to do.
 #[derive(Drop)]
-pub enum Command {
+pub enum Command<'a> {
     /// Puts a new entry into a file.
-    Capture(Capture),
+    Capture(Capture<'a>),
     /// Makes a subtree a child of another heading. The two paths are looked up before anything moves, and the place among
     /// the children is that behind the move. A refile changes its files, also where it leaves their bytes.
     Refile(Refile),
     /// Puts a heading into another TODO state. Where it has that state already, all bytes stay.
-    Todo(Todo),
+    Todo(Todo<'a>),
     /// Moves a subtree to its archive: to the location that the nearest nonempty property ARCHIVE of it or a heading above
     /// it names, else the file's first line `#+ARCHIVE:`, else to the top level of the file's archive file. Its root gets
     /// properties that tell when it was archived, and where it was.

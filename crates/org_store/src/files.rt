@@ -104,7 +104,8 @@ impl<D: Disk> Files<D> {
     pub(crate) fn has(&self, name: &FileName) -> bool
         ensures { result ≡ is_name self.now.names name.now }
     {
-        self.set.names().contains(name)
+        // Mostly it is one that is held, and there may be hundreds of names.
+        self.texts.get(name).is_some() || self.set.names().contains(name)
     }
 
     /// How many files there are: those of the given names, and their archive files.

@@ -17,6 +17,8 @@ pub mod laws;
 mod store;
 mod tally;
 
-pub use command::{Archive, Capture, ClockIn, Command, Refile, Refusal, Reply, RunFault, Todo};
+pub use command::{
+    Archive, Capture, ClockIn, Command, Refile, Refusal, Reply, RunFault, TextOf, Todo,
+};
 pub use org_fileset::{OpenFault, OpenRefused};
 pub use store::Store;

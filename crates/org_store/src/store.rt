@@ -205,7 +205,7 @@ impl<D: Disk> Store<D> {
     /// is undone, and those before it stay pending. `Device` comes only where the disk counted a failure in this call,
     /// and breaks the store; `Broken` comes exactly where it was broken before. `Settle` does nothing where no accepted
     /// command waits to be acknowledged, and makes no call of the disk where no file waits for a commit.
-    pub fn run(&mut self, command: &Command) -> Result<Reply, RunFault>
+    pub fn run(&mut self, command: &Command<'_>) -> Result<Reply, RunFault>
         ensures step { D.honest self.new.disk
             → Step self.old.session command.now result self.new.session }
         ensures disk { D.honest self.new.disk

@@ -4,9 +4,8 @@ use org_capture::Target;
 use org_disk::{FileName, MemoryDisk};
 use org_fixtures::file_name;
 use org_outline::{Place, Titles};
-use org_splice::Bytes;
 use org_stamp::Moment;
-use org_store::{Capture, Command, Refile, Reply, RunFault, Store, Todo};
+use org_store::{Capture, Command, Refile, Reply, RunFault, Store, TextOf, Todo};
 use std::process::Abort;
 
 // A path is that of one heading of this title, or for an empty one that of no titles, which no line can name.
@@ -38,10 +37,6 @@ fn file(rt: &(impl Abort + AllocGlobal), name: &str) -> FileName {
     must(rt, file_name(rt.alloc(), name))
 }
 
-fn bytes(rt: &(impl Abort + AllocGlobal), text: &str) -> Bytes {
-    Bytes::new(text.as_bytes().to_vec(rt.alloc()).expect(rt, "memory"))
-}
-
 // 2026-07-01 10:00.
 fn now(rt: &impl Abort) -> Moment {
     Moment::new(2026, 7, 1, 10, 0).expect(rt, "a moment")
@@ -56,18 +51,23 @@ fn path(rt: &(impl Abort + AllocGlobal), title: &str) -> Titles {
     Titles::new(path)
 }
 
-fn capture(rt: &(impl Abort + AllocGlobal), name: &str, target: Target, template: &str) -> Command {
+fn capture<'a>(
+    rt: &(impl Abort + AllocGlobal),
+    name: &str,
+    target: Target,
+    template: &'a str,
+) -> Command<'a> {
     Command::Capture(Capture {
         file: file(rt, name),
         target,
         place: Place::Last,
         moment: now(rt),
-        template: bytes(rt, template),
-        initial: bytes(rt, ""),
+        template: TextOf::given(template.as_bytes()),
+        initial: TextOf::given(b""),
     })
 }
 
-fn refile(rt: &(impl Abort + AllocGlobal), from: &str, to_file: &str, to: &str) -> Command {
+fn refile<'a>(rt: &(impl Abort + AllocGlobal), from: &str, to_file: &str, to: &str) -> Command<'a> {
     Command::Refile(Refile {
         file: file(rt, "a.org"),
         path: path(rt, from),
@@ -77,16 +77,16 @@ fn refile(rt: &(impl Abort + AllocGlobal), from: &str, to_file: &str, to: &str) 
     })
 }
 
-fn todo(rt: &(impl Abort + AllocGlobal), title: &str) -> Command {
+fn todo<'a>(rt: &(impl Abort + AllocGlobal), title: &str) -> Command<'a> {
     Command::Todo(Todo {
         file: file(rt, "a.org"),
         path: path(rt, title),
-        state: bytes(rt, "DONE"),
+        state: TextOf::given(b"DONE"),
         moment: now(rt),
     })
 }
 
-fn command(rt: &(impl Abort + AllocGlobal), ask: &Ask) -> Command {
+fn command<'a>(rt: &(impl Abort + AllocGlobal), ask: &'a Ask) -> Command<'a> {
     match ask {
         Ask::Capture(name, template) => capture(rt, name, Target::Top, template),
         Ask::CaptureBelow(title, template) => {
@@ -102,7 +102,7 @@ fn command(rt: &(impl Abort + AllocGlobal), ask: &Ask) -> Command {
 }
 
 // What a command is answered, of which nothing is said here: the proofs of what calls this have less to carry on.
-fn run(store: &mut Store<MemoryDisk>, command: &Command) -> Result<Reply, RunFault> {
+fn run(store: &mut Store<MemoryDisk>, command: &Command<'_>) -> Result<Reply, RunFault> {
     store.run(command)
 }
 

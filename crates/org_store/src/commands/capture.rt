@@ -26,7 +26,7 @@ use org_texts::{Held, NameOf, Plan};
 use std::alloc::Global;
 
 /// The entry that the template of a capture stands for.
-fn new_entry(alloc: Global, command: &Capture) -> Result<Vec<u8>, CaptureFault>
+fn new_entry(alloc: Global, command: &Capture<'_>) -> Result<Vec<u8>, CaptureFault>
     ensures { MakesEntry
         (new_entry command.now.moment command.now.template command.now.initial) result }
 {
@@ -40,7 +40,7 @@ fn insertion(
     alloc: Global,
     states: &States,
     held: &Held,
-    command: &Capture,
+    command: &Capture<'_>,
     entry: Vec<u8>,
 ) -> Result<Edit, CaptureFault>
     requires ready { held.now.ready ≡ true }
@@ -64,7 +64,7 @@ fn insertion(
 fn plan_entry<'a, D: Disk>(
     files: &mut Files<D>,
     states: &States,
-    command: &'a Capture,
+    command: &'a Capture<'_>,
     entry: Vec<u8>,
 ) -> Result<Plan<'a>, RunFault>
     requires file { is_name files.old.names command.now.file ≡ true }
@@ -92,7 +92,7 @@ fn plan_entry<'a, D: Disk>(
 pub(crate) fn plan_capture<'a, D: Disk>(
     files: &mut Files<D>,
     states: &States,
-    command: &'a Capture,
+    command: &'a Capture<'_>,
 ) -> Result<Plan<'a>, RunFault>
     requires between { AreBetweenCommands files.old }
     ensures plan { IfOk result (λ plan. IsPlanFor files.new.names files.new.held plan) }

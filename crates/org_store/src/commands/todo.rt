@@ -27,7 +27,7 @@ fn plan_state<'a>(
     alloc: Global,
     states: &States,
     held: &Held,
-    command: &'a Todo,
+    command: &'a Todo<'_>,
 ) -> Result<Option<Plan<'a>>, StateFault>
     requires ready { held.now.ready ≡ true }
     ensures { PlansState command.now.file held.now.text.bytes
@@ -49,7 +49,7 @@ fn plan_state<'a>(
 pub(crate) fn plan_todo<'a, D: Disk>(
     files: &mut Files<D>,
     states: &States,
-    command: &'a Todo,
+    command: &'a Todo<'_>,
 ) -> Result<Option<Plan<'a>>, RunFault>
     requires between { AreBetweenCommands files.old }
     ensures plan { IfOk result (λ plan. ForSome plan

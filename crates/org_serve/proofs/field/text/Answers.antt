@@ -1,0 +1,9 @@
+use Rattle.std.proofs.Common.{◌≡◌, false, ◌==◌, ℕ, List, Some, ap, sym, ◌∙◌}
+use Rattle.std.specs.List.{list_any}
+use Rattle.org_serve.proofs.Escapes.{unescaped-plain}
+use Rattle.org_serve.proofs.field.text.Goals as goal
+
+pub returns-then-not-contains : goal.returns-then-not-contains
+returns-then-not-contains c =
+    let none : list_any (λ b. b == 92) c.args.field.now ≡ false = sym c.contains.ensures.value ∙ c.if-not-contains.true in
+    unescaped-plain c.args.field.now none ∙ ap (λ (text : List ℕ). Some text) (sym c.given.ensures)
