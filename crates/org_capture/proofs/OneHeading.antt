@@ -1,16 +1,17 @@
 -- Texts that are one heading with what lies below it.
-use Rattle.std.proofs.Common.{◌≡◌, ℕ, suc, ◌+◌, ◌<◌, Bool, true, false, ltb, List, [], ◌∷◌, ◌++◌, length, drop, get_or, take, slice_index_or, Option, Some, None, Ok, Err, refl, sym, ◌∙◌, ap, subst, arith, eq-eqb, eqb, inl, inr}
+use Rattle.std.proofs.Common.{◌≡◌, ℕ, suc, ◌+◌, ◌<◌, ◌≤◌, ◌-◌, Bool, true, false, ltb, List, [], ◌∷◌, ◌++◌, length, drop, get_or, take, slice_index_or, Option, Some, None, Ok, Err, refl, sym, ◌∙◌, ap, subst, arith, drop-cons, eq-eqb, eqb, inl, inr}
 use Rattle.std.specs.Option.{is_some, option_map_or}
 use Rattle.std.proofs.lemmas.Bool.{cases_Bool}
 use Rattle.std.proofs.lemmas.Bool.Decides.{nat_tests}
-use Rattle.std.proofs.lemmas.List.{append-nil, drop-drop}
+use Rattle.std.proofs.lemmas.List.{append-nil, drop-drop, drop_all, take-append-drop}
 use Rattle.memchr.specs.Find.{IsFirstByte, is_byte}
-use Rattle.org_splice.specs.Lines.{terminated, print_lines, lines_of}
+use Rattle.std.specs.List.{list_any}
+use Rattle.org_splice.specs.Lines.{IsLine, terminated, print_lines, lines_of}
 use Rattle.org_splice.proofs.Lines.{terminated_twice, terminated-drop, lines_of-append, lines_of-terminated}
 use Rattle.org_outline.specs.Text.{heading_line, level_of}
 use Rattle.org_outline.specs.Tree.{Forest, Empty, Tree, Node, Document, tree, tree_of_lines, with_line, deeper, others, print_node, nodes_from, node_at, no_node, lines}
 use Rattle.org_outline.specs.Moves.{IsPrinted}
-use Rattle.org_outline.proofs.LineWalk.{cut_found, no_line}
+use Rattle.org_outline.proofs.LineWalk.{cut_found, last-terminated, no_line}
 use Rattle.org_outline.proofs.Trees.{tree-is}
 use Rattle.org_capture.specs.declared.fault.CaptureFault.TheVariants.{BadEntry}
 use Rattle.org_capture.specs.Entry.{one_root, only_root, entry_in, terminated_if_one, entry_text, IsEntry}
@@ -113,6 +114,34 @@ one_if_none_left t l behind n b is some to from =
     let d : Document = tree behind in
     ap in_lines is ∙ ap (λ o. is_some (only_root (with_line o l d).preamble (with_line o l d).forest)) some
     ∙ root_alone n (drop n l) d.preamble (deeper n d.forest) (others n d.forest) b to from
+
+-- a line without a newline in it
+line_if_none : (l : List ℕ) → list_any (λ b. eqb b 10) l ≡ false → IsLine l
+line_if_none [] none = tt
+line_if_none (b ∷ l) none =
+    elim (cases_Bool (eqb b 10)) [
+      | inl e ↦ absurd (let found = rw e at none in cc)
+      | inr e ↦ (λ same. absurd (let ten : eqb b 10 ≡ true = eq-eqb b 10 same in cc), line_if_none l (rw e at none))
+    ]
+
+one_line_of : (o : Option ℕ) (t l : List ℕ) → lines_of t ≡ l ∷ lines_of [] → level_of l ≡ o → is_some o ≡ is_some (entry_in t)
+one_line_of None t l is level = sym (no_root t l [] is level)
+one_line_of (Some n) t l is level = sym (one_if_none_left t l [] n true is level (λ same. refl) (λ same. refl))
+
+-- a terminated text is what stands before its last byte, and a newline
+newline_last : (t : List ℕ) → terminated t ≡ t → 1 ≤ length t → t ≡ take (length t - 1) t ++ 10 ∷ []
+newline_last t shut some =
+    let k = length t - 1 in
+    let within : k < length t = omega arith in
+    let last : drop k t ≡ get_or t k 0 ∷ drop (suc k) t = drop-cons t k 0 within in
+    let none : drop (suc k) t ≡ [] = drop_all (suc k) t (omega arith) in
+    sym (take-append-drop k t) ∙ ap (λ (u : List ℕ). take k t ++ u) (last ∙ ap (λ (u : List ℕ). get_or t k 0 ∷ u) none ∙ ap (λ b. b ∷ []) (last-terminated t shut (omega arith)))
+
+-- a text of one line is an entry where that is a heading line
+pub one_line : (t l : List ℕ) → terminated t ≡ t → 1 ≤ length t → l ≡ take (length t - 1) t → list_any (λ b. eqb b 10) l ≡ false → is_some (level_of l) ≡ is_some (entry_in t)
+one_line t l shut some is none =
+    let parts : t ≡ l ++ 10 ∷ [] = newline_last t shut some ∙ ap (λ (u : List ℕ). u ++ 10 ∷ []) (sym is) in
+    one_line_of (level_of l) t l (ap lines_of parts ∙ lines_of-append l [] (line_if_none l none)) refl
 
 -- ---- the terminated text
 

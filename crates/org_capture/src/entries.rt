@@ -48,8 +48,8 @@ fn are_deeper(text: &[u8], level: usize) -> bool
     true
 }
 
-/// Whether a terminated text is one heading with what lies below it, and nothing stands before it.
-fn is_one_heading(text: &[u8]) -> bool
+/// Whether a terminated text is one heading with what lies below it, and nothing stands before it, by all of its lines.
+fn has_one_root(text: &[u8]) -> bool
     requires { terminated text.now ≡ text.now }
     ensures { result ≡ is_some (entry_in text.now) }
 {
@@ -59,6 +59,18 @@ fn is_one_heading(text: &[u8]) -> bool
     match heading_level(line) {
         Some(level) => are_deeper(behind, level),
         None => false,
+    }
+}
+
+/// Whether a terminated text is one heading with what lies below it, and nothing stands before it.
+fn is_one_heading(text: &[u8]) -> bool
+    requires { terminated text.now ≡ text.now }
+    ensures { result ≡ is_some (entry_in text.now) }
+{
+    // Most entries are one line.
+    match text {
+        [line @ .., b'\n'] if !line.contains(&b'\n') => heading_level(line).is_some(),
+        _ => has_one_root(text),
     }
 }
 

@@ -1,16 +1,11 @@
-use Rattle.std.proofs.Common.{◌∙◌, ap, sym}
+use Rattle.std.proofs.Common.{◌≡◌, ◌∙◌, ◌==◌, ◌-◌, false, ap, length, refl, sym, take}
+use Rattle.std.specs.List.{list_any}
 use Rattle.std.specs.Option.{is_some}
-use Rattle.org_capture.specs.Entry.{entry_in}
-use Rattle.org_capture.proofs.OneHeading.{no_root, one_if_none_left}
+use Rattle.org_capture.proofs.OneHeading.{one_line}
 use Rattle.org_capture.proofs.entries.is_one_heading.Goals as goal
 
-pub returns-in_default : goal.returns-in_default
-returns-in_default c = sym (ap (λ t. is_some (entry_in t)) c.in_default.ensures.lines)
-
-pub returns-in-None : goal.returns-in-None
-returns-in-None c = sym (no_root c.args.text.now c.in-Some.line.now c.in-Some.behind.now c.in-Some.ensures.lines (sym c.heading_level.ensures ∙ c.in-None.is))
-
-pub returns-in-Some-heading_level : goal.returns-in-Some-heading_level
-returns-in-Some-heading_level c =
-    sym (one_if_none_left c.args.text.now c.in-Some.line.now c.in-Some.behind.now c.in-Some-heading_level.level c.are_deeper.result c.in-Some.ensures.lines
-    (sym c.heading_level.ensures ∙ c.in-Some-heading_level.is) c.are_deeper.ensures.0 c.are_deeper.ensures.1)
+pub returns-in-10 : goal.returns-in-10
+returns-in-10 c =
+    let text = c.args.text.now in
+    let none : list_any (λ b. b == 10) (take (length text - 1) text) ≡ false = sym c.contains.ensures.value ∙ c.if-not-contains.true in
+    c.is_some.ensures ∙ ap is_some c.heading_level.ensures ∙ one_line text _ c.requires c.in-10.len_at_least refl none
