@@ -18,28 +18,19 @@ const SIZE_AT: usize = 7;
 fn put_u16(out: &mut Vec<u8>, number: u16) -> Result<(), AllocError>
     ensures { OnOk result (out.new.items ≡ out.old.items ++ big_bytes 2 number) }
 {
-    let mut bytes = [0; 2];
-    BigEndian::write_u16(&mut bytes, number);
-    out.extend_from_slice(&bytes)?;
-    Ok(())
+    out.extend_from_slice(&number.to_be_bytes())
 }
 
 fn put_u32(out: &mut Vec<u8>, number: u32) -> Result<(), AllocError>
     ensures { OnOk result (out.new.items ≡ out.old.items ++ big_bytes 4 number) }
 {
-    let mut bytes = [0; 4];
-    BigEndian::write_u32(&mut bytes, number);
-    out.extend_from_slice(&bytes)?;
-    Ok(())
+    out.extend_from_slice(&number.to_be_bytes())
 }
 
 fn put_u64(out: &mut Vec<u8>, number: u64) -> Result<(), AllocError>
     ensures { OnOk result (out.new.items ≡ out.old.items ++ big_bytes 8 number) }
 {
-    let mut bytes = [0; 8];
-    BigEndian::write_u64(&mut bytes, number);
-    out.extend_from_slice(&bytes)?;
-    Ok(())
+    out.extend_from_slice(&number.to_be_bytes())
 }
 
 fn put_patch(out: &mut Vec<u8>, patch: &Patch) -> Result<(), AllocError>
@@ -47,8 +38,7 @@ fn put_patch(out: &mut Vec<u8>, patch: &Patch) -> Result<(), AllocError>
 {
     put_u64(out, patch.from)?;
     put_u64(out, patch.bytes.len() as u64)?;
-    out.extend_from_slice(patch.bytes.as_slice())?;
-    Ok(())
+    out.extend_from_slice(patch.bytes.as_slice())
 }
 
 fn put_patches(out: &mut Vec<u8>, patches: &[Patch]) -> Result<(), AllocError>
@@ -70,8 +60,7 @@ fn put_entry(out: &mut Vec<u8>, entry: &Entry) -> Result<(), AllocError>
     put_u64(out, entry.length)?;
     let patches = entry.patches.as_slice();
     put_u32(out, patches.len() as u32)?;
-    put_patches(out, patches)?;
-    Ok(())
+    put_patches(out, patches)
 }
 
 fn put_entries(out: &mut Vec<u8>, entries: &[Entry]) -> Result<(), AllocError>

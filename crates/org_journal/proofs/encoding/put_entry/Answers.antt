@@ -1,5 +1,6 @@
-use Rattle.std.proofs.Common.{ap, ◌∙◌, ◌++◌, List, ℕ, length}
+use Rattle.std.proofs.Common.{◌≡◌, ap, ◌∙◌, ◌++◌, List, ℕ, length}
 use Rattle.std.specs.List.{flat_map}
+use Rattle.std.proofs.lemmas.Result.{on_ok_weaker}
 use Rattle.byteorder.specs.Endian.{big_bytes}
 use Rattle.org_splice.specs.declared.patch.Patch.{Patch}
 use Rattle.org_journal.specs.Record.{patch_bytes}
@@ -10,10 +11,14 @@ pub returns : goal.returns
 returns c =
     let name = c.args.entry.now.name in
     let patches = c.args.entry.now.patches in
-    appended5 c.args.out.now.items c.put_u16.new.out.items c.extend_from_slice.new.self.items c.put_u64.new.out.items c.put_u32.new.out.items c.put_patches.new.out.items
+    let before = c.put_u32.new.out.items in
+    let after = c.put_patches.new.out.items in
+    on_ok_weaker c.put_patches.result (λ (written : after ≡ before ++ flat_map patch_bytes c.as_slice-patches.result.now).
+    appended5 c.args.out.now.items c.put_u16.new.out.items c.extend_from_slice.new.self.items c.put_u64.new.out.items before after
     (big_bytes 2 (length name)) name (big_bytes 8 c.args.entry.now.length) (big_bytes 4 (length patches)) (flat_map patch_bytes patches)
     (c.in_ok-put_u16.ensures ∙ ap (λ (x : List ℕ). c.args.out.now.items ++ big_bytes 2 (length x)) c.as_str-name.ensures.value)
     (c.in_ok-extend_from_slice.ensures.items ∙ ap (λ (x : List ℕ). c.put_u16.new.out.items ++ x) (c.as_bytes.ensures.value ∙ c.as_str-name.ensures.value))
     c.in_ok-put_u64.ensures
     (c.in_ok-put_u32.ensures ∙ ap (λ (x : List Patch). c.put_u64.new.out.items ++ big_bytes 4 (length x)) c.as_slice-patches.ensures)
-    (c.in_ok-put_patches.ensures ∙ ap (λ (x : List Patch). c.put_u32.new.out.items ++ flat_map patch_bytes x) c.as_slice-patches.ensures)
+    (written ∙ ap (λ (x : List Patch). before ++ flat_map patch_bytes x) c.as_slice-patches.ensures))
+    c.put_patches.ensures
