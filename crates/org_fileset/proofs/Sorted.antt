@@ -1,5 +1,6 @@
 -- The names of a set's files.
-use Rattle.std.proofs.Common.{nat_lt, ◌≡◌, ◌≢◌, ◌+◌, ◌*◌, ◌≤◌, length, get_or, drop, ◌<◌, sym, ◌∙◌, length-append, false, ⊎_elim, ℕ, List, [], ◌∷◌, ◌++◌, refl, ap, subst, arith}
+use Rattle.std.proofs.Common.{true, nat_lt, ◌≡◌, ◌≢◌, ◌+◌, ◌*◌, ◌≤◌, length, get_or, drop, ◌<◌, sym, ◌∙◌, length-append, false, ⊎_elim, ℕ, List, [], ◌∷◌, ◌++◌, refl, ap, subst, arith}
+use Rattle.std.proofs.lemmas.Bool.{lt-ltb}
 use Rattle.std.proofs.lemmas.Bool.Decides.{nat_tests}
 use Rattle.std.specs.List.{Contains, All, AllByRecursion}
 use Rattle.std.proofs.lemmas.List.Elements.{All-contains, All-contains_itself, All-weaker, All-from_recursion, recursion_from_All}
@@ -95,6 +96,14 @@ first_large-next files names i name within is small =
     let none : nat_lt limit (length (files name)) ≡ false = grind (arith, nat_tests, small) in
     let next : first_large files (name ∷ drop (i + 1) names) ≡ first_large files (drop (i + 1) names) = rw none refl in
     sym (ap (first_large files) (drop_more names i name within ∙ ap (λ x. x ∷ drop (i + 1) names) (sym is)) ∙ next)
+
+-- a file past the limit is the first one past it from its place on
+pub first_large-here : (files : List ℕ → List ℕ) (names : List (List ℕ)) (i : ℕ) (name : List ℕ) → i < length names → name ≡ get_or names i name → limit < length (files name)
+    → first_large files (drop i names) ≡ Some name
+first_large-here files names i name within is large =
+    let past : nat_lt limit (length (files name)) ≡ true = lt-ltb limit (length (files name)) large in
+    let here : first_large files (name ∷ drop (i + 1) names) ≡ Some name = rw past refl in
+    ap (first_large files) (drop_more names i name within ∙ ap (λ x. x ∷ drop (i + 1) names) (sym is)) ∙ here
 
 flipped : (o : Option (List ℕ → List ℕ)) (files : List ℕ → List ℕ) → IsSomeAnd o (SameFiles files) → IsSomeAnd o (λ found. SameFiles found files)
 flipped (Some found) files same = λ name not. sym (same name not)

@@ -1,8 +1,10 @@
-use Rattle.std.proofs.Common.{◌≢◌, ◌≤◌, ◌+◌, ℕ, List, length, refl, sym, ◌∙◌, ap, subst, arith}
+use Rattle.std.proofs.Common.{◌≢◌, ◌≤◌, ◌+◌, ℕ, List, length, take, refl, sym, ◌∙◌, ap, subst, arith}
+use Rattle.std.proofs.lemmas.List.{take_all}
+use Rattle.org_splice.proofs.Failing.{not_ok}
 use Rattle.org_disk.specs.Disk.{FileState, write, cut}
 use Rattle.org_splice.specs.Texts.{pairs_of}
 use Rattle.org_fileset.proofs.Patching.{applies_none, applies_call, applies_read, takes_write, takes_cut}
-use Rattle.org_fileset.proofs.Steps.{pair_at, patched_each-more, next_within, next_small, long_enough}
+use Rattle.org_fileset.proofs.Steps.{pair_at, patched_each-more, next_within, next_small, long_enough, all_applied}
 use Rattle.org_disk.proofs.Accounting.{accounts_none, accounts_then, accounts_call, accounts_call_ok}
 use Rattle.org_journal.proofs.Accounted.{accounts_failed, accounts_fine_test}
 use Rattle.org_fileset.proofs.Writes.{alone_none, alone_then, alone_looks, alone_call}
@@ -195,3 +197,42 @@ returns-in_ok-cut-clause-accounts g c =
 pub returns-else-length-entry-clause-accounts : goal.returns-else-length-entry-clause-accounts
 returns-else-length-entry-clause-accounts g c =
     accounts_fine_test (accounts_then c.loop-patch.invariant.accounts (accounts_call_ok c.in_ok-length.ensures.accounts))
+
+pub returns-in_err-write_at-clause-content : goal.returns-in_err-write_at-clause-content
+returns-in_err-write_at-clause-content g c = not_ok _ _ c.from_residual.ensures.0
+
+pub returns-in_err-length-clause-content : goal.returns-in_err-length-clause-content
+returns-in_err-length-clause-content g c = not_ok _ _ c.from_residual-in_err-length.ensures.0
+
+pub returns-in_err-cut-clause-content : goal.returns-in_err-cut-clause-content
+returns-in_err-cut-clause-content g c = not_ok _ _ c.from_residual-in_err-cut.ensures.0
+
+pub cut-requires : goal.cut-requires
+cut-requires g c honest =
+    let h = c.length.ensures.accounts.was_honest honest in
+    let name = c.args.entry.now.name in
+    let within : c.args.entry.now.length ≤ length (g.D.Disk.files c.loop-patch.disk name).content = omega (arith, c.in_ok-length.ensures.value honest) in
+    subst (λ (f : List ℕ → FileState). c.args.entry.now.length ≤ length (f name).content) (sym (c.length.ensures.looks honest).same) within
+
+pub returns-in_ok-cut-clause-content : goal.returns-in_ok-cut-clause-content
+returns-in_ok-cut-clause-content g c ended =
+    let sofar = c.loop-patch.invariant in
+    let h1 = c.cut.ensures.accounts.was_honest ended in
+    let name = c.args.entry.now.name in
+    let final = c.args.entry.now.length in
+    ap (λ (f : FileState). f.content) (c.in_ok-cut.ensures.effect ended).ok
+    ∙ ap (λ (f : List ℕ → FileState). take final (f name).content) (c.length.ensures.looks h1).same
+    ∙ all_applied c.as_slice-patch-items.result.now c.args.entry.now.patches c.loop-patch.patch-index final (g.D.Disk.files c.args.disk.now name).content
+    (g.D.Disk.files c.loop-patch.disk name).content c.as_slice-patch-items.ensures c.loop-patch-test.false (sofar.content (c.length.ensures.accounts.was_honest h1))
+
+pub returns-else-length-entry-clause-content : goal.returns-else-length-entry-clause-content
+returns-else-length-entry-clause-content g c ended =
+    let sofar = c.loop-patch.invariant in
+    let name = c.args.entry.now.name in
+    let final = c.args.entry.now.length in
+    let now = (g.D.Disk.files c.loop-patch.disk name).content in
+    let short : length now ≤ final = omega (arith, c.in_ok-length.ensures.value ended) in
+    ap (λ (f : List ℕ → FileState). (f name).content) (c.length.ensures.looks ended).same
+    ∙ sym (take_all final now short)
+    ∙ all_applied c.as_slice-patch-items.result.now c.args.entry.now.patches c.loop-patch.patch-index final (g.D.Disk.files c.args.disk.now name).content
+    now c.as_slice-patch-items.ensures c.loop-patch-test.false (sofar.content (c.length.ensures.accounts.was_honest ended))

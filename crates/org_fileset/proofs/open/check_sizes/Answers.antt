@@ -1,4 +1,4 @@
-use Rattle.std.proofs.Common.{◌≤◌, ℕ, List, length, refl, sym, ◌∙◌, ap, arith}
+use Rattle.std.proofs.Common.{◌≤◌, ◌<◌, ℕ, List, Option, Some, length, refl, sym, ◌∙◌, ap, arith}
 use Rattle.std.proofs.lemmas.List.{at_drop_all}
 use Rattle.org_disk.specs.Disk.{FileState}
 use Rattle.org_disk.proofs.Accounting.{accounts_none, accounts_then, accounts_call, accounts_call_ok, looks_none, looks_then}
@@ -8,7 +8,7 @@ use Rattle.org_journal.specs.Recovered.{contents}
 use Rattle.org_fileset.specs.Names.{limit, first_large}
 use Rattle.org_fileset.proofs.Sets.{ok_apart}
 use Rattle.org_fileset.proofs.Sizes.{device_else, memory_else, large_else, sizes_device, sizes_memory}
-use Rattle.org_fileset.proofs.Sorted.{first_large-next}
+use Rattle.org_fileset.proofs.Sorted.{first_large-next, first_large-here}
 use Rattle.org_fileset.proofs.open.check_sizes.Goals as goal
 
 pub loop-name-preserved : goal.loop-name-preserved
@@ -98,3 +98,13 @@ loop-name-init g c = record {
   looks = λ ended. looks_none _ _ _ _;
   accounts = accounts_none _ _ _ _;
 }
+
+pub returns-then-branch-clause-sizes : goal.returns-then-branch-clause-sizes
+returns-then-branch-clause-sizes g c ended =
+    let sofar = c.loop-name.invariant in
+    let h = c.length.ensures.accounts.was_honest ended in
+    let files = contents (g.D.Disk.files c.args.disk.now) in
+    let name = c.name-item.result in
+    let same = ap (λ (f : List ℕ → FileState). length (f name).content) (sofar.looks h).same in
+    let large : limit < length (files name) = omega (arith, c.if-branch.true, c.in_ok-length.ensures.value ended, same) in
+    sym (sofar.sizes h) ∙ first_large-here files c.args.names.now c.loop-name.name-index name c.loop-name-test.true c.name-item.is large ∙ ap (λ (n : List ℕ). let o : Option (List ℕ) = Some n in o) (sym c.in_ok-clone.ensures.cases)
