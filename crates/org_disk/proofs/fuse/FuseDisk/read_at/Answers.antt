@@ -1,5 +1,6 @@
 use Rattle.std.proofs.Common.{refl}
 use Rattle.org_disk.proofs.Fuses.{accounts_blown, accounts_passed}
+use Rattle.org_splice.proofs.Failing.{not_ok}
 use Rattle.org_disk.proofs.fuse.FuseDisk.read_at.Goals as goal
 
 pub returns-in_err-burn-clause-accounts : goal.returns-in_err-burn-clause-accounts
@@ -7,3 +8,6 @@ returns-in_err-burn-clause-accounts g c = accounts_blown g.D.Disk.honest g.D.Dis
 
 pub returns-clause-accounts : goal.returns-clause-accounts
 returns-clause-accounts g c = accounts_passed c.args.self.now c.burn.new.self (record c.burn.new.self { disk = c.read_at.new.self }) c.read_at.result c.burn.ensures.disk c.in_ok-burn.ensures.ok refl c.read_at.ensures.accounts
+
+pub returns-in_err-burn-clause-bytes : goal.returns-in_err-burn-clause-bytes
+returns-in_err-burn-clause-bytes g c = not_ok _ _ c.from_residual.ensures.0
