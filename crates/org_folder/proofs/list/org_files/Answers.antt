@@ -17,3 +17,9 @@ returns-in_err-name g c = IfOk-from_err _ _ c.from_residual-in_err-name.ensures.
 
 pub returns-in_err-push : goal.returns-in_err-push
 returns-in_err-push g c = IfOk-from_err _ _ c.from_residual-in_err-push.ensures.0
+
+pub loop-entry-preserved-in_default : goal.loop-entry-preserved-in_default
+loop-entry-preserved-in_default g c = c.loop-entry.invariant
+
+pub returns : goal.returns
+returns g c = c.loop-entry.invariant

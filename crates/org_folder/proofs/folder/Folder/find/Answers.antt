@@ -33,3 +33,9 @@ returns-in_err-keep-in-Some-2-clause-index g c = IfOk-from_err _ _ c.from_residu
 
 pub returns-in_err-keep-in-Some-2-clause-found : goal.returns-in_err-keep-in-Some-2-clause-found
 returns-in_err-keep-in-Some-2-clause-found g c = IfOk-from_err _ _ c.from_residual-in_err-keep-in-Some-2.ensures.0
+
+pub returns-in_err-opened-clause-absent : goal.returns-in_err-opened-clause-absent
+returns-in_err-opened-clause-absent g c = λ right. IfOk-from_err _ _ c.from_residual.ensures.0
+
+pub returns-in_err-keep-in-Some-2-clause-absent : goal.returns-in_err-keep-in-Some-2-clause-absent
+returns-in_err-keep-in-Some-2-clause-absent g c = λ right. IfOk-from_err _ _ c.from_residual-in_err-keep-in-Some-2.ensures.0
