@@ -115,7 +115,10 @@ fn is_refused(kind: ErrorKind) -> bool {
 
 // A fault says no more than that the call failed.
 fn answered<T: Drop>(answer: io::Result<T>) -> Result<T, DiskFault> {
-    answer.map_err(|_| DiskFault)
+    match answer {
+        Ok(value) => Ok(value),
+        Err(_) => Err(DiskFault),
+    }
 }
 
 impl<R: Files + AllocGlobal + Drop, S: Start> Calls for SystemCalls<R, S>

@@ -89,3 +89,6 @@ returns-in_err-record-clause-writable g c = no_value _ _ c.from_residual-in_err-
 
 pub returns-in_err-all_fit-clause-writable : goal.returns-in_err-all_fit-clause-writable
 returns-in_err-all_fit-clause-writable g c = no_value _ _ c.from_residual-in_err-all_fit.ensures.0
+
+pub record_of-requires-clause-small : goal.record_of-requires-clause-small
+record_of-requires-clause-small g c = rw c.in-Some.is at c.in_ok-size.ensures.small
