@@ -1,9 +1,10 @@
 -- Planning entries, one after the other.
-use Rattle.std.proofs.Common.{◌≡◌, ℕ, zero, suc, ◌+◌, ◌-◌, ◌<◌, ◌≤◌, true, false, Option, Some, None, List, [], ◌∷◌, ◌++◌, refl, sym, ap, ◌∙◌, arith, append_assoc, append-nil}
+use Rattle.std.proofs.Common.{◌≡◌, ℕ, zero, suc, ◌+◌, ◌-◌, ◌<◌, ◌≤◌, true, false, Bool, ◌||◌, ◌&&◌, Option, Some, None, List, [], ◌∷◌, ◌++◌, refl, sym, ap, ◌∙◌, arith, append_assoc, append-nil}
+use Rattle.std.specs.Prelude.{not}
 use Rattle.std.specs.List.{list_all}
 use Rattle.org_stamp.specs.Parts.{◌>>=◌}
 use Rattle.org_splice.specs.Blanks.{is_trailing}
-use Rattle.org_meta.specs.Planning.{PlanningEntry, entries_at, entry_at}
+use Rattle.org_meta.specs.Planning.{PlanningEntry, entries_at, entry_at, is_closed, has_others}
 
 -- what was read, and then the rest
 abbrev pub with_front : List PlanningEntry → Option (List PlanningEntry × List ℕ) → Option (List PlanningEntry × List ℕ)
@@ -48,3 +49,14 @@ read_full es k text whole le was other =
     let n : 3 - k ≡ 0 = omega arith in
     let step : entries_at 0 text ≡ None = rw other refl in
     sym was ∙ ap (with_front es) (ap (λ m. entries_at m text) n ∙ step)
+
+-- ---- entries of one kind
+
+not_and : (a b : Bool) → not (a && b) ≡ (not a || not b)
+not_and true b = refl
+not_and false b = refl
+
+-- where not all are CLOSED, there are others
+pub not_all_closed : (es : List PlanningEntry) → not (list_all is_closed es) ≡ has_others es
+not_all_closed [] = refl
+not_all_closed (e ∷ es) = not_and (is_closed e) (list_all is_closed es) ∙ ap (λ b. not (is_closed e) || b) (not_all_closed es)

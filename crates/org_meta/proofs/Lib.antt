@@ -22,3 +22,4 @@ pub mod Reading
 pub mod Replanned
 pub mod Computed
 pub mod PlannedLines
+pub mod Solid

@@ -89,6 +89,20 @@ trim_more p x l some =
     let n : length (x ∷ l) - suffix_len p (x ∷ l) ≡ suc (length l - suffix_len p l) = omega (arith, suffix_more p x l some, low) in
     ap (λ k. take k (x ∷ l)) n
 
+eq_zero : (n : ℕ) → (suc n == 0) ≡ false
+eq_zero n = grind arith
+
+-- a line is trimmed to nothing where all of it is blank
+pub trimmed_empty : (l : List ℕ) → (length (trimmed_end l) == 0) ≡ list_all is_trailing l
+trimmed_empty [] = refl
+trimmed_empty (x ∷ l) =
+    elim (cases_Bool (list_all is_trailing (x ∷ l))) [
+      | inl all ↦ ap (λ (t : List ℕ). length t == 0) (trim_all is_trailing (x ∷ l) all) ∙ sym all
+      | inr some ↦
+          let more : length (trimmed_end (x ∷ l)) == 0 ≡ false = rw (trim_more is_trailing x l some) (eq_zero (length (trimmed_end l))) in
+          more ∙ sym some
+    ]
+
 not_all : (p : ℕ → Bool) (xs : List ℕ) (b : ℕ) (ys : List ℕ) → p b ≡ false → list_all p (xs ++ b ∷ ys) ≡ false
 not_all p [] b ys e = rw e refl
 not_all p (x ∷ xs) b ys e = ap (λ t. p x && t) (not_all p xs b ys e) ∙ and_false (p x)

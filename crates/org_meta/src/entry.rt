@@ -7,7 +7,7 @@ ghost use Rattle.org_splice.specs.Blanks.{is_blank, is_trailing, front, behind};
 ghost use Rattle.org_meta.specs.Planning.{word_text, word_at, entry_at, entries_at, is_word, is_once, each_once, planning_of, is_closed, has_closed, has_others};
 
 use crate::fault::PlanningFault;
-use org_splice::blanks::{blank_count, is_blank};
+use org_splice::blanks::{blank_count, trimmed_end};
 use org_stamp::Stamp;
 use std::alloc::{AllocError, Global};
 use std::marker::Model;
@@ -124,7 +124,7 @@ pub(crate) fn entry_at(text: &[u8]) -> Option<(Entry<'_>, &[u8])>
 pub(crate) fn is_line_end(text: &[u8]) -> bool
     ensures { result ≡ list_all is_trailing text.now }
 {
-    text.iter().all(|byte| is_blank(*byte) || *byte == b'\r')
+    trimmed_end(text).is_empty()
 }
 
 fn is_word(word: Word, other: Word) -> bool
@@ -166,5 +166,5 @@ pub(crate) fn has_closed(entries: &[Entry]) -> bool
 pub(crate) fn has_others(entries: &[Entry]) -> bool
     ensures { result ≡ has_others entries.now }
 {
-    entries.iter().any(|entry| !is_closed(entry))
+    !entries.iter().all(is_closed)
 }

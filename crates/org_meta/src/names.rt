@@ -4,14 +4,14 @@ ghost use Rattle.std.specs.List.{prefix_len};
 ghost use Rattle.std.specs.Str.{str_eq_ignore_ascii_case};
 ghost use Rattle.org_splice.specs.Blanks.{is_solid};
 
-use org_splice::blanks::is_blank;
+use memchr::memchr2;
 
 /// How many nonblank bytes the line begins with.
 pub(crate) fn solid_count(line: &[u8]) -> usize
     ensures count { result ≡ prefix_len is_solid line.now }
     ensures within { result ≤ length line.now }
 {
-    line.iter().take_while(|byte| !is_blank(**byte)).count()
+    memchr2(b' ', b'\t', line).unwrap_or(line.len())
 }
 
 /// Whether two names are equal but for ASCII case.
