@@ -1,16 +1,16 @@
 -- Date headings that are made, with an entry below the last, as bytes put in.
-use Rattle.std.proofs.Common.{◌≡◌, ℕ, ◌+◌, ◌-◌, ◌<◌, ◌≤◌, List, Bool, find, true, eqb, inl, inr, [], ◌∷◌, ◌++◌, length, Option, Some, None, refl, sym, ap, ◌∙◌, append_assoc, add-zero, subst, arith}
+use Rattle.std.proofs.Common.{◌≡◌, ℕ, ◌+◌, ◌-◌, ◌<◌, ◌≤◌, List, Bool, find, true, eqb, inl, inr, [], ◌∷◌, ◌++◌, length, Option, Some, None, refl, sym, ap, ◌∙◌, append_assoc, subst, arith}
 use Rattle.std.specs.declared.cmp.Ordering.{Ordering}
 use Rattle.std.specs.declared.cmp.Ordering.TheVariants.{Equal, Greater}
 use Rattle.std.proofs.lemmas.Bool.{cases_Bool, eqb-true}
-use Rattle.org_splice.specs.Lines.{terminated, print_lines}
+use Rattle.org_splice.specs.Lines.{terminated}
 use Rattle.org_splice.proofs.Ends.{both}
 use Rattle.org_outline.specs.States.{Keywords}
 use Rattle.org_outline.specs.declared.moves.Place.{Place}
 use Rattle.org_outline.specs.Text.{heading_line}
 use Rattle.org_outline.specs.Tree.{Forest, Empty, Tree, Node, Document, tree, print, print_node, node_at, node_count}
 use Rattle.org_outline.specs.Moves.{Inserts, shifted, shift_node, then_trees, insert_before, level_below}
-use Rattle.org_outline.specs.Numbers.{heading_over, children_of}
+use Rattle.org_outline.specs.Numbers.{children_of}
 use Rattle.org_outline.proofs.Trees.{tree-is}
 use Rattle.org_outline.proofs.Changes.{insert_before_local}
 use Rattle.org_outline.proofs.Making.{made_print}

@@ -1,12 +1,12 @@
 -- Templates filled in, piece by piece.
-use Rattle.std.proofs.Common.{◌≡◌, ℕ, ◌+◌, ◌<◌, true, false, List, [], ◌∷◌, ◌++◌, length, take, get_or, eqb, Option, Some, None, Result, Ok, Err, refl, sym, ◌∙◌, ap, append_assoc, inl, inr}
+use Rattle.std.proofs.Common.{◌≡◌, ℕ, ◌+◌, ◌<◌, true, false, List, [], ◌∷◌, ◌++◌, length, take, get_or, eqb, Some, None, Err, refl, sym, ◌∙◌, ap, append_assoc, inl, inr}
 use Rattle.std.specs.List.{list_any}
 use Rattle.std.proofs.lemmas.Bool.{cases_Bool}
 use Rattle.std.proofs.lemmas.List.{append-nil, take_more}
 use Rattle.org_stamp.specs.Calendar.{CivilMinute}
 use Rattle.org_capture.specs.declared.piece.Piece.{Piece}
 use Rattle.org_capture.specs.declared.fault.CaptureFault.TheVariants.{BadTemplate}
-use Rattle.org_capture.specs.Template.{pieces_of, last_line, with_prefix, text_of, filled}
+use Rattle.org_capture.specs.Template.{last_line, with_prefix, text_of, filled}
 
 pub with_prefix-append : (prefix xs ys : List ℕ) → with_prefix prefix (xs ++ ys) ≡ with_prefix prefix xs ++ with_prefix prefix ys
 with_prefix-append prefix [] ys = refl

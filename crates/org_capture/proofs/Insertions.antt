@@ -1,5 +1,5 @@
 -- Nodes put into a text, as edits.
-use Rattle.std.proofs.Common.{◌≡◌, ℕ, ◌+◌, ◌≤◌, List, [], ◌∷◌, ◌++◌, ◌<◌, length, length-append, take, drop, refl, sym, ◌∙◌, ap, subst, add-zero, append_assoc, arith, true, Option, None, Result, Ok}
+use Rattle.std.proofs.Common.{◌≡◌, ℕ, ◌+◌, ◌≤◌, List, [], ◌∷◌, ◌++◌, ◌<◌, length, length-append, refl, sym, ◌∙◌, ap, subst, append_assoc, arith, true, Option, None, Result, Ok}
 use Rattle.std.specs.Prelude.{replicate}
 use Rattle.std.proofs.lemmas.List.{append-nil, length-replicate}
 use Rattle.org_splice.specs.Lines.{terminated, print_lines}

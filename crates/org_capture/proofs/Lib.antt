@@ -10,3 +10,4 @@ pub mod Numbers
 pub mod OneByOne
 pub mod Kept
 pub mod Pieces
+pub mod Faults

@@ -1,10 +1,10 @@
 -- The children of a heading, one after the other.
-use Rattle.std.proofs.Common.{◌≡◌, ℕ, zero, suc, ◌+◌, ◌-◌, ◌<◌, ◌≤◌, Bool, true, false, ltb, find, List, [], ◌∷◌, Option, Some, None, refl, sym, ap, ◌∙◌, subst, arith}
+use Rattle.std.proofs.Common.{◌≡◌, ℕ, suc, ◌+◌, ◌-◌, ◌<◌, ◌≤◌, Bool, true, false, ltb, find, Option, Some, None, refl, sym, ap, ◌∙◌, subst, arith}
 use Rattle.std.specs.Option.{ForSome}
 use Rattle.std.proofs.lemmas.Bool.Decides.{nat_tests}
 use Rattle.org_outline.specs.Tree.{Forest, Empty, Tree, Node, Document, total, node_at, node_count}
 use Rattle.org_outline.specs.Numbers.{roots_from, children_of, size_of}
-use Rattle.org_outline.proofs.ByNumber.{nth, node-is, count-is, size_room}
+use Rattle.org_outline.proofs.ByNumber.{nth, node-is, count-is}
 use Rattle.org_outline.proofs.Children.{StandsAt, nth-below}
 use Rattle.org_capture.specs.Dates.{span_below}
 

@@ -5,7 +5,7 @@ use Rattle.org_splice.specs.declared.edit.Edit.{Edit}
 use Rattle.org_splice.specs.Edits.{AreEdits}
 use Rattle.org_outline.specs.Tree.{Document, print}
 use Rattle.org_capture.specs.declared.fault.CaptureFault.{CaptureFault}
-use Rattle.org_capture.specs.declared.fault.CaptureFault.TheVariants.{BadTemplate, BadEntry, NotFound, NotUnique, OutOfMemory}
+use Rattle.org_capture.specs.declared.fault.CaptureFault.TheVariants.{BadTemplate, OutOfMemory}
 
 -- these bytes or this fault, unless memory ran out
 abbrev pub AnswersBytes : Result (List ℕ) CaptureFault → Result (Vec ℕ Global) CaptureFault → Type 0

@@ -1,7 +1,7 @@
 -- Entries: texts that are one heading with what lies below it (Org manual, "Template elements": type `entry`).
 use Rattle.std.specs.Prelude.{◌≡◌, ℕ, List, [], ◌∷◌, Option, Some, None, Result, Ok, Err}
 use Rattle.org_splice.specs.Lines.{terminated}
-use Rattle.org_outline.specs.Tree.{Forest, Empty, Tree, Node, Document, tree}
+use Rattle.org_outline.specs.Tree.{Forest, Empty, Tree, Node, tree}
 use Rattle.org_capture.specs.declared.fault.CaptureFault.{CaptureFault}
 use Rattle.org_capture.specs.declared.fault.CaptureFault.TheVariants.{BadEntry}
 

@@ -1,8 +1,8 @@
 -- How long texts are, up to the greatest number that is counted.
-use Rattle.std.specs.Prelude.{◌≡◌, ℕ, ◌-◌, ◌^◌, min, not, ◌==◌, List, ◌++◌, length, Option, None, Some, Result, Ok, Err}
+use Rattle.std.specs.Prelude.{◌≡◌, ℕ, min, not, ◌==◌, List, ◌++◌, length, Option, None, Some, Result, Ok, Err}
 use Rattle.std.specs.List.{suffix_len}
 use Rattle.org_capture.specs.declared.fault.CaptureFault.{CaptureFault}
-use Rattle.org_capture.specs.declared.fault.CaptureFault.TheVariants.{BadTemplate, BadEntry, NotFound, NotUnique, OutOfMemory}
+use Rattle.org_capture.specs.declared.fault.CaptureFault.TheVariants.{BadTemplate, OutOfMemory}
 use Rattle.org_capture.specs.declared.lengths.Sizes.{Sizes}
 
 abbrev pub counted : ℕ → ℕ

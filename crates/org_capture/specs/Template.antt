@@ -1,7 +1,6 @@
 -- Templates, and what they stand for (Org manual, "Template expansion").
-use Rattle.std.specs.Prelude.{ℕ, zero, suc, ◌+◌, Bool, true, false, ◌||◌, not, ◌==◌, List, [], ◌∷◌, ◌++◌, if◌then◌else◌, Option, None, Some, Result, Ok, Err}
+use Rattle.std.specs.Prelude.{ℕ, Bool, true, false, ◌||◌, not, ◌==◌, List, [], ◌∷◌, ◌++◌, if◌then◌else◌, Option, None, Some, Result, Ok, Err}
 use Rattle.std.specs.Char.{is_ascii_alphabetic}
-use Rattle.std.specs.List.{list_any}
 use Rattle.org_splice.specs.Blanks.{end_of}
 use Rattle.org_stamp.specs.Calendar.{CivilMinute}
 use Rattle.org_stamp.specs.Stamp.{stamp_of, stamp_text}

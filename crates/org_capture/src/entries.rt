@@ -29,7 +29,10 @@ fn first_line(text: &[u8]) -> Option<(&[u8], &[u8])>
 fn lies_deeper(line: &[u8], level: usize) -> bool
     ensures { result ≡ option_map_or (nat_lt level) (level_of line.now) true }
 {
-    heading_level(line).is_none_or(|stars| stars > level)
+    match heading_level(line) {
+        Some(stars) => stars > level,
+        None => true,
+    }
 }
 
 /// Whether each heading line of a terminated text has more stars than this, so that no tree is left

@@ -1,6 +1,7 @@
-use Rattle.std.proofs.Common.{rules, ◌≡◌, ◌≤◌, ◌∙◌, ◌∷◌, ℕ, List, Option, Some, None, Ok, length, refl, sym, ap, subst, arith}
+use Rattle.std.proofs.Common.{rules, ◌≡◌, ◌∙◌, ◌∷◌, ℕ, List, Option, Some, None, Ok, length, refl, sym, ap, subst, arith}
 use Rattle.std.specs.declared.cmp.Ordering.TheVariants.{Equal, Greater}
 use Rattle.std.proofs.lemmas.List.{nil_from_length}
+use Rattle.std.proofs.lemmas.Result.{err_from_is_err_and}
 use Rattle.org_splice.specs.declared.edit.Edit.{Edit}
 use Rattle.org_outline.specs.States.{Keywords}
 use Rattle.org_outline.specs.Tree.{Node, Document, tree, print, print_node}
@@ -11,12 +12,50 @@ use Rattle.org_capture.specs.declared.dates.DateKind.{DateKind}
 use Rattle.org_capture.specs.Dates.{key_on, first_dated, put_dated, made_over}
 use Rattle.org_capture.specs.Answers.{AnswersEdit}
 use Rattle.org_capture.specs.Entry.{IsEntry}
+use Rattle.org_capture.proofs.Faults.{no_memory}
 use Rattle.org_capture.proofs.Insertions.{makes}
 use Rattle.org_capture.proofs.DateTrees.{dated_found, dated_made, made_shift}
 use Rattle.org_capture.proofs.date_trees.+dated_insertion.Goals as goal
 
 pub returns-in_default : goal.returns-in_default
 returns-in_default t c = λ node entry. rw (nil_from_length c.args.kinds.now c.in_default.ensures.cases) (c.insertion.ensures node entry)
+
+pub insertion-requires-clause-parent : goal.insertion-requires-clause-parent
+insertion-requires-clause-parent t c = c.requires.parent
+
+pub insertion-requires-clause-entry : goal.insertion-requires-clause-entry
+insertion-requires-clause-entry t c = c.requires.entry
+
+pub first_dated-requires : goal.first_dated-requires
+first_dated-requires t c = c.requires.parent
+
+pub level_below-level-requires : goal.level_below-level-requires
+level_below-level-requires t c = c.requires.parent
+
+pub dated_place-at-requires : goal.dated_place-at-requires
+dated_place-at-requires t c = c.requires.parent
+
+pub made_dates-requires-clause-low : goal.made_dates-requires-clause-low
+made_dates-requires-clause-low t c = c.level_below-level.ensures.low
+
+pub made_dates-requires-clause-high : goal.made_dates-requires-clause-high
+made_dates-requires-clause-high t c = omega (arith, c.requires.few, c.if-level-gt-DEEPEST.false)
+
+pub made_dates-requires-clause-entry : goal.made_dates-requires-clause-entry
+made_dates-requires-clause-entry t c = (c.requires.entry.0, subst (λ (t : List ℕ). IsEntry t c.requires.entry.0) (sym c.deref.ensures.value) c.requires.entry.1)
+
+pub returns-then-level-gt-DEEPEST : goal.returns-then-level-gt-DEEPEST
+returns-then-level-gt-DEEPEST t c = λ node entry. tt
+
+pub returns-in_err-key : goal.returns-in_err-key
+returns-in_err-key t c = λ node entry.
+    let p = err_from_is_err_and c.from_residual.result c.from_residual.ensures.1 in
+    no_memory _ c.args.outline.now.text _ p.0 p.1 p.2
+
+pub returns-in_err-made_dates : goal.returns-in_err-made_dates
+returns-in_err-made_dates t c = λ node entry.
+    let p = err_from_is_err_and c.from_residual-in_err-made_dates.result c.from_residual-in_err-made_dates.ensures.1 in
+    no_memory _ c.args.outline.now.text _ p.0 p.1 p.2
 
 pub returns-in-Some-first_dated : goal.returns-in-Some-first_dated
 returns-in-Some-first_dated t c = λ node entry.

@@ -1,9 +1,7 @@
-use Rattle.std.proofs.Common.{◌≡◌, ◌∙◌, ◌+◌, ℕ, List, Option, Some, length, sym, ap, arith}
+use Rattle.std.proofs.Common.{◌≡◌, ◌∙◌, Some, sym}
 use Rattle.std.specs.declared.cmp.Ordering.TheVariants.{Greater}
-use Rattle.org_outline.specs.Tree.{Node, Document, tree, print, print_node, no_node}
-use Rattle.org_outline.specs.Moves.{level_below, shift_node}
-use Rattle.org_outline.proofs.AsEdits.{inserts_edit}
-use Rattle.org_capture.specs.Dates.{first_dated, put_dated}
+use Rattle.org_outline.specs.Tree.{Document, tree}
+use Rattle.org_capture.specs.Dates.{first_dated}
 use Rattle.org_capture.proofs.DateTrees.{dated_before}
 use Rattle.org_capture.proofs.date_trees.dated_place.Goals as goal
 

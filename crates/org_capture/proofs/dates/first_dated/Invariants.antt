@@ -1,5 +1,5 @@
-use Rattle.std.proofs.Common.{◌≤◌, ◌-◌}
-use Rattle.org_outline.specs.Tree.{tree, node_at, node_count}
+use Rattle.std.proofs.Common.{◌-◌}
+use Rattle.org_outline.specs.Tree.{tree, node_at}
 use Rattle.org_outline.specs.Moves.{level_below}
 use Rattle.org_capture.specs.Dates.{is_dated}
 use Rattle.org_capture.proofs.Walk.{Walk}

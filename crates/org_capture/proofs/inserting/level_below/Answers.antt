@@ -1,4 +1,4 @@
-use Rattle.std.proofs.Common.{ℕ, List, length, ap, arith, sym}
+use Rattle.std.proofs.Common.{ℕ, List, length, ap, arith}
 use Rattle.org_capture.proofs.Insertions.{level_room}
 use Rattle.org_capture.proofs.inserting.level_below.Goals as goal
 

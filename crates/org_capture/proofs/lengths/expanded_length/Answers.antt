@@ -1,9 +1,20 @@
-use Rattle.std.proofs.Common.{rules, ◌≡◌, ◌∙◌, ◌++◌, ℕ, List, Ok, refl, sym, ap}
-use Rattle.org_capture.specs.Template.{expanded, filled, pieces_of}
+use Rattle.std.proofs.Common.{◌≡◌, ◌∙◌, ◌++◌, ℕ, List, Option, None, Result, Err, refl, sym, ap}
+use Rattle.std.proofs.lemmas.Result.{err_from_is_err_and}
+use Rattle.org_capture.specs.declared.fault.CaptureFault.{CaptureFault}
+use Rattle.org_capture.specs.declared.fault.CaptureFault.TheVariants.{BadTemplate, BadEntry, NotFound, NotUnique, OutOfMemory}
+use Rattle.org_capture.specs.Template.{filled, pieces_of}
 use Rattle.org_capture.specs.declared.lengths.Sizes.{Sizes}
-use Rattle.org_capture.specs.Lengths.{AnswersLength, sizes_of}
-use Rattle.org_capture.proofs.Filling.{fills_badly}
+use Rattle.org_capture.specs.Lengths.{AnswersLength, Grows}
+use Rattle.org_capture.proofs.Filling.{fills, fills_badly}
 use Rattle.org_capture.proofs.lengths.expanded_length.Goals as goal
+
+-- a length that isn't told: the template is bad, or memory ran out
+not_filled : (more : Option (List ℕ)) (whole : Result (List ℕ) CaptureFault) (text : List ℕ) (r : Result ℕ CaptureFault) (fault same : CaptureFault) → r ≡ Err same → same ≡ fault → Grows more text (Err fault) → (more ≡ None → whole ≡ Err BadTemplate) → AnswersLength whole r
+not_filled more whole text r BadTemplate same is e none bad = rw (is, e) (bad none)
+not_filled more whole text r BadEntry same is e none bad = absurd none
+not_filled more whole text r NotFound same is e none bad = absurd none
+not_filled more whole text r NotUnique same is e none bad = absurd none
+not_filled more whole text r OutOfMemory same is e none bad = rw (is, e) tt
 
 pub returns-in_default : goal.returns-in_default
 returns-in_default c =
@@ -22,8 +33,8 @@ returns-in_err-sizes c =
     let text : List ℕ = was.0 ++ c.split_plain.result.0.now in
     let put = c.with_bytes-sizes.ensures was.0 was.1 in
     let run = sym (c.split_plain.ensures.plain m initial was.0) ∙ was.2 in
-    let said = c.in_err-sizes.ensures text put in
-    search (rules, put, run, said, fills_badly, c.first_piece.ensures.value, c.in-Some.ensures.value)
+    let p = err_from_is_err_and c.from_residual.result c.from_residual.ensures.1 in
+    not_filled _ _ text _ c.in_err-sizes.field-0.0 p.0 p.1 p.2 (c.in_err-sizes.ensures text put) (λ none. sym run ∙ fills_badly m initial text _ _ c.in-Some.piece c.in-Some.ensures.value none)
 
 pub loop-piece-preserved : goal.loop-piece-preserved
 loop-piece-preserved c =
@@ -33,5 +44,5 @@ loop-piece-preserved c =
     let text : List ℕ = was.0 ++ c.split_plain.result.0.now in
     let put = c.with_bytes-sizes.ensures was.0 was.1 in
     let run = sym (c.split_plain.ensures.plain m initial was.0) ∙ was.2 in
-    let said = c.in_ok-sizes.ensures text put in
-    search (rules, put, run, said)
+    let grown = c.in_ok-sizes.ensures text put in
+    (text ++ grown.0, grown.2, sym (fills m initial text grown.0 (text ++ grown.0) _ _ c.in-Some.piece c.in-Some.ensures.value grown.1 refl) ∙ run)

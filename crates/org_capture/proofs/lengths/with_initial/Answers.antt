@@ -1,6 +1,6 @@
-use Rattle.std.proofs.Common.{◌≡◌, ◌∙◌, ◌+◌, ◌*◌, ℕ, List, length, ap}
+use Rattle.std.proofs.Common.{◌∙◌, ◌+◌, ◌*◌, ℕ, List, length, ap}
 use Rattle.org_capture.specs.Lengths.{counted}
-use Rattle.org_capture.proofs.Counting.{tail, sizes_are, initial_sizes}
+use Rattle.org_capture.proofs.Counting.{sizes_are, initial_sizes}
 use Rattle.org_capture.proofs.lengths.with_initial.Goals as goal
 
 pub returns : goal.returns

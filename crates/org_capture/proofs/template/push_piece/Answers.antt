@@ -1,7 +1,7 @@
-use Rattle.std.proofs.Common.{◌≡◌, ◌++◌, [], ℕ, List, Some, eqb, false, refl, ap, sym, ◌∙◌}
+use Rattle.std.proofs.Common.{◌≡◌, ◌++◌, [], ℕ, List, eqb, false, refl, ap, sym, ◌∙◌}
 use Rattle.std.specs.List.{list_any}
 use Rattle.std.proofs.lemmas.List.{append-nil}
-use Rattle.org_capture.specs.Template.{last_line, text_of, with_prefix}
+use Rattle.org_capture.specs.Template.{last_line, with_prefix}
 use Rattle.org_capture.proofs.Filling.{with_prefix-none}
 use Rattle.org_capture.proofs.template.push_piece.Goals as goal
 
