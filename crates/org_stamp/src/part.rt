@@ -5,6 +5,7 @@ ghost use Rattle.org_stamp.specs.Parts.{is_blank, is_closing, is_name_byte, numb
 
 use crate::calendar::Day;
 use crate::kind::{Interval, Kind, Mark, Repeater, Times, Unit};
+use memchr::memchr;
 
 /// Whether the byte is a space or a tab.
 pub fn is_blank(byte: u8) -> bool
@@ -14,7 +15,7 @@ pub fn is_blank(byte: u8) -> bool
 }
 
 /// Whether the byte closes a timestamp.
-pub fn is_closing(byte: u8) -> bool
+fn is_closing(byte: u8) -> bool
     ensures { result ≡ is_closing byte }
 {
     byte == b']' || byte == b'>'
@@ -40,7 +41,7 @@ fn is_name(run: &[u8]) -> bool
 fn find(text: &[u8], byte: u8) -> Option<usize>
     ensures { result ≡ position (λ b. b == byte) text.now }
 {
-    text.iter().position(|b| *b == byte)
+    memchr(byte, text)
 }
 
 // The number that one to four digits write.
