@@ -6,6 +6,7 @@ ghost use Rattle.org_capture.specs.Lengths.{AnswersLength, Grows, sizes_of};
 use crate::fault::CaptureFault;
 use crate::piece::{Piece, first_piece};
 use crate::template::{last_line_len, split_plain};
+use memchr::memchr_iter;
 use org_stamp::{Moment, Stamp};
 use std::alloc::Global;
 
@@ -34,7 +35,7 @@ fn with_bytes(sizes: Sizes, bytes: &[u8]) -> Sizes
 fn newlines(text: &[u8]) -> usize
     ensures { result ≡ count_by (λ b. b == 10) text.now }
 {
-    text.iter().filter(|byte| **byte == b'\n').count()
+    memchr_iter(b'\n', text).count()
 }
 
 /// The sizes of a text with the initial text behind it, each line but the first behind what stands on

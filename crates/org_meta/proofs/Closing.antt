@@ -1,8 +1,8 @@
 -- Open clock lines in their sections, and closed ones in their place.
-use Rattle.std.proofs.Common.{◌≡◌, ℕ, ◌+◌, ◌-◌, ◌≤◌, true, Option, Some, None, Result, Ok, Err, List, [], ◌∷◌, ◌++◌, length, take, drop, refl, sym, ap, subst, ◌∙◌, arith, append_assoc, length-append, take-append-drop}
+use Rattle.std.proofs.Common.{◌≡◌, ℕ, ◌+◌, ◌-◌, ◌≤◌, true, Some, None, Result, Ok, Err, List, ◌∷◌, ◌++◌, length, take, drop, refl, sym, ap, subst, ◌∙◌, arith, append_assoc, length-append, take-append-drop}
 use Rattle.std.specs.Prelude.{MatchResult}
 use Rattle.std.proofs.lemmas.List.{take_at, drop_at, length-drop, length-take-le}
-use Rattle.org_splice.specs.Lines.{terminated, print_lines, lines_of}
+use Rattle.org_splice.specs.Lines.{terminated, print_lines}
 use Rattle.org_splice.specs.declared.Span.{Span}
 use Rattle.org_splice.specs.declared.edit.Edit.{Edit}
 use Rattle.org_splice.proofs.Lines.{print_lines-append}
@@ -12,7 +12,7 @@ use Rattle.org_meta.specs.declared.fault.ClockFault.{ClockFault}
 use Rattle.org_meta.specs.declared.fault.ClockFault.TheVariants.{ClockBackwards, OutOfMemory}
 use Rattle.org_meta.specs.Edits.{Gives}
 use Rattle.org_meta.specs.Clocks.{running_clock, is_open, minutes_between, IsOpenAt, HasOpenAt}
-use Rattle.org_meta.specs.Clocking.{closing_text, closed_after, closed_clock, closed_line, IsWhyNot, ClosesNot}
+use Rattle.org_meta.specs.Clocking.{closing_text, closed_after, closed_clock, closed_line, ClosesNot}
 use Rattle.org_meta.proofs.Walk.{print_lines-terminated}
 use Rattle.org_meta.proofs.Puts.{gives_at}
 

@@ -1,9 +1,8 @@
 -- Texts without a newline: what is written of a moment.
-use Rattle.std.proofs.Common.{◌≡◌, eqb, ℕ, ◌/◌, ◌%◌, Bool, true, false, not, List, [], ◌∷◌, ◌++◌, refl, sym, ◌∙◌, arith, inl, inr}
+use Rattle.std.proofs.Common.{◌≡◌, eqb, ℕ, ◌/◌, Bool, true, false, not, List, [], ◌∷◌, ◌++◌, refl, sym, ◌∙◌, arith, inl, inr}
 use Rattle.std.specs.Prelude.{◌≢◌, codes, if◌then◌else◌, ◌==◌}
 use Rattle.std.specs.List.{list_all}
 use Rattle.std.proofs.lemmas.Bool.{cases_Bool, false≢true}
-use Rattle.std.proofs.lemmas.Bool.Decides.{nat_tests}
 use Rattle.org_splice.specs.Lines.{IsLine}
 use Rattle.org_stamp.specs.Calendar.{CivilDay}
 use Rattle.org_stamp.specs.Stamp.{clock_text, date_text, day_name, two_digits}

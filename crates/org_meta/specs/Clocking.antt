@@ -1,9 +1,8 @@
 -- Clocking in and out: the drawer of clock lines, the line that opens a clock, and the one that is closed (Org Syntax,
 -- "Drawers", "Clocks"; Org manual, "Clocking commands").
-use Rattle.std.specs.Prelude.{◌≡◌, ℕ, Bool, ◌&&◌, if◌then◌else◌, Option, None, Some, Result, MatchResult, Ok, Err, List, [], ◌∷◌, ◌++◌, codes, take, length}
+use Rattle.std.specs.Prelude.{◌≡◌, ℕ, Bool, ◌&&◌, if◌then◌else◌, Option, None, Some, Result, MatchResult, Ok, Err, List, [], ◌∷◌, ◌++◌, codes, take}
 use Rattle.std.specs.List.{list_any}
 use Rattle.std.specs.Option.{option_map, unwrap_or}
-use Rattle.org_splice.specs.Lines.{lines_of}
 use Rattle.org_splice.specs.declared.Span.{Span}
 use Rattle.org_splice.specs.declared.edit.Edit.{Edit}
 use Rattle.org_stamp.specs.Calendar.{CivilMinute}

@@ -1,24 +1,19 @@
 -- Clock lines: what they say, their total, and the first that is open (Org Syntax, "Clocks"; Org manual, "Clocking
 -- Work Time").
-use Rattle.std.specs.Prelude.{◌≡◌, ℕ, ◌+◌, ◌-◌, ◌<◌, min, ◌==◌, nat_eq, Bool, true, false, not, ◌&&◌, if◌then◌else◌, ℤ, pos, negsuc, ◌-ℤ◌, Option, None, Some, is_some, Result, Ok, Err, List, [], ◌∷◌, ◌++◌, codes, length, slice_index_or, slice_set, take, drop}
-use Rattle.std.specs.List.{starts_with, list_any, position, sum_by}
-use Rattle.std.specs.Option.{option_map, option_map_or, unwrap_or}
+use Rattle.std.specs.Prelude.{◌≡◌, ℕ, ◌+◌, ◌-◌, min, ◌==◌, nat_eq, Bool, true, false, not, ◌&&◌, if◌then◌else◌, ℤ, pos, negsuc, ◌-ℤ◌, Option, None, Some, is_some, List, [], ◌∷◌, ◌++◌, codes, length, take, drop}
+use Rattle.std.specs.List.{starts_with, position, sum_by}
+use Rattle.std.specs.Option.{option_map, option_map_or}
 use Rattle.std.specs.Char.{is_ascii_digit}
 use Rattle.org_splice.specs.Lines.{print_lines, lines_of}
 use Rattle.org_splice.specs.declared.Span.{Span}
 use Rattle.org_stamp.specs.Calendar.{CivilMinute, minutes_of}
 use Rattle.org_stamp.specs.Parts.{◌>>=◌}
-use Rattle.org_stamp.specs.Stamp.{StampValue, has_one_time, has_cookies, start_of, stamp_of, stamp_text, duration_text}
+use Rattle.org_stamp.specs.Stamp.{StampValue, has_one_time, has_cookies, start_of}
 use Rattle.org_stamp.specs.Front.{stamp_at}
 use Rattle.org_meta.specs.declared.clock.Running.{Running}
 use Rattle.org_meta.specs.declared.clock.Clock.{Clock}
 use Rattle.org_meta.specs.declared.clock.Clock.TheVariants.{Open, Closed}
-use Rattle.org_meta.specs.declared.fault.ClockFault.{ClockFault}
-use Rattle.org_meta.specs.declared.fault.ClockFault.TheVariants.{ClockBackwards}
-use Rattle.org_splice.specs.declared.edit.Edit.{Edit}
-use Rattle.org_meta.specs.Edits.{Gives}
 use Rattle.org_splice.specs.Blanks.{is_blank, behind, trimmed_end}
-use Rattle.org_meta.specs.Sections.{SectionParts, is_mark, is_end}
 
 -- ---- lines
 

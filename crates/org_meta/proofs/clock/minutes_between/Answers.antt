@@ -1,11 +1,10 @@
-use Rattle.std.proofs.Common.{◌≡◌, ℕ, ℤ, pos, negsuc, ◌-ℤ◌, Bool, true, false, Option, Some, None, refl, sym, ap, ◌∙◌, arith}
+use Rattle.std.proofs.Common.{◌≡◌, ℕ, ℤ, pos, negsuc, ◌-ℤ◌, true, false, Option, Some, None, refl, sym, ap, ◌∙◌, arith}
 use Rattle.std.specs.Int.Signed.{lt_z}
 use Rattle.std.proofs.Math.IntN.{nat_abs}
 use mir.Syntax.{w64}
 use mir.Val.{SFits, to_z, of_z}
 use Rattle.std.proofs.lemmas.Int.{ints, to_z-of_z}
 use Rattle.std.proofs.lemmas.Bool.{false≢true}
-use Rattle.org_meta.specs.Clocks.{minutes_between}
 use Rattle.org_meta.proofs.clock.minutes_between.Goals as goal
 
 abbrev if_not_negative : ℤ → Option ℕ
