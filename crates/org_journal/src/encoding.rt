@@ -18,19 +18,25 @@ const SIZE_AT: usize = 7;
 fn put_u16(out: &mut Vec<u8>, number: u16) -> Result<(), AllocError>
     ensures { OnOk result (out.new.items ≡ out.old.items ++ big_bytes 2 number) }
 {
-    out.extend_from_slice(&number.to_be_bytes())
+    let mut bytes = [0; 2];
+    BigEndian::write_u16(&mut bytes, number);
+    out.extend_from_slice(&bytes)
 }
 
 fn put_u32(out: &mut Vec<u8>, number: u32) -> Result<(), AllocError>
     ensures { OnOk result (out.new.items ≡ out.old.items ++ big_bytes 4 number) }
 {
-    out.extend_from_slice(&number.to_be_bytes())
+    let mut bytes = [0; 4];
+    BigEndian::write_u32(&mut bytes, number);
+    out.extend_from_slice(&bytes)
 }
 
 fn put_u64(out: &mut Vec<u8>, number: u64) -> Result<(), AllocError>
     ensures { OnOk result (out.new.items ≡ out.old.items ++ big_bytes 8 number) }
 {
-    out.extend_from_slice(&number.to_be_bytes())
+    let mut bytes = [0; 8];
+    BigEndian::write_u64(&mut bytes, number);
+    out.extend_from_slice(&bytes)
 }
 
 fn put_patch(out: &mut Vec<u8>, patch: &Patch) -> Result<(), AllocError>

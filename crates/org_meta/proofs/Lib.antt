@@ -22,4 +22,3 @@ pub mod Reading
 pub mod Replanned
 pub mod Computed
 pub mod PlannedLines
-pub mod Solid

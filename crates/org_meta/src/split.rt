@@ -7,9 +7,9 @@ ghost use Rattle.org_meta.specs.Sections.{is_drawer_start, is_end};
 ghost use Rattle.org_meta.specs.Lines.{behind_lines};
 
 use crate::lines::first_line;
-use crate::names::{same_name, solid_count};
+use crate::names::same_name;
 use crate::parts::Sections;
-use org_splice::blanks::{behind_blanks, trimmed};
+use org_splice::blanks::{behind_blanks, solid_count, trimmed};
 use std::marker::Model;
 
 /// A property of a drawer (Org Syntax, "Node Properties").
