@@ -1,7 +1,7 @@
-// What no clause says: which image an outcome picks, which call fails, and that each call can succeed.
-//
-// What owns a disk or a set of files drops it by name: left to the end of a function, each of its parts is dropped there,
-// which the function's proof would have to follow.
+//! What no clause says: which image an outcome picks, which call fails, and that each call can succeed.
+//!
+//! What owns a disk or a set of files drops it by name: left to the end of a function, each of its parts is dropped there,
+//! which the function's proof would have to follow.
 ghost use Rattle.std.specs.Prelude.{◌≡◌, Ok};
 
 mod fuses;

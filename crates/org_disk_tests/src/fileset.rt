@@ -1,4 +1,4 @@
-// Sets of files over a disk in memory.
+//! Sets of files over a disk in memory.
 mod commits;
 mod edited;
 mod openings;

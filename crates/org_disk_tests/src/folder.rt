@@ -1,4 +1,4 @@
-// Real folders, each made for its test where the test runs.
+//! Real folders, each made for its test where the test runs.
 ghost use Rattle.std.specs.Prelude.{◌≡◌, []};
 ghost use Rattle.org_folder.specs.FolderDisk.{record_of};
 

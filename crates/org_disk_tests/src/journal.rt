@@ -1,4 +1,4 @@
-// The worked journals, byte for byte, and journals that are not one.
+//! The worked journals, byte for byte, and journals that are not one.
 mod gates;
 mod records;
 

@@ -1,4 +1,4 @@
-// Disks in memory.
+//! Disks in memory.
 use crate::names::file_name;
 use org_disk::{Disk, FileName, MemoryDisk, Outcome};
 use std::alloc::Global;

@@ -1,4 +1,4 @@
-// The journal of a capture of `* TODO Call Ann` into an empty inbox.org, with its gate open.
+//! The journal of a capture of `* TODO Call Ann` into an empty inbox.org, with its gate open.
 
 /// What is captured.
 pub const TEXT: [u8; 16] = *b"* TODO Call Ann\n";

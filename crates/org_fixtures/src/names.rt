@@ -1,4 +1,4 @@
-// Names of files.
+//! Names of files.
 ghost use Rattle.std.specs.Prelude.{IfOk};
 ghost use Rattle.std.specs.List.{All};
 ghost use Rattle.org_disk.specs.Names.{IsOrgFile};

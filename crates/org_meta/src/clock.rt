@@ -1,4 +1,4 @@
-// Clock lines (Org Syntax, "Clocks").
+//! Clock lines (Org Syntax, "Clocks").
 ghost use Rattle.std.specs.Prelude.{◌≡◌, ◌≤◌, length, IfSome, codes, nat_eq, map};
 ghost use Rattle.std.specs.Option.{option_map};
 ghost use Rattle.std.specs.List.{prefix_len};

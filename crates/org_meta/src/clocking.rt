@@ -1,4 +1,4 @@
-// Clocking in and out: edits of LOGBOOK drawers (Org manual, "Clocking Work Time").
+//! Clocking in and out: edits of LOGBOOK drawers (Org manual, "Clocking Work Time").
 ghost use Rattle.std.specs.Prelude.{◌≡◌, ℕ, List, IfOk, IfErr, IfSome, IfNone, OnOk, None, [], ◌∷◌, ◌++◌};
 ghost use Rattle.std.specs.List.{list_any};
 ghost use Rattle.org_splice.specs.Lines.{terminated, lines_of};

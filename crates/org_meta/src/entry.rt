@@ -1,4 +1,4 @@
-// The entries of planning lines (Org Syntax, "Planning").
+//! The entries of planning lines (Org Syntax, "Planning").
 ghost use Rattle.std.specs.Prelude.{◌≡◌, ◌≤◌, ◌⊎◌, length, None, Some, IfSome, IfOk, IfErr, OnOk, ◌++◌};
 ghost use Rattle.std.specs.Option.{option_map};
 ghost use Rattle.std.specs.List.{list_all, list_any};

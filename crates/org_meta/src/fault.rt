@@ -1,4 +1,4 @@
-// Why a planning line or a clock can't be changed.
+//! Why a planning line or a clock can't be changed.
 ghost use Rattle.std.specs.Prelude.{◌≡◌};
 ghost use Rattle.org_meta.specs.declared.fault.PlanningFault.TheVariants.{OutOfMemory};
 ghost use Rattle.org_meta.specs.declared.fault.ClockFault.TheVariants.{OutOfMemory as ClockMemory};

@@ -1,4 +1,4 @@
-// Notes of repetitions (Org manual, "Tracking TODO state changes").
+//! Notes of repetitions (Org manual, "Tracking TODO state changes").
 ghost use Rattle.std.specs.Prelude.{◌≡◌, ◌∷◌, [], ◌++◌, IfOk, OnOk};
 ghost use Rattle.org_splice.specs.Lines.{terminated};
 ghost use Rattle.org_meta.specs.Edits.{GivesParts};

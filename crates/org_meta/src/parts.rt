@@ -1,4 +1,4 @@
-// What a section is split into.
+//! What a section is split into.
 
 /// The parts of a section, each a terminated text that begins where the one before ends (Org
 /// Syntax, "Headings").

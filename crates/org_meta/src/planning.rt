@@ -1,4 +1,4 @@
-// Edits of the planning line (Org manual, "Closing items", "Repeated tasks").
+//! Edits of the planning line (Org manual, "Closing items", "Repeated tasks").
 ghost use Rattle.std.specs.Prelude.{◌≡◌, ◌⊎◌, ◌<◌, ◌≤◌, ℕ, List, length, None, Some, Ok, Err, IfOk, IfErr, OnOk, true, false, [], ◌∷◌, ◌++◌};
 ghost use Rattle.org_splice.specs.Lines.{terminated, print_lines, lines_of};
 ghost use Rattle.org_meta.specs.Edits.{ChangesNothing};

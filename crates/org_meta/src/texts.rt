@@ -1,4 +1,4 @@
-// Texts that are written one behind the other.
+//! Texts that are written one behind the other.
 ghost use Rattle.std.specs.Prelude.{◌≡◌, ◌++◌, OnOk};
 ghost use Rattle.std.specs.List.{flat_map};
 

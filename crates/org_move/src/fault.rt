@@ -1,4 +1,4 @@
-// Why a subtree can't be moved or archived.
+//! Why a subtree can't be moved or archived.
 use org_outline::PathFault;
 use std::alloc::AllocError;
 use thiserror::Error;

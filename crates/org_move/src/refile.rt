@@ -1,4 +1,4 @@
-// A subtree made a child of another heading.
+//! A subtree made a child of another heading.
 ghost use Rattle.std.specs.Prelude.{◌≡◌, [], ◌∷◌, ◌+◌, ◌<◌, ◌≤◌, ◌^◌, Some, IfOk};
 ghost use Rattle.org_splice.specs.Edits.{AreEdits};
 ghost use Rattle.org_splice.specs.Lines.{terminated};

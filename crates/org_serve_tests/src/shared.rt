@@ -1,4 +1,4 @@
-// What the tests of a store and of lines share.
+//! What the tests of a store and of lines share.
 ghost use Rattle.std.specs.Prelude.{◌≡◌, Ok};
 
 use org_disk::MemoryDisk;

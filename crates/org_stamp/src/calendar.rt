@@ -1,4 +1,4 @@
-// Days of the calendar, by the calendar's library.
+//! Days of the calendar, by the calendar's library.
 ghost use Rattle.std.specs.Prelude.{◌≡◌, ◌<◌, ◌^◌, ◌≤ℤ◌, IfSome, neg_ℤ, pos};
 ghost use Rattle.org_stamp.specs.Parts.{day_if_any};
 ghost use Rattle.jiff_core.specs.Calendar.{IsBetween};

@@ -1,4 +1,4 @@
-// Durations as clock lines and totals have them.
+//! Durations as clock lines and totals have them.
 ghost use Rattle.std.specs.Prelude.{◌≡◌, ◌≤◌, IfOk};
 ghost use Rattle.org_stamp.specs.Stamp.{duration_text};
 

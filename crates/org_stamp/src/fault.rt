@@ -1,4 +1,4 @@
-// Why a timestamp can't be repeated.
+//! Why a timestamp can't be repeated.
 
 /// Why a timestamp can't be repeated.
 #[derive(Clone, Copy, Debug, thiserror::Error)]

@@ -1,4 +1,4 @@
-// What stands behind the date of a timestamp.
+//! What stands behind the date of a timestamp.
 ghost use Rattle.std.specs.Prelude.{◌≡◌};
 ghost use Rattle.std.specs.Option.{option_map};
 ghost use Rattle.std.specs.List.{slice_split};

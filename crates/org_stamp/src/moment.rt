@@ -1,4 +1,4 @@
-// Moments: civil minutes.
+//! Moments: civil minutes.
 ghost use Rattle.std.specs.Prelude.{◌≡◌, ◌<◌, ◌+◌, ◌*◌, neg_ℤ, pos};
 ghost use Rattle.std.specs.Option.{SomeIff};
 ghost use Rattle.jiff_core.specs.Calendar.{IsBetween};

@@ -1,4 +1,4 @@
-// What timestamps are written as.
+//! What timestamps are written as.
 ghost use Rattle.std.specs.Prelude.{◌≡◌, ◌+◌, ◌%◌, [], ◌∷◌, ◌++◌, OnOk};
 ghost use Rattle.org_stamp.specs.Calendar.{weekday_of};
 ghost use Rattle.org_stamp.specs.Stamp.{two_digits, date_text, day_name, clock_text, end_text, time_text, cookies_text};

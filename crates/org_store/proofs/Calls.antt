@@ -60,7 +60,7 @@ module _ {D : Type 0} (files : D → List ℕ → FileState) (moment : D → ℕ
   waits_settled old new n (Ok done) waits = waits
   waits_settled old new n (Err fault) waits = waits
 
-  settling_runs : (old new : Kept D) (answer : Result (Unit {0}) RunFault) → SettlesOver files moment left_since old answer new
+  pub settling_runs : (old new : Kept D) (answer : Result (Unit {0}) RunFault) → SettlesOver files moment left_since old answer new
       → RunsOver files moment left_since old Settle (reply_of old.session.accepted answer) new
   settling_runs old new answer ran =
       let n = old.session.accepted in
@@ -75,10 +75,12 @@ module _ {D : Type 0} (files : D → List ℕ → FileState) (moment : D → ℕ
           alone = alone_fewer files moment left_since (IsLeftAlone old.session old.waiting AsksToSettle (reply_of n answer) new.session.accepted) (IsLeftAlone old.session old.waiting AsksToSettle answer new.session.accepted)
               old.disk new.disk ran.disk.alone (λ name this wrote. this (settle_wrote n answer wrote));
         };
-        untouched = λ broken. ran.untouched (fault_of_reply n answer Broken broken);
-        nothing = λ is. ran.nothing;
         waits = waits_settled old new n answer ran.waits;
-        unneeded = λ is. ran.unneeded;
+        idle = record {
+          untouched = λ broken. ran.idle.untouched (fault_of_reply n answer Broken broken);
+          nothing = λ is. ran.idle.nothing tt;
+          unneeded = λ is. ran.idle.unneeded tt;
+        };
       }
 
   -- The list goes on with each call.
@@ -129,11 +131,11 @@ module _ {D : Type 0} (files : D → List ℕ → FileState) (moment : D → ℕ
 
   broken_call : (old new : Past D) (call : Call) → old.store.session.broken ≡ true → Made old call new → Keeps old new
   broken_call old new (Ran command answer) fell made =
-      let same = made.0.untouched (answers_broken old.store.session new.store.session command answer made.0.step fell) in
+      let same = made.0.idle.untouched (answers_broken old.store.session new.store.session command answer made.0.step fell) in
       keeps_same old new same
       (none_added (outcome old.store.session command) old.store.session.accepted new.store.session.accepted old.texts new.texts made.1 (ap (λ (k : Kept D). k.session.accepted) same))
   broken_call old new (Settled answer) fell made =
-      keeps_same old new (made.0.untouched ((settling_ends old.store.session new.store.session answer made.0.step).2 fell)) made.1
+      keeps_same old new (made.0.idle.untouched ((settling_ends old.store.session new.store.session answer made.0.step).2 fell)) made.1
   broken_call old new (Grouped group) fell made =
       record { store = subst (λ (k : Kept D). k ≡ grouped k.session.group old.store) (sym made.0) refl; texts = made.1 }
 

@@ -71,7 +71,7 @@ module _ (names : List (List ℕ)) (P : Texts → Type 0) (Allowed : Call → Ty
             (λ fell. absurd (omega (
               arith,
               risen,
-              ap (λ (k : Kept D). k.session.accepted) (made.0.untouched (answers_broken old.store.session new.store.session command answer made.0.step fell)),
+              ap (λ (k : Kept D). k.session.accepted) (made.0.idle.untouched (answers_broken old.store.session new.store.session command answer made.0.step fell)),
             )))
             (λ sound.
             keeps old.store.session command answer old.texts texts had.same_names had.lists sound allowed (may_be old.store.session new.store.session command answer made.0.step risen) accepts had.has)

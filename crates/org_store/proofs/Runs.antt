@@ -331,7 +331,7 @@ module _ {D : Type 0} (files : D → List ℕ → FileState) (moment : D → ℕ
 
     stays : old.session.broken ≡ true → new ≡ old
     stays fell =
-        let same = ran.untouched (answers_broken old.session mid.session command answer ran.step fell) in
+        let same = ran.idle.untouched (answers_broken old.session mid.session command answer ran.step fell) in
         course.stays (ap (λ (k : Kept D). k.session.broken) same ∙ fell) ∙ same
 
     self_reached : Reached old.session new.session P old.session
@@ -430,7 +430,7 @@ module _ {D : Type 0} (files : D → List ℕ → FileState) (moment : D → ℕ
           recoverable = ran.disk.recoverable;
           others = λ sound disk. ran.disk.others (ends.1 sound).0;
           onward = λ sound. (ends.1 sound).1;
-          stays = λ fell. ran.untouched (ends.2 fell);
+          stays = λ fell. ran.idle.untouched (ends.2 fell);
           rises = ends.0;
         }
 

@@ -1,5 +1,5 @@
 //! A store over a disk.
-ghost use Rattle.std.specs.Prelude.{◌≡◌, ◌⊎◌, ◌↔◌, [], IfOk, IfErr, IsErrOf, IsTrue, None};
+ghost use Rattle.std.specs.Prelude.{◌≡◌, ◌⊎◌, [], IfOk, IfErr, IsErrOf, None};
 ghost use Rattle.std.specs.List.{All};
 ghost use Rattle.org_disk.specs.Accounts.{Accounts};
 ghost use Rattle.org_disk.specs.Names.{IsOrgFile};
@@ -12,12 +12,8 @@ ghost use Rattle.org_store.specs.Group.{IsGroup};
 ghost use Rattle.org_store.specs.InOrder.{texts_of};
 ghost use Rattle.org_store.specs.Opening.{opened};
 ghost use Rattle.org_store.specs.Reopening.{IsOpenable};
-ghost use Rattle.org_store.specs.Runs.{LeavesDisk};
-ghost use Rattle.org_store.specs.Step.{Step, Settles};
-ghost use Rattle.org_store.specs.Left.{IsLeft, IsLeftAlone};
-ghost use Rattle.org_store.specs.Outcome.{AsksToSettle, outcome};
+ghost use Rattle.org_store.specs.Runs.{IsBrokenBy, IsIdle, RunsOver, SettlesOver};
 ghost use Rattle.org_store.specs.Counts.{Counts, SettledCounts};
-ghost use Rattle.org_store.specs.Waiting.{Waits, WaitsSettled};
 
 use crate::act::act;
 use crate::command::{Command, Reply, RunFault};
@@ -163,23 +159,11 @@ impl<D: Disk> Store<D> {
     /// where it was broken before. No file is written but those that wait for a commit, and the journal. Where no
     /// accepted command waits to be acknowledged, it does nothing; where no file waits, it makes no call of the disk.
     pub fn settle(&mut self) -> Result<(), RunFault>
-        ensures step { D.honest self.new.disk → Settles self.old.session result self.new.session }
-        ensures disk { D.honest self.new.disk
-            → LeavesDisk D.files D.moment D.left_since self.old self.new
-            (IsLeft self.old.session (contents (D.files self.old.disk)) AsksToSettle result
-            self.new.session.accepted)
-            (IsLeftAlone self.old.session self.old.waiting AsksToSettle result
-            self.new.session.accepted) (IsErrOf result RunFault.Device) }
+        ensures did { D.honest self.new.disk
+            → SettlesOver D.files D.moment D.left_since self.old result self.new }
         ensures counts { SettledCounts self.old.session result self.new.session }
-        ensures broken { IsErrOf result RunFault.Broken ↔ IsTrue self.old.session.broken }
-        ensures untouched { IsErrOf result RunFault.Broken → self.new ≡ self.old }
-        ensures nothing { self.old.session.acknowledged ≡ self.old.session.accepted
-            → self.new ≡ self.old }
-        ensures waits { D.honest self.new.disk
-            → WaitsSettled self.old.waiting result self.new.waiting }
-        ensures unneeded { self.old.waiting ≡ [] → self.new.disk ≡ self.old.disk }
-        ensures breaks { IsTrue self.new.session.broken
-            ↔ (IsTrue self.old.session.broken ⊎ IsErrOf result RunFault.Device) }
+        ensures idle { IsIdle (Unit {0}) self.old result self.new }
+        ensures broken { IsBrokenBy self.old.session result self.new.session }
         ensures accounts { Accounts D.steady D.honest D.failures self.old.disk self.new.disk
             (IsErrOf result RunFault.Device) }
     {
@@ -206,26 +190,11 @@ impl<D: Disk> Store<D> {
     /// and breaks the store; `Broken` comes exactly where it was broken before. `Settle` does nothing where no accepted
     /// command waits to be acknowledged, and makes no call of the disk where no file waits for a commit.
     pub fn run(&mut self, command: &Command<'_>) -> Result<Reply, RunFault>
-        ensures step { D.honest self.new.disk
-            → Step self.old.session command.now result self.new.session }
-        ensures disk { D.honest self.new.disk
-            → LeavesDisk D.files D.moment D.left_since self.old self.new
-            (IsLeft self.old.session (contents (D.files self.old.disk))
-            (outcome self.old.session command.now) result self.new.session.accepted)
-            (IsLeftAlone self.old.session self.old.waiting
-            (outcome self.old.session command.now) result self.new.session.accepted)
-            (IsErrOf result RunFault.Device) }
+        ensures did { D.honest self.new.disk
+            → RunsOver D.files D.moment D.left_since self.old command.now result self.new }
         ensures counts { Counts self.old.session result self.new.session }
-        ensures broken { IsErrOf result RunFault.Broken ↔ IsTrue self.old.session.broken }
-        ensures untouched { IsErrOf result RunFault.Broken → self.new ≡ self.old }
-        ensures nothing { command.now ≡ Command.Settle
-            → self.old.session.acknowledged ≡ self.old.session.accepted → self.new ≡ self.old }
-        ensures waits { D.honest self.new.disk
-            → Waits self.old (outcome self.old.session command.now) result self.new }
-        ensures unneeded { command.now ≡ Command.Settle → self.old.waiting ≡ []
-            → self.new.disk ≡ self.old.disk }
-        ensures breaks { IsTrue self.new.session.broken
-            ↔ (IsTrue self.old.session.broken ⊎ IsErrOf result RunFault.Device) }
+        ensures idle { IsIdle (command.now ≡ Command.Settle) self.old result self.new }
+        ensures broken { IsBrokenBy self.old.session result self.new.session }
         ensures accounts { Accounts D.steady D.honest D.failures self.old.disk self.new.disk
             (IsErrOf result RunFault.Device) }
     {

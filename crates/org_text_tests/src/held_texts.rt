@@ -1,4 +1,4 @@
-// Commands over held texts: edited, kept, taken back, and lent to a commit.
+//! Commands over held texts: edited, kept, taken back, and lent to a commit.
 ghost use Rattle.std.specs.Prelude.{◌≡◌, true, [], ◌∷◌};
 ghost use Rattle.org_splice.specs.Edits.{AreEdits, CanApply};
 ghost use Rattle.org_texts.specs.Plan.{CanEdit, IsPlan};

@@ -1,4 +1,4 @@
-// Headings of texts: their parts, places and paths, and how they follow edits.
+//! Headings of texts: their parts, places and paths, and how they follow edits.
 mod edits;
 mod headings;
 mod states;

@@ -1,5 +1,5 @@
-// Parts of sections, their properties and notes, and clocks that are opened where another one runs, which no command
-// leaves open: rows whose bytes the rules of sections and of clocking fix.
+//! Parts of sections, their properties and notes, and clocks that are opened where another one runs, which no command
+//! leaves open: rows whose bytes the rules of sections and of clocking fix.
 ghost use Rattle.std.specs.Prelude.{◌≡◌};
 ghost use Rattle.org_splice.specs.Lines.{terminated};
 

@@ -1,4 +1,4 @@
-// Edited texts, and their patches.
+//! Edited texts, and their patches.
 mod blanks;
 mod random;
 mod texts;

@@ -1,4 +1,4 @@
-// Moments, timestamps, repeaters and durations, on dates taken from calendars.
+//! Moments, timestamps, repeaters and durations, on dates taken from calendars.
 mod durations;
 mod moments;
 mod rows;

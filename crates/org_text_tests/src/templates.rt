@@ -1,4 +1,4 @@
-// Templates, and the initial texts put into them: rows worked by hand from the rules of templates.
+//! Templates, and the initial texts put into them: rows worked by hand from the rules of templates.
 use crate::edits::now;
 use org_capture::{expand, expanded_length};
 use org_stamp::Moment;

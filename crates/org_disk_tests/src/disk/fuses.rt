@@ -1,4 +1,4 @@
-// Fuses, and what stays of a write that was synced.
+//! Fuses, and what stays of a write that was synced.
 ghost use Rattle.std.specs.Prelude.{◌≡◌, List, ℕ, length, take, OnOk};
 ghost use Rattle.org_disk.specs.Disk.{AreImages};
 

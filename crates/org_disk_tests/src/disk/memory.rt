@@ -1,4 +1,4 @@
-// A disk in memory that is to crash, or at which a call is to fail.
+//! A disk in memory that is to crash, or at which a call is to fail.
 ghost use Rattle.std.specs.Prelude.{◌≡◌, codes};
 ghost use Rattle.org_disk.specs.Disk.{stable};
 ghost use Rattle.org_disk.specs.Memory.{memory_files};

@@ -1,4 +1,4 @@
-// The names of files.
+//! The names of files.
 use super::{hold, hold_row, name_of};
 use org_disk::FileName;
 use std::alloc::Global;

@@ -1,4 +1,4 @@
-// Commits: whole, crashed and failing ones.
+//! Commits: whole, crashed and failing ones.
 ghost use Rattle.std.specs.Prelude.{◌≤◌, length, Contains, OnOk};
 ghost use Rattle.org_disk.specs.Memory.{memory_files};
 ghost use Rattle.org_journal.specs.Recovered.{contents};

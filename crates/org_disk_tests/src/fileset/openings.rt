@@ -1,4 +1,4 @@
-// What opening a set finds, and how it ends a record that a crash left.
+//! What opening a set finds, and how it ends a record that a crash left.
 use super::{
     FILES, crashed, disk_with, holds, image_of, open, opened_disk, opened_then_closed, opens_with,
     read_once, with_gate,

@@ -1,4 +1,4 @@
-// Calls of the system of which one fails.
+//! Calls of the system of which one fails.
 use super::{disk, holds, make_folder, remove};
 use crate::disk::{hold_row, name_of};
 use org_disk::{Disk, FileName};

@@ -1,4 +1,4 @@
-// What calls of a disk do to the files of a folder.
+//! What calls of a disk do to the files of a folder.
 use super::{Call, Entry, Step, disk, go, is_there, make_folder, remove};
 use crate::disk::{hold, name_of};
 use org_disk::{Disk, DiskFault};

@@ -1,4 +1,4 @@
-// The Org files of a folder.
+//! The Org files of a folder.
 use super::{Entry, make_folder, remove};
 use crate::disk::{are_texts, hold, hold_row};
 use org_disk::{FileName, NameFault};

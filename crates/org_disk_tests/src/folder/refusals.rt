@@ -1,4 +1,4 @@
-// Calls that the system refuses.
+//! Calls that the system refuses.
 use super::{Call, Entry, Step, go, go_on, is_there, make_folder, remove};
 use org_disk::DiskFault;
 use std::fs::File;

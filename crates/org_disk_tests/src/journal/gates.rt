@@ -1,4 +1,4 @@
-// Journals on a disk.
+//! Journals on a disk.
 ghost use Rattle.std.specs.Prelude.{◌≡◌, ◌≤◌, length, OnOk};
 ghost use Rattle.org_disk.specs.Disk.{IsStable};
 ghost use Rattle.org_disk.specs.Names.{journal_name};

@@ -1,4 +1,4 @@
-// Which bytes are a record, and how a record is written.
+//! Which bytes are a record, and how a record is written.
 use super::{ALL, Body, TWO, behind_gate, body_of, is_capture, joined};
 use crate::disk::hold_row;
 use org_fixtures::{NEW, OLD};

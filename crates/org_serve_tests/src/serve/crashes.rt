@@ -1,5 +1,5 @@
-// Crashes of the disk, and what opening it again finds: the files are as after none of a step's lines, or after the
-// first, and so on.
+//! Crashes of the disk, and what opening it again finds: the files are as after none of a step's lines, or after the
+//! first, and so on.
 use super::steps::{
     ACROSS, ARCHIVE_WITHIN, BACK, CAPTURES, CLOCK_ELSEWHERE, CLOCK_OUT, IN_AND_OUT, REFILE_WITHIN,
     REPEATED, Step, THERE_AND_BACK, TO_A_DAY, TO_A_HEAD, TO_ANOTHER_FILE, TO_THE_ARCHIVE,

@@ -1,4 +1,4 @@
-// Calls of the disk that fail.
+//! Calls of the disk that fail.
 use super::crashes::{done_in, done_stopped};
 use super::steps::{
     ACROSS, ARCHIVE_WITHIN, CAPTURES, CLOCK_ELSEWHERE, FIRST, NOTHING, REFILE_WITHIN, REPEATED,

@@ -1,4 +1,4 @@
-// The gate of a journal, as a crash leaves it.
+//! The gate of a journal, as a crash leaves it.
 use super::crashes::{calls_of_opening, done_in, left, way, ways};
 use super::steps::{FIRST, Step, TO_THE_ARCHIVE, files};
 use super::{calls, disk_of, run};

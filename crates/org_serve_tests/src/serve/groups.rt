@@ -1,4 +1,4 @@
-// Groups of commands that are settled together.
+//! Groups of commands that are settled together.
 use super::crashes::done_stopped;
 use super::pipes::{Page, in_pieces, pipe};
 use super::steps::{CAPTURES, TWO_LINES, files};

@@ -1,4 +1,4 @@
-// Input that comes in pieces, and pipes that fail.
+//! Input that comes in pieces, and pipes that fail.
 use super::serve_over;
 use crate::shared::two;
 use org_disk::MemoryDisk;

@@ -1,4 +1,4 @@
-// Lines, and what they make of two files.
+//! Lines, and what they make of two files.
 use crate::shared::two;
 use org_disk::MemoryDisk;
 use std::process::Abort;

@@ -1,4 +1,4 @@
-// Files that were written and not synced, and a store that syncs them before it is opened.
+//! Files that were written and not synced, and a store that syncs them before it is opened.
 use super::crashes::{way, ways};
 use super::{Ended, is_refused, served, setup};
 use crate::shared::{image, must, two};

@@ -1,4 +1,4 @@
-// What a store is asked, and what it answers.
+//! What a store is asked, and what it answers.
 use crate::shared::must;
 use org_capture::Target;
 use org_disk::{FileName, MemoryDisk};

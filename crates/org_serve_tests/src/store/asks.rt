@@ -1,4 +1,4 @@
-// Commands, what they are answered, and what is left on the disk then.
+//! Commands, what they are answered, and what is left on the disk then.
 use super::asking::{Answer, Ask, Row, ask_each};
 use super::open;
 use crate::shared::two;

@@ -1,4 +1,4 @@
-// A disk that crashes at a call, and what opening it again finds.
+//! A disk that crashes at a call, and what opening it again finds.
 use super::asking::{Answer, Ask, answers};
 use super::{calls_of_opening, opened};
 use crate::serve::crashes::{done_in, way, ways};

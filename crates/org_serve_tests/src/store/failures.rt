@@ -1,4 +1,4 @@
-// A disk that fails at a call.
+//! A disk that fails at a call.
 use super::asking::{Answer, Ask, Row, ask_each};
 use super::{calls_of_opening, open};
 use crate::serve::crashes::done_in;

@@ -1,4 +1,4 @@
-// Headings that are kept follow an edit of their text.
+//! Headings that are kept follow an edit of their text.
 ghost use Rattle.std.specs.Prelude.{◌≡◌, ◌+◌, ◌++◌, ◌≤◌, length, take, drop};
 ghost use Rattle.org_splice.specs.Lines.{terminated};
 ghost use Rattle.org_outline.specs.Outline.{IsEdit, headings_of};

@@ -1,5 +1,5 @@
-// What an outline says of its headings: where they, their subtrees and their sections lie, which of them paths name, and
-// their parts. Where subtrees go in below them, and which of them titles name, commands show (tests/commands).
+//! What an outline says of its headings: where they, their subtrees and their sections lie, which of them paths name, and
+//! their parts. Where subtrees go in below them, and which of them titles name, commands show (tests/commands).
 ghost use Rattle.std.specs.Prelude.{◌≡◌, ◌<◌};
 ghost use Rattle.org_splice.specs.Lines.{terminated};
 ghost use Rattle.org_outline.specs.Tree.{node_count, tree};

@@ -1,4 +1,4 @@
-// Which states are accepted.
+//! Which states are accepted.
 use org_outline::{States, StatesFault};
 
 const SIXTEEN: &[&str] = &[

@@ -1,4 +1,4 @@
-// Blanks round a value.
+//! Blanks round a value.
 use org_splice::blanks::{behind_blanks, blank_count, trimmed, trimmed_end};
 
 fn are_found() -> bool {

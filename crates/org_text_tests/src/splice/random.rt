@@ -1,4 +1,4 @@
-// The patches of texts that are spliced at random give the new text.
+//! The patches of texts that are spliced at random give the new text.
 ghost use Rattle.std.specs.Prelude.{◌<◌};
 
 use org_splice::{Editing, Patch};

@@ -1,4 +1,4 @@
-// How durations are printed.
+//! How durations are printed.
 use org_stamp::duration;
 
 // Minutes, the least count of characters for the hours, and the duration.

@@ -1,4 +1,4 @@
-// Moments of the calendar.
+//! Moments of the calendar.
 use org_stamp::Moment;
 
 /// A year, month, day, hour and minute, and where the calendar has that moment, the minutes from 1970-01-01 00:00 to it,

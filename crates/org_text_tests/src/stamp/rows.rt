@@ -1,4 +1,4 @@
-// Timestamps that are printed, and that are repeated.
+//! Timestamps that are printed, and that are repeated.
 use org_stamp::{RepeatFault, Stamp};
 use std::alloc::Global;
 use std::process::Abort;

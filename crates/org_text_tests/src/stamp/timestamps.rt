@@ -1,4 +1,4 @@
-// What is read of timestamps.
+//! What is read of timestamps.
 use org_stamp::Stamp;
 
 /// How long a timestamp is, the minutes from 1970-01-01 00:00 to its moment, and whether it is active, has a time, has

@@ -1,5 +1,4 @@
 use Rattle.std.proofs.Common.{refl}
-use Rattle.org_store.specs.Runs.{RunsOver}
 use Rattle.org_serve.specs.Replies.{answer_text}
 use Rattle.org_serve.proofs.serving.answer_read.Goals as goal
 
@@ -8,17 +7,9 @@ returns-in-Ok-clause-step g c =
     let e = c.run-answer.ensures in
     let d = g.D.Disk in
     let new = c.run-answer.new.self in
-    let over : d.honest new.disk → RunsOver d.files d.moment d.left_since c.args.store.now c.in-Ok.command c.run-answer.result new = λ honest. record {
-      step = e.step honest;
-      disk = e.disk honest;
-      untouched = e.untouched;
-      nothing = e.nothing;
-      waits = e.waits honest;
-      unneeded = e.unneeded;
-    } in
     rw c.in-Ok.is (
       answer_text c.run-answer.result c.args.store.now.session.acknowledged new.session.acknowledged,
-      (c.run-answer.result, record { before = e.accounts.was_honest; did = over }, refl),
+      (c.run-answer.result, record { before = e.accounts.was_honest; did = e.did }, refl),
       rw (c.acknowledged-before.ensures, c.acknowledged.ensures) at c.write_answer.ensures.ok,
       rw (c.acknowledged-before.ensures, c.acknowledged.ensures) at c.write_answer.ensures.part,
     )

@@ -1,5 +1,4 @@
 use Rattle.std.proofs.Common.{◌≡◌, ◌∙◌, ◌<◌, ◌≤◌, [], false, refl, sym, subst, arith}
-use Rattle.org_store.specs.Runs.{SettlesOver}
 use Rattle.org_serve.specs.Replies.{settled_text}
 use Rattle.org_serve.specs.Serving.{EndsBroken}
 use Rattle.org_serve.proofs.Breaking.{ends_broken, accounts_settled, accounts_still, device_unread, device_unwritten, end_unread, end_unwritten, write_unread}
@@ -14,17 +13,9 @@ returns-in-Ok-clause-told g c = λ not.
     let old = c.args.store.now in
     let new = c.settle-answer.new.self in
     let sound : old.session.broken ≡ false = sym c.is_broken.ensures ∙ c.if-is_broken.false in
-    let pending : old.session.acknowledged < old.session.accepted = omega (arith, c.acknowledged.ensures, c.accepted.ensures, c.if-acknowledged-accepted.false) in
-    let over : d.honest new.disk → SettlesOver d.files d.moment d.left_since old c.settle-answer.result new = λ honest. record {
-      step = e.step honest;
-      disk = e.disk honest;
-      untouched = e.untouched;
-      nothing = e.nothing;
-      waits = e.waits honest;
-      unneeded = e.unneeded;
-    } in (
+    let pending : old.session.acknowledged < old.session.accepted = omega (arith, c.acknowledged.ensures, c.accepted.ensures, c.if-acknowledged-accepted.false) in (
       settled_text c.settle-answer.result new.session.acknowledged,
-      finishes_settling d.honest d.files d.moment d.left_since old c.settle-answer.result new c.end_of.result sound pending (record { before = e.accounts.was_honest; did = over }) c.end_of.ensures.value,
+      finishes_settling d.honest d.files d.moment d.left_since old c.settle-answer.result new c.end_of.result sound pending (record { before = e.accounts.was_honest; did = e.did }) c.end_of.ensures.value,
       rw c.acknowledged-2.ensures at c.in-Ok.ensures.ok,
     )
 
@@ -33,7 +24,7 @@ returns-in-Ok-clause-broken g c =
     let e = c.settle-answer.ensures in
     let sound : c.args.store.now.session.broken ≡ false = sym c.is_broken.ensures ∙ c.if-is_broken.false in
     subst (λ end. EndsBroken end c.settle-answer.new.self.session) (sym c.end_of.ensures.value)
-    (ends_broken c.settle-answer.result c.args.store.now.session c.settle-answer.new.self.session sound e.breaks.0 e.breaks.1 e.broken.0)
+    (ends_broken c.settle-answer.result c.args.store.now.session c.settle-answer.new.self.session sound e.broken.behind.0 e.broken.behind.1 e.broken.before.0)
 
 pub returns-in-Err-clause-wrote : goal.returns-in-Err-clause-wrote
 returns-in-Err-clause-wrote g c = λ is. (c.settle-answer.result, rw c.acknowledged-2.ensures at c.in-Err.ensures.part)
@@ -44,14 +35,7 @@ returns-in-Err-clause-write g c = λ is.
     let e = c.settle-answer.ensures in
     let old = c.args.store.now in
     let new = c.settle-answer.new.self in
-    let over : d.honest new.disk → SettlesOver d.files d.moment d.left_since old c.settle-answer.result new = λ honest. record {
-      step = e.step honest;
-      disk = e.disk honest;
-      untouched = e.untouched;
-      nothing = e.nothing;
-      waits = e.waits honest;
-      unneeded = e.unneeded;
-    } in (c.settle-answer.result, record { before = e.accounts.was_honest; did = over })
+    (c.settle-answer.result, record { before = e.accounts.was_honest; did = e.did })
 
 pub returns-then-is_broken-clause-never : goal.returns-then-is_broken-clause-never
 returns-then-is_broken-clause-never g c = device_unread
@@ -117,7 +101,7 @@ pub returns-in-Err-clause-broken : goal.returns-in-Err-clause-broken
 returns-in-Err-clause-broken g c = tt
 
 pub returns-in-Err-clause-untouched : goal.returns-in-Err-clause-untouched
-returns-in-Err-clause-untouched g c broke = c.settle-answer.ensures.untouched (c.settle-answer.ensures.broken.1 broke)
+returns-in-Err-clause-untouched g c broke = c.settle-answer.ensures.idle.untouched (c.settle-answer.ensures.broken.before.1 broke)
 
 pub returns-in-Ok-clause-never : goal.returns-in-Ok-clause-never
 returns-in-Ok-clause-never g c = c.end_of.ensures.never.0
@@ -135,7 +119,7 @@ pub returns-in-Ok-clause-write_told : goal.returns-in-Ok-clause-write_told
 returns-in-Ok-clause-write_told g c not = c.in-Ok.ensures.same
 
 pub returns-in-Ok-clause-untouched : goal.returns-in-Ok-clause-untouched
-returns-in-Ok-clause-untouched g c broke = c.settle-answer.ensures.untouched (c.settle-answer.ensures.broken.1 broke)
+returns-in-Ok-clause-untouched g c broke = c.settle-answer.ensures.idle.untouched (c.settle-answer.ensures.broken.before.1 broke)
 
 pub returns-then-is_broken-clause-told : goal.returns-then-is_broken-clause-told
 returns-then-is_broken-clause-told g c not =
@@ -152,9 +136,9 @@ returns-then-acknowledged-accepted-clause-told g c not =
 pub returns-in-Err-clause-accounts : goal.returns-in-Err-clause-accounts
 returns-in-Err-clause-accounts g c =
     let e = c.settle-answer.ensures in
-    accounts_settled c.settle-answer.result c.args.store.now.session c.settle-answer.new.self.session (sym c.is_broken.ensures ∙ c.if-is_broken.false) e.breaks.0 e.breaks.1 e.accounts
+    accounts_settled c.settle-answer.result c.args.store.now.session c.settle-answer.new.self.session (sym c.is_broken.ensures ∙ c.if-is_broken.false) e.broken.behind.0 e.broken.behind.1 e.accounts
 
 pub returns-in-Ok-clause-accounts : goal.returns-in-Ok-clause-accounts
 returns-in-Ok-clause-accounts g c =
     let e = c.settle-answer.ensures in
-    accounts_settled c.settle-answer.result c.args.store.now.session c.settle-answer.new.self.session (sym c.is_broken.ensures ∙ c.if-is_broken.false) e.breaks.0 e.breaks.1 e.accounts
+    accounts_settled c.settle-answer.result c.args.store.now.session c.settle-answer.new.self.session (sym c.is_broken.ensures ∙ c.if-is_broken.false) e.broken.behind.0 e.broken.behind.1 e.accounts
