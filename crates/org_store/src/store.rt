@@ -1,17 +1,12 @@
 //! A store over a disk.
-ghost use Rattle.std.specs.Prelude.{◌≡◌, ◌⊎◌, [], IfOk, IfErr, IsErrOf, None};
+ghost use Rattle.std.specs.Prelude.{◌≡◌, IfOk, IfErr, IsErrOf};
 ghost use Rattle.std.specs.List.{All};
 ghost use Rattle.org_disk.specs.Accounts.{Accounts};
 ghost use Rattle.org_disk.specs.Names.{IsOrgFile};
-ghost use Rattle.org_journal.specs.Recovered.{contents};
-ghost use Rattle.org_fileset.specs.Names.{with_archives, AreSorted, AreFew, first_large};
-ghost use Rattle.org_fileset.specs.Opening.{IsDeviceRefusal, IsReason, disk_in};
+ghost use Rattle.org_fileset.specs.Opening.{IsDeviceRefusal, disk_in};
 ghost use Rattle.org_fileset.specs.Recovery.{Reopens};
-ghost use Rattle.org_fileset.specs.declared.open.OpenFault.{OpenFault};
 ghost use Rattle.org_store.specs.Group.{IsGroup};
-ghost use Rattle.org_store.specs.InOrder.{texts_of};
-ghost use Rattle.org_store.specs.Opening.{opened};
-ghost use Rattle.org_store.specs.Reopening.{IsOpenable};
+ghost use Rattle.org_store.specs.Opening.{IsOpened, IsRefused};
 ghost use Rattle.org_store.specs.Runs.{IsBrokenBy, IsIdle, RunsOver, SettlesOver};
 ghost use Rattle.org_store.specs.Counts.{Counts, SettledCounts};
 
@@ -77,23 +72,12 @@ impl<D: Disk> Store<D> {
         states: States,
     ) -> Result<Store<D>, OpenRefused<D>>
         requires { All IsOrgFile names.items }
-        ensures session { IfOk result (λ store. store.session
-            ≡ opened states store.session.names
-            (texts_of (contents (D.files store.disk)) store.session.names)) }
-        ensures names { IfOk result (λ store. AreFew names.items
-            × AreSorted (with_archives names.items) store.session.names) }
-        ensures waits { IfOk result (λ store. store.waiting ≡ []) }
+        ensures opened { IfOk result (λ store.
+            IsOpened D.honest D.files states names.items store) }
         ensures reopens { let now = disk_in result (λ store. store.disk) in D.honest now
             → Reopens D.files D.moment D.left_since disk now result }
-        ensures sizes { IfOk result (λ store. D.honest store.disk
-            → first_large (contents (D.files store.disk)) store.session.names ≡ None) }
-        ensures refused { IfErr result (λ refused. IsReason names.items (D.honest refused.disk)
-            (contents (D.files disk)) (contents (D.files refused.disk)) refused.fault) }
-        ensures again { IfErr result (λ refused. D.honest refused.disk
-            → IsOpenable names.items (contents (D.files disk))
-            → (refused.fault ≡ OpenFault.OutOfMemory) ⊎ (refused.fault ≡ OpenFault.Device)) }
-        ensures unused { IfErr result (λ refused. refused.fault ≡ OpenFault.TooManyFiles
-            → refused.disk ≡ disk) }
+        ensures refused { IfErr result (λ refused.
+            IsRefused D.honest D.files names.items disk refused.disk refused.fault) }
         ensures accounts { Accounts D.steady D.honest D.failures disk
             (disk_in result (λ store. store.disk)) (IsDeviceRefusal result) }
     {

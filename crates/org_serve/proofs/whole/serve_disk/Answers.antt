@@ -21,13 +21,13 @@ returns-in-Ok-clause-served g c =
     let store = c.in-Ok.store in
     let begun = c.set_group.new.self in
     let setup = c.args.setup in
-    let opens = c.in-Ok.ensures.session in
+    let opens = c.in-Ok.ensures.opened.session in
     let here = of_disk d.files setup.states setup.group setup.names.items c.args.disk store begun c.set_group.ensures opens in
     let reopens = c.in-Ok.ensures.reopens in
     serves_lasting d.honest d.files d.moment d.left_since laws.only_now laws.counts_now setup.states setup.group setup.names.items c.args.disk store begun c.set_group.ensures opens
-    c.in-Ok.ensures.names.0 c.in-Ok.ensures.names.1 c.in-Ok.ensures.sizes (here (λ k. d.honest k → d.honest c.args.disk) c.in-Ok.ensures.accounts.was_honest)
+    c.in-Ok.ensures.opened.few c.in-Ok.ensures.opened.sorted c.in-Ok.ensures.opened.sizes (here (λ k. d.honest k → d.honest c.args.disk) c.in-Ok.ensures.accounts.was_honest)
     (here (λ k. d.honest k → IsReopened (d.files c.args.disk) (d.files k)) (λ honestly. (reopens honestly).done))
-    c.in-Ok.ensures.waits
+    c.in-Ok.ensures.opened.waits
     (here (λ k. d.honest k → LeavesAlone d.files d.moment d.left_since (IsUnconcerned (contents (d.files c.args.disk) journal_name)) c.args.disk k) (λ honestly. (reopens honestly).alone))
     c.serve-end.new.store c.into_disk.result c.into_disk.ensures c.serve-end.ensures.calls.0 c.serve-end.ensures.calls.1
     (λ honest. c.serve-end.ensures.serves (rw (← c.into_disk.ensures) honest))
@@ -43,7 +43,7 @@ returns-in-Ok-clause-disk g c honest =
     let store = c.in-Ok.store in
     let begun = c.set_group.new.self in
     let setup = c.args.setup in
-    let opens = c.in-Ok.ensures.session in
+    let opens = c.in-Ok.ensures.opened.session in
     let here = of_disk d.files setup.states setup.group setup.names.items c.args.disk store begun c.set_group.ensures opens in
     let now : d.honest c.serve-end.new.store.disk = rw (← c.into_disk.ensures) honest in
     let then = here (λ k. d.honest k → d.honest store.disk) (λ h. h) (c.serve-end.ensures.accounts.was_honest now) in
@@ -64,7 +64,7 @@ returns-in-Ok-clause-accounts g c =
     let d = g.D.Disk in
     let setup = c.args.setup in
     let begun = c.set_group.new.self in
-    let opens = c.in-Ok.ensures.session in
+    let opens = c.in-Ok.ensures.opened.session in
     let here = of_disk d.files setup.states setup.group setup.names.items c.args.disk c.in-Ok.store begun c.set_group.ensures opens in
     let opened = here (λ k. Accounts d.steady d.honest d.failures c.args.disk k ⊥) c.in-Ok.ensures.accounts in
     let sound = is_sound d.files setup.states setup.group setup.names.items c.args.disk c.in-Ok.store begun c.set_group.ensures opens in
@@ -106,10 +106,10 @@ pub returns-in-Err-clause-served : goal.returns-in-Err-clause-served
 returns-in-Err-clause-served g c = tt
 
 pub returns-in-Err-clause-refused : goal.returns-in-Err-clause-refused
-returns-in-Err-clause-refused g c = c.in-Err.ensures.refused
+returns-in-Err-clause-refused g c = c.in-Err.ensures.refused.reason
 
 pub returns-in-Err-clause-unused : goal.returns-in-Err-clause-unused
-returns-in-Err-clause-unused g c = λ is. c.in-Err.ensures.unused (cc)
+returns-in-Err-clause-unused g c = λ is. c.in-Err.ensures.refused.unused (cc)
 
 pub returns-in-Err-clause-unserved : goal.returns-in-Err-clause-unserved
 returns-in-Err-clause-unserved g c = (refl, refl)

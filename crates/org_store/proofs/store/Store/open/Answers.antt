@@ -5,11 +5,17 @@ use Rattle.org_store.proofs.Reopening.{only_faults}
 use Rattle.org_store.proofs.Settled.{none_counted, settled_new}
 use Rattle.org_store.proofs.store.Store.open.Goals as goal
 
-pub returns-in-Err-clause-again : goal.returns-in-Err-clause-again
-returns-in-Err-clause-again g c = λ honest can.
-    let refused = c.in-Err.refused in
-    only_faults c.args.names.items (g.D.Disk.honest refused.disk) (contents (g.D.Disk.files c.args.disk)) (contents (g.D.Disk.files refused.disk)) refused.fault c.requires honest can
-    c.in-Err.ensures.refused
+pub returns-in-Ok-clause-opened : goal.returns-in-Ok-clause-opened
+returns-in-Ok-clause-opened g c = record {
+  session = rw (c.in-Ok.ensures.held.1, c.in-Ok.ensures.unbroken) refl;
+  few = c.in-Ok.ensures.names.0;
+  sorted = c.in-Ok.ensures.names.1;
+  waits = ap (λ (s : TextSet). s.waiting) c.in-Ok.ensures.held.1;
+  sizes = c.in-Ok.ensures.sizes;
+}
+
+pub returns-in-Err-clause-opened : goal.returns-in-Err-clause-opened
+returns-in-Err-clause-opened g c = tt
 
 pub returns-in-Ok-clause-reopens : goal.returns-in-Ok-clause-reopens
 returns-in-Ok-clause-reopens g c ended =
@@ -24,47 +30,21 @@ returns-in-Err-clause-reopens g c ended =
 pub returns-in-Ok-clause-refused : goal.returns-in-Ok-clause-refused
 returns-in-Ok-clause-refused g c = tt
 
-pub returns-in-Ok-clause-again : goal.returns-in-Ok-clause-again
-returns-in-Ok-clause-again g c = tt
-
-pub returns-in-Ok-clause-unused : goal.returns-in-Ok-clause-unused
-returns-in-Ok-clause-unused g c = tt
-
-pub returns-in-Ok-clause-names : goal.returns-in-Ok-clause-names
-returns-in-Ok-clause-names g c = c.in-Ok.ensures.names
-
-pub returns-in-Ok-clause-sizes : goal.returns-in-Ok-clause-sizes
-returns-in-Ok-clause-sizes g c = c.in-Ok.ensures.sizes
+pub returns-in-Err-clause-refused : goal.returns-in-Err-clause-refused
+returns-in-Err-clause-refused g c =
+    let refused = c.in-Err.refused in
+    record {
+      reason = c.in-Err.ensures.refused;
+      again = λ honest can.
+          only_faults c.args.names.items (g.D.Disk.honest refused.disk) (contents (g.D.Disk.files c.args.disk)) (contents (g.D.Disk.files refused.disk)) refused.fault c.requires honest can c.in-Err.ensures.refused;
+      unused = c.in-Err.ensures.unused;
+    }
 
 pub returns-in-Ok-clause-accounts : goal.returns-in-Ok-clause-accounts
 returns-in-Ok-clause-accounts g c = c.in-Ok.ensures.accounts
 
-pub returns-in-Err-clause-session : goal.returns-in-Err-clause-session
-returns-in-Err-clause-session g c = tt
-
-pub returns-in-Err-clause-names : goal.returns-in-Err-clause-names
-returns-in-Err-clause-names g c = tt
-
-pub returns-in-Err-clause-waits : goal.returns-in-Err-clause-waits
-returns-in-Err-clause-waits g c = tt
-
-pub returns-in-Err-clause-sizes : goal.returns-in-Err-clause-sizes
-returns-in-Err-clause-sizes g c = tt
-
-pub returns-in-Err-clause-refused : goal.returns-in-Err-clause-refused
-returns-in-Err-clause-refused g c = c.in-Err.ensures.refused
-
-pub returns-in-Err-clause-unused : goal.returns-in-Err-clause-unused
-returns-in-Err-clause-unused g c = c.in-Err.ensures.unused
-
 pub returns-in-Err-clause-accounts : goal.returns-in-Err-clause-accounts
 returns-in-Err-clause-accounts g c = c.in-Err.ensures.accounts
-
-pub returns-in-Ok-clause-session : goal.returns-in-Ok-clause-session
-returns-in-Ok-clause-session g c = rw (c.in-Ok.ensures.held.1, c.in-Ok.ensures.unbroken) refl
-
-pub returns-in-Ok-clause-waits : goal.returns-in-Ok-clause-waits
-returns-in-Ok-clause-waits g c = ap (λ (s : TextSet). s.waiting) c.in-Ok.ensures.held.1
 
 pub invariant_of-result : goal.invariant_of-result
 invariant_of-result g c =
