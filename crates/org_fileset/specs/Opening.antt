@@ -2,10 +2,11 @@
 use Rattle.std.specs.Prelude.{◌≡◌, ◌≢◌, ◌≤◌, ℕ, List, length, Some, None, IsSomeAnd, Result, Ok, Err, Vec}
 use Rattle.std.specs.Global.{Global}
 use Rattle.std.specs.List.{AllByRecursion}
+use Rattle.org_disk.specs.Disk.{FileState}
 use Rattle.org_disk.specs.Names.{journal_name}
 use Rattle.org_disk.specs.declared.name.FileName.{FileName}
 use Rattle.org_journal.specs.Record.{most_entries}
-use Rattle.org_journal.specs.Recovered.{Image, SameFiles, recovered}
+use Rattle.org_journal.specs.Recovered.{Image, SameFiles, contents, recovered}
 use Rattle.org_journal.specs.declared.fault.FindFault.{FindFault}
 use Rattle.org_journal.specs.declared.fault.FindFault.TheVariants as find
 use Rattle.org_fileset.specs.declared.open.OpenFault.{OpenFault}
@@ -74,3 +75,15 @@ IsReason given honest before now (TooLarge name) = AreFew given
     × (honest → (names : List (List ℕ)) × AreSorted (with_archives given) names × (first_large now names ≡ Some name) × IsBroughtToAnEnd before now)
 IsReason given honest before now Device = AreFew given
 IsReason given honest before now OutOfMemory = Unit {0}
+
+-- What was opened with the given names has these, in byte order, with those of their archive files; and no file of them is
+-- past the limit, where the disk is honest.
+pub record IsOpenedFor (given names : List (List ℕ)) (honest : Type 0) (now : Image) : Type 0 where
+  pub few : AreFew given
+  pub sorted : AreSorted (with_archives given) names
+  pub sizes : honest → first_large now names ≡ None
+
+-- An opening with the given names over the disk `before` was refused for this fault, and handed it back as `now`.
+pub record IsRefusedFor {D : Type 0} (honest : D → Type 0) (files : D → List ℕ → FileState) (given : List (List ℕ)) (before now : D) (fault : OpenFault) : Type 0 where
+  pub reason : IsReason given (honest now) (contents (files before)) (contents (files now)) fault
+  pub unused : fault ≡ TooManyFiles → now ≡ before

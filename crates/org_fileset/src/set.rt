@@ -7,8 +7,7 @@ ghost use Rattle.org_disk.specs.Names.{journal_name, IsOrgFile};
 ghost use Rattle.org_splice.specs.Texts.{IsEditOf};
 ghost use Rattle.org_journal.specs.Recovered.{recovered, contents};
 ghost use Rattle.org_fileset.specs.Entries.{HasRecordOf, changed};
-ghost use Rattle.org_fileset.specs.Names.{with_archives, AreSorted, AreFew, first_large};
-ghost use Rattle.org_fileset.specs.Opening.{IsDeviceRefusal, IsReason, disk_in};
+ghost use Rattle.org_fileset.specs.Opening.{IsDeviceRefusal, IsOpenedFor, IsRefusedFor, disk_in};
 ghost use Rattle.org_fileset.specs.Recovery.{Reopens};
 ghost use Rattle.org_fileset.specs.Replay.{Commits};
 ghost use Rattle.org_fileset.specs.Set.{KeepsSet};
@@ -60,17 +59,12 @@ impl<D: Disk> FileSet<D> {
     /// disk back.
     pub fn open(alloc: Global, disk: D, names: Vec<FileName>) -> Result<FileSet<D>, OpenRefused<D>>
         requires { All IsOrgFile names.items }
-        ensures names { IfOk result (λ set.
-            AreFew names.items × AreSorted (with_archives names.items) set.names) }
-        ensures unbroken { IfOk result (λ set. set.broken ≡ false) }
+        ensures opened { IfOk result (λ set. (set.broken ≡ false) × IsOpenedFor names.items
+            set.names (D.honest set.disk) (contents (D.files set.disk))) }
         ensures reopens { let now = disk_in result (λ set. set.disk) in D.honest now
             → Reopens D.files D.moment D.left_since disk now result }
-        ensures sizes { IfOk result (λ set. D.honest set.disk
-            → first_large (contents (D.files set.disk)) set.names ≡ None) }
-        ensures refused { IfErr result (λ refused. IsReason names.items (D.honest refused.disk)
-            (contents (D.files disk)) (contents (D.files refused.disk)) refused.fault) }
-        ensures unused { IfErr result (λ refused. refused.fault ≡ OpenFault.TooManyFiles
-            → refused.disk ≡ disk) }
+        ensures refused { IfErr result (λ refused.
+            IsRefusedFor D.honest D.files names.items disk refused.disk refused.fault) }
         ensures accounts { Accounts D.steady D.honest D.failures disk
             (disk_in result (λ set. set.disk)) (IsDeviceRefusal result) }
     {

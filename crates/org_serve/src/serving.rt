@@ -215,21 +215,17 @@ fn answer_read<D: Disk, W: Sink>(
 
 // Ends serving at the end of the input.
 fn finish<D: Disk, W: Sink>(store: &mut Store<D>, pending: &Pending, writer: &mut W) -> ServeEnd
-    ensures told { result ≢ ServeEnd.Write → (part : List ℕ)
-        → Stands pending.now part
-        → EndsWith (FinishesOver D.honest D.files D.moment D.left_since)
-        part store.old result store.new
-        (W.written writer.old) (W.written writer.new) }
     ensures never { result ≢ ServeEnd.Read }
-    ensures write { result ≡ ServeEnd.Write
-        → (store.new ≡ store.old) ⊎ HasSettledOver D.honest D.files D.moment D.left_since store.old
-        store.new }
-    ensures wrote { result ≡ ServeEnd.Write → (part : List ℕ) → Stands pending.now part
+    ensures told { result ≢ ServeEnd.Write → (W.failures writer.new ≡ W.failures writer.old)
+        × ((part : List ℕ) → Stands pending.now part
+        → EndsWith (FinishesOver D.honest D.files D.moment D.left_since)
+        part store.old result store.new (W.written writer.old) (W.written writer.new)) }
+    ensures write { result ≡ ServeEnd.Write → ((store.new ≡ store.old)
+        ⊎ HasSettledOver D.honest D.files D.moment D.left_since store.old store.new)
+        × IsCounted (W.failures writer.old) (W.failures writer.new)
+        × ((part : List ℕ) → Stands pending.now part
         → (text : List ℕ) × EndsText part store.new.session.acknowledged text
-        × AppendsSome (W.written writer.old) (W.written writer.new) text }
-    ensures write_cause { result ≡ ServeEnd.Write
-        → IsCounted (W.failures writer.old) (W.failures writer.new) }
-    ensures write_told { result ≢ ServeEnd.Write → W.failures writer.new ≡ W.failures writer.old }
+        × AppendsSome (W.written writer.old) (W.written writer.new) text) }
     ensures broken { EndsBroken result store.new.session }
     ensures untouched { IsTrue store.old.session.broken → store.new ≡ store.old }
     ensures accounts { Accounts D.steady D.honest D.failures store.old.disk store.new.disk
@@ -258,18 +254,17 @@ fn answer_rest<W: Sink>(pending: &Pending, writer: &mut W) -> Result<(), PipeFau
 
 // Settles where accepted commands aren't settled yet.
 fn settle<D: Disk, W: Sink>(store: &mut Store<D>, writer: &mut W) -> ServeEnd
-    ensures told { result ≢ ServeEnd.Write → (tail : List ℕ)
+    ensures never { result ≢ ServeEnd.Read }
+    ensures told { result ≢ ServeEnd.Write → (W.failures writer.new ≡ W.failures writer.old)
+        × (tail : List ℕ)
         × FinishesOver D.honest D.files D.moment D.left_since store.old result tail store.new
         × Appends (W.written writer.old) (W.written writer.new) tail }
-    ensures never { result ≢ ServeEnd.Read }
     ensures write { result ≡ ServeEnd.Write
-        → HasSettledOver D.honest D.files D.moment D.left_since store.old store.new }
-    ensures wrote { result ≡ ServeEnd.Write → (answer : Result (Unit {0}) RunFault)
+        → HasSettledOver D.honest D.files D.moment D.left_since store.old store.new
+        × IsCounted (W.failures writer.old) (W.failures writer.new)
+        × (answer : Result (Unit {0}) RunFault)
         × AppendsSome (W.written writer.old) (W.written writer.new)
         (settled_text answer store.new.session.acknowledged) }
-    ensures write_cause { result ≡ ServeEnd.Write
-        → IsCounted (W.failures writer.old) (W.failures writer.new) }
-    ensures write_told { result ≢ ServeEnd.Write → W.failures writer.new ≡ W.failures writer.old }
     ensures broken { EndsBroken result store.new.session }
     ensures untouched { IsTrue store.old.session.broken → store.new ≡ store.old }
     ensures accounts { Accounts D.steady D.honest D.failures store.old.disk store.new.disk

@@ -1,5 +1,5 @@
 -- What contracts see of a store's files: those of a disk, with what is held of their texts.
-use Rattle.std.specs.Prelude.{◌≡◌, ◌≢◌, ◌≤◌, ℕ, Bool, true, false, nat_lt, List, [], ◌∷◌, length, Option, None, Some, IsSome, Result, Ok, Err, OnOk}
+use Rattle.std.specs.Prelude.{◌≡◌, ◌≢◌, ◌≤◌, ◌↔◌, ℕ, Bool, true, false, nat_lt, List, [], ◌∷◌, length, Option, None, Some, IsSome, Result, Ok, Err, OnOk, IsErrOf, IsTrue}
 use Rattle.std.specs.List.{AllByRecursion, list_any}
 use Rattle.std.specs.Map.{lookup}
 use Rattle.std.specs.Option.{option_map}
@@ -9,6 +9,8 @@ use Rattle.org_splice.specs.Texts.{terminated_text}
 use Rattle.org_disk.specs.Disk.{FileState}
 use Rattle.org_disk.specs.Accounts.{LeavesOver}
 use Rattle.org_journal.specs.Recovered.{Image, IsRecoverable, SameFiles, contents}
+use Rattle.org_fileset.specs.declared.fault.SetFault.{SetFault}
+use Rattle.org_fileset.specs.declared.fault.SetFault.TheVariants.{Broken, Device}
 use Rattle.org_fileset.specs.Names.{limit}
 use Rattle.org_fileset.specs.Replay.{IsAtRest}
 use Rattle.org_fileset.specs.Writes.{LeavesAlone, IsOther}
@@ -111,6 +113,13 @@ PutsPlan plan old (Ok _) new =
 PutsPlan plan old (Err (Refused TooLarge)) new = (has_large (new_texts plan old.now) ≡ true) × (new.now ≡ old.before)
 PutsPlan plan old (Err OutOfMemory) new = new.now ≡ old.before
 PutsPlan plan old (Err fault) new = ⊥
+
+-- What a commit of files that aren't broken makes of them besides: they keep their names, and a call of the disk that fails
+-- breaks them, and nothing else does.
+pub record KeepsFiles {D A : Type 0} (old new : OpenFiles D) (result : Result A SetFault) : Type 0 where
+  pub names : new.names ≡ old.names
+  pub works : IsErrOf result Broken → ⊥
+  pub breaks : IsErrOf result Device ↔ IsTrue new.broken
 
 -- What a commit does that is to give files of these names these texts, where the disk is honest after it. It writes
 -- those that wait, and the journal.

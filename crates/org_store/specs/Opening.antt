@@ -1,11 +1,10 @@
 -- What opening a store answers.
-use Rattle.std.specs.Prelude.{◌≡◌, ◌⊎◌, ℕ, false, List, [], None}
+use Rattle.std.specs.Prelude.{◌≡◌, ◌⊎◌, ℕ, false, List, []}
 use Rattle.org_disk.specs.Disk.{FileState}
 use Rattle.org_journal.specs.Recovered.{contents}
-use Rattle.org_fileset.specs.Names.{with_archives, AreSorted, AreFew, first_large}
-use Rattle.org_fileset.specs.Opening.{IsReason}
+use Rattle.org_fileset.specs.Opening.{IsOpenedFor, IsRefusedFor}
 use Rattle.org_fileset.specs.declared.open.OpenFault.{OpenFault}
-use Rattle.org_fileset.specs.declared.open.OpenFault.TheVariants.{TooManyFiles, Device, OutOfMemory}
+use Rattle.org_fileset.specs.declared.open.OpenFault.TheVariants.{Device, OutOfMemory}
 use Rattle.org_outline.specs.States.{Keywords}
 use Rattle.org_store.specs.InOrder.{texts_of}
 use Rattle.org_store.specs.Reopening.{IsOpenable}
@@ -19,15 +18,11 @@ opened states names texts =
 -- A store that was just opened with these states and the given names. `honest` and `files` are what is seen of its disk.
 pub record IsOpened {D : Type 0} (honest : D → Type 0) (files : D → List ℕ → FileState) (states : Keywords) (given : List (List ℕ)) (store : Kept D) : Type 0 where
   pub session : store.session ≡ opened states store.session.names (texts_of (contents (files store.disk)) store.session.names)
-  -- the names in byte order, and those of their archive files
-  pub few : AreFew given
-  pub sorted : AreSorted (with_archives given) store.session.names
+  pub set : IsOpenedFor given store.session.names (honest store.disk) (contents (files store.disk))
   pub waits : store.waiting ≡ []
-  pub sizes : honest store.disk → first_large (contents (files store.disk)) store.session.names ≡ None
 
--- An opening over the disk `before` that was refused with this fault, and handed it back as `now`.
+-- An opening over the disk `before` that was refused for this fault, and handed it back as `now`.
 pub record IsRefused {D : Type 0} (honest : D → Type 0) (files : D → List ℕ → FileState) (given : List (List ℕ)) (before now : D) (fault : OpenFault) : Type 0 where
-  pub reason : IsReason given (honest now) (contents (files before)) (contents (files now)) fault
+  pub set : IsRefusedFor honest files given before now fault
   -- what recovers to files of these names is refused as long as memory or the disk fails
   pub again : honest now → IsOpenable given (contents (files before)) → (fault ≡ OutOfMemory) ⊎ (fault ≡ Device)
-  pub unused : fault ≡ TooManyFiles → now ≡ before

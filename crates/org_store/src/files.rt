@@ -1,5 +1,5 @@
 //! The files of a store, with what is held of their texts.
-ghost use Rattle.std.specs.Prelude.{◌≡◌, ◌⊎◌, ◌↔◌, ◌<◌, ◌∷◌, [], List, ℕ, None, Some, nat_lt, length, slice_get, true, false, IfOk, IfErr, OnOk, OnErr, IsErrOf, IsSome, IsTrue};
+ghost use Rattle.std.specs.Prelude.{◌≡◌, ◌⊎◌, ◌↔◌, ◌<◌, ◌∷◌, [], List, ℕ, None, Some, nat_lt, length, slice_get, true, false, IfOk, IfErr, MatchResult, OnOk, OnErr, IsErrOf, IsSome, IsTrue};
 ghost use Rattle.std.specs.List.{All};
 ghost use Rattle.std.specs.Map.{lookup};
 ghost use Rattle.std.specs.Option.{ForSome, option_map};
@@ -7,16 +7,14 @@ ghost use Rattle.std.specs.Str.{bytes_eq};
 ghost use Rattle.org_disk.specs.Accounts.{Accounts};
 ghost use Rattle.org_disk.specs.Names.{IsOrgFile};
 ghost use Rattle.org_journal.specs.Recovered.{contents};
-ghost use Rattle.org_fileset.specs.Names.{with_archives, AreSorted, AreFew, first_large};
-ghost use Rattle.org_fileset.specs.Opening.{IsDeviceRefusal, IsReason, disk_in};
+ghost use Rattle.org_fileset.specs.Opening.{IsDeviceRefusal, IsOpenedFor, IsRefusedFor, disk_in};
 ghost use Rattle.org_fileset.specs.Recovery.{Reopens};
-ghost use Rattle.org_fileset.specs.declared.open.OpenFault.{OpenFault};
 ghost use Rattle.org_fileset.specs.Names.{limit};
 ghost use Rattle.org_outline.specs.States.{Keywords};
 ghost use Rattle.org_texts.specs.Texts.{bytes_or, held_over, nothing_held, text_of};
 ghost use Rattle.org_store.specs.declared.tally.Tally.{Tally};
 ghost use Rattle.org_store.specs.Clocks.{RunsIn};
-ghost use Rattle.org_store.specs.Files.{AreReady, AreSmallToWrite, CommitsTexts, IsPlanFor, IsReady, KeepsHeld, PutsPlan, StaysInMemory, files_of, has_large, texts_in};
+ghost use Rattle.org_store.specs.Files.{AreReady, AreSmallToWrite, CommitsTexts, IsPlanFor, IsReady, KeepsFiles, KeepsHeld, PutsPlan, StaysInMemory, files_of, has_large, texts_in};
 ghost use Rattle.org_store.specs.InOrder.{is_name, texts_of};
 ghost use Rattle.org_store.specs.Keeping.{Reads};
 ghost use Rattle.org_store.specs.Quiet.{Forgets};
@@ -73,19 +71,14 @@ impl<D: Disk> Files<D> {
         names: Vec<FileName>,
     ) -> Result<Files<D>, OpenRefused<D>>
         requires { All IsOrgFile names.items }
-        ensures names { IfOk result (λ files. AreFew names.items
-            × AreSorted (with_archives names.items) files.names) }
-        ensures held { IfOk result (λ files. (files.held.now ≡ nothing_held)
-            × (files.held.before ≡ nothing_held)) }
-        ensures unbroken { IfOk result (λ files. files.broken ≡ false) }
+        ensures opened { IfOk result (λ files. (files.broken ≡ false)
+            × (files.held.now ≡ nothing_held) × (files.held.before ≡ nothing_held)
+            × IsOpenedFor names.items files.names (D.honest files.disk)
+            (contents (D.files files.disk))) }
         ensures reopens { let now = disk_in result (λ files. files.disk) in D.honest now
             → Reopens D.files D.moment D.left_since disk now result }
-        ensures sizes { IfOk result (λ files. D.honest files.disk
-            → first_large (contents (D.files files.disk)) files.names ≡ None) }
-        ensures refused { IfErr result (λ refused. IsReason names.items (D.honest refused.disk)
-            (contents (D.files disk)) (contents (D.files refused.disk)) refused.fault) }
-        ensures unused { IfErr result (λ refused. refused.fault ≡ OpenFault.TooManyFiles
-            → refused.disk ≡ disk) }
+        ensures refused { IfErr result (λ refused.
+            IsRefusedFor D.honest D.files names.items disk refused.disk refused.fault) }
         ensures accounts { Accounts D.steady D.honest D.failures disk
             (disk_in result (λ files. files.disk)) (IsDeviceRefusal result) }
     {
@@ -292,14 +285,11 @@ impl<D: Disk> Files<D> {
             → texts_of (held_over self.new.held.before (contents (D.files self.new.disk)))
             self.old.names ≡ texts_of (held_over self.old.held.now
             (contents (D.files self.old.disk))) self.old.names) }
-        ensures begun { OnOk result (self.new.held.now ≡ self.new.held.before) }
-        ensures settled { OnOk result (self.new.held.now.waiting ≡ []) }
-        ensures held { OnErr result (self.new.held ≡ self.old.held) }
-        ensures memory { IsErrOf result SetFault.OutOfMemory → self.new ≡ self.old }
-        ensures nothing { self.old.held.now.waiting ≡ [] → self.new.disk ≡ self.old.disk }
-        ensures names { self.new.names ≡ self.old.names }
-        ensures works { IsErrOf result SetFault.Broken → ⊥ }
-        ensures breaks { IsErrOf result SetFault.Device ↔ IsTrue self.new.broken }
+        ensures held { MatchResult result (λ _. (self.new.held.now ≡ self.new.held.before)
+            × (self.new.held.now.waiting ≡ [])) (λ _. self.new.held ≡ self.old.held) }
+        ensures idle { (IsErrOf result SetFault.OutOfMemory → self.new ≡ self.old)
+            × (self.old.held.now.waiting ≡ [] → self.new.disk ≡ self.old.disk) }
+        ensures set { KeepsFiles self.old self.new result }
         ensures accounts { Accounts D.steady D.honest D.failures self.old.disk self.new.disk
             (IsErrOf result SetFault.Device) }
     {

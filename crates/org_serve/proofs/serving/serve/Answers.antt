@@ -22,8 +22,8 @@ returns-in-Ok-eq0-clause-serves g c = λ honest.
     serves_end (session_of_served d.honest d.files d.moment d.left_since s) c.finish.result c.finish.new.store.session (g.W.Sink.written c.finish.new.writer) (c.in-Ok-eq0.ensures.bytes.1 zero room) c.finish.ensures.never
     (λ no_write. session_of_ends d.honest d.files d.moment d.left_since (cut s.input).rest c.loop.store c.finish.result c.finish.new.store (g.W.Sink.written c.loop.writer) (g.W.Sink.written c.finish.new.writer)
     (kept_end d.honest d.files d.moment d.left_since (cut s.input).rest c.loop.store c.finish.result c.finish.new.store (g.W.Sink.written c.loop.writer) (g.W.Sink.written c.finish.new.writer)
-    (c.finish.ensures.told no_write (cut s.input).rest s.stands) honest))
-    (λ e. elim (c.finish.ensures.write e) [
+    ((c.finish.ensures.told no_write).1 (cut s.input).rest s.stands) honest))
+    (λ e. elim ((c.finish.ensures.write e).0) [
       | inl same ↦ inl (rw same refl)
       | inr settled ↦ inr (session_of_settled d.honest d.files d.moment d.left_since c.loop.store c.finish.new.store (kept_settled d.honest d.files d.moment d.left_since c.loop.store c.finish.new.store settled honest))
     ])
@@ -32,7 +32,7 @@ pub returns-in-Ok-eq0-clause-causes : goal.returns-in-Ok-eq0-clause-causes
 returns-in-Ok-eq0-clause-causes g c =
     ended_otherwise c.finish.result c.finish.ensures.never
     (within_all c.args.turns c.loop.counter (g.R.Source.reads c.args.reader.now) (g.R.Source.reads c.read.new.self) (within_counted c.loop.counter (g.R.Source.reads c.args.reader.now) (g.R.Source.reads c.loop.reader) (g.R.Source.reads c.read.new.self) c.loop.invariant.6 c.in-Ok-eq0.ensures.counted) (omega arith))
-    (c.in-Ok-eq0.ensures.ok ∙ c.loop.invariant.4) c.loop.invariant.5 c.finish.ensures.write_cause c.finish.ensures.write_told
+    (c.in-Ok-eq0.ensures.ok ∙ c.loop.invariant.4) c.loop.invariant.5 (λ is. (c.finish.ensures.write is).1) (λ not. (c.finish.ensures.told not).0)
 
 pub returns-in-Ok-eq0-clause-calls : goal.returns-in-Ok-eq0-clause-calls
 returns-in-Ok-eq0-clause-calls g c =
@@ -41,7 +41,7 @@ returns-in-Ok-eq0-clause-calls g c =
     let read = rw zero at c.in-Ok-eq0.ensures.bytes in
     let s = Served-no_more c.loop.invariant.0 (g.R.Source.left c.read.new.self) read.0 in
     runs_finish d.honest d.files d.moment d.left_since s c.finish.new.store c.finish.result (g.W.Sink.written c.finish.new.writer)
-    (λ not. c.finish.ensures.told not (cut s.input).rest s.stands) c.finish.ensures.write (λ is. c.finish.ensures.wrote is (cut s.input).rest s.stands)
+    (λ not. (c.finish.ensures.told not).1 (cut s.input).rest s.stands) (λ is. (c.finish.ensures.write is).0) (λ is. (c.finish.ensures.write is).2 (cut s.input).rest s.stands)
 
 pub returns-in-Ok-eq0-clause-disk : goal.returns-in-Ok-eq0-clause-disk
 returns-in-Ok-eq0-clause-disk g c = λ honest.

@@ -14,6 +14,7 @@ returns-in-Ok-clause-told g c = λ not.
     let new = c.settle-answer.new.self in
     let sound : old.session.broken ≡ false = sym c.is_broken.ensures ∙ c.if-is_broken.false in
     let pending : old.session.acknowledged < old.session.accepted = omega (arith, c.acknowledged.ensures, c.accepted.ensures, c.if-acknowledged-accepted.false) in (
+      c.in-Ok.ensures.same,
       settled_text c.settle-answer.result new.session.acknowledged,
       finishes_settling d.honest d.files d.moment d.left_since old c.settle-answer.result new c.end_of.result sound pending (record { before = e.accounts.was_honest; did = e.did }) c.end_of.ensures.value,
       rw c.acknowledged-2.ensures at c.in-Ok.ensures.ok,
@@ -26,31 +27,16 @@ returns-in-Ok-clause-broken g c =
     subst (λ end. EndsBroken end c.settle-answer.new.self.session) (sym c.end_of.ensures.value)
     (ends_broken c.settle-answer.result c.args.store.now.session c.settle-answer.new.self.session sound e.broken.behind.0 e.broken.behind.1 e.broken.before.0)
 
-pub returns-in-Err-clause-wrote : goal.returns-in-Err-clause-wrote
-returns-in-Err-clause-wrote g c = λ is. (c.settle-answer.result, rw c.acknowledged-2.ensures at c.in-Err.ensures.part)
-
 pub returns-in-Err-clause-write : goal.returns-in-Err-clause-write
-returns-in-Err-clause-write g c = λ is.
-    let d = g.D.Disk in
+returns-in-Err-clause-write g c is =
     let e = c.settle-answer.ensures in
-    let old = c.args.store.now in
-    let new = c.settle-answer.new.self in
-    (c.settle-answer.result, record { before = e.accounts.was_honest; did = e.did })
+    ((c.settle-answer.result, record { before = e.accounts.was_honest; did = e.did }), c.in-Err.ensures.err, c.settle-answer.result, rw c.acknowledged-2.ensures at c.in-Err.ensures.part)
 
 pub returns-then-is_broken-clause-never : goal.returns-then-is_broken-clause-never
 returns-then-is_broken-clause-never g c = device_unread
 
 pub returns-then-is_broken-clause-write : goal.returns-then-is_broken-clause-write
 returns-then-is_broken-clause-write g c = device_unwritten
-
-pub returns-then-is_broken-clause-wrote : goal.returns-then-is_broken-clause-wrote
-returns-then-is_broken-clause-wrote g c = device_unwritten
-
-pub returns-then-is_broken-clause-write_cause : goal.returns-then-is_broken-clause-write_cause
-returns-then-is_broken-clause-write_cause g c = device_unwritten
-
-pub returns-then-is_broken-clause-write_told : goal.returns-then-is_broken-clause-write_told
-returns-then-is_broken-clause-write_told g c not = refl
 
 pub returns-then-is_broken-clause-broken : goal.returns-then-is_broken-clause-broken
 returns-then-is_broken-clause-broken g c = sym c.is_broken.ensures ∙ c.if-is_broken.true
@@ -67,15 +53,6 @@ returns-then-acknowledged-accepted-clause-never g c = end_unread
 pub returns-then-acknowledged-accepted-clause-write : goal.returns-then-acknowledged-accepted-clause-write
 returns-then-acknowledged-accepted-clause-write g c = end_unwritten
 
-pub returns-then-acknowledged-accepted-clause-wrote : goal.returns-then-acknowledged-accepted-clause-wrote
-returns-then-acknowledged-accepted-clause-wrote g c = end_unwritten
-
-pub returns-then-acknowledged-accepted-clause-write_cause : goal.returns-then-acknowledged-accepted-clause-write_cause
-returns-then-acknowledged-accepted-clause-write_cause g c = end_unwritten
-
-pub returns-then-acknowledged-accepted-clause-write_told : goal.returns-then-acknowledged-accepted-clause-write_told
-returns-then-acknowledged-accepted-clause-write_told g c not = refl
-
 pub returns-then-acknowledged-accepted-clause-broken : goal.returns-then-acknowledged-accepted-clause-broken
 returns-then-acknowledged-accepted-clause-broken g c = sym c.is_broken.ensures ∙ c.if-is_broken.false
 
@@ -91,12 +68,6 @@ returns-in-Err-clause-told g c not = absurd (not refl)
 pub returns-in-Err-clause-never : goal.returns-in-Err-clause-never
 returns-in-Err-clause-never g c = write_unread
 
-pub returns-in-Err-clause-write_cause : goal.returns-in-Err-clause-write_cause
-returns-in-Err-clause-write_cause g c is = c.in-Err.ensures.err
-
-pub returns-in-Err-clause-write_told : goal.returns-in-Err-clause-write_told
-returns-in-Err-clause-write_told g c not = absurd (not refl)
-
 pub returns-in-Err-clause-broken : goal.returns-in-Err-clause-broken
 returns-in-Err-clause-broken g c = tt
 
@@ -109,29 +80,20 @@ returns-in-Ok-clause-never g c = c.end_of.ensures.never.0
 pub returns-in-Ok-clause-write : goal.returns-in-Ok-clause-write
 returns-in-Ok-clause-write g c is = absurd (c.end_of.ensures.never.1 is)
 
-pub returns-in-Ok-clause-wrote : goal.returns-in-Ok-clause-wrote
-returns-in-Ok-clause-wrote g c is = absurd (c.end_of.ensures.never.1 is)
-
-pub returns-in-Ok-clause-write_cause : goal.returns-in-Ok-clause-write_cause
-returns-in-Ok-clause-write_cause g c is = absurd (c.end_of.ensures.never.1 is)
-
-pub returns-in-Ok-clause-write_told : goal.returns-in-Ok-clause-write_told
-returns-in-Ok-clause-write_told g c not = c.in-Ok.ensures.same
-
 pub returns-in-Ok-clause-untouched : goal.returns-in-Ok-clause-untouched
 returns-in-Ok-clause-untouched g c broke = c.settle-answer.ensures.idle.untouched (c.settle-answer.ensures.broken.before.1 broke)
 
 pub returns-then-is_broken-clause-told : goal.returns-then-is_broken-clause-told
 returns-then-is_broken-clause-told g c not =
     let d = g.D.Disk in
-    ([], finishes_broken d.honest d.files d.moment d.left_since c.args.store.now (sym c.is_broken.ensures ∙ c.if-is_broken.true), Appends-none (g.W.Sink.written c.args.writer.now))
+    (refl, [], finishes_broken d.honest d.files d.moment d.left_since c.args.store.now (sym c.is_broken.ensures ∙ c.if-is_broken.true), Appends-none (g.W.Sink.written c.args.writer.now))
 
 pub returns-then-acknowledged-accepted-clause-told : goal.returns-then-acknowledged-accepted-clause-told
 returns-then-acknowledged-accepted-clause-told g c not =
     let d = g.D.Disk in
     let store = c.args.store.now in
     let settled : store.session.accepted ≤ store.session.acknowledged = omega (arith, c.acknowledged.ensures, c.accepted.ensures, c.if-acknowledged-accepted.true) in
-    ([], finishes_settled d.honest d.files d.moment d.left_since store (sym c.is_broken.ensures ∙ c.if-is_broken.false) settled, Appends-none (g.W.Sink.written c.args.writer.now))
+    (refl, [], finishes_settled d.honest d.files d.moment d.left_since store (sym c.is_broken.ensures ∙ c.if-is_broken.false) settled, Appends-none (g.W.Sink.written c.args.writer.now))
 
 pub returns-in-Err-clause-accounts : goal.returns-in-Err-clause-accounts
 returns-in-Err-clause-accounts g c =

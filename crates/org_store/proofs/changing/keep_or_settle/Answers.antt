@@ -50,7 +50,7 @@ returns-in-Ok-clause-keeps g c states honest =
     let old = kept_over g.D.Disk.files states c.args.files.now c.args.tally.now in
     let full : fills old.session ≡ true = search rules in
     let whole : c.commit.new.self.broken ≡ c.args.files.now.broken = search rules in
-    rw (c.commit.ensures.names, whole, full, c.in-Ok.ensures.texts honest, (c.in-Ok.ensures.commits honest).texts) refl
+    rw (c.commit.ensures.set.names, whole, full, c.in-Ok.ensures.texts honest, (c.in-Ok.ensures.commits honest).texts) refl
 
 pub returns-in-Err-Device-clause-keeps : goal.returns-in-Err-Device-clause-keeps
 returns-in-Err-Device-clause-keeps g c states honest =
@@ -64,7 +64,7 @@ returns-in-Err-Device-clause-keeps g c states honest =
       (
         texts_of (held_over new.held.before (contents (d.files new.disk))) new.names,
         texts_of (contents (d.files new.disk)) new.names,
-        rw (taken.memory.names, c.commit.ensures.names, taken.memory.broken, fell) refl,
+        rw (taken.memory.names, c.commit.ensures.set.names, taken.memory.broken, fell) refl,
       ),
     )
 
@@ -81,7 +81,7 @@ returns-in-Ok-clause-disk g c states honest =
     let was = c.args.tally.now in
     let now : Tally = record { accepted = was.accepted + 1; acknowledged = was.accepted + 1; group = was.group } in
     leaves_filled d.files d.moment d.left_since states files c.commit.new.self was now files.held.now.waiting (texts_of (held_over files.held.now (contents (d.files files.disk))) files.names)
-    (sym c.fills.ensures ∙ c.if-not-fills.false) refl c.commit.ensures.names (c.in-Ok.ensures.commits honest)
+    (sym c.fills.ensures ∙ c.if-not-fills.false) refl c.commit.ensures.set.names (c.in-Ok.ensures.commits honest)
 
 pub returns-in-Err-Device-clause-disk : goal.returns-in-Err-Device-clause-disk
 returns-in-Err-Device-clause-disk g c states honest =

@@ -1,5 +1,5 @@
 use Rattle.org_disk.specs.Disk.{AreImages}
-use Rattle.std.proofs.Common.{Err, refl, ap}
+use Rattle.std.proofs.Common.{Err, refl, ap, rules}
 use Rattle.org_disk.proofs.Accounting.{accounts_fine, accounts_none}
 use Rattle.org_journal.proofs.Accounted.{accounts_quiet}
 use Rattle.org_disk.proofs.Moments.{passes_none}
@@ -39,43 +39,28 @@ returns-in-Err-make_ready-clause-reopens g c ended =
     let made = c.in-Err-make_ready.ensures.reopens ended in
     record { done = tt; any_moment = made.any_moment; recoverable = made.recoverable; bad = made.bad; idle = made.idle; alone = made.alone }
 
-pub returns-in-Err-clause-names : goal.returns-in-Err-clause-names
-returns-in-Err-clause-names g c = tt
+pub returns-in-Err-clause-opened : goal.returns-in-Err-clause-opened
+returns-in-Err-clause-opened g c = tt
 
-pub returns-in-Err-clause-unbroken : goal.returns-in-Err-clause-unbroken
-returns-in-Err-clause-unbroken g c = tt
+pub returns-in-Err-make_ready-clause-opened : goal.returns-in-Err-make_ready-clause-opened
+returns-in-Err-make_ready-clause-opened g c = tt
 
-pub returns-in-Err-clause-sizes : goal.returns-in-Err-clause-sizes
-returns-in-Err-clause-sizes g c = tt
-
-pub returns-in-Err-make_ready-clause-names : goal.returns-in-Err-make_ready-clause-names
-returns-in-Err-make_ready-clause-names g c = tt
-
-pub returns-in-Err-make_ready-clause-unbroken : goal.returns-in-Err-make_ready-clause-unbroken
-returns-in-Err-make_ready-clause-unbroken g c = tt
-
-pub returns-in-Err-make_ready-clause-sizes : goal.returns-in-Err-make_ready-clause-sizes
-returns-in-Err-make_ready-clause-sizes g c = tt
+pub returns-in-Ok-make_ready-clause-opened : goal.returns-in-Ok-make_ready-clause-opened
+returns-in-Ok-make_ready-clause-opened g c = (refl, record { few = c.in-Ok.ensures.names.0; sorted = search rules; sizes = search rules })
 
 pub returns-in-Ok-make_ready-clause-refused : goal.returns-in-Ok-make_ready-clause-refused
 returns-in-Ok-make_ready-clause-refused g c = tt
 
-pub returns-in-Ok-make_ready-clause-unused : goal.returns-in-Ok-make_ready-clause-unused
-returns-in-Ok-make_ready-clause-unused g c = tt
-
 pub returns-in-Err-clause-refused : goal.returns-in-Err-clause-refused
 returns-in-Err-clause-refused g c =
     let files = contents (g.D.Disk.files c.args.disk) in
-    names_reason c.args.names.items (g.D.Disk.honest c.args.disk) files files c.in-Err.fault c.in-Err.ensures.refused
+    record { reason = names_reason c.args.names.items (g.D.Disk.honest c.args.disk) files files c.in-Err.fault c.in-Err.ensures.refused; unused = λ is. refl }
 
-pub returns-in-Err-clause-unused : goal.returns-in-Err-clause-unused
-returns-in-Err-clause-unused g c is = refl
+pub returns-in-Err-make_ready-clause-refused : goal.returns-in-Err-make_ready-clause-refused
+returns-in-Err-make_ready-clause-refused g c = record { reason = search rules; unused = λ is. absurd (c.in-Err-make_ready.ensures.not_too_many (ap (λ e. Err e) is)) }
 
 pub returns-in-Err-clause-accounts : goal.returns-in-Err-clause-accounts
 returns-in-Err-clause-accounts g c = accounts_quiet (names_apart _ c.in-Err.fault c.in-Err.ensures.refused) (accounts_none _ _ _ _)
-
-pub returns-in-Err-make_ready-clause-unused : goal.returns-in-Err-make_ready-clause-unused
-returns-in-Err-make_ready-clause-unused g c is = absurd (c.in-Err-make_ready.ensures.not_too_many (ap (λ e. Err e) is))
 
 pub returns-in-Err-make_ready-clause-accounts : goal.returns-in-Err-make_ready-clause-accounts
 returns-in-Err-make_ready-clause-accounts g c = accounts_fault c.in-Err-make_ready.ensures.accounts

@@ -6,13 +6,13 @@ use Rattle.org_store.proofs.Settled.{none_counted, settled_new}
 use Rattle.org_store.proofs.store.Store.open.Goals as goal
 
 pub returns-in-Ok-clause-opened : goal.returns-in-Ok-clause-opened
-returns-in-Ok-clause-opened g c = record {
-  session = rw (c.in-Ok.ensures.held.1, c.in-Ok.ensures.unbroken) refl;
-  few = c.in-Ok.ensures.names.0;
-  sorted = c.in-Ok.ensures.names.1;
-  waits = ap (λ (s : TextSet). s.waiting) c.in-Ok.ensures.held.1;
-  sizes = c.in-Ok.ensures.sizes;
-}
+returns-in-Ok-clause-opened g c =
+    let opened = c.in-Ok.ensures.opened in
+    record {
+      session = rw (opened.2, opened.0) refl;
+      set = opened.3;
+      waits = ap (λ (s : TextSet). s.waiting) opened.2;
+    }
 
 pub returns-in-Err-clause-opened : goal.returns-in-Err-clause-opened
 returns-in-Err-clause-opened g c = tt
@@ -34,10 +34,10 @@ pub returns-in-Err-clause-refused : goal.returns-in-Err-clause-refused
 returns-in-Err-clause-refused g c =
     let refused = c.in-Err.refused in
     record {
-      reason = c.in-Err.ensures.refused;
+      set = c.in-Err.ensures.refused;
       again = λ honest can.
-          only_faults c.args.names.items (g.D.Disk.honest refused.disk) (contents (g.D.Disk.files c.args.disk)) (contents (g.D.Disk.files refused.disk)) refused.fault c.requires honest can c.in-Err.ensures.refused;
-      unused = c.in-Err.ensures.unused;
+          only_faults c.args.names.items (g.D.Disk.honest refused.disk) (contents (g.D.Disk.files c.args.disk)) (contents (g.D.Disk.files refused.disk)) refused.fault c.requires honest can
+          c.in-Err.ensures.refused.reason;
     }
 
 pub returns-in-Ok-clause-accounts : goal.returns-in-Ok-clause-accounts
@@ -48,6 +48,6 @@ returns-in-Err-clause-accounts g c = c.in-Err.ensures.accounts
 
 pub invariant_of-result : goal.invariant_of-result
 invariant_of-result g c =
-    let opened = c.in-Ok.files in
-    let held = c.in-Ok.ensures.held in
-    (none_counted, held.0 ∙ sym held.1, λ honest. settled_new g.D.Disk.files c.args.states opened (record { accepted = 0; acknowledged = 0; group = 1 }) held.1)
+    let files = c.in-Ok.files in
+    let opened = c.in-Ok.ensures.opened in
+    (none_counted, opened.1 ∙ sym opened.2, λ honest. settled_new g.D.Disk.files c.args.states files (record { accepted = 0; acknowledged = 0; group = 1 }) opened.2)

@@ -61,7 +61,7 @@ returns-in_err-commit-clause-did g c =
     let fault = c.in_err-commit.field-0.0 in
     let unbroken : inside.files.broken ≡ false = search rules in
     let fails : Fails inside.files c.commit.new.self c.commit.result fault =
-    record { is = c.in_err-commit.was; unbroken = unbroken; memory = made.memory; works = made.works; breaks = made.breaks; names = made.names } in
+    record { is = c.in_err-commit.was; unbroken = unbroken; memory = made.idle.0; works = made.set.works; breaks = made.set.breaks; names = made.set.names } in
     let given : c.from_residual.result ≡ Err (fault_of_set fault) = search rules in
     let files = contents (d.files inside.files.disk) in
     rw (← c.self.view_is, given) (λ ended. record {
