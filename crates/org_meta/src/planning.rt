@@ -4,7 +4,7 @@ ghost use Rattle.org_splice.specs.Lines.{terminated, print_lines, lines_of};
 ghost use Rattle.org_meta.specs.Edits.{ChangesNothing};
 ghost use Rattle.org_meta.specs.Sections.{parts_of, split};
 ghost use Rattle.org_meta.specs.declared.fault.PlanningFault.TheVariants.{OddPlanning, OutOfMemory};
-ghost use Rattle.org_meta.specs.Planning.{entries_at, each_once, planning_of, is_closed, has_closed_entry, entry_text, kept_text, closed_text, without_closed, with_closed, clear_closed, set_closed, is_repeating, has_repeater, entry_with, AreRepeated, IsRepeatedEntry};
+ghost use Rattle.org_meta.specs.Planning.{entries_at, each_once, planning_of, is_closed, has_closed_entry, entry_text, kept_text, closed_text, without_closed, with_closed, clear_closed, set_closed, is_repeating, has_repeater, AreRepeated, IsRepeatedEntry};
 ghost use Rattle.org_meta.specs.Replans.{GivesOk, FaultIn, PutsRepeated, PutsAllRepeated, GivesRepeated, FaultRepeated, repeated_line};
 
 use crate::entry::{
@@ -17,7 +17,7 @@ use crate::moments::{moment_bytes, push_moment};
 use crate::split::sections;
 use crate::texts::push_all;
 use org_splice::{Bytes, Edit};
-use org_stamp::{Moment, Stamp};
+use org_stamp::Moment;
 use std::alloc::{AllocError, Global};
 
 /// The entries of a planning line from its first word on, at most three, and what is left of the
@@ -156,14 +156,6 @@ fn is_repeating(entry: &Entry) -> bool
     !is_closed(entry) && entry.stamp.is_active() && entry.stamp.repeats()
 }
 
-/// The entry's text with this stamp for its own.
-fn push_stamped(out: &mut Vec<u8>, entry: &Entry, stamp: &Stamp) -> Result<(), AllocError>
-    ensures { OnOk result (out.new.items ≡ out.old.items ++ entry_with entry.now stamp.now) }
-{
-    let text = stamp.print(*out.allocator())?;
-    push_with_stamp(out, entry, &text)
-}
-
 /// The entry's text at its next repetition; one that doesn't repeat stays, and CLOSED has none.
 fn push_repeated(out: &mut Vec<u8>, entry: &Entry, now: Moment) -> Result<(), PlanningFault>
     ensures ok { OnOk result (PutsRepeated entry.now now out.old.items out.new.items) }
@@ -174,10 +166,13 @@ fn push_repeated(out: &mut Vec<u8>, entry: &Entry, now: Moment) -> Result<(), Pl
         return Ok(());
     }
     if !is_repeating(entry) {
-        return Ok(push_entry(out, entry)?);
+        push_entry(out, entry)?;
+        return Ok(());
     }
     let stamp = entry.stamp.repeat(now)?;
-    Ok(push_stamped(out, entry, &stamp)?)
+    let text = stamp.print(*out.allocator())?;
+    push_with_stamp(out, entry, &text)?;
+    Ok(())
 }
 
 /// The texts of all entries at their next repetition.
