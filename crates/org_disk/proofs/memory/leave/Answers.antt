@@ -5,7 +5,6 @@ use Rattle.org_disk.specs.Disk.{IsImage, write}
 use Rattle.org_disk.specs.Record.{effect_of}
 use Rattle.org_disk.specs.declared.memory.Effect.{Effect}
 use Rattle.org_disk.proofs.Outcomes.{write_piece, write_none}
-use Rattle.org_splice.proofs.Failing.{not_ok}
 use Rattle.org_disk.proofs.memory.leave.Goals as goal
 
 pub returns-in_ok-overwrite-in-Write : goal.returns-in_ok-overwrite-in-Write
@@ -26,18 +25,3 @@ returns-in_ok-overwrite-in-Write c file same own image =
 pub returns-in_default : goal.returns-in_default
 returns-in_default c file same own image = subst (λ (e : Effect). IsImage (effect_of e file) c.args.left.now.items) (sym c.in-Write.is)
     (write_none c.in-Write.from c.in-Write.bytes.items file c.args.left.now.items (subst (λ (b : List ℕ). IsImage file b) (sym same) own) image)
-
-pub returns-in_err-left-in-Set : goal.returns-in_err-left-in-Set
-returns-in_err-left-in-Set c = not_ok _ _ c.from_residual.ensures.0
-
-pub returns-in_err-piece-in-Write : goal.returns-in_err-piece-in-Write
-returns-in_err-piece-in-Write c = not_ok _ _ c.from_residual-in_err-piece-in-Write.ensures.0
-
-pub returns-in_err-overwrite-in-Write : goal.returns-in_err-overwrite-in-Write
-returns-in_err-overwrite-in-Write c = not_ok _ _ c.from_residual-in_err-overwrite-in-Write.ensures.0
-
-pub returns-in_err-leave_cut-in-Cut : goal.returns-in_err-leave_cut-in-Cut
-returns-in_err-leave_cut-in-Cut c = not_ok _ _ c.from_residual-in_err-leave_cut-in-Cut.ensures.0
-
-pub returns-in_err-left-in-Sync : goal.returns-in_err-left-in-Sync
-returns-in_err-left-in-Sync c = not_ok _ _ c.from_residual-in_err-left-in-Sync.ensures.0

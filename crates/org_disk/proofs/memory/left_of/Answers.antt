@@ -8,7 +8,6 @@ use Rattle.org_disk.specs.Record.{files_after, step, effect_of}
 use Rattle.org_disk.specs.RecordLaws.{own_image}
 use Rattle.org_disk.specs.declared.memory.Call.{Call}
 use Rattle.org_disk.proofs.Calls.{files_after-push}
-use Rattle.org_splice.proofs.Failing.{no_value}
 use Rattle.org_disk.proofs.memory.left_of.Goals as goal
 use Rattle.org_disk.proofs.memory.left_of.Goals.{then-eq+in_ok-leave+in_ok-act, else-eq}
 
@@ -44,9 +43,3 @@ returns c = subst (λ (calls : List Call). IsImage (files_after calls c.args.nam
 
 pub loop-call-init : goal.loop-call-init
 loop-call-init c = (c.new-content.ensures.items, subst (λ (b : List ℕ). IsImage (stable []) b) (sym c.new-left.ensures.items) (own_image [] c.args.name.now))
-
-pub returns-in_err-leave : goal.returns-in_err-leave
-returns-in_err-leave c = no_value _ _ c.from_residual.ensures.0
-
-pub returns-in_err-act : goal.returns-in_err-act
-returns-in_err-act c = no_value _ _ c.from_residual-in_err-act.ensures.0

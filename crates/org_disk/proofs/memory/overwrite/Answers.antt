@@ -1,6 +1,5 @@
 use Rattle.std.proofs.Common.{arith, sym}
 use Rattle.std.proofs.lemmas.List.{length-take-le}
-use Rattle.org_splice.proofs.Failing.{not_ok}
 use Rattle.org_disk.proofs.memory.overwrite.Goals as goal
 
 pub overflow_sub-len : goal.overflow_sub-len
@@ -17,6 +16,3 @@ slice_bounds-copy_from_slice-count c = omega arith
 
 pub slice_bounds-copy_from_slice-end-2 : goal.slice_bounds-copy_from_slice-end-2
 slice_bounds-copy_from_slice-end-2 c = sym (length-take-le c.min-inside.result c.args.bytes.now (omega arith))
-
-pub returns-in_err-extend_from_slice-clause-ok : goal.returns-in_err-extend_from_slice-clause-ok
-returns-in_err-extend_from_slice-clause-ok c = not_ok _ _ c.from_residual.ensures.0

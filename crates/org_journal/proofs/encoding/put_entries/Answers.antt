@@ -1,7 +1,6 @@
 use Rattle.org_journal.specs.declared.record.Version.TheVariants.{Two}
 use Rattle.org_journal.specs.Record.{IsEntry, entry_bytes}
 use Rattle.org_journal.proofs.Journal.{item_appended, item_of}
-use Rattle.org_splice.proofs.Failing.{not_ok}
 use Rattle.org_journal.proofs.encoding.put_entries.Goals as goal
 
 pub loop-entry-preserved : goal.loop-entry-preserved
@@ -9,6 +8,3 @@ loop-entry-preserved c = item_appended (entry_bytes Two) c.args.out.now.items c.
 
 pub put_entry-requires : goal.put_entry-requires
 put_entry-requires c = item_of (IsEntry Two) c.args.entries.now c.loop-entry.entry-index c.entry-item.result c.requires c.loop-entry-test.true c.entry-item.is
-
-pub returns-in_err-put_entry : goal.returns-in_err-put_entry
-returns-in_err-put_entry c = not_ok _ _ c.from_residual.ensures.0

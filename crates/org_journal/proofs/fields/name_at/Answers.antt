@@ -24,9 +24,3 @@ returns-in_default-clause-reads c =
           (sym (rw w.in-Ok.ensures.cases.0 at w.if-accepts.ensures))
       | in_default-via-in_default w ↦ no_text c.args.bytes.now c.in_ok-count.count c.in_ok-count.rest.now c.in_ok-count.ensures c.in_ok-name.name.now c.in_ok-name.rest.now taken w.in_default.ensures.cases.0
     ]
-
-pub returns-in_err-count-clause-accepted : goal.returns-in_err-count-clause-accepted
-returns-in_err-count-clause-accepted c = rw c.from_residual.ensures tt
-
-pub returns-in_err-name-clause-accepted : goal.returns-in_err-name-clause-accepted
-returns-in_err-name-clause-accepted c = rw c.from_residual-in_err-name.ensures tt

@@ -8,7 +8,6 @@ use Rattle.org_splice.specs.Patches.{AreWellFormed}
 use Rattle.org_splice.specs.Texts.{pairs_of}
 use Rattle.org_journal.specs.Recovered.{contents, fits, all_fit}
 use Rattle.org_journal.proofs.Fitting.{patches_first, all_first}
-use Rattle.org_splice.proofs.Failing.{no_value}
 use Rattle.org_journal.proofs.finding.all_fit.Goals as goal
 
 pub loop-entry-preserved : goal.loop-entry-preserved
@@ -65,6 +64,3 @@ returns-then-not-fits-clause-fit g c ended =
     let test : fits (pairs_of entry.patches) entry.length (length (image entry.name)) ≡ false =
     ap (fits (pairs_of entry.patches) entry.length) (sym size) ∙ ap (λ (p : List Patch). fits (pairs_of p) entry.length c.in_ok-size.size) (sym c.as_slice.ensures) ∙ sym c.fits.ensures ∙ c.if-not-fits.true in
     sym (sym (so_far.fit (call.accounts.was_honest ended)) ∙ all_first entries i entry image c.loop-entry-test.true c.entry-item.is ∙ ap (λ (b : Bool). b && all_fit (drop (i + 1) entries) image) test)
-
-pub returns-in_err-size-clause-fit : goal.returns-in_err-size-clause-fit
-returns-in_err-size-clause-fit g c = no_value _ _ c.from_residual.ensures.0

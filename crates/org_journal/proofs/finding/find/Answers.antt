@@ -6,7 +6,6 @@ use Rattle.org_journal.specs.Finding.{FindsSize}
 use Rattle.org_disk.proofs.Accounting.{accounts_none, accounts_ok, looks_then}
 use Rattle.org_journal.proofs.Accounted.{accounts_after, accounts_passed, accounts_answered, accounts_bad, accounts_told}
 use Rattle.org_journal.proofs.Fitting.{bad_size, found_armed, found_bad}
-use Rattle.org_splice.proofs.Failing.{no_value}
 use Rattle.org_journal.proofs.finding.find.Goals as goal
 
 pub returns-in_err-size-clause-found : goal.returns-in_err-size-clause-found
@@ -74,21 +73,3 @@ returns-clause-found g c ended =
     found_armed files (g.D.Disk.files c.size_of.new.disk) (g.D.Disk.files c.record_of.new.disk) c.args.journal.now c.in-Some.size c.in_ok-record.record c.requires
     (rw c.in-Some.is at (c.in_ok-size.ensures.found start)) (c.size_of.ensures.looks start).same (c.record_of.ensures.looks before).same (c.in_ok-record.ensures.found before)
     c.in_ok-all_fit.field-0 (rw c.entries.ensures at (c.in_ok-all_fit.ensures.fit ended)) c.if-not-branch.false
-
-pub returns-in_err-size-clause-writable : goal.returns-in_err-size-clause-writable
-returns-in_err-size-clause-writable g c = no_value _ _ c.from_residual.ensures.0
-
-pub returns-in_err-size-clause-looks : goal.returns-in_err-size-clause-looks
-returns-in_err-size-clause-looks g c = c.size_of.ensures.looks
-
-pub returns-in_default-clause-looks : goal.returns-in_default-clause-looks
-returns-in_default-clause-looks g c = c.size_of.ensures.looks
-
-pub returns-in_err-record-clause-writable : goal.returns-in_err-record-clause-writable
-returns-in_err-record-clause-writable g c = no_value _ _ c.from_residual-in_err-record.ensures.0
-
-pub returns-in_err-all_fit-clause-writable : goal.returns-in_err-all_fit-clause-writable
-returns-in_err-all_fit-clause-writable g c = no_value _ _ c.from_residual-in_err-all_fit.ensures.0
-
-pub record_of-requires-clause-small : goal.record_of-requires-clause-small
-record_of-requires-clause-small g c = rw c.in-Some.is at c.in_ok-size.ensures.small

@@ -2,7 +2,6 @@ use Rattle.std.proofs.Common.{◌∙◌}
 use Rattle.org_disk.proofs.Accounting.{accounts_fine}
 use Rattle.org_journal.proofs.Accounted.{accounts_answered, accounts_bad, accounts_passed}
 use Rattle.org_journal.proofs.Fitting.{begins_patches, journal_of_body}
-use Rattle.org_splice.proofs.Failing.{no_value}
 use Rattle.org_journal.proofs.finding.record_of.Goals as goal
 
 pub returns-in-Ok-clause-found : goal.returns-in-Ok-clause-found
@@ -26,27 +25,3 @@ returns-in-Ok-clause-accounts g c = accounts_answered (accounts_fine (λ failed.
 
 pub returns-in-Err-Malformed-clause-accounts : goal.returns-in-Err-Malformed-clause-accounts
 returns-in-Err-Malformed-clause-accounts g c = accounts_bad (accounts_fine (λ failed. cc failed) c.in_ok-body.ensures.accounts)
-
-pub body_of-requires-clause-small : goal.body_of-requires-clause-small
-body_of-requires-clause-small g c = c.requires.small
-
-pub returns-in_err-body-clause-patches : goal.returns-in_err-body-clause-patches
-returns-in_err-body-clause-patches g c = no_value _ _ c.from_residual.ensures.0
-
-pub returns-in_err-body-clause-writable : goal.returns-in_err-body-clause-writable
-returns-in_err-body-clause-writable g c = no_value _ _ c.from_residual.ensures.0
-
-pub returns-in_err-body-clause-looks : goal.returns-in_err-body-clause-looks
-returns-in_err-body-clause-looks g c = c.body_of.ensures.looks
-
-pub returns-in-Ok-clause-looks : goal.returns-in-Ok-clause-looks
-returns-in-Ok-clause-looks g c = c.body_of.ensures.looks
-
-pub returns-in-Err-Malformed-clause-looks : goal.returns-in-Err-Malformed-clause-looks
-returns-in-Err-Malformed-clause-looks g c = c.body_of.ensures.looks
-
-pub returns-clause-looks : goal.returns-clause-looks
-returns-clause-looks g c = c.body_of.ensures.looks
-
-pub returns-in-Ok-clause-writable : goal.returns-in-Ok-clause-writable
-returns-in-Ok-clause-writable g c = c.in-Ok.ensures.writable

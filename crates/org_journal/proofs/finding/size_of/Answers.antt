@@ -1,6 +1,5 @@
 use Rattle.org_disk.proofs.Accounting.{accounts_call, accounts_call_ok, accounts_then, looks_then}
 use Rattle.org_journal.proofs.Accounted.{accounts_answered, accounts_quiet, accounts_told}
-use Rattle.org_splice.proofs.Failing.{no_value}
 use Rattle.org_journal.proofs.finding.size_of.Goals as goal
 
 pub returns-in_err-read_at-clause-looks : goal.returns-in_err-read_at-clause-looks
@@ -24,18 +23,3 @@ returns-in_err-read_at-clause-accounts g c =
 pub returns-clause-accounts : goal.returns-clause-accounts
 returns-clause-accounts g c =
     accounts_quiet c.size_in.ensures.no_call (accounts_then (accounts_call_ok c.in_ok-length.ensures.accounts) (accounts_call_ok c.in_ok-read_at.ensures.accounts))
-
-pub returns-in_err-length-clause-small : goal.returns-in_err-length-clause-small
-returns-in_err-length-clause-small g c = no_value _ _ c.from_residual.ensures.0
-
-pub returns-in_err-length-clause-looks : goal.returns-in_err-length-clause-looks
-returns-in_err-length-clause-looks g c = c.length.ensures.looks
-
-pub returns-then-length-lt-FRONT-clause-looks : goal.returns-then-length-lt-FRONT-clause-looks
-returns-then-length-lt-FRONT-clause-looks g c = c.length.ensures.looks
-
-pub returns-in_err-read_at-clause-small : goal.returns-in_err-read_at-clause-small
-returns-in_err-read_at-clause-small g c = no_value _ _ c.from_residual-in_err-read_at.ensures.0
-
-pub returns-clause-small : goal.returns-clause-small
-returns-clause-small g c = c.size_in.ensures.small

@@ -7,12 +7,3 @@ returns-in_err-burn-clause-accounts g c = accounts_blown g.D.Disk.honest g.D.Dis
 
 pub returns-clause-accounts : goal.returns-clause-accounts
 returns-clause-accounts g c = accounts_passed c.args.self.now c.burn.new.self (record c.burn.new.self { disk = c.cut.new.self }) c.cut.result c.burn.ensures.disk c.in_ok-burn.ensures.ok refl c.cut.ensures.accounts
-
-pub returns-clause-effect : goal.returns-clause-effect
-returns-clause-effect g c = rw (← c.burn.ensures.disk) c.cut.ensures.effect
-
-pub returns-clause-time : goal.returns-clause-time
-returns-clause-time g c = rw (← c.burn.ensures.disk) c.cut.ensures.time
-
-pub cut-requires : goal.cut-requires
-cut-requires g c = rw c.burn.ensures.disk c.requires

@@ -1,7 +1,5 @@
 use Rattle.std.proofs.Common.{refl}
 use Rattle.org_disk.proofs.Fuses.{accounts_blown, accounts_passed}
-use Rattle.org_splice.proofs.Failing.{no_value}
-use Rattle.org_disk.proofs.Accounting.{looks_none}
 use Rattle.org_disk.proofs.fuse.FuseDisk.length.Goals as goal
 
 pub returns-in_err-burn-clause-accounts : goal.returns-in_err-burn-clause-accounts
@@ -9,15 +7,3 @@ returns-in_err-burn-clause-accounts g c = accounts_blown g.D.Disk.honest g.D.Dis
 
 pub returns-clause-accounts : goal.returns-clause-accounts
 returns-clause-accounts g c = accounts_passed c.args.self.now c.burn.new.self (record c.burn.new.self { disk = c.length.new.self }) c.length.result c.burn.ensures.disk c.in_ok-burn.ensures.ok refl c.length.ensures.accounts
-
-pub returns-in_err-burn-clause-value : goal.returns-in_err-burn-clause-value
-returns-in_err-burn-clause-value g c = no_value _ _ c.from_residual.ensures.0
-
-pub returns-in_err-burn-clause-looks : goal.returns-in_err-burn-clause-looks
-returns-in_err-burn-clause-looks g c = rw c.burn.ensures.disk (λ honest. looks_none _ _ _ _)
-
-pub returns-clause-value : goal.returns-clause-value
-returns-clause-value g c = rw (← c.burn.ensures.disk) c.length.ensures.value
-
-pub returns-clause-looks : goal.returns-clause-looks
-returns-clause-looks g c = rw (← c.burn.ensures.disk) c.length.ensures.looks

@@ -1,7 +1,5 @@
 use Rattle.std.proofs.Common.{refl}
 use Rattle.org_disk.proofs.Fuses.{accounts_blown, accounts_passed}
-use Rattle.org_splice.proofs.Failing.{not_ok}
-use Rattle.org_disk.proofs.Accounting.{looks_none}
 use Rattle.org_disk.proofs.fuse.FuseDisk.read_at.Goals as goal
 
 pub returns-in_err-burn-clause-accounts : goal.returns-in_err-burn-clause-accounts
@@ -9,18 +7,3 @@ returns-in_err-burn-clause-accounts g c = accounts_blown g.D.Disk.honest g.D.Dis
 
 pub returns-clause-accounts : goal.returns-clause-accounts
 returns-clause-accounts g c = accounts_passed c.args.self.now c.burn.new.self (record c.burn.new.self { disk = c.read_at.new.self }) c.read_at.result c.burn.ensures.disk c.in_ok-burn.ensures.ok refl c.read_at.ensures.accounts
-
-pub returns-in_err-burn-clause-bytes : goal.returns-in_err-burn-clause-bytes
-returns-in_err-burn-clause-bytes g c = not_ok _ _ c.from_residual.ensures.0
-
-pub returns-in_err-burn-clause-looks : goal.returns-in_err-burn-clause-looks
-returns-in_err-burn-clause-looks g c = rw c.burn.ensures.disk (λ honest. looks_none _ _ _ _)
-
-pub returns-clause-bytes : goal.returns-clause-bytes
-returns-clause-bytes g c = rw (← c.burn.ensures.disk) c.read_at.ensures.bytes
-
-pub returns-clause-looks : goal.returns-clause-looks
-returns-clause-looks g c = rw (← c.burn.ensures.disk) c.read_at.ensures.looks
-
-pub read_at-requires : goal.read_at-requires
-read_at-requires g c = rw c.burn.ensures.disk c.requires

@@ -7,9 +7,3 @@ returns-in_err-burn-clause-accounts g c = accounts_blown g.D.Disk.honest g.D.Dis
 
 pub returns-clause-accounts : goal.returns-clause-accounts
 returns-clause-accounts g c = accounts_passed c.args.self.now c.burn.new.self (record c.burn.new.self { disk = c.sync.new.self }) c.sync.result c.burn.ensures.disk c.in_ok-burn.ensures.ok refl c.sync.ensures.accounts
-
-pub returns-clause-effect : goal.returns-clause-effect
-returns-clause-effect g c = rw (← c.burn.ensures.disk) c.sync.ensures.effect
-
-pub returns-clause-time : goal.returns-clause-time
-returns-clause-time g c = rw (← c.burn.ensures.disk) c.sync.ensures.time

@@ -7,15 +7,3 @@ returns-in_err-burn-clause-accounts g c = accounts_blown g.D.Disk.honest g.D.Dis
 
 pub returns-clause-accounts : goal.returns-clause-accounts
 returns-clause-accounts g c = accounts_passed c.args.self.now c.burn.new.self (record c.burn.new.self { disk = c.write_at.new.self }) c.write_at.result c.burn.ensures.disk c.in_ok-burn.ensures.ok refl c.write_at.ensures.accounts
-
-pub returns-clause-effect : goal.returns-clause-effect
-returns-clause-effect g c = rw (← c.burn.ensures.disk) c.write_at.ensures.effect
-
-pub returns-clause-time : goal.returns-clause-time
-returns-clause-time g c = rw (← c.burn.ensures.disk) c.write_at.ensures.time
-
-pub write_at-requires-clause-within : goal.write_at-requires-clause-within
-write_at-requires-clause-within g c = rw c.burn.ensures.disk c.requires.within
-
-pub write_at-requires-clause-fits : goal.write_at-requires-clause-fits
-write_at-requires-clause-fits g c = rw c.burn.ensures.disk c.requires.fits

@@ -10,7 +10,6 @@ use Rattle.org_disk.specs.Disk.{FileState, stable}
 use Rattle.org_disk.specs.Memory.{IsLeft, memory_files}
 use Rattle.org_disk.specs.Record.{is_call}
 use Rattle.org_disk.proofs.ImageSoFar.{one_more, all_left}
-use Rattle.org_splice.proofs.Failing.{no_value}
 use Rattle.org_disk.proofs.memory.MemoryDisk.image.Goals as goal
 
 pub loop-i-preserved : goal.loop-i-preserved
@@ -60,27 +59,3 @@ returns-clause-fresh c = (c.loop-i.invariant.1, c.loop-i.invariant.2, c.loop-i.i
 
 pub returns-clause-uncounted : goal.returns-clause-uncounted
 returns-clause-uncounted c = c.loop-i.invariant.4
-
-pub returns-in_err-left-clause-stable : goal.returns-in_err-left-clause-stable
-returns-in_err-left-clause-stable c = no_value _ _ c.from_residual.ensures.0
-
-pub returns-in_err-left-clause-left : goal.returns-in_err-left-clause-left
-returns-in_err-left-clause-left c = no_value _ _ c.from_residual.ensures.0
-
-pub returns-in_err-left-clause-fresh : goal.returns-in_err-left-clause-fresh
-returns-in_err-left-clause-fresh c = no_value _ _ c.from_residual.ensures.0
-
-pub returns-in_err-left-clause-uncounted : goal.returns-in_err-left-clause-uncounted
-returns-in_err-left-clause-uncounted c = no_value _ _ c.from_residual.ensures.0
-
-pub returns-in_err-set-clause-stable : goal.returns-in_err-set-clause-stable
-returns-in_err-set-clause-stable c = no_value _ _ c.from_residual-in_err-set.ensures.0
-
-pub returns-in_err-set-clause-left : goal.returns-in_err-set-clause-left
-returns-in_err-set-clause-left c = no_value _ _ c.from_residual-in_err-set.ensures.0
-
-pub returns-in_err-set-clause-fresh : goal.returns-in_err-set-clause-fresh
-returns-in_err-set-clause-fresh c = no_value _ _ c.from_residual-in_err-set.ensures.0
-
-pub returns-in_err-set-clause-uncounted : goal.returns-in_err-set-clause-uncounted
-returns-in_err-set-clause-uncounted c = no_value _ _ c.from_residual-in_err-set.ensures.0

@@ -4,7 +4,6 @@ use Rattle.std.specs.declared.alloc.AllocError.{AllocError}
 use Rattle.org_disk.specs.Record.{call_of, files_after}
 use Rattle.org_disk.specs.declared.memory.Call.{Call}
 use Rattle.org_disk.proofs.Calls.{tied_made, absent_made, tied_kept, absent_kept}
-use Rattle.org_splice.proofs.Failing.{not_ok}
 use Rattle.org_disk.proofs.memory.MemoryDisk.record.Goals as goal
 
 unchanged : {calls later : List Call} (r : Result (Unit {0}) AllocError) → later ≡ calls → OnErr r (later ≡ calls)
@@ -61,12 +60,3 @@ returns-in_err-reserve-clause-err c = unchanged c.from_residual-in_err-reserve.r
 
 pub returns-in_err-keep-clause-err : goal.returns-in_err-keep-clause-err
 returns-in_err-keep-clause-err c = unchanged c.from_residual-in_err-keep.result c.reserve.ensures.items
-
-pub returns-in_err-clone-clause-ok : goal.returns-in_err-clone-clause-ok
-returns-in_err-clone-clause-ok c = not_ok _ _ c.from_residual.ensures.0
-
-pub returns-in_err-reserve-clause-ok : goal.returns-in_err-reserve-clause-ok
-returns-in_err-reserve-clause-ok c = not_ok _ _ c.from_residual-in_err-reserve.ensures.0
-
-pub returns-in_err-keep-clause-ok : goal.returns-in_err-keep-clause-ok
-returns-in_err-keep-clause-ok c = not_ok _ _ c.from_residual-in_err-keep.ensures.0

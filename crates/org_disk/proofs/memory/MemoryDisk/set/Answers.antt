@@ -1,6 +1,5 @@
 use Rattle.std.proofs.Common.{◌≡◌, rules}
 use Rattle.org_disk.proofs.Calls.{count_set, set_here, set_others}
-use Rattle.org_splice.proofs.Failing.{not_ok}
 use Rattle.org_disk.proofs.memory.MemoryDisk.set.Goals as goal
 
 pub returns-clause-ok : goal.returns-clause-ok
@@ -13,6 +12,3 @@ returns-clause-others c = set_others c.args.name.now c.in_ok-bytes.bytes c.args.
 
 pub returns-clause-uncounted : goal.returns-clause-uncounted
 returns-clause-uncounted c = count_set c.args.name.now c.in_ok-bytes.bytes c.args.self.now.calls.items c.record.new.self.calls.items c.record.result c.record.ensures.ok c.record.ensures.err
-
-pub returns-in_err-bytes-clause-ok : goal.returns-in_err-bytes-clause-ok
-returns-in_err-bytes-clause-ok c = not_ok _ _ c.from_residual.ensures.0

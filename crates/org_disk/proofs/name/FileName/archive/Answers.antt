@@ -1,7 +1,6 @@
 use Rattle.std.proofs.Common.{◌++◌, List, ℕ, inl, ap, sym, subst, ◌∙◌}
 use Rattle.org_disk.specs.Names.{IsDiskName, archive_suffix}
 use Rattle.org_disk.proofs.Names.{archive_accepted}
-use Rattle.org_splice.proofs.Failing.{no_value}
 use Rattle.org_disk.proofs.name.FileName.archive.Goals as goal
 
 pub returns-in_err-text-clause-accepted : goal.returns-in_err-text-clause-accepted
@@ -20,9 +19,3 @@ invariant_of-result c =
 
 pub returns-clause-name : goal.returns-clause-name
 returns-clause-name c = c.in_ok-push_str.ensures.bytes ∙ ap (λ (b : List ℕ). b ++ archive_suffix) (c.in_ok-text.ensures.cases ∙ c.self.view_is)
-
-pub returns-in_err-text-clause-name : goal.returns-in_err-text-clause-name
-returns-in_err-text-clause-name c = no_value _ _ c.from_residual.ensures.0
-
-pub returns-in_err-push_str-clause-name : goal.returns-in_err-push_str-clause-name
-returns-in_err-push_str-clause-name c = no_value _ _ c.from_residual-in_err-push_str.ensures.0

@@ -1,7 +1,6 @@
 use Rattle.std.proofs.Common.{subst}
 use Rattle.std.proofs.lemmas.Str.{IsUtf8-string_bytes}
 use Rattle.std.specs.Prelude.{IsUtf8}
-use Rattle.org_splice.proofs.Failing.{no_value}
 use Rattle.org_disk.proofs.name.FileNameClone.clone.Goals as goal
 
 pub returns-in_err-text-clause-utf8 : goal.returns-in_err-text-clause-utf8
@@ -9,6 +8,3 @@ returns-in_err-text-clause-utf8 c = subst IsUtf8 c.self.view_is (IsUtf8-string_b
 
 pub returns-clause-utf8 : goal.returns-clause-utf8
 returns-clause-utf8 c = subst IsUtf8 c.self.view_is (IsUtf8-string_bytes c.self.inside.text)
-
-pub returns-in_err-text-clause-cases : goal.returns-in_err-text-clause-cases
-returns-in_err-text-clause-cases c = no_value _ _ c.from_residual.ensures.0

@@ -5,7 +5,6 @@ use Rattle.org_journal.specs.declared.record.Entry.{Entry}
 use Rattle.org_journal.specs.declared.record.Version.TheVariants.{Two}
 use Rattle.org_journal.specs.Record.{entry_bytes}
 use Rattle.org_journal.proofs.Journal.{sized, written_again}
-use Rattle.org_splice.proofs.Failing.{no_value}
 use Rattle.org_journal.proofs.record.Record.encode.Goals as goal
 
 pub returns-clause-bytes : goal.returns-clause-bytes
@@ -23,27 +22,3 @@ returns-clause-bytes c =
 
 pub returns-clause-read : goal.returns-clause-read
 returns-clause-read c = written_again _ c.args.self.now c.requires (returns-clause-bytes c)
-
-pub returns-in_err-extend_from_slice-clause-bytes : goal.returns-in_err-extend_from_slice-clause-bytes
-returns-in_err-extend_from_slice-clause-bytes c = no_value _ _ c.from_residual.ensures.0
-
-pub returns-in_err-extend_from_slice-clause-read : goal.returns-in_err-extend_from_slice-clause-read
-returns-in_err-extend_from_slice-clause-read c = no_value _ _ c.from_residual.ensures.0
-
-pub returns-in_err-put_u64-clause-bytes : goal.returns-in_err-put_u64-clause-bytes
-returns-in_err-put_u64-clause-bytes c = no_value _ _ c.from_residual-in_err-put_u64.ensures.0
-
-pub returns-in_err-put_u64-clause-read : goal.returns-in_err-put_u64-clause-read
-returns-in_err-put_u64-clause-read c = no_value _ _ c.from_residual-in_err-put_u64.ensures.0
-
-pub returns-in_err-put_u32-clause-bytes : goal.returns-in_err-put_u32-clause-bytes
-returns-in_err-put_u32-clause-bytes c = no_value _ _ c.from_residual-in_err-put_u32.ensures.0
-
-pub returns-in_err-put_u32-clause-read : goal.returns-in_err-put_u32-clause-read
-returns-in_err-put_u32-clause-read c = no_value _ _ c.from_residual-in_err-put_u32.ensures.0
-
-pub returns-in_err-put_entries-clause-bytes : goal.returns-in_err-put_entries-clause-bytes
-returns-in_err-put_entries-clause-bytes c = no_value _ _ c.from_residual-in_err-put_entries.ensures.0
-
-pub returns-in_err-put_entries-clause-read : goal.returns-in_err-put_entries-clause-read
-returns-in_err-put_entries-clause-read c = no_value _ _ c.from_residual-in_err-put_entries.ensures.0
