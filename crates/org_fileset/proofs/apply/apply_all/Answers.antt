@@ -11,7 +11,6 @@ use Rattle.org_fileset.proofs.Recovers.{replayed-entry, replayed-other}
 use Rattle.org_fileset.proofs.Replaying.{entry_takes, replays_none, replays_entry, texts_more, untouched_more, all_texts}
 use Rattle.org_disk.proofs.Accounting.{accounts_none, accounts_then, accounts_ok}
 use Rattle.org_fileset.proofs.Writes.{alone_none, alone_entry}
-use Rattle.org_splice.proofs.Failing.{not_ok}
 use Rattle.org_fileset.proofs.apply.apply_all.Goals as goal
 
 pub loop-entry-init : goal.loop-entry-init
@@ -105,6 +104,3 @@ returns-clause-contents g c ended name =
     let old = g.D.Disk.files c.args.disk.now in
     all_texts c.args.entries.now (replayed c.args.entries.now (contents old)) c.loop-entry.entry-index old (g.D.Disk.files c.loop-entry.disk) name c.loop-entry-test.false (sofar.have ended)
     (sofar.alone ended).same (λ none. replayed-other c.args.entries.now (contents old) name (c.requires.fits honest) none)
-
-pub returns-in_err-apply_entry-clause-contents : goal.returns-in_err-apply_entry-clause-contents
-returns-in_err-apply_entry-clause-contents g c = not_ok _ _ c.from_residual.ensures.0

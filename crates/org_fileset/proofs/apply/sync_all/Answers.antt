@@ -8,7 +8,6 @@ use Rattle.org_journal.specs.Record.{is_named}
 use Rattle.org_fileset.proofs.Replaying.{entry_takes, replays_none, replays_entry, applies_sync, stable_more, all_stable}
 use Rattle.org_disk.proofs.Accounting.{accounts_none, accounts_then, accounts_call_ok}
 use Rattle.org_fileset.proofs.Writes.{alone_none, alone_call, alone_entry}
-use Rattle.org_splice.proofs.Failing.{not_ok}
 use Rattle.org_fileset.proofs.apply.sync_all.Goals as goal
 
 pub loop-entry-init : goal.loop-entry-init
@@ -76,9 +75,3 @@ returns-in_err-sync-clause-alone g c ended =
     alone_entry g.D.Disk.files g.D.Disk.moment g.D.Disk.left_since c.args.entries.now i entry c.args.disk.now c.loop-entry.disk c.sync.new.self is
     (c.loop-entry.invariant.alone (c.sync.ensures.accounts.was_honest ended))
     (alone_call g.D.Disk.files g.D.Disk.moment g.D.Disk.left_since sync entry.name c.loop-entry.disk c.sync.new.self c.sync.result (c.sync.ensures.effect ended) (c.sync.ensures.time ended))
-
-pub returns-in_err-sync-clause-contents : goal.returns-in_err-sync-clause-contents
-returns-in_err-sync-clause-contents g c = not_ok _ _ c.from_residual.ensures.0
-
-pub returns-in_err-sync-clause-stable : goal.returns-in_err-sync-clause-stable
-returns-in_err-sync-clause-stable g c = not_ok _ _ c.from_residual.ensures.0

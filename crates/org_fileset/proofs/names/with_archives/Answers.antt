@@ -3,7 +3,6 @@ use Rattle.std.proofs.lemmas.List.{take_more}
 use Rattle.org_disk.specs.Names.{archive_name}
 use Rattle.org_fileset.specs.Names.{with_archives}
 use Rattle.org_fileset.proofs.Sorted.{with_archives-push}
-use Rattle.org_splice.proofs.Failing.{no_value}
 use Rattle.org_fileset.proofs.names.with_archives.Goals as goal
 
 pub loop-name-preserved : goal.loop-name-preserved
@@ -14,15 +13,3 @@ loop-name-preserved c =
     let more : take (i + 1) given ≡ take i given ++ name ∷ [] = rw (take_more given i name c.loop-name-test.true, ← c.name-item.is) in
     rw (more, with_archives-push, c.in_ok-push-2.ensures.items, c.in_ok-push.ensures.items, c.in_ok-archive.ensures.name, c.in_ok-clone.ensures.cases, c.loop-name.invariant)
     (append_assoc (with_archives (take i given)) (name ∷ []) (archive_name name ∷ []))
-
-pub returns-in_err-clone : goal.returns-in_err-clone
-returns-in_err-clone c = no_value _ _ c.from_residual.ensures.0
-
-pub returns-in_err-push : goal.returns-in_err-push
-returns-in_err-push c = no_value _ _ c.from_residual-in_err-push.ensures.0
-
-pub returns-in_err-archive : goal.returns-in_err-archive
-returns-in_err-archive c = no_value _ _ c.from_residual-in_err-archive.ensures.0
-
-pub returns-in_err-push-2 : goal.returns-in_err-push-2
-returns-in_err-push-2 c = no_value _ _ c.from_residual-in_err-push-2.ensures.0

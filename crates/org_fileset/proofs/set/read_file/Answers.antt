@@ -1,4 +1,3 @@
-use Rattle.org_splice.proofs.Failing.{no_value}
 use Rattle.org_disk.proofs.Accounting.{accounts_then, accounts_call, accounts_call_ok, looks_then}
 use Rattle.org_journal.proofs.Accounted.{accounts_answered, accounts_told}
 use Rattle.org_fileset.proofs.Accounted.{accounts_other}
@@ -27,18 +26,3 @@ returns-in_err-read_at-clause-accounts g c =
 pub returns-clause-accounts : goal.returns-clause-accounts
 returns-clause-accounts g c =
     accounts_answered (accounts_then (accounts_call_ok c.in_ok-length.ensures.accounts) (accounts_call_ok c.in_ok-read_at.ensures.accounts))
-
-pub returns-in_err-length-clause-text : goal.returns-in_err-length-clause-text
-returns-in_err-length-clause-text g c = no_value _ _ c.from_residual.ensures.0
-
-pub returns-in_err-length-clause-looks : goal.returns-in_err-length-clause-looks
-returns-in_err-length-clause-looks g c = c.length.ensures.looks
-
-pub returns-in_err-bytes-clause-text : goal.returns-in_err-bytes-clause-text
-returns-in_err-bytes-clause-text g c = no_value _ _ c.from_residual-in_err-bytes.ensures.0
-
-pub returns-in_err-bytes-clause-looks : goal.returns-in_err-bytes-clause-looks
-returns-in_err-bytes-clause-looks g c = c.length.ensures.looks
-
-pub returns-in_err-read_at-clause-text : goal.returns-in_err-read_at-clause-text
-returns-in_err-read_at-clause-text g c = no_value _ _ c.from_residual-in_err-read_at.ensures.0

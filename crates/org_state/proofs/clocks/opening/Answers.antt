@@ -1,11 +1,7 @@
 use Rattle.org_outline.specs.Tree.{tree}
 use Rattle.org_state.proofs.Switching.{opening_edits}
-use Rattle.org_splice.proofs.Failing.{no_value}
 use Rattle.org_state.proofs.clocks.opening.Goals as goal
 
 pub returns-clause-edits : goal.returns-clause-edits
 returns-clause-edits c =
     opening_edits (tree c.args.outline.now.text) c.args.node c.args.now c.section_of.result.now c.in_ok-edit.edit _ c.section_of.ensures.bytes c.section_of.ensures.lines c.in_ok-edit.ensures c.in_section.ensures
-
-pub returns-in_err-edit-clause-edits : goal.returns-in_err-edit-clause-edits
-returns-in_err-edit-clause-edits c = no_value _ _ c.from_residual.ensures.0

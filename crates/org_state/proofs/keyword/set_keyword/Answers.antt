@@ -3,7 +3,6 @@ use Rattle.std.specs.Prelude.{Vec}
 use Rattle.std.specs.Global.{Global}
 use Rattle.org_splice.specs.Blanks.{is_blank, front, behind}
 use Rattle.org_state.proofs.Words.{Exchanges, keyword_gives, keyword_room, none_is, some_is, word_goes, word_comes, word_changes}
-use Rattle.org_splice.proofs.Failing.{no_value}
 use Rattle.org_state.proofs.keyword.set_keyword.Goals as goal
 use Rattle.org_state.proofs.keyword.set_keyword.Goals.{then-is_empty, else-is_empty+then-is_empty-2+in_ok-push, else-is_empty+else-is_empty-2}
 
@@ -39,9 +38,3 @@ split_at-requires-then-is_empty c =
     let text : List ℕ = c.split_at.result.1.now in
     let text_is : text ≡ behind is_blank rest = c.split_at.ensures.back ∙ ap (λ n. drop n rest) c.blank_count.ensures.count in
     keyword_room c.args.states.now rest c.of.result.keyword.now text c.of.ensures.keyword text_is
-
-pub returns-in_err-bytes : goal.returns-in_err-bytes
-returns-in_err-bytes c = no_value _ _ c.from_residual.ensures.0
-
-pub returns-in_err-push : goal.returns-in_err-push
-returns-in_err-push c = no_value _ _ c.from_residual-in_err-push.ensures.0

@@ -3,7 +3,6 @@ use Rattle.org_outline.specs.States.{Keywords}
 use Rattle.org_state.specs.Edits.{moved, GivesRest}
 use Rattle.org_state.specs.Keyword.{with_keyword}
 use Rattle.org_state.proofs.Steps.{section_bounds, rest_before}
-use Rattle.org_splice.proofs.Failing.{no_value}
 use Rattle.org_state.proofs.own.keyword_edit.Goals as goal
 
 pub prove-unreachable-requires : goal.prove-unreachable-requires
@@ -31,6 +30,3 @@ returns-clause-edits c =
           subst (λ (r : List ℕ). GivesRest edit r (with_keyword c.args.outline.now.states c.args.word.now r)) c.rest-rest.ensures
           (subst (λ (k : Keywords). GivesRest edit c.rest-rest.result.now (with_keyword k c.args.word.now c.rest-rest.result.now)) c.states.ensures.value c.in_ok-edit.ensures);
     }
-
-pub returns-in_err-edit-clause-edits : goal.returns-in_err-edit-clause-edits
-returns-in_err-edit-clause-edits c = no_value _ _ c.from_residual.ensures.0

@@ -11,15 +11,3 @@ returns-in-Err-OutOfMemory-clause-set g c = rw (← c.self.view_is) (keeps_whole
 
 pub returns-in-Err-clause-set : goal.returns-in-Err-clause-set
 returns-in-Err-clause-set g c = rw (← c.self.view_is) (keeps_broken _ _ _ _ refl c.if-self.false refl)
-
-pub returns-in-Ok-clause-text : goal.returns-in-Ok-clause-text
-returns-in-Ok-clause-text g c = rw (← c.self.view_is) c.in-Ok.ensures.text
-
-pub returns-in-Ok-clause-looks : goal.returns-in-Ok-clause-looks
-returns-in-Ok-clause-looks g c = rw (← c.self.view_is) c.read_file.ensures.looks
-
-pub returns-in-Err-OutOfMemory-clause-looks : goal.returns-in-Err-OutOfMemory-clause-looks
-returns-in-Err-OutOfMemory-clause-looks g c = rw (← c.self.view_is) c.read_file.ensures.looks
-
-pub returns-in-Err-clause-looks : goal.returns-in-Err-clause-looks
-returns-in-Err-clause-looks g c = rw (← c.self.view_is) c.read_file.ensures.looks

@@ -21,12 +21,3 @@ returns-in-Some-clause-effect g c = λ right.
     let same : g.C.Calls.history c.find.new.self.calls ≡ g.C.Calls.history c.args.self.now.calls = search rules in
     does_cut g.C.Calls.world c.index.result.now.name c.args.name.now c.args.to (g.C.Calls.history c.args.self.now.calls) (g.C.Calls.history c.find.new.self.calls) (g.C.Calls.history c.cut.new.self)
     c.cut.result right named same c.cut.ensures
-
-pub returns-in_err-at-clause-honest : goal.returns-in_err-at-clause-honest
-returns-in_err-at-clause-honest g c = c.find.ensures.honest
-
-pub returns-in-None-clause-honest : goal.returns-in-None-clause-honest
-returns-in-None-clause-honest g c = c.find.ensures.honest
-
-pub returns-in-None-2-clause-honest : goal.returns-in-None-2-clause-honest
-returns-in-None-2-clause-honest g c = c.find.ensures.honest

@@ -8,9 +8,3 @@ returns-in-Some-clause-effect g c = λ right.
     let named : c.index_mut.result.now.name ≡ c.args.name.now = search rules in
     does_sync_opened g.C.Calls.world c.index_mut.result.now.name c.args.name.now (g.C.Calls.history c.args.self.now.calls) (g.C.Calls.history c.find.new.self.calls) (g.C.Calls.history c.sync_opened.new.calls)
     c.sync_opened.result right named same c.sync_opened.ensures
-
-pub returns-in_err-at-clause-honest : goal.returns-in_err-at-clause-honest
-returns-in_err-at-clause-honest g c = c.find.ensures.honest
-
-pub returns-in-None-clause-honest : goal.returns-in-None-clause-honest
-returns-in-None-clause-honest g c = c.find.ensures.honest
