@@ -45,15 +45,3 @@ returns c =
     archived_within outline.states c.args.name.now _ c.args.now outline.text to _ _ _ c.in_ok-target_heading.field-0 up _ _ _ _ c.in_ok-lines.ensures.terminated
     c.find.ensures.value c.in_ok-node.was c.target_heading.ensures.value c.in_ok-target_heading.was c.in_ok-up.ensures.value c.in_ok-node.ensures.within
     (λ node. c.last_below_without-at.ensures.place to node) c.without.ensures c.insertion-goes_in.ensures lines
-
-pub apart-requires-clause-node : goal.apart-requires-clause-node
-apart-requires-clause-node c = c.in_ok-node.ensures.within
-
-pub last_below_without-at-requires-clause-taken : goal.last_below_without-at-requires-clause-taken
-last_below_without-at-requires-clause-taken c = c.in_ok-node.ensures.within
-
-pub archived_lines-requires-clause-node : goal.archived_lines-requires-clause-node
-archived_lines-requires-clause-node c = c.in_ok-node.ensures.within
-
-pub without-requires : goal.without-requires
-without-requires c = c.in_ok-node.ensures.within

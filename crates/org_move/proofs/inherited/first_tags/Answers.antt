@@ -1,9 +1,5 @@
 use Rattle.org_move.proofs.Joins.{lists_more}
-use Rattle.org_splice.proofs.Failing.{no_value}
 use Rattle.org_move.proofs.inherited.first_tags.Goals as goal
 
 pub loop-tags-preserved : goal.loop-tags-preserved
 loop-tags-preserved c = lists_more c.loop-tags.found.items _ c.args.all.now c.loop-tags.tags-index _ c.loop-tags.invariant c.loop-tags-test.true c.in_ok-push_tags.ensures
-
-pub returns-in_err-push_tags : goal.returns-in_err-push_tags
-returns-in_err-push_tags c = no_value _ _ c.from_residual.ensures.0

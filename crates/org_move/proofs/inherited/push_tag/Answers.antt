@@ -1,6 +1,5 @@
 use Rattle.std.proofs.Common.{sym, ◌∙◌}
 use Rattle.org_move.proofs.Joins.{tag_empty, tag_passed, tag_pushed}
-use Rattle.org_splice.proofs.Failing.{not_ok}
 use Rattle.org_move.proofs.inherited.push_tag.Goals as goal
 use Rattle.org_move.proofs.inherited.push_tag.Goals.{then-is_empty-via-then-is_empty, then-is_empty-via-else-is_empty+then-contains}
 
@@ -14,6 +13,3 @@ returns-then-is_empty c =
 pub returns : goal.returns
 returns c =
     tag_pushed c.args.found.now.items _ c.push.new.self.items c.args.tag _ (sym c.is_empty.ensures ∙ c.if-is_empty.false) c.deref.ensures.value c.contains.ensures.value c.if-contains.false c.in_ok-push.ensures.items
-
-pub returns-in_err-push : goal.returns-in_err-push
-returns-in_err-push c = not_ok _ _ c.from_residual.ensures.0

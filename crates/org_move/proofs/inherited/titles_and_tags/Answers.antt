@@ -1,5 +1,4 @@
 use Rattle.org_move.proofs.Above.{climb_end, climb_next, climb_start}
-use Rattle.org_splice.proofs.Failing.{no_value}
 use Rattle.org_move.proofs.inherited.titles_and_tags.Goals as goal
 
 pub loop-next-init : goal.loop-next-init
@@ -19,15 +18,3 @@ returns-clause-titles c = climb_end _ _ _ _ _ _ c.loop-next.invariant.titles c.i
 
 pub returns-clause-tags : goal.returns-clause-tags
 returns-clause-tags c = climb_end _ _ _ _ _ _ c.loop-next.invariant.tags c.in_default.is c.reverse-2.ensures.items
-
-pub returns-in_err-push-clause-titles : goal.returns-in_err-push-clause-titles
-returns-in_err-push-clause-titles c = no_value _ _ c.from_residual.ensures.0
-
-pub returns-in_err-push-clause-tags : goal.returns-in_err-push-clause-tags
-returns-in_err-push-clause-tags c = no_value _ _ c.from_residual.ensures.0
-
-pub returns-in_err-push-2-clause-titles : goal.returns-in_err-push-2-clause-titles
-returns-in_err-push-2-clause-titles c = no_value _ _ c.from_residual-in_err-push-2.ensures.0
-
-pub returns-in_err-push-2-clause-tags : goal.returns-in_err-push-2-clause-tags
-returns-in_err-push-2-clause-tags c = no_value _ _ c.from_residual-in_err-push-2.ensures.0

@@ -36,6 +36,3 @@ returns-else-is_title_alone-clause-value c =
     let made : Bool → Option Heading = λ b. if b then Some (heading_made (level, parts.title)) else None in
     sym (behind_stars c.args.states.now c.args.line.now level (sym c.is_empty.ensures ∙ c.if-is_empty.false) (sym c.heading_level.ensures ∙ c.in_ok-level.was)
     ∙ told c.args.states.now c.args.line.now _ level parts _ c.split_at.ensures.back c.of-parts.ensures c.is_title_alone.ensures ∙ ap made c.if-is_title_alone.false)
-
-pub returns-in_err-level-clause-low : goal.returns-in_err-level-clause-low
-returns-in_err-level-clause-low c = rw c.from_residual.ensures tt

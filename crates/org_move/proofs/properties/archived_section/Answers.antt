@@ -8,7 +8,6 @@ use Rattle.org_move.specs.Archive.{category_of, put_each}
 use Rattle.org_move.specs.Given.{given}
 use Rattle.org_move.proofs.Own.{section_terminated, section_within}
 use Rattle.org_move.proofs.Given.{all_good, category_is, section_made}
-use Rattle.org_splice.proofs.Failing.{no_value}
 use Rattle.org_move.proofs.properties.archived_section.Goals as goal
 
 pub slice_bounds-with_properties-end : goal.slice_bounds-with_properties-end
@@ -41,27 +40,3 @@ returns-clause-lines c =
 
 pub returns-clause-terminated : goal.returns-clause-terminated
 returns-clause-terminated c = c.with_properties.ensures.terminated
-
-pub returns-in_err-time-clause-lines : goal.returns-in_err-time-clause-lines
-returns-in_err-time-clause-lines c = no_value _ _ c.from_residual.ensures.0
-
-pub returns-in_err-time-clause-terminated : goal.returns-in_err-time-clause-terminated
-returns-in_err-time-clause-terminated c = no_value _ _ c.from_residual.ensures.0
-
-pub returns-in_err-above-clause-lines : goal.returns-in_err-above-clause-lines
-returns-in_err-above-clause-lines c = no_value _ _ c.from_residual-in_err-above.ensures.0
-
-pub returns-in_err-above-clause-terminated : goal.returns-in_err-above-clause-terminated
-returns-in_err-above-clause-terminated c = no_value _ _ c.from_residual-in_err-above.ensures.0
-
-pub inherited-requires : goal.inherited-requires
-inherited-requires c = c.requires.node
-
-pub nearest-requires : goal.nearest-requires
-nearest-requires c = c.requires.node
-
-pub parts-requires : goal.parts-requires
-parts-requires c = c.requires.node
-
-pub section-span-requires : goal.section-span-requires
-section-span-requires c = c.requires.node

@@ -1,6 +1,5 @@
 use Rattle.std.proofs.Common.{sym, ◌∙◌}
 use Rattle.org_move.proofs.Joins.{joined_more, joined_all, some_joined}
-use Rattle.org_splice.proofs.Failing.{no_value}
 use Rattle.org_move.proofs.properties.joined_if_any.Goals as goal
 
 pub loop-text-preserved : goal.loop-text-preserved
@@ -10,9 +9,3 @@ loop-text-preserved c =
 pub returns : goal.returns
 returns c =
     some_joined _ _ _ (sym c.is_empty.ensures ∙ c.if-is_empty.false) (joined_all _ _ _ _ _ _ c.loop-text.invariant c.loop-text-test.false (sym c.loop-text.made.ok.0) c.pop.ensures.rest)
-
-pub returns-in_err-extend_from_slice : goal.returns-in_err-extend_from_slice
-returns-in_err-extend_from_slice c = no_value _ _ c.from_residual.ensures.0
-
-pub returns-in_err-push : goal.returns-in_err-push
-returns-in_err-push c = no_value _ _ c.from_residual-in_err-push.ensures.0

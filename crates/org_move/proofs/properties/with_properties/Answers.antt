@@ -1,7 +1,6 @@
 use Rattle.std.proofs.Common.{List, ℕ, ap, ◌∙◌}
 use Rattle.org_meta.specs.Sections.{parts_of, put}
 use Rattle.org_move.proofs.Each.{good_value, value_more, none_more, each_all}
-use Rattle.org_splice.proofs.Failing.{no_value}
 use Rattle.org_move.proofs.properties.with_properties.Goals as goal
 use Rattle.org_move.proofs.properties.with_properties.Goals.{in-Some+in_ok-new-2, in_default}
 
@@ -31,15 +30,3 @@ loop-property-preserved c =
 
 pub returns-clause-parts : goal.returns-clause-parts
 returns-clause-parts c = each_all c.args.properties.now c.loop-property.property-index _ _ c.loop-property.invariant.parts c.loop-property-test.false
-
-pub returns-in_err-new-clause-parts : goal.returns-in_err-new-clause-parts
-returns-in_err-new-clause-parts c = no_value _ _ c.from_residual.ensures.0
-
-pub returns-in_err-new-clause-terminated : goal.returns-in_err-new-clause-terminated
-returns-in_err-new-clause-terminated c = no_value _ _ c.from_residual.ensures.0
-
-pub returns-in_err-new-2-clause-parts : goal.returns-in_err-new-2-clause-parts
-returns-in_err-new-2-clause-parts c = no_value _ _ c.from_residual-in_err-new-2.ensures.0
-
-pub returns-in_err-new-2-clause-terminated : goal.returns-in_err-new-2-clause-terminated
-returns-in_err-new-2-clause-terminated c = no_value _ _ c.from_residual-in_err-new-2.ensures.0

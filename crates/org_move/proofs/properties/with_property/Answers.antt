@@ -4,7 +4,6 @@ use Rattle.std.specs.Global.{Global}
 use Rattle.std.proofs.lemmas.Result.{IfOk-weaker}
 use Rattle.org_splice.specs.declared.edit.Edit.{Edit}
 use Rattle.org_move.proofs.Puts.{put_split, put_terminated, put_together}
-use Rattle.org_splice.proofs.Failing.{no_value}
 use Rattle.org_move.proofs.properties.with_property.Goals as goal
 
 pub returns-clause-parts : goal.returns-clause-parts
@@ -24,9 +23,3 @@ returns-clause-terminated c =
     IfOk-weaker c.between.result (λ (whole : Vec ℕ Global). whole.items ≡ (take edit.at section ++ bytes) ++ slice_range section (edit.at + edit.removed) (length section)) _
     (λ whole is. put_terminated c.args.name.now c.args.value.now section whole.items edit c.in_ok-edit.ensures (put_together section section section _ bytes _ whole.items edit refl refl refl c.as_slice.ensures refl is))
     c.between.ensures
-
-pub returns-in_err-edit-clause-parts : goal.returns-in_err-edit-clause-parts
-returns-in_err-edit-clause-parts c = no_value _ _ c.from_residual.ensures.0
-
-pub returns-in_err-edit-clause-terminated : goal.returns-in_err-edit-clause-terminated
-returns-in_err-edit-clause-terminated c = no_value _ _ c.from_residual.ensures.0

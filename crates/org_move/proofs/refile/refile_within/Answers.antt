@@ -6,15 +6,3 @@ returns c =
     within_made _ _ _ c.args.place c.args.outline.now.text _ _ _ _ _ _ _ _ _ c.with_subtree.ensures.terminated
     c.find.ensures.value c.in_ok-node.was c.find-2.ensures.value c.in_ok-parent.was c.in_ok-node.ensures.within
     c.lies_in.ensures c.if-lies_in.false c.place_without-at.ensures c.level_below-level.ensures.value c.without.ensures c.in_ok-goes_in.ensures.value
-
-pub place_without-at-requires-clause-taken : goal.place_without-at-requires-clause-taken
-place_without-at-requires-clause-taken c = c.in_ok-node.ensures.within
-
-pub level_below-level-requires : goal.level_below-level-requires
-level_below-level-requires c = c.in_ok-parent.ensures.within
-
-pub with_subtree-requires-clause-node : goal.with_subtree-requires-clause-node
-with_subtree-requires-clause-node c = c.in_ok-node.ensures.within
-
-pub without-requires : goal.without-requires
-without-requires c = c.in_ok-node.ensures.within

@@ -4,7 +4,6 @@ use Rattle.std.specs.Global.{Global}
 use Rattle.std.proofs.lemmas.Result.{IfOk-weaker}
 use Rattle.org_outline.specs.Tree.{Node, node_at, print_node, tree}
 use Rattle.org_move.specs.Archive.{filled}
-use Rattle.org_splice.proofs.Failing.{no_value}
 use Rattle.org_move.proofs.subtree.archived_lines.Goals as goal
 
 pub filled-requires-clause-node : goal.filled-requires-clause-node
@@ -20,6 +19,3 @@ returns-clause-lines c =
 
 pub returns-clause-terminated : goal.returns-clause-terminated
 returns-clause-terminated c = IfOk-weaker c.filled.result _ _ (λ made is. c.in_ok-subtree.ensures.terminated) c.filled.ensures
-
-pub returns-in_err-subtree-clause-terminated : goal.returns-in_err-subtree-clause-terminated
-returns-in_err-subtree-clause-terminated c = no_value _ _ c.from_residual.ensures.0

@@ -4,7 +4,6 @@ use Rattle.org_outline.specs.Moves.{IsPrinted}
 use Rattle.org_outline.specs.Tree.{node_at, print_node, tree}
 use Rattle.org_move.specs.Archive.{archived, archived_section}
 use Rattle.org_move.proofs.Archived.{archived_lines, archived_printed, archived_root, if_ok}
-use Rattle.org_splice.proofs.Failing.{no_value}
 use Rattle.org_move.proofs.subtree.archived_subtree.Goals as goal
 
 pub archived_section-requires-clause-file : goal.archived_section-requires-clause-file
@@ -31,12 +30,3 @@ returns-clause-root c =
     if_ok c.with_section.result (λ made. made.items ≡ print_node (record (node_at (tree t) c.args.node).node { section = lines_of c.deref.result.now }))
     (λ made. (node_at (tree made.items) 0).node ≡ archived states c.args.name.now c.args.now (tree t) c.args.node) c.with_section.ensures.value
     (λ made is. archived_root states c.args.name.now c.args.now t c.args.node made.items c.as_str.ensures.valid c.requires (archived_lines states c.args.name.now c.args.now (tree t) c.args.node c.deref.result.now made.items is lines))
-
-pub returns-in_err-section-clause-printed : goal.returns-in_err-section-clause-printed
-returns-in_err-section-clause-printed c = no_value _ _ c.from_residual.ensures.0
-
-pub returns-in_err-section-clause-root : goal.returns-in_err-section-clause-root
-returns-in_err-section-clause-root c = no_value _ _ c.from_residual.ensures.0
-
-pub returns-in_err-section-clause-terminated : goal.returns-in_err-section-clause-terminated
-returns-in_err-section-clause-terminated c = no_value _ _ c.from_residual.ensures.0

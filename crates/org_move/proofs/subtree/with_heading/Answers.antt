@@ -1,7 +1,6 @@
 use Rattle.std.proofs.Common.{◌≡◌, ◌∙◌, ◌++◌, ◌∷◌, [], ℕ, List, ap, append_assoc}
 use Rattle.std.specs.Prelude.{replicate}
 use Rattle.org_outline.specs.Text.{heading_line}
-use Rattle.org_splice.proofs.Failing.{no_value}
 use Rattle.org_move.proofs.subtree.with_heading.Goals as goal
 
 whole : (stars blank titled line made said title below : List ℕ) (n level : ℕ) → n ≡ level → said ≡ title → stars ≡ replicate n 42 → blank ≡ stars ++ 32 ∷ [] → titled ≡ blank ++ said → line ≡ titled ++ 10 ∷ []
@@ -20,18 +19,3 @@ returns c =
     whole c.in_ok-made.made.items c.push.new.self.items c.extend_from_slice.new.self.items c.push-2.new.self.items c.extend_from_slice-2.new.self.items c.title.result.now c.args.to.now.title c.args.below.now
     c.level.result c.args.to.now.level c.level.ensures.value c.title.ensures (c.in_ok-made.ensures.items_if_clones_equal (λ y same. same))
     c.in_ok-push.ensures.items c.in_ok-extend_from_slice.ensures.items c.in_ok-push-2.ensures.items c.in_ok-extend_from_slice-2.ensures.items
-
-pub returns-in_err-made : goal.returns-in_err-made
-returns-in_err-made c = no_value _ _ c.from_residual.ensures.0
-
-pub returns-in_err-push : goal.returns-in_err-push
-returns-in_err-push c = no_value _ _ c.from_residual-in_err-push.ensures.0
-
-pub returns-in_err-extend_from_slice : goal.returns-in_err-extend_from_slice
-returns-in_err-extend_from_slice c = no_value _ _ c.from_residual-in_err-extend_from_slice.ensures.0
-
-pub returns-in_err-push-2 : goal.returns-in_err-push-2
-returns-in_err-push-2 c = no_value _ _ c.from_residual-in_err-push-2.ensures.0
-
-pub returns-in_err-extend_from_slice-2 : goal.returns-in_err-extend_from_slice-2
-returns-in_err-extend_from_slice-2 c = no_value _ _ c.from_residual-in_err-extend_from_slice-2.ensures.0
