@@ -1,11 +1,10 @@
 //! Lines served over a folder.
 ghost use Rattle.std.specs.Prelude.{◌≡◌, Err, IfOk, IfErr, All, []};
 ghost use Rattle.org_disk.specs.Accounts.{Accounts};
-ghost use Rattle.org_journal.specs.Recovered.{IsRecoverable, contents};
+ghost use Rattle.org_journal.specs.Recovered.{IsRecoverable};
 ghost use Rattle.org_disk.specs.Names.{IsOrgFile};
-ghost use Rattle.org_fileset.specs.Opening.{IsReason};
+ghost use Rattle.org_fileset.specs.Opening.{IsRefusedFor};
 ghost use Rattle.org_fileset.specs.Recovery.{EachRecovers};
-ghost use Rattle.org_fileset.specs.declared.open.OpenFault.TheVariants.{TooManyFiles};
 ghost use Rattle.org_folder.specs.FolderDisk.{record_of};
 ghost use Rattle.org_serve.specs.Counts.{EndsForCause};
 ghost use Rattle.org_store.specs.Group.{IsGroup};
@@ -76,9 +75,8 @@ where
         → LastsFrom (IsAsFound (files_of S.world disk)) served)) }
     ensures disk { is_right S.world result.disk → GivesBackSynced (files_of S.world) moment_of
         (left_of S.world) setup.names.items disk result.disk result.end }
-    ensures refused { IfErr result.end (IsReason setup.names.items (is_right S.world result.disk)
-        (contents (files_of S.world disk)) (contents (files_of S.world result.disk))) }
-    ensures unused { result.end ≡ Err TooManyFiles → result.disk ≡ disk }
+    ensures refused { IfErr result.end (IsRefusedFor (is_right S.world) (files_of S.world)
+        setup.names.items disk result.disk) }
     ensures unserved { IfErr result.end (λ _. (reader.new ≡ reader.old)
         × (writer.new ≡ writer.old)) }
     ensures causes { EndsForCause 4294967295 result.end (R.left reader.old) (R.left reader.new)

@@ -1,9 +1,9 @@
 //! A whole run over a disk, from the opening to the end of the input.
 ghost use Rattle.std.specs.Prelude.{◌≡◌, Err, All, IfOk, IfErr};
 ghost use Rattle.org_disk.specs.Accounts.{Accounts};
-ghost use Rattle.org_journal.specs.Recovered.{IsRecoverable, contents};
+ghost use Rattle.org_journal.specs.Recovered.{IsRecoverable};
 ghost use Rattle.org_disk.specs.Names.{IsOrgFile};
-ghost use Rattle.org_fileset.specs.Opening.{IsReason};
+ghost use Rattle.org_fileset.specs.Opening.{IsRefusedFor};
 ghost use Rattle.org_fileset.specs.Recovery.{EachRecovers};
 ghost use Rattle.org_serve.specs.Counts.{EndsForCause};
 ghost use Rattle.org_store.specs.Group.{IsGroup};
@@ -82,9 +82,8 @@ pub fn serve_disk<D: Disk, R: Source, W: Sink>(
         × (IsRecoverable (D.files disk) → EachRecovers (D.files disk) → Lasts served)) }
     ensures disk { D.honest result.disk → GivesBack D.files D.moment D.left_since
         setup.names.items disk result.disk result.end }
-    ensures refused { IfErr result.end (IsReason setup.names.items (D.honest result.disk)
-        (contents (D.files disk)) (contents (D.files result.disk))) }
-    ensures unused { result.end ≡ Err OpenFault.TooManyFiles → result.disk ≡ disk }
+    ensures refused { IfErr result.end
+        (IsRefusedFor D.honest D.files setup.names.items disk result.disk) }
     ensures unserved { IfErr result.end (λ _. (reader.new ≡ reader.old)
         × (writer.new ≡ writer.old)) }
     ensures causes { EndsForCause turns result.end (R.left reader.old) (R.left reader.new)
@@ -145,9 +144,8 @@ pub fn serve_synced<D: Disk, R: Source, W: Sink>(
         → LastsFrom (IsAsFound (D.files disk)) served)) }
     ensures disk { D.honest result.disk → GivesBackSynced D.files D.moment D.left_since
         setup.names.items disk result.disk result.end }
-    ensures refused { IfErr result.end (IsReason setup.names.items (D.honest result.disk)
-        (contents (D.files disk)) (contents (D.files result.disk))) }
-    ensures unused { result.end ≡ Err OpenFault.TooManyFiles → result.disk ≡ disk }
+    ensures refused { IfErr result.end
+        (IsRefusedFor D.honest D.files setup.names.items disk result.disk) }
     ensures unserved { IfErr result.end (λ _. (reader.new ≡ reader.old)
         × (writer.new ≡ writer.old)) }
     ensures causes { EndsForCause turns result.end (R.left reader.old) (R.left reader.new)

@@ -1,13 +1,11 @@
-use Rattle.std.proofs.Common.{◌≡◌, ℕ, List, Result, IfErr, refl, subst}
+use Rattle.std.proofs.Common.{◌≡◌, ℕ, List, refl, rules, subst}
 use Rattle.std.proofs.lemmas.Result.{IfOk-weaker}
 use Rattle.org_disk.specs.Accounts.{Accounts}
 use Rattle.org_journal.specs.Recovered.{contents}
 use Rattle.org_journal.proofs.Accounted.{accounts_after}
-use Rattle.org_fileset.specs.Names.{AreFew, AreTooMany}
-use Rattle.org_fileset.specs.Opening.{IsReason}
-use Rattle.org_fileset.specs.declared.open.OpenFault.{OpenFault}
+use Rattle.org_fileset.specs.Names.{AreFew}
+use Rattle.org_fileset.specs.Opening.{IsReason, IsRefusedFor}
 use Rattle.org_store.proofs.Sortings.{few_or_many}
-use Rattle.org_serve.specs.declared.end.ServeEnd.{ServeEnd}
 use Rattle.org_serve.specs.Syncing.{AreSynced, IsNotStored, stored}
 use Rattle.org_serve.specs.Whole.{HasFailed}
 use Rattle.org_serve.proofs.Counting.{ended_unserved}
@@ -55,20 +53,15 @@ returns-in-Ok-clause-disk g c honest =
 pub returns-in-Ok-clause-refused : goal.returns-in-Ok-clause-refused
 returns-in-Ok-clause-refused g c =
     let d = g.D.Disk in
+    let given = c.args.setup.names.items in
+    let mid = c.sync_files.new.disk in
     let now = c.serve_disk.result.disk in
     let same = λ (h : d.honest now). (c.in-Ok.ensures.syncs (c.serve_disk.ensures.accounts.was_honest h)).done.same in
-    if_err c.serve_disk.result.end
-    (reason_before c.args.setup.names.items (d.honest now) (contents (d.files c.args.disk)) (contents (d.files c.sync_files.new.disk)) (contents (d.files now)) same)
-    c.serve_disk.ensures.refused
-
-pub returns-in-Ok-clause-unused : goal.returns-in-Ok-clause-unused
-returns-in-Ok-clause-unused g c refused =
-    let d = g.D.Disk in
-    let given = c.args.setup.names.items in
-    let now = c.serve_disk.result.disk in
     let few : AreFew given = subst AreFew c.deref.ensures.value c.in-Ok.ensures.few in
-    let many : AreTooMany given = subst (λ (end : Result ServeEnd OpenFault). IfErr end (IsReason given (d.honest now) (contents (d.files c.sync_files.new.disk)) (contents (d.files now)))) refused c.serve_disk.ensures.refused in
-    absurd (few_or_many given few many)
+    if_err c.serve_disk.result.end (λ fault (had : IsRefusedFor d.honest d.files given mid now fault). record {
+      reason = reason_before given (d.honest now) (contents (d.files c.args.disk)) (contents (d.files mid)) (contents (d.files now)) same fault had.reason;
+      unused = λ is. absurd (few_or_many given few (subst (IsReason given (d.honest now) (contents (d.files mid)) (contents (d.files now))) is had.reason));
+    }) c.serve_disk.ensures.refused
 
 pub returns-in-Err-clause-disk : goal.returns-in-Err-clause-disk
 returns-in-Err-clause-disk g c honest =
@@ -101,5 +94,5 @@ returns-in-Ok-clause-accounts g c =
 pub returns-in-Err-clause-unserved : goal.returns-in-Err-clause-unserved
 returns-in-Err-clause-unserved g c = (refl, refl)
 
-pub returns-in-Err-clause-unused : goal.returns-in-Err-clause-unused
-returns-in-Err-clause-unused g c is = c.sync_files.ensures.unused (cc is)
+pub returns-in-Err-clause-refused : goal.returns-in-Err-clause-refused
+returns-in-Err-clause-refused g c = record { reason = search rules; unused = λ is. c.sync_files.ensures.unused cc }
