@@ -51,8 +51,9 @@ pub fn serve<D: Disk, R: Source, W: Sink>(
     writer: &mut W,
     turns: u64,
 ) -> ServeEnd
-    ensures serves { D.honest store.new.disk → Serves store.old.session result store.new.session
-        (R.left reader.old) (R.left reader.new) (W.written writer.old) (W.written writer.new) }
+    ensures did { D.honest store.new.disk → Serves store.old.session result store.new.session
+        (R.left reader.old) (R.left reader.new) (W.written writer.old) (W.written writer.new)
+        × KeepsDisk D.files store.old store.new }
     ensures causes { EndsForCause turns (Ok result) (R.left reader.old) (R.left reader.new)
         (R.reads reader.old) (R.reads reader.new) (R.failures reader.old)
         (R.failures reader.new) (W.failures writer.old) (W.failures writer.new) }
@@ -61,7 +62,6 @@ pub fn serve<D: Disk, R: Source, W: Sink>(
         (R.left reader.old) (R.left reader.new) (W.written writer.old) (W.written writer.new))
         × (result ≡ ServeEnd.Write → WritesSome run.input run.others run.out
         store.new.session.acknowledged (W.written writer.old) (W.written writer.new)) }
-    ensures disk { D.honest store.new.disk → KeepsDisk D.files store.old store.new }
     ensures broken { EndsBroken result store.new.session }
     ensures untouched { IsTrue store.old.session.broken → store.new ≡ store.old }
     ensures accounts { Accounts D.steady D.honest D.failures store.old.disk store.new.disk

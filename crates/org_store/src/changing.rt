@@ -37,30 +37,25 @@ fn keep_or_settle<D: Disk>(files: &mut Files<D>, tally: &mut Tally) -> Result<()
     requires small { AreSmallToWrite files.old.held.now }
     requires counted { tally.old.acknowledged ≤ tally.old.accepted }
     requires countable { tally.old.accepted + 1 < 2 ^ 64 }
-    ensures keeps { (states : Keywords) → D.honest files.new.disk
-        → Keeps (kept_over D.files states files.old tally.old).session
-        (texts_of (held_over files.old.held.now (contents (D.files files.old.disk)))
-        files.old.names) result (kept_over D.files states files.new tally.new).session }
-    ensures disk { (states : Keywords) → D.honest files.new.disk
-        → LeavesDisk D.files D.moment D.left_since (kept_over D.files states files.old tally.old)
-        (kept_over D.files states files.new tally.new)
-        (IsLeft (kept_over D.files states files.old tally.old).session
-        (contents (D.files files.old.disk))
-        (Accepts files.old.held.now.waiting
-        (texts_of (held_over files.old.held.now (contents (D.files files.old.disk)))
-        files.old.names)) result tally.new.accepted)
-        (IsLeftAlone (kept_over D.files states files.old tally.old).session []
-        (Accepts files.old.held.now.waiting
-        (texts_of (held_over files.old.held.now (contents (D.files files.old.disk)))
-        files.old.names)) result tally.new.accepted) (IsErrOf result RunFault.Device) }
+    ensures did { (states : Keywords) → D.honest files.new.disk
+        → let old = kept_over D.files states files.old tally.old in
+        let new = kept_over D.files states files.new tally.new in
+        let texts = texts_of (held_over files.old.held.now (contents (D.files files.old.disk)))
+        files.old.names in
+        let does = Accepts files.old.held.now.waiting texts in
+        Keeps old.session texts result new.session
+        × LeavesDisk D.files D.moment D.left_since old new
+        (IsLeft old.session (contents (D.files files.old.disk)) does result tally.new.accepted)
+        (IsLeftAlone old.session [] does result tally.new.accepted)
+        (IsErrOf result RunFault.Device) }
     ensures counts { (states : Keywords)
         → KeepsCounts (kept_over D.files states files.old tally.old).session result
         (kept_over D.files states files.new tally.new).session }
     ensures waits { (states : Keywords)
         → WaitsCounted (fills (kept_over D.files states files.old tally.old).session) files.old.held
         result files.new.held }
-    ensures begun { files.new.held.now ≡ files.new.held.before }
-    ensures counted { tally.new.acknowledged ≤ tally.new.accepted }
+    ensures kept { (files.new.held.now ≡ files.new.held.before)
+        × (tally.new.acknowledged ≤ tally.new.accepted) }
     ensures breaks { IsErrOf result RunFault.Device ↔ IsTrue files.new.broken }
     ensures accounts { Accounts D.steady D.honest D.failures files.old.disk files.new.disk
         (IsErrOf result RunFault.Device) }

@@ -45,7 +45,8 @@ impl Model for Texts {
 
     ghost view = { λ t. record {
       now = record { texts = map now_of t.held.entries; waiting = t.waiting.keys };
-      before = record { texts = map before_of t.held.entries; waiting = take t.waited t.waiting.keys };
+      before = record
+          { texts = map before_of t.held.entries; waiting = take t.waited t.waiting.keys };
       ready = map ready_of t.held.entries;
     } };
 

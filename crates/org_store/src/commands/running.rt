@@ -60,10 +60,9 @@ pub(crate) fn running_clock<D: Disk>(
     ensures reads { (tally : Tally) → D.honest files.new.disk
         → Reads (kept_over D.files states.now files.old tally).session result
         (kept_over D.files states.now files.new tally).session }
-    ensures runs { IfOk result (λ found. ForSome found
-        (λ clock. RunsHeld files.new.held clock.file clock.running)) }
-    ensures named { IfOk result (λ found. ForSome found
-        (λ clock. is_name files.new.names clock.file ≡ true)) }
+    ensures found { IfOk result (λ found. ForSome found
+        (λ clock. RunsHeld files.new.held clock.file clock.running
+        × (is_name files.new.names clock.file ≡ true))) }
     ensures begun { OnOk result (files.new.held.now ≡ files.new.held.before) }
     ensures keeps { KeepsHeld files.old.held files.new.held }
     ensures disk { OnlyReads D.steady D.honest D.failures D.files D.moment D.left_since

@@ -12,22 +12,6 @@ use Rattle.org_serve.proofs.Honest.{kept_end, kept_runs, kept_served, kept_settl
 use Rattle.org_serve.proofs.Crashes.{session_of_served, session_of_ends, session_of_settled, session_of_some, runs_read, runs_finish, runs_some, runs_keep}
 use Rattle.org_serve.proofs.serving.serve.Goals as goal
 
-pub returns-in-Ok-eq0-clause-serves : goal.returns-in-Ok-eq0-clause-serves
-returns-in-Ok-eq0-clause-serves g c = λ honest.
-    let d = g.D.Disk in
-    let zero : c.in-Ok-eq0.field-0 ≡ 0 = omega arith in
-    let read = rw zero at c.in-Ok-eq0.ensures.bytes in
-    let s = kept_served d.honest d.files d.moment d.left_since (Served-no_more c.loop.invariant.0 (g.R.Source.left c.read.new.self) read.0) (c.finish.ensures.accounts.was_honest honest) in
-    let room : 0 < length c.read.new.into = omega (arith, c.read.auto.into) in
-    serves_end (session_of_served d.honest d.files d.moment d.left_since s) c.finish.result c.finish.new.store.session (g.W.Sink.written c.finish.new.writer) (c.in-Ok-eq0.ensures.bytes.1 zero room) c.finish.ensures.never
-    (λ no_write. session_of_ends d.honest d.files d.moment d.left_since (cut s.input).rest c.loop.store c.finish.result c.finish.new.store (g.W.Sink.written c.loop.writer) (g.W.Sink.written c.finish.new.writer)
-    (kept_end d.honest d.files d.moment d.left_since (cut s.input).rest c.loop.store c.finish.result c.finish.new.store (g.W.Sink.written c.loop.writer) (g.W.Sink.written c.finish.new.writer)
-    ((c.finish.ensures.told no_write).1 (cut s.input).rest s.stands) honest))
-    (λ e. elim ((c.finish.ensures.write e).0) [
-      | inl same ↦ inl (rw same refl)
-      | inr settled ↦ inr (session_of_settled d.honest d.files d.moment d.left_since c.loop.store c.finish.new.store (kept_settled d.honest d.files d.moment d.left_since c.loop.store c.finish.new.store settled honest))
-    ])
-
 pub returns-in-Ok-eq0-clause-causes : goal.returns-in-Ok-eq0-clause-causes
 returns-in-Ok-eq0-clause-causes g c =
     ended_otherwise c.finish.result c.finish.ensures.never
@@ -43,19 +27,23 @@ returns-in-Ok-eq0-clause-calls g c =
     runs_finish d.honest d.files d.moment d.left_since s c.finish.new.store c.finish.result (g.W.Sink.written c.finish.new.writer)
     (λ not. (c.finish.ensures.told not).1 (cut s.input).rest s.stands) (λ is. (c.finish.ensures.write is).0) (λ is. (c.finish.ensures.write is).2 (cut s.input).rest s.stands)
 
-pub returns-in-Ok-eq0-clause-disk : goal.returns-in-Ok-eq0-clause-disk
-returns-in-Ok-eq0-clause-disk g c = λ honest.
+pub returns-in-Ok-eq0-clause-did : goal.returns-in-Ok-eq0-clause-did
+returns-in-Ok-eq0-clause-did g c = λ honest.
     let d = g.D.Disk in
-    runs_keep d.honest d.files d.moment d.left_since (kept_runs d.honest d.files d.moment d.left_since (returns-in-Ok-eq0-clause-calls g c).0 honest)
-
-pub returns-in-Err-feed-clause-serves : goal.returns-in-Err-feed-clause-serves
-returns-in-Err-feed-clause-serves g c = λ honest.
-    let d = g.D.Disk in
-    let s = c.loop.invariant.0 in
-    serves_some (g.W.Sink.written c.args.writer.now) (g.W.Sink.written c.feed.new.writer)
-    (session_of_some d.honest d.files d.moment d.left_since c.args.store.now c.feed.new.store _ _ (kept_some d.honest d.files d.moment d.left_since c.args.store.now c.feed.new.store _ _
-    (Served-some s (take c.in-Ok.n c.read.new.into) c.feed.new.store (g.R.Source.left c.read.new.self) (g.W.Sink.written c.feed.new.writer) c.in-Ok.ensures.bytes.0
-    (c.in-Err-feed.ensures.fed (cut s.input).rest (rest-free s.input) s.stands)) honest))
+    let zero : c.in-Ok-eq0.field-0 ≡ 0 = omega arith in
+    let read = rw zero at c.in-Ok-eq0.ensures.bytes in
+    let s = kept_served d.honest d.files d.moment d.left_since (Served-no_more c.loop.invariant.0 (g.R.Source.left c.read.new.self) read.0) (c.finish.ensures.accounts.was_honest honest) in
+    let room : 0 < length c.read.new.into = omega (arith, c.read.auto.into) in (
+      serves_end (session_of_served d.honest d.files d.moment d.left_since s) c.finish.result c.finish.new.store.session (g.W.Sink.written c.finish.new.writer) (c.in-Ok-eq0.ensures.bytes.1 zero room) c.finish.ensures.never
+          (λ no_write. session_of_ends d.honest d.files d.moment d.left_since (cut s.input).rest c.loop.store c.finish.result c.finish.new.store (g.W.Sink.written c.loop.writer) (g.W.Sink.written c.finish.new.writer)
+          (kept_end d.honest d.files d.moment d.left_since (cut s.input).rest c.loop.store c.finish.result c.finish.new.store (g.W.Sink.written c.loop.writer) (g.W.Sink.written c.finish.new.writer)
+          ((c.finish.ensures.told no_write).1 (cut s.input).rest s.stands) honest))
+          (λ e. elim ((c.finish.ensures.write e).0) [
+            | inl same ↦ inl (rw same refl)
+            | inr settled ↦ inr (session_of_settled d.honest d.files d.moment d.left_since c.loop.store c.finish.new.store (kept_settled d.honest d.files d.moment d.left_since c.loop.store c.finish.new.store settled honest))
+          ]),
+      runs_keep d.honest d.files d.moment d.left_since (kept_runs d.honest d.files d.moment d.left_since (returns-in-Ok-eq0-clause-calls g c).0 honest),
+    )
 
 pub returns-in-Err-feed-clause-causes : goal.returns-in-Err-feed-clause-causes
 returns-in-Err-feed-clause-causes g c =
@@ -74,16 +62,16 @@ returns-in-Err-feed-clause-calls g c =
     (Served-some s piece c.feed.new.store left (g.W.Sink.written c.feed.new.writer) c.in-Ok.ensures.bytes.0 fed)
     (Served-some_wrote s piece c.feed.new.store left (g.W.Sink.written c.feed.new.writer) c.in-Ok.ensures.bytes.0 fed)
 
-pub returns-in-Err-feed-clause-disk : goal.returns-in-Err-feed-clause-disk
-returns-in-Err-feed-clause-disk g c = λ honest.
+pub returns-in-Err-feed-clause-did : goal.returns-in-Err-feed-clause-did
+returns-in-Err-feed-clause-did g c = λ honest.
     let d = g.D.Disk in
-    runs_keep d.honest d.files d.moment d.left_since (kept_runs d.honest d.files d.moment d.left_since (returns-in-Err-feed-clause-calls g c).0 honest)
-
-pub returns-in-Err-clause-serves : goal.returns-in-Err-clause-serves
-returns-in-Err-clause-serves g c = λ honest.
-    let d = g.D.Disk in
-    serves_read (session_of_served d.honest d.files d.moment d.left_since
-    (kept_served d.honest d.files d.moment d.left_since (Served-no_more c.loop.invariant.0 (g.R.Source.left c.read.new.self) (Consumes-kept _ _ c.in-Err.ensures.bytes)) honest))
+    let s = c.loop.invariant.0 in (
+      serves_some (g.W.Sink.written c.args.writer.now) (g.W.Sink.written c.feed.new.writer)
+          (session_of_some d.honest d.files d.moment d.left_since c.args.store.now c.feed.new.store _ _ (kept_some d.honest d.files d.moment d.left_since c.args.store.now c.feed.new.store _ _
+          (Served-some s (take c.in-Ok.n c.read.new.into) c.feed.new.store (g.R.Source.left c.read.new.self) (g.W.Sink.written c.feed.new.writer) c.in-Ok.ensures.bytes.0
+          (c.in-Err-feed.ensures.fed (cut s.input).rest (rest-free s.input) s.stands)) honest)),
+      runs_keep d.honest d.files d.moment d.left_since (kept_runs d.honest d.files d.moment d.left_since (returns-in-Err-feed-clause-calls g c).0 honest),
+    )
 
 pub returns-in-Err-clause-causes : goal.returns-in-Err-clause-causes
 returns-in-Err-clause-causes g c =
@@ -97,15 +85,13 @@ returns-in-Err-clause-calls g c =
     runs_read (HasSettledOver d.honest d.files d.moment d.left_since) c.loop.store.session.acknowledged
     (Served-no_more c.loop.invariant.0 (g.R.Source.left c.read.new.self) (Consumes-kept _ _ c.in-Err.ensures.bytes))
 
-pub returns-in-Err-clause-disk : goal.returns-in-Err-clause-disk
-returns-in-Err-clause-disk g c = λ honest.
-    let d = g.D.Disk in
-    runs_keep d.honest d.files d.moment d.left_since (kept_runs d.honest d.files d.moment d.left_since (returns-in-Err-clause-calls g c).0 honest)
-
-pub returns-clause-serves : goal.returns-clause-serves
-returns-clause-serves g c = λ honest.
-    let d = g.D.Disk in
-    serves_read (session_of_served d.honest d.files d.moment d.left_since (kept_served d.honest d.files d.moment d.left_since c.loop.invariant.0 honest))
+pub returns-in-Err-clause-did : goal.returns-in-Err-clause-did
+returns-in-Err-clause-did g c = λ honest.
+    let d = g.D.Disk in (
+      serves_read (session_of_served d.honest d.files d.moment d.left_since
+          (kept_served d.honest d.files d.moment d.left_since (Served-no_more c.loop.invariant.0 (g.R.Source.left c.read.new.self) (Consumes-kept _ _ c.in-Err.ensures.bytes)) honest)),
+      runs_keep d.honest d.files d.moment d.left_since (kept_runs d.honest d.files d.moment d.left_since (returns-in-Err-clause-calls g c).0 honest),
+    )
 
 pub returns-clause-causes : goal.returns-clause-causes
 returns-clause-causes g c =
@@ -119,10 +105,12 @@ returns-clause-calls g c =
     let d = g.D.Disk in
     runs_read (HasSettledOver d.honest d.files d.moment d.left_since) c.loop.store.session.acknowledged c.loop.invariant.0
 
-pub returns-clause-disk : goal.returns-clause-disk
-returns-clause-disk g c = λ honest.
-    let d = g.D.Disk in
-    runs_keep d.honest d.files d.moment d.left_since (kept_runs d.honest d.files d.moment d.left_since (returns-clause-calls g c).0 honest)
+pub returns-clause-did : goal.returns-clause-did
+returns-clause-did g c = λ honest.
+    let d = g.D.Disk in (
+      serves_read (session_of_served d.honest d.files d.moment d.left_since (kept_served d.honest d.files d.moment d.left_since c.loop.invariant.0 honest)),
+      runs_keep d.honest d.files d.moment d.left_since (kept_runs d.honest d.files d.moment d.left_since (returns-clause-calls g c).0 honest),
+    )
 
 pub loop-preserved : goal.loop-preserved
 loop-preserved g c = (

@@ -30,7 +30,7 @@ returns-in-Ok-clause-served g c =
     c.in-Ok.ensures.opened.waits
     (here (λ k. d.honest k → LeavesAlone d.files d.moment d.left_since (IsUnconcerned (contents (d.files c.args.disk) journal_name)) c.args.disk k) (λ honestly. (reopens honestly).alone))
     c.serve-end.new.store c.into_disk.result c.into_disk.ensures c.serve-end.ensures.calls.0 c.serve-end.ensures.calls.1
-    (λ honest. c.serve-end.ensures.serves (rw (← c.into_disk.ensures) honest))
+    (λ honest. (c.serve-end.ensures.did (rw (← c.into_disk.ensures) honest)).0)
     (λ fit each. here (λ k. d.honest k → LeavesOver d.moment d.left_since c.args.disk k (RecoversAsBefore (d.files c.args.disk))) (λ honestly. (reopens honestly).any_moment fit each))
     d.failures
     (breaks_by_count begun c.serve-end.new.store (here (λ k. Accounts d.steady d.honest d.failures c.args.disk k ⊥) c.in-Ok.ensures.accounts) c.serve-end.ensures.accounts
@@ -55,7 +55,7 @@ returns-in-Ok-clause-disk g c honest =
       unopened_closed = λ closed. tt;
       recoverable = λ fit each.
           let rest = here (λ k. IsAtRest (d.files k)) (reopened.rest fit each) in
-          (rw c.into_disk.ensures ((c.serve-end.ensures.disk now).recoverable rest), left_recovers laws.only_now laws.counts_now served.0 honest (served.3 fit each));
+          (rw c.into_disk.ensures ((c.serve-end.ensures.did now).1.recoverable rest), left_recovers laws.only_now laws.counts_now served.0 honest (served.3 fit each));
       alone = given_back_alone served.0 honest;
     }
 

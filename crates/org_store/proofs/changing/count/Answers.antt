@@ -40,7 +40,7 @@ returns-in_err-keep_or_settle-clause-acts g c states names joins =
     subst (λ (r : Result Reply RunFault). Acts d.files d.moment d.left_since d.honest old (counted old.session names texts) r new) (sym given)
     (acts_fault d.files d.moment d.left_since d.honest old (λ honest image left. g.met.D.Disk.only_now old.disk image honest left) refl new (counted old.session names texts)
     names files.held.now.waiting texts c.keep_or_settle.result joins (ap (λ t. if t then Refuses TooLarge else Accepts names texts) countable) c.requires.unbroken
-    (kept.keeps states) (kept.disk states) (kept.counts states) kept.breaks fault c.in_err-keep_or_settle.was)
+    (λ honest. (kept.did states honest).0) (λ honest. (kept.did states honest).1) (kept.counts states) kept.breaks fault c.in_err-keep_or_settle.was)
 
 pub returns-clause-acts : goal.returns-clause-acts
 returns-clause-acts g c states names joins =
@@ -53,7 +53,7 @@ returns-clause-acts g c states names joins =
     let countable : (c.args.tally.now.accepted == 2 ^ 64 - 1) ≡ false = search rules in
     acts_done d.files d.moment d.left_since d.honest old (λ honest image left. g.met.D.Disk.only_now old.disk image honest left) refl new (counted old.session names texts)
     names files.held.now.waiting texts c.keep_or_settle.result joins (ap (λ t. if t then Refuses TooLarge else Accepts names texts) countable) c.requires.unbroken
-    (kept.keeps states) (kept.disk states) (kept.counts states) kept.breaks c.keep_or_settle.new.tally.accepted c.in_ok-keep_or_settle.was refl
+    (λ honest. (kept.did states honest).0) (λ honest. (kept.did states honest).1) (kept.counts states) kept.breaks c.keep_or_settle.new.tally.accepted c.in_ok-keep_or_settle.was refl
 
 pub returns-in_err-keep_or_settle-clause-waits : goal.returns-in_err-keep_or_settle-clause-waits
 returns-in_err-keep_or_settle-clause-waits g c states =

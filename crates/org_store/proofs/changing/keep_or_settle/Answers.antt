@@ -14,82 +14,72 @@ use Rattle.org_store.proofs.Leaving.{leaves_unwritten}
 use Rattle.org_store.proofs.Sessions.{leaves_filled, leaves_torn}
 use Rattle.org_store.proofs.changing.keep_or_settle.Goals as goal
 
-pub returns-then-not-fills-clause-disk : goal.returns-then-not-fills-clause-disk
-returns-then-not-fills-clause-disk g c states honest =
+pub returns-then-not-fills-clause-did : goal.returns-then-not-fills-clause-did
+returns-then-not-fills-clause-did g c states honest =
     let d = g.D.Disk in
-    let old = kept_over d.files states c.args.files.now c.args.tally.now in
-    let files = contents (d.files c.args.files.now.disk) in
-    let texts = texts_of (held_over c.args.files.now.held.now files) c.args.files.now.names in
-    let was = subst d.honest c.keep.ensures.memory.disk honest in
-    leaves_unwritten d.files d.moment d.left_since old (IsLeft old.session files (Accepts c.args.files.now.held.now.waiting texts) (Ok (tt {0})) (c.args.tally.now.accepted + 1))
-    (IsLeftAlone old.session [] (Accepts c.args.files.now.held.now.waiting texts) (Ok (tt {0})) (c.args.tally.now.accepted + 1)) _
-    (λ image left. g.met.D.Disk.only_now c.args.files.now.disk image was left) refl (λ image holds. inl holds) _ c.keep.ensures.memory.disk refl
-
-pub returns-in-Err-OutOfMemory-clause-disk : goal.returns-in-Err-OutOfMemory-clause-disk
-returns-in-Err-OutOfMemory-clause-disk g c states honest =
-    let d = g.D.Disk in
-    let old = kept_over d.files states c.args.files.now c.args.tally.now in
-    let files = contents (d.files c.args.files.now.disk) in
-    let texts = texts_of (held_over c.args.files.now.held.now files) c.args.files.now.names in
-    let unwritten : c.commit.new.self ≡ c.args.files.now = search rules in
-    let same = c.undo-in-Err-OutOfMemory.ensures.memory.disk ∙ ap (λ (f : OpenFiles g.row.D.Denot). f.disk) unwritten in
-    let was = subst d.honest same honest in
-    leaves_unwritten d.files d.moment d.left_since old (IsLeft {A = Unit {0}} old.session files (Accepts c.args.files.now.held.now.waiting texts) (Err OutOfMemory) c.args.tally.now.accepted)
-    (IsLeftAlone {A = Unit {0}} old.session [] (Accepts c.args.files.now.held.now.waiting texts) (Err OutOfMemory) c.args.tally.now.accepted) _
-    (λ image left. g.met.D.Disk.only_now c.args.files.now.disk image was left) refl (λ image holds. inl holds) _ same refl
-
-pub returns-then-not-fills-clause-keeps : goal.returns-then-not-fills-clause-keeps
-returns-then-not-fills-clause-keeps g c states honest =
-    let old = kept_over g.D.Disk.files states c.args.files.now c.args.tally.now in
-    let room : fills old.session ≡ false = search rules in
     let kept = c.keep.ensures in
-    rw (kept.memory.disk, kept.memory.names, kept.memory.broken, kept.before, room) refl
+    let old = kept_over d.files states c.args.files.now c.args.tally.now in
+    let files = contents (d.files c.args.files.now.disk) in
+    let texts = texts_of (held_over c.args.files.now.held.now files) c.args.files.now.names in
+    let room : fills old.session ≡ false = search rules in
+    let was = subst d.honest c.keep.ensures.memory.disk honest in (
+      rw (kept.memory.disk, kept.memory.names, kept.memory.broken, kept.before, room) refl,
+      leaves_unwritten d.files d.moment d.left_since old (IsLeft old.session files (Accepts c.args.files.now.held.now.waiting texts) (Ok (tt {0})) (c.args.tally.now.accepted + 1))
+          (IsLeftAlone old.session [] (Accepts c.args.files.now.held.now.waiting texts) (Ok (tt {0})) (c.args.tally.now.accepted + 1)) _
+          (λ image left. g.met.D.Disk.only_now c.args.files.now.disk image was left) refl (λ image holds. inl holds) _ c.keep.ensures.memory.disk refl,
+    )
 
-pub returns-in-Ok-clause-keeps : goal.returns-in-Ok-clause-keeps
-returns-in-Ok-clause-keeps g c states honest =
+pub returns-in-Ok-clause-did : goal.returns-in-Ok-clause-did
+returns-in-Ok-clause-did g c states honest =
     let old = kept_over g.D.Disk.files states c.args.files.now c.args.tally.now in
     let full : fills old.session ≡ true = search rules in
     let whole : c.commit.new.self.broken ≡ c.args.files.now.broken = search rules in
-    rw (c.commit.ensures.set.names, whole, full, c.in-Ok.ensures.texts honest, (c.in-Ok.ensures.commits honest).texts) refl
+    let d = g.D.Disk in
+    let files = c.args.files.now in
+    let was = c.args.tally.now in
+    let now : Tally = record { accepted = was.accepted + 1; acknowledged = was.accepted + 1; group = was.group } in (
+      rw (c.commit.ensures.set.names, whole, full, c.in-Ok.ensures.texts honest, (c.in-Ok.ensures.commits honest).texts) refl,
+      leaves_filled d.files d.moment d.left_since states files c.commit.new.self was now files.held.now.waiting (texts_of (held_over files.held.now (contents (d.files files.disk))) files.names)
+          (sym c.fills.ensures ∙ c.if-not-fills.false) refl c.commit.ensures.set.names (c.in-Ok.ensures.commits honest),
+    )
 
-pub returns-in-Err-Device-clause-keeps : goal.returns-in-Err-Device-clause-keeps
-returns-in-Err-Device-clause-keeps g c states honest =
+pub returns-in-Err-Device-clause-did : goal.returns-in-Err-Device-clause-did
+returns-in-Err-Device-clause-did g c states honest =
     let d = g.D.Disk in
     let old = kept_over d.files states c.args.files.now c.args.tally.now in
     let full : fills old.session ≡ true = search rules in
     let fell : c.commit.new.self.broken ≡ true = search rules in
     let new = c.undo.new.self in
-    let taken = c.undo.ensures in (
-      full,
-      (
-        texts_of (held_over new.held.before (contents (d.files new.disk))) new.names,
-        texts_of (contents (d.files new.disk)) new.names,
-        rw (taken.memory.names, c.commit.ensures.set.names, taken.memory.broken, fell) refl,
-      ),
-    )
-
-pub returns-in-Err-OutOfMemory-clause-keeps : goal.returns-in-Err-OutOfMemory-clause-keeps
-returns-in-Err-OutOfMemory-clause-keeps g c states honest =
-    let unwritten : c.commit.new.self ≡ c.args.files.now = search rules in
-    let taken = c.undo-in-Err-OutOfMemory.ensures in
-    rw (taken.memory.disk, taken.memory.names, taken.memory.broken, taken.before, unwritten) refl
-
-pub returns-in-Ok-clause-disk : goal.returns-in-Ok-clause-disk
-returns-in-Ok-clause-disk g c states honest =
-    let d = g.D.Disk in
-    let files = c.args.files.now in
-    let was = c.args.tally.now in
-    let now : Tally = record { accepted = was.accepted + 1; acknowledged = was.accepted + 1; group = was.group } in
-    leaves_filled d.files d.moment d.left_since states files c.commit.new.self was now files.held.now.waiting (texts_of (held_over files.held.now (contents (d.files files.disk))) files.names)
-    (sym c.fills.ensures ∙ c.if-not-fills.false) refl c.commit.ensures.set.names (c.in-Ok.ensures.commits honest)
-
-pub returns-in-Err-Device-clause-disk : goal.returns-in-Err-Device-clause-disk
-returns-in-Err-Device-clause-disk g c states honest =
-    let d = g.D.Disk in
+    let taken = c.undo.ensures in
     let files = c.args.files.now in
     let was = c.args.tally.now in
     let now : Tally = record { accepted = was.accepted + 1; acknowledged = was.acknowledged; group = was.group } in
     let texts = texts_of (held_over files.held.now (contents (d.files files.disk))) files.names in
-    let same = c.undo.ensures.memory.disk in
-    leaves_torn d.files d.moment d.left_since states files c.undo.new.self was now files.held.now.waiting texts (sym c.fills.ensures ∙ c.if-not-fills.false) refl c.in-Err-Device.field-0
-    (subst (λ disk. CommitsTexts {A = Unit {0}} {E = SetFault} d.files d.moment d.left_since files.names files.held.now.waiting texts files.disk disk (Err c.in-Err-Device.field-0)) (sym same) (c.in-Err-Device.ensures.commits (subst d.honest same honest)))
+    let same = c.undo.ensures.memory.disk in (
+      (
+        full,
+        (
+          texts_of (held_over new.held.before (contents (d.files new.disk))) new.names,
+          texts_of (contents (d.files new.disk)) new.names,
+          rw (taken.memory.names, c.commit.ensures.set.names, taken.memory.broken, fell) refl,
+        ),
+      ),
+      leaves_torn d.files d.moment d.left_since states files c.undo.new.self was now files.held.now.waiting texts (sym c.fills.ensures ∙ c.if-not-fills.false) refl c.in-Err-Device.field-0
+          (subst (λ disk. CommitsTexts {A = Unit {0}} {E = SetFault} d.files d.moment d.left_since files.names files.held.now.waiting texts files.disk disk (Err c.in-Err-Device.field-0)) (sym same) (c.in-Err-Device.ensures.commits (subst d.honest same honest))),
+    )
+
+pub returns-in-Err-OutOfMemory-clause-did : goal.returns-in-Err-OutOfMemory-clause-did
+returns-in-Err-OutOfMemory-clause-did g c states honest =
+    let unwritten : c.commit.new.self ≡ c.args.files.now = search rules in
+    let taken = c.undo-in-Err-OutOfMemory.ensures in
+    let d = g.D.Disk in
+    let old = kept_over d.files states c.args.files.now c.args.tally.now in
+    let files = contents (d.files c.args.files.now.disk) in
+    let texts = texts_of (held_over c.args.files.now.held.now files) c.args.files.now.names in
+    let same = c.undo-in-Err-OutOfMemory.ensures.memory.disk ∙ ap (λ (f : OpenFiles g.row.D.Denot). f.disk) unwritten in
+    let was = subst d.honest same honest in (
+      rw (taken.memory.disk, taken.memory.names, taken.memory.broken, taken.before, unwritten) refl,
+      leaves_unwritten d.files d.moment d.left_since old (IsLeft {A = Unit {0}} old.session files (Accepts c.args.files.now.held.now.waiting texts) (Err OutOfMemory) c.args.tally.now.accepted)
+          (IsLeftAlone {A = Unit {0}} old.session [] (Accepts c.args.files.now.held.now.waiting texts) (Err OutOfMemory) c.args.tally.now.accepted) _
+          (λ image left. g.met.D.Disk.only_now c.args.files.now.disk image was left) refl (λ image holds. inl holds) _ same refl,
+    )

@@ -174,3 +174,6 @@ returns-then-eq-clause-plan g c = c.start_in_one-then-eq.ensures.plan
 
 pub returns-then-not-has-clause-disk : goal.returns-then-not-has-clause-disk
 returns-then-not-has-clause-disk g c = only_reads_none c.requires.between.unbroken (λ no. cc) (λ no. cc)
+
+pub start_beside-requires-clause-runs : goal.start_beside-requires-clause-runs
+start_beside-requires-clause-runs g c = (c.in_ok-clock.ensures.found c.in-Some.clock c.in-Some.is).0

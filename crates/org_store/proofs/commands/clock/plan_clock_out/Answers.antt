@@ -38,10 +38,10 @@ returns-in_default-clause-plans g c tally honest =
     (c.requires.between.unbroken, ap (clock_out s a.moment) runs, c.in_ok-clock.ensures.reads tally honest)
 
 pub stop_running-requires-clause-file : goal.stop_running-requires-clause-file
-stop_running-requires-clause-file g c = c.in_ok-clock.ensures.named c.in-Some.clock c.in-Some.is
+stop_running-requires-clause-file g c = (c.in_ok-clock.ensures.found c.in-Some.clock c.in-Some.is).1
 
 pub stop_running-requires-clause-runs : goal.stop_running-requires-clause-runs
-stop_running-requires-clause-runs g c = c.in_ok-clock.ensures.runs c.in-Some.clock c.in-Some.is
+stop_running-requires-clause-runs g c = (c.in_ok-clock.ensures.found c.in-Some.clock c.in-Some.is).0
 
 pub returns-clause-plan : goal.returns-clause-plan
 returns-clause-plan g c = c.stop_running.ensures.plan

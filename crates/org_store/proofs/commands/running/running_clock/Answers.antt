@@ -5,7 +5,7 @@ use Rattle.org_texts.specs.Texts.{held_over}
 use Rattle.org_store.specs.declared.command.RunFault.TheVariants.{OutOfMemory}
 use Rattle.org_store.specs.declared.commands.running.Clock.{Clock}
 use Rattle.org_store.specs.declared.tally.Tally.{Tally}
-use Rattle.org_store.specs.Clocks.{RunsIn}
+use Rattle.org_store.specs.Clocks.{RunsHeld, RunsIn}
 use Rattle.org_store.specs.InOrder.{is_name, texts_of}
 use Rattle.org_store.specs.Keeping.{Reads}
 use Rattle.org_store.specs.Session.{Session, session_over}
@@ -65,12 +65,15 @@ returns-in-Some-clause-reads g c tally honest =
     let looked = c.in_ok-running.ensures in
     looked.reads tally honest ∙ c.loop-index.invariant.same tally (looked.disk.accounts.was_honest honest)
 
-pub returns-in-Some-clause-named : goal.returns-in-Some-clause-named
-returns-in-Some-clause-named g c = λ clock is.
+pub returns-in-Some-clause-found : goal.returns-in-Some-clause-found
+returns-in-Some-clause-found g c = λ clock is.
     let same : ◌≡◌ {A = Clock} (record { file = c.in_ok-file.file; running = c.in-Some.running }) clock = cc in
     let there : is_name c.loop-index.files.names c.in_ok-file.file ≡ true = named_at c.loop-index.files.names c.loop-index.index c.in_ok-file.file c.in_ok-file.ensures in
-    subst (λ (k : Clock). is_name c.running_in_file.new.files.names k.file ≡ true) same
-    (ap (λ (ns : List (List ℕ)). is_name ns c.in_ok-file.file) c.in_ok-running.ensures.disk.names ∙ there)
+    let runs : RunsHeld c.running_in_file.new.files.held clock.file clock.running = search rules in (
+      runs,
+      subst (λ (k : Clock). is_name c.running_in_file.new.files.names k.file ≡ true) same
+          (ap (λ (ns : List (List ℕ)). is_name ns c.in_ok-file.file) c.in_ok-running.ensures.disk.names ∙ there),
+    )
 
 pub loop-index-preserved : goal.loop-index-preserved
 loop-index-preserved g c =
