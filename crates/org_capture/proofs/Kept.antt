@@ -1,4 +1,5 @@
--- What a capture keeps: documents stay valid, and what is added up over the nodes gains what is put in.
+-- What a capture keeps: documents stay valid, and what is added up over the nodes gains what is put
+-- in.
 use Rattle.std.proofs.Common.{◌≡◌, ℕ, zero, suc, ◌+◌, ◌<◌, Bool, true, false, not, cond, eqb, codes, List, [], ◌∷◌, ◌++◌, length, take, get_or, Option, Some, None, Ok, Err, refl, ap, ◌∙◌, subst, arith, inl, inr}
 use Rattle.std.specs.Prelude.{Result, map, slice_get, slice_set}
 use Rattle.std.specs.List.{list_any, sum_by}

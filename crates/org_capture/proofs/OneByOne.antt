@@ -132,7 +132,8 @@ none_below : (states : Keywords) (d : Document) (j n : ℕ) (rest : List ℕ) (k
 none_below states d j n rest kind key wanted is =
     ap (λ (f : Forest). find (λ i. is_dated states (level_below (Some j) d) kind key wanted (node_at d i).node) (roots_from (suc j) f)) (ap (λ (n : Node). n.children) is)
 
--- one node put below the heading, which is what the chain of the next headings is one level below it
+-- one node put below the heading, which is what the chain of the next headings is one level below
+-- it
 record Chain (states : Keywords) (place : Place) (day : CivilDay) (entry : Node) (d : Document) (kinds : List DateKind) (j l : ℕ) : Type 0 where
   place_of : Place
   node : Node

@@ -56,7 +56,8 @@ behind_terminated t rest behind e shut is_rest is_behind =
     let Shut : List ℕ → Type 0 = λ t. terminated t ≡ t in
     subst Shut (sym is_behind) (terminated-drop 1 rest (subst Shut (sym is_rest) (terminated-drop e t shut)))
 
--- trees that lie deeper than m lie deeper than n as well, so that leaving them out first changes nothing
+-- trees that lie deeper than m lie deeper than n as well, so that leaving them out first changes
+-- nothing
 others_twice : (n m : ℕ) (f : Forest) → n < m → others n (others m f) ≡ others n f
 others_twice n m Empty lt = refl
 others_twice n m (Tree k r s kids later) lt =

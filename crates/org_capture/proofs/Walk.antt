@@ -8,7 +8,8 @@ use Rattle.org_outline.proofs.ByNumber.{nth, node-is, count-is}
 use Rattle.org_outline.proofs.Children.{StandsAt, nth-below}
 use Rattle.org_capture.specs.Dates.{span_below}
 
--- the children from `index` on are left, and the one that passes the test is among them, if there is one
+-- the children from `index` on are left, and the one that passes the test is among them, if there
+-- is one
 pub record Walk (d : Document) (up : Option ℕ) (test : ℕ → Bool) (end index : ℕ) : Type 0 where
   pub left : Forest
   pub stands : StandsAt d index left

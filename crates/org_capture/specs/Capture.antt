@@ -28,11 +28,15 @@ rest_of title = 32 ∷ title
 
 abbrev pub is_only_title : List ℕ → Parts → Bool
 is_only_title title parts =
-    bytes_eq parts.title title && length parts.keyword == 0 && length parts.priority == 0 && length parts.tags == 0
+    bytes_eq parts.title title
+    && length parts.keyword == 0
+    && length parts.priority == 0
+    && length parts.tags == 0
 
 -- a heading made with this title has it, and no keyword, no priority and no tags
 abbrev pub can_be_title : Keywords → List ℕ → Bool
-can_be_title states title = is_only_title title (parts_of states (rest_of title)) && not (list_any (λ b. b == 10) title)
+can_be_title states title =
+    is_only_title title (parts_of states (rest_of title)) && not (list_any (λ b. b == 10) title)
 
 -- the entry below a heading, if that was found
 abbrev pub below_found : Place → Node → Document → Result ℕ PathFault → Result Document CaptureFault
@@ -41,10 +45,12 @@ below_found place entry d (Err fault) = Err (fault_of fault)
 
 -- the entry below a heading of level 1 that is made at the end
 abbrev pub below_made : Place → Node → List ℕ → Document → Document
-below_made place entry title d = insert (Some (node_count d)) place entry (append_heading 1 (rest_of title) d)
+below_made place entry title d =
+    insert (Some (node_count d)) place entry (append_heading 1 (rest_of title) d)
 
 -- the entry below the one heading with a title, which is made where there is none
-abbrev pub below_head : Keywords → List ℕ → Place → Node → Document → Result (Option ℕ) PathFault → Result Document CaptureFault
+abbrev pub below_head : Keywords → List ℕ → Place → Node → Document → Result (Option ℕ) PathFault
+    → Result Document CaptureFault
 below_head states title place entry d (Ok (Some i)) = Ok (insert (Some i) place entry d)
 below_head states title place entry d (Ok None) =
     if can_be_title states title then Ok (below_made place entry title d) else Err NotFound
@@ -60,13 +66,19 @@ date_base states d [] = Ok None
 date_base states d (title ∷ titles) = some_node (find_path states d (title ∷ titles))
 
 -- the entry below the heading of the moment's day
-abbrev pub below_day : Keywords → Place → CivilMinute → Node → Document → Result (Option ℕ) PathFault → Result Document CaptureFault
-below_day states place moment entry d (Ok base) = Ok (dated states place moment.day entry d (Year ∷ Month ∷ Day ∷ []) base)
+abbrev pub below_day : Keywords → Place → CivilMinute → Node → Document
+    → Result (Option ℕ) PathFault → Result Document CaptureFault
+below_day states place moment entry d (Ok base) =
+    Ok (dated states place moment.day entry d (Year ∷ Month ∷ Day ∷ []) base)
 below_day states place moment entry d (Err fault) = Err (fault_of fault)
 
 -- the document with an entry put below its target
-abbrev pub captured : Keywords → Target → Place → CivilMinute → Node → Document → Result Document CaptureFault
+abbrev pub captured : Keywords → Target → Place → CivilMinute → Node → Document
+    → Result Document CaptureFault
 captured states Top place moment entry d = Ok (insert None place entry d)
-captured states (Head title) place moment entry d = below_head states title place entry d (find_headed states d title)
-captured states (Path titles) place moment entry d = below_found place entry d (find_path states d titles)
-captured states (Date titles) place moment entry d = below_day states place moment entry d (date_base states d titles)
+captured states (Head title) place moment entry d =
+    below_head states title place entry d (find_headed states d title)
+captured states (Path titles) place moment entry d =
+    below_found place entry d (find_path states d titles)
+captured states (Date titles) place moment entry d =
+    below_day states place moment entry d (date_base states d titles)

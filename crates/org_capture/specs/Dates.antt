@@ -1,5 +1,5 @@
--- Date trees: a heading for each year, for each month below its year, and for each day below its month (Org manual,
--- "Template elements": target `file+olp+datetree`).
+-- Date trees: a heading for each year, for each month below its year, and for each day below its
+-- month (Org manual, "Template elements": target `file+olp+datetree`).
 use Rattle.std.specs.Prelude.{ℕ, ◌+◌, Bool, true, false, ◌&&◌, ◌||◌, ◌==◌, List, [], ◌∷◌, ◌++◌, codes, length, take, drop, find, if◌then◌else◌, Option, None, Some}
 use Rattle.std.specs.Char.{is_ascii_digit}
 use Rattle.std.specs.Option.{option_map_or}
@@ -31,7 +31,8 @@ key_len Day = 10
 -- digits, but hyphens at the places 4 and 7, where these bytes begin at a place
 abbrev pub is_key_from : ℕ → List ℕ → Bool
 is_key_from i [] = true
-is_key_from i (b ∷ bs) = (if i == 4 || i == 7 then b == 45 else is_ascii_digit b) && is_key_from (i + 1) bs
+is_key_from i (b ∷ bs) =
+    (if i == 4 || i == 7 then b == 45 else is_ascii_digit b) && is_key_from (i + 1) bs
 
 -- behind a month's or a day's key a space and any text may stand
 abbrev pub may_follow : DateKind → List ℕ → Bool
@@ -43,7 +44,9 @@ may_follow Day (b ∷ bs) = b == 32
 -- the key of a title, if it is that of a date heading of this kind; no calendar is asked
 abbrev pub key_of : DateKind → List ℕ → Option (List ℕ)
 key_of kind title =
-    if length (take (key_len kind) title) == key_len kind && is_key_from 0 (take (key_len kind) title) && may_follow kind (drop (key_len kind) title)
+    if length (take (key_len kind) title) == key_len kind
+    && is_key_from 0 (take (key_len kind) title)
+    && may_follow kind (drop (key_len kind) title)
     then Some (take (key_len kind) title) else None
 
 abbrev pub month_name : ℕ → List ℕ
@@ -94,11 +97,14 @@ compares wanted other key = ordering_index (slice_cmp nat_cmp key other) == orde
 -- a date heading of this kind and level, whose key compares with the one given in this way
 abbrev pub is_dated : Keywords → ℕ → DateKind → List ℕ → Ordering → Node → Bool
 is_dated states level kind key wanted node =
-    node.level == level && option_map_or (compares wanted key) (key_of kind (title_of states node.rest)) false
+    node.level == level
+    && option_map_or (compares wanted key) (key_of kind (title_of states node.rest)) false
 
 -- the first such heading one level below a node, or at level 1
 abbrev pub first_dated : Keywords → Document → Option ℕ → DateKind → List ℕ → Ordering → Option ℕ
-first_dated states d up kind key wanted = find (λ i. is_dated states (level_below up d) kind key wanted (node_at d i).node) (children_of d up)
+first_dated states d up kind key wanted =
+    find (λ i. is_dated states (level_below up d) kind key wanted (node_at d i).node)
+    (children_of d up)
 
 -- the number of the first node below a node, or at top level, and of the first behind those
 abbrev pub span_below : Document → Option ℕ → ℕ × ℕ
@@ -110,12 +116,14 @@ span_below d (Some i) = (i + 1, i + size_of d i)
 -- new date headings from a level on, each with the next one below it, and the entry below the last
 abbrev pub made_over : ℕ → List DateKind → CivilDay → Node → Node
 made_over level [] day entry = shift_node level entry
-made_over level (kind ∷ kinds) day entry = heading_over level (32 ∷ date_title kind day) (made_over (level + 1) kinds day entry)
+made_over level (kind ∷ kinds) day entry =
+    heading_over level (32 ∷ date_title kind day) (made_over (level + 1) kinds day entry)
 
 -- the lines of those headings
 abbrev pub made_lines : ℕ → List DateKind → CivilDay → List ℕ
 made_lines level [] day = []
-made_lines level (kind ∷ kinds) day = (heading_line level (32 ∷ date_title kind day) ++ 10 ∷ []) ++ made_lines (level + 1) kinds day
+made_lines level (kind ∷ kinds) day =
+    (heading_line level (32 ∷ date_title kind day) ++ 10 ∷ []) ++ made_lines (level + 1) kinds day
 
 -- a new heading goes before the first date heading of its kind with a greater key, else last
 abbrev pub put_dated : Option ℕ → Option ℕ → Node → Document → Document
@@ -127,11 +135,13 @@ abbrev pub found_or_made : Option ℕ → (ℕ → Document) → Document → Do
 found_or_made (Some i) below made = below i
 found_or_made None below made = made
 
--- the entry below the day's headings of these kinds, each among the children of the last: the first with the key is
--- taken, and from the first that is missing on they are made
-abbrev pub dated : Keywords → Place → CivilDay → Node → Document → List DateKind → Option ℕ → Document
+-- the entry below the day's headings of these kinds, each among the children of the last: the first
+-- with the key is taken, and from the first that is missing on they are made
+abbrev pub dated : Keywords → Place → CivilDay → Node → Document → List DateKind → Option ℕ
+    → Document
 dated states place day entry d [] up = insert up place entry d
 dated states place day entry d (kind ∷ kinds) up =
     found_or_made (first_dated states d up kind (key_on kind day) Equal)
     (λ i. dated states place day entry d kinds (Some i))
-    (put_dated (first_dated states d up kind (key_on kind day) Greater) up (made_over (level_below up d) (kind ∷ kinds) day entry) d)
+    (put_dated (first_dated states d up kind (key_on kind day) Greater) up
+    (made_over (level_below up d) (kind ∷ kinds) day entry) d)

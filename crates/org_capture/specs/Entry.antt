@@ -1,4 +1,5 @@
--- Entries: texts that are one heading with what lies below it (Org manual, "Template elements": type `entry`).
+-- Entries: texts that are one heading with what lies below it (Org manual, "Template elements":
+-- type `entry`).
 use Rattle.std.specs.Prelude.{◌≡◌, ℕ, List, [], ◌∷◌, Option, Some, None, Result, Ok, Err}
 use Rattle.org_splice.specs.Lines.{terminated}
 use Rattle.org_outline.specs.Tree.{Forest, Empty, Tree, Node, tree}
@@ -8,7 +9,8 @@ use Rattle.org_capture.specs.declared.fault.CaptureFault.TheVariants.{BadEntry}
 -- the one tree of a forest
 abbrev pub one_root : Forest → Option Node
 one_root Empty = None
-one_root (Tree n r s kids Empty) = Some (record { level = n; rest = r; section = s; children = kids })
+one_root (Tree n r s kids Empty) =
+    Some (record { level = n; rest = r; section = s; children = kids })
 one_root (Tree n r s kids (Tree m q t more later)) = None
 
 -- the one tree of a document that has no line before it

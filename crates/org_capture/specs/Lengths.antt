@@ -9,11 +9,13 @@ abbrev pub counted : ℕ → ℕ
 counted n = min n 18446744073709551615
 
 abbrev pub sizes_of : List ℕ → Sizes
-sizes_of text = record { whole = counted (length text); line = counted (suffix_len (λ b. not (b == 10)) text) }
+sizes_of text =
+    record { whole = counted (length text); line = counted (suffix_len (λ b. not (b == 10)) text) }
 
 -- the sizes of a text with more behind it, or the template is bad, unless memory ran out
 abbrev pub Grows : Option (List ℕ) → List ℕ → Result Sizes CaptureFault → Type 0
-Grows said text (Ok sizes) = (more : List ℕ) × (said ≡ Some more) × (sizes ≡ sizes_of (text ++ more))
+Grows said text (Ok sizes) =
+    (more : List ℕ) × (said ≡ Some more) × (sizes ≡ sizes_of (text ++ more))
 Grows said text (Err BadTemplate) = said ≡ None
 Grows said text (Err OutOfMemory) = Unit {0}
 Grows said text (Err fault) = ⊥

@@ -1,4 +1,5 @@
--- What a capture makes beside its entry, and date headings made one at a time (Org manual, "Template elements": target).
+-- What a capture makes beside its entry, and date headings made one at a time (Org manual,
+-- "Template elements": target).
 use Rattle.std.specs.Prelude.{ℕ, ◌+◌, List, [], ◌∷◌, map, Option, None, Some, Result, Ok, Err}
 use Rattle.std.specs.List.{sum_by}
 use Rattle.std.specs.Option.{option_map_or}
@@ -23,14 +24,17 @@ use Rattle.org_capture.specs.Dates.{date_title, key_on, first_dated, put_dated, 
 abbrev pub date_rest : CivilDay → DateKind → List ℕ
 date_rest day kind = 32 ∷ date_title kind day
 
--- of a day's headings of these kinds, each among the children of the last, the first without one, and all below it
+-- of a day's headings of these kinds, each among the children of the last, the first without one,
+-- and all below it
 abbrev pub missing_dates : Keywords → CivilDay → Document → List DateKind → Option ℕ → List (List ℕ)
 missing_dates states day d [] up = []
 missing_dates states day d (kind ∷ kinds) up =
-    option_map_or (λ i. missing_dates states day d kinds (Some i)) (first_dated states d up kind (key_on kind day) Equal)
+    option_map_or (λ i. missing_dates states day d kinds (Some i))
+    (first_dated states d up kind (key_on kind day) Equal)
     (map (date_rest day) (kind ∷ kinds))
 
-abbrev pub missing_below : Keywords → CivilDay → Document → Result (Option ℕ) PathFault → List (List ℕ)
+abbrev pub missing_below : Keywords → CivilDay → Document → Result (Option ℕ) PathFault
+    → List (List ℕ)
 missing_below states day d (Ok base) = missing_dates states day d (Year ∷ Month ∷ Day ∷ []) base
 missing_below states day d (Err fault) = []
 
@@ -44,9 +48,11 @@ abbrev pub missing : Keywords → Target → CivilMinute → Document → List (
 missing states Top moment d = []
 missing states (Head title) moment d = missing_title title (find_headed states d title)
 missing states (Path titles) moment d = []
-missing states (Date titles) moment d = missing_below states moment.day d (date_base states d titles)
+missing states (Date titles) moment d =
+    missing_below states moment.day d (date_base states d titles)
 
--- what a capture adds to a sum over all nodes: its entry's nodes, and each heading that was missing, without a section
+-- what a capture adds to a sum over all nodes: its entry's nodes, and each heading that was
+-- missing, without a section
 abbrev pub added : (List ℕ → List (List ℕ) → ℕ) → Node → List (List ℕ) → ℕ
 added w entry rests = weigh_node w entry + sum_by (λ rest. w rest []) rests
 
@@ -57,13 +63,15 @@ abbrev pub number_put : Option ℕ → Option ℕ → Document → ℕ
 number_put (Some later) up d = later
 number_put None up d = number_last up d
 
--- the entry below the day's headings of these kinds, each looked for among the children of the last, and made alone where
--- it is missing
-abbrev pub dated_one_by_one : Keywords → Place → CivilDay → Node → Document → List DateKind → Option ℕ → Document
+-- the entry below the day's headings of these kinds, each looked for among the children of the
+-- last, and made alone where it is missing
+abbrev pub dated_one_by_one : Keywords → Place → CivilDay → Node → Document → List DateKind
+    → Option ℕ → Document
 dated_one_by_one states place day entry d [] up = insert up place entry d
 dated_one_by_one states place day entry d (kind ∷ kinds) up =
     let later : Option ℕ = first_dated states d up kind (key_on kind day) Greater in
-    let made : Document = put_dated later up (heading_alone (level_below up d) (date_rest day kind)) d in
+    let made : Document = put_dated later up
+    (heading_alone (level_below up d) (date_rest day kind)) d in
     found_or_made (first_dated states d up kind (key_on kind day) Equal)
     (λ i. dated_one_by_one states place day entry d kinds (Some i))
     (dated_one_by_one states place day entry made kinds (Some (number_put later up d)))

@@ -32,7 +32,11 @@ escape_at b c = if b == 37 then escape_of c else None
 abbrev pub pieces_of : List ℕ → List Piece
 pieces_of [] = []
 pieces_of (b ∷ []) = Byte b ∷ []
-pieces_of (b ∷ c ∷ more) = elim (escape_at b c) [ None ↦ Byte b ∷ pieces_of (c ∷ more) | Some piece ↦ piece ∷ pieces_of more ]
+pieces_of (b ∷ c ∷ more) =
+    elim (escape_at b c) [
+      | None ↦ Byte b ∷ pieces_of (c ∷ more)
+      | Some piece ↦ piece ∷ pieces_of more
+    ]
 
 -- the bytes behind the last newline
 abbrev pub last_line : List ℕ → List ℕ
@@ -41,9 +45,11 @@ last_line text = end_of (λ b. not (b == 10)) text
 -- a text with these bytes repeated behind each newline
 abbrev pub with_prefix : List ℕ → List ℕ → List ℕ
 with_prefix prefix [] = []
-with_prefix prefix (b ∷ bs) = b ∷ (if b == 10 then prefix ++ with_prefix prefix bs else with_prefix prefix bs)
+with_prefix prefix (b ∷ bs) =
+    b ∷ (if b == 10 then prefix ++ with_prefix prefix bs else with_prefix prefix bs)
 
--- what a piece stands for at a moment, behind a line that has begun with these bytes; None where the piece isn't served
+-- what a piece stands for at a moment, behind a line that has begun with these bytes; None where
+-- the piece isn't served
 abbrev pub text_of : CivilMinute → List ℕ → List ℕ → Piece → Option (List ℕ)
 text_of moment initial line (Byte b) = Some (b ∷ [])
 text_of moment initial line (Stamp active timed) = Some (stamp_text (stamp_of moment active timed))
@@ -52,7 +58,8 @@ text_of moment initial line Cursor = Some []
 text_of moment initial line Unknown = None
 
 -- what goes on with a text, where there is one
-abbrev pub with_text : Option (List ℕ) → (List ℕ → Result (List ℕ) CaptureFault) → Result (List ℕ) CaptureFault
+abbrev pub with_text : Option (List ℕ) → (List ℕ → Result (List ℕ) CaptureFault)
+    → Result (List ℕ) CaptureFault
 with_text None go_on = Err BadTemplate
 with_text (Some text) go_on = go_on text
 
@@ -60,7 +67,8 @@ with_text (Some text) go_on = go_on text
 abbrev pub filled : CivilMinute → List ℕ → List ℕ → List Piece → Result (List ℕ) CaptureFault
 filled moment initial text [] = Ok text
 filled moment initial text (piece ∷ pieces) =
-    with_text (text_of moment initial (last_line text) piece) (λ more. filled moment initial (text ++ more) pieces)
+    with_text (text_of moment initial (last_line text) piece)
+    (λ more. filled moment initial (text ++ more) pieces)
 
 -- the template with its pieces filled in; what is filled in isn't read for escapes
 abbrev pub expanded : List ℕ → CivilMinute → List ℕ → Result (List ℕ) CaptureFault

@@ -20,8 +20,8 @@ use std::cmp::Ordering;
 /// A level beyond which no date headings are made: a text with a heading as deep takes all memory.
 const DEEPEST: usize = 0x4000_0000_0000_0000;
 
-/// Where a new date heading of this kind and key goes: before the first one with a greater key, else
-/// last among the children.
+/// Where a new date heading of this kind and key goes: before the first one with a greater key,
+/// else last among the children.
 fn dated_place(outline: &Outline<'_>, parent: &Option<Node>, kind: DateKind, key: &[u8]) -> usize
     requires { ForSome parent.now (λ node. node < node_count (tree outline.now.text)) }
     ensures { (node : NodeOf) → InsertsAt outline.now.text

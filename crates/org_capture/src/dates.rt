@@ -141,8 +141,8 @@ pub(crate) fn date_title(
     Ok(title)
 }
 
-/// Whether a heading is a date heading of this kind and level, whose key compares with the one given
-/// in this way.
+/// Whether a heading is a date heading of this kind and level, whose key compares with the one
+/// given in this way.
 fn is_dated(
     outline: &Outline<'_>,
     node: Node,
@@ -164,7 +164,8 @@ fn is_dated(
     }
 }
 
-/// The numbers of the first heading below a heading, or at top level, and of the first behind those.
+/// The numbers of the first heading below a heading, or at top level, and of the first behind
+/// those.
 fn span_below(outline: &Outline<'_>, parent: &Option<Node>) -> (usize, usize)
     requires { ForSome parent.now (λ node. node < node_count (tree outline.now.text)) }
     ensures span { result ≡ span_below (tree outline.now.text) parent.now }

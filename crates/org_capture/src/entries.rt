@@ -51,7 +51,8 @@ fn are_deeper(text: &[u8], level: usize) -> bool
     true
 }
 
-/// Whether a terminated text is one heading with what lies below it, and nothing stands before it, by all of its lines.
+/// Whether a terminated text is one heading with what lies below it, and nothing stands before it,
+/// by all of its lines.
 fn has_one_root(text: &[u8]) -> bool
     requires { terminated text.now ≡ text.now }
     ensures { result ≡ is_some (entry_in text.now) }

@@ -30,7 +30,8 @@ pub(crate) fn level_below(outline: &Outline<'_>, parent: Option<Node>) -> usize
     }
 }
 
-/// The print of a node with its root at another level, as `shift` gives it. At its own level it is not copied.
+/// The print of a node with its root at another level, as `shift` gives it. At its own level it is
+/// not copied.
 fn shifted(alloc: Global, bytes: Vec<u8>, level: usize) -> Result<Vec<u8>, AllocError>
     requires node { IsPrinted bytes.items }
     requires low { 1 ≤ level }

@@ -1,5 +1,5 @@
-//! What the definitions of templates and of captures say, for all values: each law is the contract of a
-//! function with nothing to do.
+//! What the definitions of templates and of captures say, for all values: each law is the contract
+//! of a function with nothing to do.
 ghost use Rattle.std.specs.Prelude.{◌≡◌, ℕ, ◌<◌, ◌+◌, List, [], ◌∷◌, ◌++◌, Option, Some, IsTrue, not, ◌==◌, Ok, slice_get, slice_set};
 ghost use Rattle.std.specs.List.{list_all, sum_by};
 ghost use Rattle.std.specs.Option.{ForSome};
@@ -42,8 +42,8 @@ pub fn fillings_stay()
         → (more : List ℕ) × (whole ≡ text ++ more) }
 {}
 
-/// A capture keeps a document valid, so that it is the tree of its print: no section has a heading line in it, and
-/// each heading lies deeper than the one above it.
+/// A capture keeps a document valid, so that it is the tree of its print: no section has a heading
+/// line in it, and each heading lies deeper than the one above it.
 pub fn captures_are_valid()
     ensures captured { (states : Keywords) (target : Target) (place : Place) (moment : CivilMinute)
         (node : Node) (d new : Document)
@@ -57,9 +57,9 @@ pub fn captures_are_valid()
         → captured states target place moment node (tree text) ≡ Ok new → tree (print new) ≡ new }
 {}
 
-/// A capture adds its entry's nodes and the headings that were missing, and keeps all others: whatever number a node is
-/// given by its rest and its section, as 1 where it is one that is counted and else 0, the sum over all nodes grows by
-/// theirs.
+/// A capture adds its entry's nodes and the headings that were missing, and keeps all others:
+/// whatever number a node is given by its rest and its section, as 1 where it is one that is
+/// counted and else 0, the sum over all nodes grows by theirs.
 pub fn captures_add_nodes()
     ensures document { (states : Keywords) (target : Target) (place : Place) (moment : CivilMinute)
         (node : Node) (d new : Document)
@@ -77,8 +77,8 @@ pub fn captures_add_nodes()
         ≡ over texts + added w node (missing states target moment (tree text)) }
 {}
 
-/// Date headings made one at a time, each looked for below the last and made alone where it is missing, are the one chain
-/// of headings that a capture puts in.
+/// Date headings made one at a time, each looked for below the last and made alone where it is
+/// missing, are the one chain of headings that a capture puts in.
 pub fn dates_one_by_one()
     // A heading that is made stands alone, exactly one level below its parent.
     ensures alone { (states : Keywords) (kind : DateKind) (key rest : List ℕ) (l : ℕ)

@@ -10,8 +10,8 @@ use memchr::memchr_iter;
 use org_stamp::{Moment, Stamp};
 use std::alloc::Global;
 
-/// How many bytes a text has, and how many of them stand behind its last newline; 2^64 - 1 where there
-/// are more.
+/// How many bytes a text has, and how many of them stand behind its last newline; 2^64 - 1 where
+/// there are more.
 #[derive(Clone, Copy)]
 pub(crate) struct Sizes {
     whole: usize,
@@ -38,8 +38,8 @@ fn newlines(text: &[u8]) -> usize
     memchr_iter(b'\n', text).count()
 }
 
-/// The sizes of a text with the initial text behind it, each line but the first behind what stands on
-/// the text's last one.
+/// The sizes of a text with the initial text behind it, each line but the first behind what stands
+/// on the text's last one.
 fn with_initial(sizes: Sizes, initial_text: &[u8]) -> Sizes
     ensures { (text : List ℕ) → sizes ≡ sizes_of text
         → result ≡ sizes_of (text ++ with_prefix (last_line text) initial_text.now) }

@@ -12,7 +12,8 @@ use org_outline::{HeadParts, Outline, Place, States, shift};
 use org_splice::{Bytes, Edit};
 use std::alloc::{AllocError, Global};
 
-// Whether a heading line of these parts has this title, on one line, and no keyword, no priority and no tags.
+// Whether a heading line of these parts has this title, on one line, and no keyword, no priority
+// and no tags.
 fn has_only_title(title: &[u8], parts: &HeadParts<'_>) -> bool
     ensures { (said : Parts) → AreParts parts.now said
         → result ≡ (is_only_title title.now said && not (list_any (λ b. b == 10) title.now)) }

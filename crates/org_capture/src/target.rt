@@ -12,7 +12,7 @@ pub enum Target {
     Head(Bytes),
     /// The heading at this path.
     Path(Titles),
-    /// The heading of the moment's day, in a date tree below the heading at this path, or at top level
-    /// where the path is empty (target `file+olp+datetree`). What of it is missing is made.
+    /// The heading of the moment's day, in a date tree below the heading at this path, or at top
+    /// level where the path is empty (target `file+olp+datetree`). What of it is missing is made.
     Date(Titles),
 }

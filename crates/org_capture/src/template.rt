@@ -70,7 +70,8 @@ fn push_piece(
             let stamp = Stamp::at(moment, active, timed).print(alloc)?;
             text.extend_from_slice(stamp.as_slice())?;
         }
-        // Without a newline no prefix is looked for, so that many of them on one line are put in at once.
+        // Without a newline no prefix is looked for, so that many of them on one line are put in at
+        // once.
         Piece::Initial if !initial_text.contains(&b'\n') => text.extend_from_slice(initial_text)?,
         Piece::Initial => {
             let prefix = last_line(text.as_slice()).to_vec(alloc)?;
@@ -84,9 +85,9 @@ fn push_piece(
 
 /// What a template stands for at a moment (Org manual, "Template expansion"): `%t` and `%T` are the
 /// moment's active timestamp without and with the time, `%u` and `%U` the inactive one, `%i` is the
-/// initial text, with what stands before it on its line repeated before each further line, and `%?`,
-/// the place of the cursor, is left out. A percent sign before another letter, or before one of
-/// `( [ < ^ : * \`, is BadTemplate; any other stays. What was put in isn't read for escapes.
+/// initial text, with what stands before it on its line repeated before each further line, and
+/// `%?`, the place of the cursor, is left out. A percent sign before another letter, or before one
+/// of `( [ < ^ : * \`, is BadTemplate; any other stays. What was put in isn't read for escapes.
 pub fn expand(
     alloc: Global,
     template: &[u8],

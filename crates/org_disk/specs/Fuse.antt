@@ -7,9 +7,10 @@ use Rattle.org_disk.specs.declared.fuse.Fuse.{Fuse}
 abbrev pub fuse_failures : ℕ → ℕ → ℕ
 fuse_failures own disk = min (own + disk) (2 ^ 64 - 1)
 
--- A call is one of those that pass, and no failure of the fuse's own; where none was left it fails, and the disk is as
--- it was.
-pub record Burns {D : Type 0} {A : Type 0} (old new : Fuse D) (result : Result A DiskFault) : Type 0 where
+-- A call is one of those that pass, and no failure of the fuse's own; where none was left it fails,
+-- and the disk is as it was.
+pub record Burns {D : Type 0} {A : Type 0} (old new : Fuse D) (result : Result A DiskFault)
+    : Type 0 where
   pub spent : new.passes ≡ old.passes - 1
   pub blown : old.passes ≡ 0 → IsErr result × (new.disk ≡ old.disk)
   pub passed : 0 < old.passes → new.failures ≡ old.failures

@@ -22,7 +22,8 @@ memory_moment disk = length disk.calls.items
 abbrev pub memory_left_since : MemoryDisk → ℕ → (List ℕ → List ℕ) → Type 0
 memory_left_since disk = LeftSince disk.calls.items
 
--- a call without effect: each file is as it was, and a crash within the call leaves an image from before it
+-- a call without effect: each file is as it was, and a crash within the call leaves an image from
+-- before it
 abbrev pub HasNoEffect : MemoryDisk → MemoryDisk → Type 0
 HasNoEffect old new = Looks memory_files memory_moment memory_left_since old new
 
@@ -80,8 +81,10 @@ pub record KeepsPlan (old new : MemoryDisk) : Type 0 where
   pub fail_in : new.fail_in ≡ old.fail_in
   pub crash : new.crash ≡ old.crash
 
--- A call begins and ends: what is due to fail does, both numbers are counted down, and a call that failed is counted.
-pub record TakesTurn {A : Type 0} (old new : MemoryDisk) (result : Result A DiskFault) : Type 0 where
+-- A call begins and ends: what is due to fail does, both numbers are counted down, and a call that
+-- failed is counted.
+pub record TakesTurn {A : Type 0} (old new : MemoryDisk) (result : Result A DiskFault)
+    : Type 0 where
   pub due : IsTrue (is_due old) → IsErr result
   -- a call that fails and wasn't to is none of the record
   pub unasked : IsFalse (is_due old) → OnErr result (new.calls.items ≡ old.calls.items)

@@ -14,7 +14,11 @@ is_name_byte b = nat_le 32 b && not (b == 127) && not (b == 47)
 
 -- the name of an Org file, as `inbox.org`: at most 200 bytes, and not hidden
 abbrev pub is_org_name : List ℕ → Bool
-is_org_name name = nat_le (length name) 200 && not (starts_with nat_eq name (codes ".")) && ends_with nat_eq name (codes ".org") && list_all is_name_byte name
+is_org_name name =
+    nat_le (length name) 200
+    && not (starts_with nat_eq name (codes "."))
+    && ends_with nat_eq name (codes ".org")
+    && list_all is_name_byte name
 
 -- an archive file's name, as `inbox.org_archive` (Org manual, "Moving a tree to an archive file")
 abbrev pub is_archive_name : List ℕ → Bool
@@ -25,7 +29,8 @@ archive_name name = name ++ archive_suffix
 
 -- the name without the suffix of an archive file
 abbrev pub base_name : List ℕ → List ℕ
-base_name name = if is_archive_name name then take (length name - length archive_suffix) name else name
+base_name name =
+    if is_archive_name name then take (length name - length archive_suffix) name else name
 
 -- the name of an Org file or of an archive file, among the UTF-8 texts
 abbrev pub is_file_name : List ℕ → Bool

@@ -8,11 +8,14 @@ abbrev pub IsOwnImage : FileState → Type 0
 IsOwnImage file = IsImage file file.content
 
 pub stable_own : (content : List ℕ) → IsOwnImage (stable content)
-stable_own content = record { no_shorter = omega arith; no_longer = omega arith; fixed = λ i fixed. refl }
+stable_own content =
+    record { no_shorter = omega arith; no_longer = omega arith; fixed = λ i fixed. refl }
 
-pub write_own : (from : ℕ) (bytes : List ℕ) (file : FileState) → IsOwnImage file → IsOwnImage (write from bytes file)
+pub write_own : (from : ℕ) (bytes : List ℕ) (file : FileState) → IsOwnImage file
+    → IsOwnImage (write from bytes file)
 write_own from bytes file own =
-    let long = length-append (take from file.content ++ bytes) (drop (from + length bytes) file.content) in
+    let long = length-append (take from file.content ++ bytes)
+    (drop (from + length bytes) file.content) in
     let front = length-append (take from file.content) bytes in
     let start = length-take from file.content in
     let end = length-drop (from + length bytes) file.content in

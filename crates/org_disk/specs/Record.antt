@@ -33,7 +33,8 @@ files_after calls name = state_after calls name (stable [])
 
 -- what a crash since the call of this number might have left
 abbrev pub LeftSince : List Call → ℕ → (List ℕ → List ℕ) → Type 0
-LeftSince calls t image = (k : ℕ) × (t ≤ k) × (k ≤ length calls) × AreImages (files_after (take k calls)) image
+LeftSince calls t image =
+    (k : ℕ) × (t ≤ k) × (k ≤ length calls) × AreImages (files_after (take k calls)) image
 
 abbrev pub call_of : List ℕ → Effect → Bool → Call
 call_of name effect crashed = record { name = name; effect = effect; crashed = crashed }
@@ -41,7 +42,9 @@ call_of name effect crashed = record { name = name; effect = effect; crashed = c
 -- the record after a call that failed: the call isn't in it, or had its effect, or none
 abbrev pub IsTried : List ℕ → Effect → List Call → List Call → Type 0
 IsTried name effect old new =
-    (new ≡ old) ⊎ (((crashed : Bool) × (new ≡ old ++ call_of name effect crashed ∷ [])) ⊎ ((crashed : Bool) × (new ≡ old ++ call_of name Nothing crashed ∷ [])))
+    (new ≡ old)
+    ⊎ (((crashed : Bool) × (new ≡ old ++ call_of name effect crashed ∷ []))
+    ⊎ ((crashed : Bool) × (new ≡ old ++ call_of name Nothing crashed ∷ [])))
 
 -- the contents that are kept beside the record, by name
 abbrev pub Contents : Type 0
@@ -55,13 +58,20 @@ content_in contents name = items_or (get bytes_eq contents name) []
 
 -- the contents after a call with this effect on one file
 pub record Keeps (effect : Effect) (name : List ℕ) (old new : Contents) : Type 0 where
-  pub here : (file : FileState) → content_in old name ≡ file.content → content_in new name ≡ (effect_of effect file).content
-  pub absent : IsNone (get bytes_eq new name) → IsNone (get bytes_eq old name) × ((file : FileState) → file.content ≡ [] → file.least ≡ 0 → (effect_of effect file).least ≡ 0)
+  pub here : (file : FileState) → content_in old name ≡ file.content
+      → content_in new name ≡ (effect_of effect file).content
+  pub absent : IsNone (get bytes_eq new name)
+      → IsNone (get bytes_eq old name)
+      × ((file : FileState) → file.content ≡ [] → file.least ≡ 0
+      → (effect_of effect file).least ≡ 0)
   pub others : (other : List ℕ) → other ≢ name → get bytes_eq new other ≡ get bytes_eq old other
 
--- where a crash left these bytes of a file with this content, it leaves the next ones after a call with this effect
+-- where a crash left these bytes of a file with this content, it leaves the next ones after a call
+-- with this effect
 abbrev pub KeepsImage : Effect → List ℕ → List ℕ → List ℕ → Type 0
-KeepsImage effect content left next = (file : FileState) → file.content ≡ content → IsImage file content → IsImage file left → IsImage (effect_of effect file) next
+KeepsImage effect content left next =
+    (file : FileState) → file.content ≡ content → IsImage file content → IsImage file left
+    → IsImage (effect_of effect file) next
 
 abbrev pub KeepsCutImage : ℕ → List ℕ → List ℕ → Type 0
 KeepsCutImage n left next = (file : FileState) → IsImage file left → IsImage (cut n file) next

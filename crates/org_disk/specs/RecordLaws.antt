@@ -11,30 +11,46 @@ use Rattle.org_disk.specs.declared.memory.Effect.TheVariants.{Set, Write, Cut, S
 use Rattle.org_disk.specs.declared.memory.Call.{Call}
 use Rattle.org_disk.specs.Record.{effect_of, step, state_after, files_after, LeftSince}
 
-effect_keeps : (effect : Effect) (file : FileState) → IsOwnImage file → IsOwnImage (effect_of effect file)
+effect_keeps : (effect : Effect) (file : FileState) → IsOwnImage file
+    → IsOwnImage (effect_of effect file)
 effect_keeps (Set bytes) file own = stable_own bytes.items
 effect_keeps (Write from bytes) file own = write_own from bytes.items file own
 effect_keeps (Cut n) file own = cut_own n file own
 effect_keeps Sync file own = sync_own file
 effect_keeps Nothing file own = own
 
-step_keeps : (call : Call) (name : List ℕ) (file : FileState) → IsOwnImage file → IsOwnImage (step call name file)
+step_keeps : (call : Call) (name : List ℕ) (file : FileState) → IsOwnImage file
+    → IsOwnImage (step call name file)
 step_keeps call name file own = ⊎_elim
-    (λ t. subst IsOwnImage (sym (cond-true (bytes_eq call.name name) (effect_of call.effect file) file t)) (effect_keeps call.effect file own))
-    (λ f. subst IsOwnImage (sym (cond-false (bytes_eq call.name name) (effect_of call.effect file) file f)) own)
+    (λ t. subst IsOwnImage
+    (sym (cond-true (bytes_eq call.name name) (effect_of call.effect file) file t))
+    (effect_keeps call.effect file own))
+    (λ f. subst IsOwnImage
+    (sym (cond-false (bytes_eq call.name name) (effect_of call.effect file) file f)) own)
     (cases_Bool (bytes_eq call.name name))
 
-state_keeps : (calls : List Call) (name : List ℕ) (file : FileState) → IsOwnImage file → IsOwnImage (state_after calls name file)
+state_keeps : (calls : List Call) (name : List ℕ) (file : FileState) → IsOwnImage file
+    → IsOwnImage (state_after calls name file)
 state_keeps [] name file own = own
-state_keeps (call ∷ calls) name file own = state_keeps calls name (step call name file) (step_keeps call name file own)
+state_keeps (call ∷ calls) name file own =
+    state_keeps calls name (step call name file) (step_keeps call name file own)
 
-pub own_image : (calls : List Call) (name : List ℕ) → IsImage (files_after calls name) (files_after calls name).content
+pub own_image : (calls : List Call) (name : List ℕ)
+    → IsImage (files_after calls name) (files_after calls name).content
 own_image calls name = state_keeps calls name (stable []) (stable_own [])
 
-pub now_counts : (calls : List Call) (t : ℕ) (image : List ℕ → List ℕ) → t ≤ length calls → AreImages (files_after calls) image → LeftSince calls t image
-now_counts calls t image le now =
-    (length calls, le, omega arith, subst (λ (cs : List Call). AreImages (files_after cs) image) (sym (take_all (length calls) calls (omega arith))) now)
+pub now_counts : (calls : List Call) (t : ℕ) (image : List ℕ → List ℕ) → t ≤ length calls
+    → AreImages (files_after calls) image → LeftSince calls t image
+now_counts calls t image le now = (
+  length calls,
+  le,
+  omega arith,
+  subst (λ (cs : List Call). AreImages (files_after cs) image)
+      (sym (take_all (length calls) calls (omega arith))) now,
+)
 
-pub now_alone : (calls : List Call) (image : List ℕ → List ℕ) → LeftSince calls (length calls) image → AreImages (files_after calls) image
+pub now_alone : (calls : List Call) (image : List ℕ → List ℕ) → LeftSince calls (length calls) image
+    → AreImages (files_after calls) image
 now_alone calls image left =
-    subst (λ (cs : List Call). AreImages (files_after cs) image) (take_all left.0 calls left.1) left.3
+    subst (λ (cs : List Call). AreImages (files_after cs) image)
+    (take_all left.0 calls left.1) left.3

@@ -13,13 +13,14 @@ pub struct DiskFault;
 
 /// A disk that holds files by name; an absent file and an empty one are the same.
 ///
-/// What a call asks of contents, lengths and images is asked of an honest disk alone, and what is said of them is said
-/// where the disk is honest after the call. After a failed `write_at`, `cut` or `sync` the file reads as what a crash
-/// within the call may leave, and from then on a crash leaves nothing else of it. A call that fails adds one to the
-/// failures, whose greatest number is 2^64 - 1.
+/// What a call asks of contents, lengths and images is asked of an honest disk alone, and what is
+/// said of them is said where the disk is honest after the call. After a failed `write_at`, `cut`
+/// or `sync` the file reads as what a crash within the call may leave, and from then on a crash
+/// leaves nothing else of it. A call that fails adds one to the failures, whose greatest number is
+/// 2^64 - 1.
 pub trait Disk {
-    /// The disk has been as it says: each read gave the content, and each call had its effect. A wrong answer ends this
-    /// for good.
+    /// The disk has been as it says: each read gave the content, and each call had its effect. A
+    /// wrong answer ends this for good.
     ghost honest: { Self → Type 0 };
 
     /// No answer is wrong: an honest disk of this type stays honest.
@@ -31,7 +32,8 @@ pub trait Disk {
     /// A clock, which no call sets back.
     ghost moment: { Self → ℕ };
 
-    /// What a crash might have left of the disk at this moment or later, within a call or between two.
+    /// What a crash might have left of the disk at this moment or later, within a call or between
+    /// two.
     ghost left_since: { Self → ℕ → (List ℕ → List ℕ) → Type 0 };
 
     /// How many calls have failed.
@@ -44,8 +46,8 @@ pub trait Disk {
         ensures looks { honest self.new → Looks files moment left_since self.old self.new }
         ensures accounts { AccountsOfCall steady honest failures self.old self.new result };
 
-    /// Fills the buffer with the bytes of a file from `from` on; they lie within its length. It changes nothing of the
-    /// disk, failed or not; what the buffer holds after a failure is open.
+    /// Fills the buffer with the bytes of a file from `from` on; they lie within its length. It
+    /// changes nothing of the disk, failed or not; what the buffer holds after a failure is open.
     fn read_at(&mut self, name: &FileName, from: u64, into: &mut [u8]) -> Result<(), DiskFault>
         requires { honest self.old → from + length into.old ≤ length
             (files self.old name.now).content }
@@ -54,10 +56,10 @@ pub trait Disk {
         ensures looks { honest self.new → Looks files moment left_since self.old self.new }
         ensures accounts { AccountsOfCall steady honest failures self.old self.new result };
 
-    /// Writes bytes over a file from `from` on, which is at most its length; the file grows where they reach past its
-    /// end. Until the next sync a crash may leave any bytes in that range, and any length from the least to the
-    /// greatest that the file had since the last sync. A write of no bytes changes nothing
-    /// (`laws::no_bytes_change_nothing`).
+    /// Writes bytes over a file from `from` on, which is at most its length; the file grows where
+    /// they reach past its end. Until the next sync a crash may leave any bytes in that range, and
+    /// any length from the least to the greatest that the file had since the last sync. A write of
+    /// no bytes changes nothing (`laws::no_bytes_change_nothing`).
     fn write_at(&mut self, name: &FileName, from: u64, bytes: &[u8]) -> Result<(), DiskFault>
         requires within { honest self.old → from ≤ length (files self.old name.now).content }
         requires fits { honest self.old → from + length bytes.now < 2 ^ 64 }
@@ -68,8 +70,9 @@ pub trait Disk {
             (AreLeftBy (write from bytes.now) name.now (files self.old)) }
         ensures accounts { AccountsOfCall steady honest failures self.old self.new result };
 
-    /// Takes away the bytes of a file from `to` on, which is at most its length. Until the next sync a crash may leave
-    /// any length from the least to the greatest that the file had since the last sync, and any bytes from `to` on.
+    /// Takes away the bytes of a file from `to` on, which is at most its length. Until the next
+    /// sync a crash may leave any length from the least to the greatest that the file had since the
+    /// last sync, and any bytes from `to` on.
     fn cut(&mut self, name: &FileName, to: u64) -> Result<(), DiskFault>
         requires { honest self.old → to ≤ length (files self.old name.now).content }
         ensures effect { honest self.new →

@@ -4,8 +4,8 @@ ghost use Rattle.org_disk.specs.Disk.{IsCounted};
 
 use crate::{Disk, DiskFault, FileName};
 
-/// A disk that passes its first k calls on, and then fails every call without effect. Its count of failures is its own
-/// plus the disk's, at most 2^64 - 1.
+/// A disk that passes its first k calls on, and then fails every call without effect. Its count of
+/// failures is its own plus the disk's, at most 2^64 - 1.
 #[derive(Drop)]
 pub struct Fuse<D> {
     disk: D,

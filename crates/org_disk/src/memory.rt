@@ -1,4 +1,5 @@
-//! A disk in memory, which keeps a record of its calls. What it holds is what the record stands for.
+//! A disk in memory, which keeps a record of its calls. What it holds is what the record stands
+//! for.
 ghost use Rattle.std.specs.Prelude.{◌≡◌, ◌≢◌, ◌⊎◌, List, ℕ, [], ◌∷◌, ◌++◌, ◌≤◌, length, IsTrue, IsFalse, IfOk, IfSome, OnOk, OnErr, IsNone};
 ghost use Rattle.std.specs.Str.{bytes_eq};
 ghost use Rattle.indexmap.specs.IndexMap.{get};
@@ -17,11 +18,11 @@ pub enum Outcome {
     All,
     /// The file is as after its last successful sync or `set`; without one it is empty.
     None,
-    /// As `All`, but only the first bytes of a crashed write went out, at most as many as the number says; another
-    /// crashed call had no effect.
+    /// As `All`, but only the first bytes of a crashed write went out, at most as many as the
+    /// number says; another crashed call had no effect.
     Front(usize),
-    /// The file has its greatest length since its last sync, and this byte at each position that isn't fixed; the
-    /// crashed call counts as made.
+    /// The file has its greatest length since its last sync, and this byte at each position that
+    /// isn't fixed; the crashed call counts as made.
     Fill(u8),
 }
 
@@ -104,7 +105,8 @@ impl MemoryDisk {
         }
     }
 
-    /// Gives a file a content, all on the disk. It counts as no call; where memory is refused, nothing changes.
+    /// Gives a file a content, all on the disk. It counts as no call; where memory is refused,
+    /// nothing changes.
     pub fn set(&mut self, name: &FileName, bytes: &[u8]) -> Result<(), AllocError>
         ensures ok { OnOk result (memory_files self.new name.now ≡ stable bytes.now) }
         ensures others { (other : List ℕ) → other ≢ name.now →
@@ -118,8 +120,8 @@ impl MemoryDisk {
         self.record(name, Effect::Set(bytes), false)
     }
 
-    /// The k-th call of `Disk` from now on, counted from 1, fails without effect, and later ones go on. It takes the
-    /// place of an earlier `fail_at` whose call hasn't come; with 0 no call fails.
+    /// The k-th call of `Disk` from now on, counted from 1, fails without effect, and later ones go
+    /// on. It takes the place of an earlier `fail_at` whose call hasn't come; with 0 no call fails.
     pub fn fail_at(&mut self, k: u64)
         ensures files { memory_files self.new ≡ memory_files self.old }
         ensures failures { self.new.failures ≡ self.old.failures }
@@ -129,9 +131,9 @@ impl MemoryDisk {
         self.fail_in = k;
     }
 
-    /// The k-th call of `Disk` from now on, counted from 1, and every later one fail; `image` then tells what the
-    /// outcome leaves. It takes the place of an earlier `crash_at` whose call hasn't come, and with 0 no call crashes
-    /// the disk; a disk that has crashed stays so.
+    /// The k-th call of `Disk` from now on, counted from 1, and every later one fail; `image` then
+    /// tells what the outcome leaves. It takes the place of an earlier `crash_at` whose call hasn't
+    /// come, and with 0 no call crashes the disk; a disk that has crashed stays so.
     pub fn crash_at(&mut self, k: u64, outcome: Outcome)
         ensures files { memory_files self.new ≡ memory_files self.old }
         ensures failures { self.new.failures ≡ self.old.failures }
@@ -148,8 +150,8 @@ impl MemoryDisk {
         };
     }
 
-    /// The disk after the crash, all of it stable: one of its images, which the outcome picks. Without a crash it is
-    /// the content as it is now.
+    /// The disk after the crash, all of it stable: one of its images, which the outcome picks.
+    /// Without a crash it is the content as it is now.
     pub fn image(&self, alloc: Global) -> Result<MemoryDisk, AllocError>
         ensures stable { IfOk result (λ image. (name : List ℕ) →
             memory_files image name ≡ stable (memory_files image name).content) }

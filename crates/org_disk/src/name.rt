@@ -24,8 +24,8 @@ const JOURNAL: &str = "orgstore.journal";
 // The most bytes of a name, the suffix of an archive file not counted.
 const MAX_BYTES: usize = 200;
 
-/// The name of an Org file, of an archive file, or of the journal. A clause sees it as its bytes; names are compared
-/// and hashed by them.
+/// The name of an Org file, of an archive file, or of the journal. A clause sees it as its bytes;
+/// names are compared and hashed by them.
 #[derive(Drop)]
 pub struct FileName {
     text: String,
@@ -65,8 +65,8 @@ impl From<AllocError> for NameFault {
 }
 
 impl FileName {
-    /// The name that this text is. `BadName` comes exactly where `accepts` refuses the text; the journal's name is one
-    /// of those.
+    /// The name that this text is. `BadName` comes exactly where `accepts` refuses the text; the
+    /// journal's name is one of those.
     pub fn new(alloc: Global, text: &str) -> Result<FileName, NameFault>
         ensures name { IfOk result (λ name. name ≡ text.now) }
         ensures accepted { OnOk result (IsTrue (is_file_name text.now)) }
@@ -79,8 +79,9 @@ impl FileName {
         Ok(FileName { text })
     }
 
-    /// Whether a text is the name of an Org file or of an archive file: it ends in `.org` or `.org_archive`, holds no
-    /// slash and no byte below 0x20 nor 0x7F, doesn't begin with `.`, and has at most 200 bytes before `_archive`.
+    /// Whether a text is the name of an Org file or of an archive file: it ends in `.org` or
+    /// `.org_archive`, holds no slash and no byte below 0x20 nor 0x7F, doesn't begin with `.`, and
+    /// has at most 200 bytes before `_archive`.
     pub fn accepts(text: &str) -> bool
         ensures { result ≡ is_file_name text.now }
     {

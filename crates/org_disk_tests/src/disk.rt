@@ -1,7 +1,8 @@
-//! What no clause says: which image an outcome picks, which call fails, and that each call can succeed.
+//! What no clause says: which image an outcome picks, which call fails, and that each call can
+//! succeed.
 //!
-//! What owns a disk or a set of files drops it by name: left to the end of a function, each of its parts is dropped there,
-//! which the function's proof would have to follow.
+//! What owns a disk or a set of files drops it by name: left to the end of a function, each of its
+//! parts is dropped there, which the function's proof would have to follow.
 ghost use Rattle.std.specs.Prelude.{◌≡◌, Ok};
 
 mod fuses;
@@ -14,8 +15,9 @@ use std::alloc::Global;
 use std::process::Abort;
 use std::test::Fail;
 
-// What a step gives, which has to go well. Where it doesn't the test stops here and lets go of nothing, so a function
-// that owns a disk has no exit for each of its steps, which its proof would have to follow.
+// What a step gives, which has to go well. Where it doesn't the test stops here and lets go of
+// nothing, so a function that owns a disk has no exit for each of its steps, which its proof would
+// have to follow.
 pub fn must<T>(rt: &impl Abort, given: Result<T, Fail>) -> T
     ensures { given ≡ Ok result }
 {
@@ -38,7 +40,8 @@ pub fn are_texts(names: &[FileName], texts: &[&str]) -> bool {
     true
 }
 
-// Stops the test where this isn't so. What asserts holds nothing else, and what holds a disk asserts nothing.
+// Stops the test where this isn't so. What asserts holds nothing else, and what holds a disk
+// asserts nothing.
 pub fn hold(rt: &impl Abort, is_so: bool) {
     assert!(rt; is_so);
 }

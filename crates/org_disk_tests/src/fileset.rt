@@ -85,7 +85,8 @@ fn reads_both(
     reads(rt, alloc, set, name, text) && reads(rt, alloc, set, "inbox.org", inbox)
 }
 
-// The disk of a set that is opened over this one, and whether the set has its names in order and reads both texts.
+// The disk of a set that is opened over this one, and whether the set has its names in order and
+// reads both texts.
 fn read_once(
     rt: &impl Abort,
     alloc: Global,

@@ -112,7 +112,8 @@ enum Call {
 enum Step {
     // another program makes this at a path
     Other(&'static str, Entry),
-    // a call on a file: what it answers, which is 0 where no length is asked for, and how many calls have failed then
+    // a call on a file: what it answers, which is 0 where no length is asked for, and how many
+    // calls have failed then
     Call(&'static str, Call, Result<u64, DiskFault>, u64),
     // the file at a path has these bytes
     Holds(&'static str, &'static [u8]),

@@ -8,7 +8,8 @@ use org_splice::Patch;
 use std::alloc::Global;
 use std::process::Abort;
 
-// A journal of version 2 with its gate open: an entry with a patch of one byte at each of two places.
+// A journal of version 2 with its gate open: an entry with a patch of one byte at each of two
+// places.
 const TWO: [u8; 77] = [
     0x01, 0x4f, 0x52, 0x47, 0x4a, 0x02, 0, 0, 0, 0, 0, 0, 0, 0, 0, 0x3d, // gate, header
     0, 0, 0, 1, 0, 9, 0x69, 0x6e, 0x62, 0x6f, 0x78, 0x2e, 0x6f, 0x72, 0x67, // inbox.org
@@ -26,7 +27,8 @@ fn put(bytes: &mut [u8], at: usize, others: &[u8]) {
     }
 }
 
-// What stands behind the gate of a journal: how many of a worked one's bytes, places of both with others, and what is added.
+// What stands behind the gate of a journal: how many of a worked one's bytes, places of both with
+// others, and what is added.
 type Body = (
     &'static [u8],
     usize,

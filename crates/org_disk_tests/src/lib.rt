@@ -1,5 +1,5 @@
-//! Tests of the crates that know disks and no outlines: org_disk, org_folder, org_journal and org_fileset. This crate
-//! has nothing else.
+//! Tests of the crates that know disks and no outlines: org_disk, org_folder, org_journal and
+//! org_fileset. This crate has nothing else.
 #![tactic(auto)]
 
 #[cfg(test)]

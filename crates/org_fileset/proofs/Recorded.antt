@@ -21,7 +21,8 @@ use Rattle.org_fileset.proofs.Recovers.{fits-true}
 abbrev Change : Type 0
 Change = List ℕ × EditedText
 
--- what holds of a change that is to be committed: its file is one of the set's, and its text within the limit
+-- what holds of a change that is to be committed: its file is one of the set's, and its text within
+-- the limit
 abbrev pub IsCommittable : Change → Type 0
 IsCommittable change = (change.0 ≢ journal_name) × (length change.1.bytes ≤ greatest_length Two)
 

@@ -32,7 +32,8 @@ patched_each-more patches k from bytes text is =
     ∙ ap (λ (p : ℕ × List ℕ). take k patches ++ p ∷ []) (get_or_from_slice_get patches k (from, bytes) (from, bytes) is))
     ∙ patched_each-append (take k patches) ((from, bytes) ∷ []) text
 
--- what is known of the patch at a place: it begins within what the ones before it made, and ends within the text
+-- what is known of the patch at a place: it begins within what the ones before it made, and ends
+-- within the text
 at_place : (patches : List (ℕ × List ℕ)) (size place k from : ℕ) (bytes : List ℕ) → Rise place patches → BeginWithin size place patches → slice_get patches k ≡ Some (from, bytes)
     → (from ≤ max size (last_end place (take k patches))) × (from + length bytes ≤ last_end place patches)
 at_place [] size place k from bytes rise begin is = absurd (cc)

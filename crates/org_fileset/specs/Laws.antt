@@ -12,23 +12,29 @@ use Rattle.org_fileset.specs.Entries.{changed}
 use Rattle.org_fileset.specs.Recovery.{EachRecovers}
 use Rattle.org_fileset.specs.Replay.{IsAtRest}
 
--- The journal stands open on the disk with this record, and whatever a crash leaves recovers to these texts.
-pub record IsArmedFor (entries : List Entry) (texts : Image) (files : List ℕ → FileState) : Type 0 where
+-- The journal stands open on the disk with this record, and whatever a crash leaves recovers to
+-- these texts.
+pub record IsArmedFor (entries : List Entry) (texts : Image) (files : List ℕ → FileState)
+    : Type 0 where
   pub armed : IsArmed files
   pub same_entries : armed.entries ≡ entries
   pub same_texts : armed.texts ≡ texts
   pub formed : IsWellFormed Two entries
 
--- A call of this effect on the file of one name keeps that: whatever a crash leaves within the call recovers to the
--- texts, and after the call, also where it failed, the journal stands open as before, and what a crash leaves recovers
--- to them.
-pub record KeepsTexts (effect : FileState → FileState) (name : List ℕ) (entries : List Entry) (texts : Image) (files : List ℕ → FileState) : Type 0 where
+-- A call of this effect on the file of one name keeps that: whatever a crash leaves within the call
+-- recovers to the texts, and after the call, also where it failed, the journal stands open as
+-- before, and what a crash leaves recovers to them.
+pub record KeepsTexts (effect : FileState → FileState) (name : List ℕ) (entries : List Entry)
+    (texts : Image) (files : List ℕ → FileState) : Type 0 where
   pub any_moment : (image : Image) → AreLeftBy effect name files image → RecoversTo texts image
-  pub after : (new : List ℕ → FileState) (result : Result (Unit {0}) DiskFault) → Changes effect name files new result → IsArmedFor entries texts new
+  pub after : (new : List ℕ → FileState) (result : Result (Unit {0}) DiskFault)
+      → Changes effect name files new result → IsArmedFor entries texts new
 
 -- each of the files by itself is as it was, or as the changes make it
 abbrev pub IsEachOldOrNew : List (List ℕ × EditedText) → Image → Image → Type 0
-IsEachOldOrNew changes files texts = (name : List ℕ) → name ≢ journal_name → (texts name ≡ files name) ⊎ (texts name ≡ changed changes files name)
+IsEachOldOrNew changes files texts =
+    (name : List ℕ) → name ≢ journal_name
+    → (texts name ≡ files name) ⊎ (texts name ≡ changed changes files name)
 
 -- Each file is on the disk. So a disk is found after a crash: it holds one image of what it was.
 abbrev pub AllStable : (List ℕ → FileState) → Type 0

@@ -37,4 +37,5 @@ AreTooMany given = (names : List (List ℕ)) × AreSorted given names × (most_n
 -- the first of these names whose file is past the limit
 abbrev pub first_large : Image → List (List ℕ) → Option (List ℕ)
 first_large files [] = None
-first_large files (name ∷ names) = if nat_lt limit (length (files name)) then Some name else first_large files names
+first_large files (name ∷ names) =
+    if nat_lt limit (length (files name)) then Some name else first_large files names

@@ -38,7 +38,8 @@ pub record AreSetNames (names : List (List ℕ)) : Type 0 where
 
 -- These names of a set are all that the given ones ask for; or there is this fault with them.
 abbrev pub AreAllNames : List (List ℕ) → Result (Vec FileName Global) OpenFault → Type 0
-AreAllNames given (Ok names) = AreFew given × AreSorted (with_archives given) names.items × AreSetNames names.items
+AreAllNames given (Ok names) =
+    AreFew given × AreSorted (with_archives given) names.items × AreSetNames names.items
 AreAllNames given (Err TooManyFiles) = AreTooMany given
 AreAllNames given (Err OutOfMemory) = Unit {0}
 AreAllNames given (Err fault) = ⊥
@@ -51,39 +52,46 @@ HaveSizes files names (Err Device) = Unit {0}
 HaveSizes files names (Err OutOfMemory) = Unit {0}
 HaveSizes files names (Err fault) = ⊥
 
--- what a crash had cut short was brought to an end: the files are what the disk recovered to, and the gate is closed
+-- what a crash had cut short was brought to an end: the files are what the disk recovered to, and
+-- the gate is closed
 pub record IsBroughtToAnEnd (before now : Image) : Type 0 where
   pub files : IsSomeAnd (recovered before) (SameFiles now)
   pub journal : now journal_name ≡ closed_journal (before journal_name)
 
--- No file of these names is past the limit after a record was brought to its end; or there is this fault. The sizes are
--- asked for once it was.
+-- No file of these names is past the limit after a record was brought to its end; or there is this
+-- fault. The sizes are asked for once it was.
 abbrev pub IsAnswer : Image → Image → List (List ℕ) → Result (Unit {0}) OpenFault → Type 0
 IsAnswer before now names (Err BadJournal) = (recovered before ≡ None) × (now ≡ before)
 IsAnswer before now names (Ok done) = HaveSizes now names (Ok done)
-IsAnswer before now names (Err (TooLarge name)) = HaveSizes now names (Err (TooLarge name)) × IsBroughtToAnEnd before now
+IsAnswer before now names (Err (TooLarge name)) =
+    HaveSizes now names (Err (TooLarge name)) × IsBroughtToAnEnd before now
 IsAnswer before now names (Err TooManyFiles) = ⊥
 IsAnswer before now names (Err Device) = Unit {0}
 IsAnswer before now names (Err OutOfMemory) = Unit {0}
 
--- A set over files of the given names isn't opened for this reason. What lies in the files of a disk counts where the
--- disk is honest as the call ends: what lay in them when it began, and what lies in them then.
+-- A set over files of the given names isn't opened for this reason. What lies in the files of a
+-- disk counts where the disk is honest as the call ends: what lay in them when it began, and what
+-- lies in them then.
 abbrev pub IsReason : List (List ℕ) → Type 0 → Image → Image → OpenFault → Type 0
 IsReason given honest before now TooManyFiles = AreTooMany given
-IsReason given honest before now BadJournal = AreFew given × (honest → (recovered before ≡ None) × (now ≡ before))
+IsReason given honest before now BadJournal =
+    AreFew given × (honest → (recovered before ≡ None) × (now ≡ before))
 IsReason given honest before now (TooLarge name) = AreFew given
-    × (honest → (names : List (List ℕ)) × AreSorted (with_archives given) names × (first_large now names ≡ Some name) × IsBroughtToAnEnd before now)
+    × (honest → (names : List (List ℕ)) × AreSorted (with_archives given) names
+    × (first_large now names ≡ Some name) × IsBroughtToAnEnd before now)
 IsReason given honest before now Device = AreFew given
 IsReason given honest before now OutOfMemory = Unit {0}
 
--- What was opened with the given names has these, in byte order, with those of their archive files; and no file of them is
--- past the limit, where the disk is honest.
+-- What was opened with the given names has these, in byte order, with those of their archive files;
+-- and no file of them is past the limit, where the disk is honest.
 pub record IsOpenedFor (given names : List (List ℕ)) (honest : Type 0) (now : Image) : Type 0 where
   pub few : AreFew given
   pub sorted : AreSorted (with_archives given) names
   pub sizes : honest → first_large now names ≡ None
 
--- An opening with the given names over the disk `before` was refused for this fault, and handed it back as `now`.
-pub record IsRefusedFor {D : Type 0} (honest : D → Type 0) (files : D → List ℕ → FileState) (given : List (List ℕ)) (before now : D) (fault : OpenFault) : Type 0 where
+-- An opening with the given names over the disk `before` was refused for this fault, and handed it
+-- back as `now`.
+pub record IsRefusedFor {D : Type 0} (honest : D → Type 0) (files : D → List ℕ → FileState)
+    (given : List (List ℕ)) (before now : D) (fault : OpenFault) : Type 0 where
   pub reason : IsReason given (honest now) (contents (files before)) (contents (files now)) fault
   pub unused : fault ≡ TooManyFiles → now ≡ before

@@ -20,35 +20,40 @@ pub record RecoversAsBefore (files : List ℕ → FileState) (image : Image) : T
   pub recovered_then : RecoversTo texts start
   pub recovers_now : RecoversTo texts image
 
--- the journal is whole, and its gate is closed: it has the bytes of a header, and the first one isn't 1
+-- the journal is whole, and its gate is closed: it has the bytes of a header, and the first one
+-- isn't 1
 abbrev pub is_closed : List ℕ → Bool
 is_closed journal = nat_le front_size (length journal) && not (is_open journal)
 
--- What an opening makes of the journal. A whole one with a closed gate stays as it is, whatever byte closes it; of
--- another the first byte is 0 then, and the rest as it was.
+-- What an opening makes of the journal. A whole one with a closed gate stays as it is, whatever
+-- byte closes it; of another the first byte is 0 then, and the rest as it was.
 abbrev pub closed_journal : List ℕ → List ℕ
 closed_journal journal = if is_closed journal then journal else 0 ∷ drop 1 journal
 
--- An opening is done: the files are what the disk recovered to, and the gate is closed; a recoverable disk is at rest.
+-- An opening is done: the files are what the disk recovered to, and the gate is closed; a
+-- recoverable disk is at rest.
 pub record IsReopened (old new : List ℕ → FileState) : Type 0 where
   pub recovered_then : IsSomeAnd (recovered (contents old)) (SameFiles (contents new))
   pub journal : contents new journal_name ≡ closed_journal (contents old journal_name)
   pub gate : HasClosedGate (new journal_name)
   pub rest : IsRecoverable old → EachRecovers old → IsAtRest new
 
--- What an opening does to a disk that is honest after it. Where the disk was recoverable, and each image of it
--- recovered to files, a crash at any moment since it began leaves what recovers to them, and the disk is as recoverable
--- after it. Where the journal is bad, as it reads, or is whole and its gate is closed, a crash leaves what it might
--- have left before, and nothing else. Files that no record of an open journal names are left alone.
+-- What an opening does to a disk that is honest after it. Where the disk was recoverable, and each
+-- image of it recovered to files, a crash at any moment since it began leaves what recovers to
+-- them, and the disk is as recoverable after it. Where the journal is bad, as it reads, or is whole
+-- and its gate is closed, a crash leaves what it might have left before, and nothing else. Files
+-- that no record of an open journal names are left alone.
 pub record Reopens {D A E : Type 0} (files : D → List ℕ → FileState) (moment : D → ℕ)
     (left_since : D → ℕ → Image → Type 0) (old new : D) (result : Result A E) : Type 0 where
   pub done : OnOk result (IsReopened (files old) (files new))
   pub any_moment : IsRecoverable (files old) → EachRecovers (files old)
       → LeavesOver moment left_since old new (RecoversAsBefore (files old))
   pub recoverable : IsRecoverable (files old) → EachRecovers (files old) → IsRecoverable (files new)
-  pub bad : recovered (contents (files old)) ≡ None → LeavesOver moment left_since old new (AreImages (files old))
-  -- A whole journal with a closed gate leaves nothing to bring to an end: whatever is answered, a crash leaves what it
-  -- might have left before.
+  pub bad : recovered (contents (files old)) ≡ None
+      → LeavesOver moment left_since old new (AreImages (files old))
+  -- A whole journal with a closed gate leaves nothing to bring to an end: whatever is answered, a
+  -- crash leaves what it might have left before.
   pub idle : IsTrue (is_closed (contents (files old) journal_name))
       → LeavesOver moment left_since old new (AreImages (files old))
-  pub alone : LeavesAlone files moment left_since (IsUnconcerned (contents (files old) journal_name)) old new
+  pub alone : LeavesAlone files moment left_since
+      (IsUnconcerned (contents (files old) journal_name)) old new

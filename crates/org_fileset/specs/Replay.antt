@@ -1,4 +1,5 @@
--- Files to which a record is being applied: whatever a crash leaves of them, the record makes the same texts of it.
+-- Files to which a record is being applied: whatever a crash leaves of them, the record makes the
+-- same texts of it.
 use Rattle.std.specs.Prelude.{◌≡◌, ◌≢◌, ◌⊎◌, ℕ, ◌≤◌, List, [], ◌∷◌, drop, Some, Result, OnOk, MatchBool, IsTrue, IsFalse}
 use Rattle.std.specs.List.{AllByRecursion}
 use Rattle.std.specs.Str.{bytes_eq}
@@ -18,25 +19,30 @@ use Rattle.org_fileset.specs.Writes.{LeavesAlone, IsUnwritten}
 
 -- whatever a crash leaves of the file takes the patches to this text
 abbrev pub EachPatchedTo : List (ℕ × List ℕ) → ℕ → List ℕ → FileState → Type 0
-EachPatchedTo patches final to file = (text : List ℕ) → IsImage file text → PatchedTo patches final text to
+EachPatchedTo patches final to file =
+    (text : List ℕ) → IsImage file text → PatchedTo patches final text to
 
 -- what is left: a text of this file that takes the patches to `to`, and an image of each other file
-pub record LeavesPatched (patches : List (ℕ × List ℕ)) (final : ℕ) (name to : List ℕ) (files : List ℕ → FileState) (image : Image) : Type 0 where
+pub record LeavesPatched (patches : List (ℕ × List ℕ)) (final : ℕ) (name to : List ℕ)
+    (files : List ℕ → FileState) (image : Image) : Type 0 where
   pub here : PatchedTo patches final (image name) to
   pub others : (other : List ℕ) → other ≢ name → IsImage (files other) (image other)
 
--- Calls that apply patches to one file, all of them or some: at each moment, and now, what a crash leaves of the file
--- takes the patches to the same text.
-pub record AppliesPatches (patches : List (ℕ × List ℕ)) (final : ℕ) (name to : List ℕ) (before now : ℕ) (past since : ℕ → Image → Type 0) (old new : List ℕ → FileState) : Type 0 where
+-- Calls that apply patches to one file, all of them or some: at each moment, and now, what a crash
+-- leaves of the file takes the patches to the same text.
+pub record AppliesPatches (patches : List (ℕ × List ℕ)) (final : ℕ) (name to : List ℕ)
+    (before now : ℕ) (past since : ℕ → Image → Type 0) (old new : List ℕ → FileState) : Type 0 where
   pub any_moment : Passes before now past since (LeavesPatched patches final name to old)
   pub takes : EachPatchedTo patches final to (new name)
   pub others : (other : List ℕ) → other ≢ name → new other ≡ old other
 
--- the record makes `to` of this text of the file with that name; what it doesn't name stays as it is
+-- the record makes `to` of this text of the file with that name; what it doesn't name stays as it
+-- is
 abbrev pub TakesTo : List Entry → List ℕ → List ℕ → List ℕ → Type 0
 TakesTo [] name text to = text ≡ to
 TakesTo (entry ∷ entries) name text to =
-    MatchBool (bytes_eq entry.name name) (PatchedTo (pairs_of entry.patches) entry.length text to) (TakesTo entries name text to)
+    MatchBool (bytes_eq entry.name name) (PatchedTo (pairs_of entry.patches) entry.length text to)
+    (TakesTo entries name text to)
 
 -- an entry that can be applied to a file which it fits
 pub record IsApplicable (entry : Entry) : Type 0 where
@@ -49,18 +55,23 @@ pub record AreApplicable (entries : List Entry) : Type 0 where
   pub apart : IsTrue (names_differ entries)
 
 -- whatever a crash leaves of the files, the record makes these texts of it
-pub record EachTakes (entries : List Entry) (texts : Image) (files : List ℕ → FileState) : Type 0 where
-  pub each : (name : List ℕ) → name ≢ journal_name → (text : List ℕ) → IsImage (files name) text → TakesTo entries name text (texts name)
+pub record EachTakes (entries : List Entry) (texts : Image) (files : List ℕ → FileState)
+    : Type 0 where
+  pub each : (name : List ℕ) → name ≢ journal_name → (text : List ℕ) → IsImage (files name) text
+      → TakesTo entries name text (texts name)
 
 -- what is left: a journal of these bytes, and files of which the record makes these texts
-pub record LeavesTaking (journal : List ℕ) (entries : List Entry) (texts : Image) (image : Image) : Type 0 where
+pub record LeavesTaking (journal : List ℕ) (entries : List Entry) (texts : Image) (image : Image)
+    : Type 0 where
   pub same_journal : image journal_name ≡ journal
   pub each : (name : List ℕ) → name ≢ journal_name → TakesTo entries name (image name) (texts name)
 
--- Calls that apply a record to its files, all of it or a part: at each moment, and now, the record makes the same texts
--- of what a crash leaves.
-pub record Replays (entries : List Entry) (texts : Image) (before now : ℕ) (past since : ℕ → Image → Type 0) (old new : List ℕ → FileState) : Type 0 where
-  pub any_moment : Passes before now past since (LeavesTaking (old journal_name).content entries texts)
+-- Calls that apply a record to its files, all of it or a part: at each moment, and now, the record
+-- makes the same texts of what a crash leaves.
+pub record Replays (entries : List Entry) (texts : Image) (before now : ℕ)
+    (past since : ℕ → Image → Type 0) (old new : List ℕ → FileState) : Type 0 where
+  pub any_moment : Passes before now past since
+      (LeavesTaking (old journal_name).content entries texts)
   pub takes : EachTakes entries texts new
   pub others : (name : List ℕ) → IsFalse (is_named name entries) → new name ≡ old name
 
@@ -70,10 +81,11 @@ pub record IsOpenOver (entries : List Entry) (files : List ℕ → FileState) : 
   pub opened : IsTrue (is_open (files journal_name).content)
   pub found : journal_at (drop 1 (files journal_name).content) ≡ Some entries
 
--- The files that the record doesn't name are on the disk, and it makes one and the same texts of whatever a crash
--- leaves of the others.
+-- The files that the record doesn't name are on the disk, and it makes one and the same texts of
+-- whatever a crash leaves of the others.
 pub record IsReplayable (entries : List Entry) (files : List ℕ → FileState) : Type 0 where
-  pub others : (name : List ℕ) → name ≢ journal_name → IsFalse (is_named name entries) → IsStable (files name)
+  pub others : (name : List ℕ) → name ≢ journal_name → IsFalse (is_named name entries)
+      → IsStable (files name)
   pub texts : Image
   pub takes : EachTakes entries texts files
 
@@ -93,8 +105,8 @@ pub record IsReplayed (entries : List Entry) (old new : List ℕ → FileState) 
   pub made : SameFiles (contents new) (replayed entries (contents old))
   pub rest : IsReplayable entries old → IsAtRest new
 
--- What a call does that applies the record of an open journal to its files, and closes the gate, where the disk is honest
--- after it.
+-- What a call does that applies the record of an open journal to its files, and closes the gate,
+-- where the disk is honest after it.
 pub record ReplaysOver {D : Type 0} (files : D → List ℕ → FileState) (moment : D → ℕ)
     (left_since : D → ℕ → Image → Type 0) (entries : List Entry) (old new : D)
     (result : Result (Unit {0}) DiskFault) : Type 0 where
@@ -110,7 +122,8 @@ pub record IsCommitted (after : Image) (old new : List ℕ → FileState) : Type
   pub made : SameFiles (contents new) after
   pub rest : IsAtRest old → IsAtRest new
 
--- What a commit does that is to make these files, and to leave some alone, where the disk is honest after it.
+-- What a commit does that is to make these files, and to leave some alone, where the disk is honest
+-- after it.
 pub record Commits {D A E : Type 0} (files : D → List ℕ → FileState) (moment : D → ℕ)
     (left_since : D → ℕ → Image → Type 0) (after : Image) (Alone : List ℕ → Type 0) (old new : D)
     (result : Result A E) : Type 0 where
@@ -126,9 +139,11 @@ pub record Commits {D A E : Type 0} (files : D → List ℕ → FileState) (mome
 abbrev pub AppliesPatchesOver : {D : Type 0} → (D → List ℕ → FileState) → (D → ℕ)
     → (D → ℕ → Image → Type 0) → List (ℕ × List ℕ) → ℕ → List ℕ → List ℕ → D → D → Type 0
 AppliesPatchesOver files moment left_since patches final name to old new =
-    AppliesPatches patches final name to (moment old) (moment new) (left_since old) (left_since new) (files old) (files new)
+    AppliesPatches patches final name to (moment old) (moment new) (left_since old) (left_since new)
+    (files old) (files new)
 
 abbrev pub TakesOver : {D : Type 0} → (D → List ℕ → FileState) → (D → ℕ)
     → (D → ℕ → Image → Type 0) → List Entry → Image → D → D → Type 0
 TakesOver files moment left_since entries texts old new =
-    Replays entries texts (moment old) (moment new) (left_since old) (left_since new) (files old) (files new)
+    Replays entries texts (moment old) (moment new) (left_since old) (left_since new) (files old)
+    (files new)

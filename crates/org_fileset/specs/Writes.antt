@@ -15,26 +15,29 @@ use Rattle.org_journal.specs.Recovered.{Image}
 abbrev pub HasImagesOf : (List ℕ → Type 0) → (List ℕ → FileState) → Image → Type 0
 HasImagesOf These files image = (name : List ℕ) → These name → IsImage (files name) (image name)
 
--- Calls leave these files alone: each is as it was, and a crash meanwhile leaves of it what it might have left before.
+-- Calls leave these files alone: each is as it was, and a crash meanwhile leaves of it what it
+-- might have left before.
 pub record LeavesAlone {D : Type 0} (files : D → List ℕ → FileState) (moment : D → ℕ)
     (left_since : D → ℕ → Image → Type 0) (These : List ℕ → Type 0) (old new : D) : Type 0 where
   pub same : (name : List ℕ) → These name → files new name ≡ files old name
   pub time : PassesOver moment left_since old new (HasImagesOf These (files old))
 
--- A commit of the files of these names doesn't write the file of this name: there is nothing to commit, or it is neither
--- one of these nor the journal.
+-- A commit of the files of these names doesn't write the file of this name: there is nothing to
+-- commit, or it is neither one of these nor the journal.
 abbrev pub IsOther : List (List ℕ) → List ℕ → Type 0
 IsOther [] name = Unit {0}
-IsOther (first ∷ names) name = (name ≢ journal_name) × IsFalse (list_any (bytes_eq name) (first ∷ names))
+IsOther (first ∷ names) name =
+    (name ≢ journal_name) × IsFalse (list_any (bytes_eq name) (first ∷ names))
 
 -- the file of this name is neither the journal nor one of the record's
 pub record IsUnwritten (entries : List Entry) (name : List ℕ) : Type 0 where
   pub apart : name ≢ journal_name
   pub unnamed : IsFalse (is_named name entries)
 
--- The file of this name isn't the journal, which has these bytes; nor does a record name it that stands behind an open
--- gate.
+-- The file of this name isn't the journal, which has these bytes; nor does a record name it that
+-- stands behind an open gate.
 pub record IsUnconcerned (journal : List ℕ) (name : List ℕ) : Type 0 where
   pub apart : name ≢ journal_name
-  pub unnamed : IsTrue (is_open journal) → (entries : List Entry) → journal_at (drop 1 journal) ≡ Some entries
+  pub unnamed : IsTrue (is_open journal) → (entries : List Entry)
+      → journal_at (drop 1 journal) ≡ Some entries
       → IsFalse (is_named name entries)

@@ -13,8 +13,9 @@ ghost use Rattle.org_fileset.specs.Writes.{LeavesAlone};
 use org_disk::{Disk, DiskFault};
 use org_journal::Entry;
 
-/// Applies an entry's patches to its file, and cuts it to the entry's length. Before, within and after it, also where
-/// it fails, the entry makes the same text of whatever a crash leaves of the file.
+/// Applies an entry's patches to its file, and cuts it to the entry's length. Before, within and
+/// after it, also where it fails, the entry makes the same text of whatever a crash leaves of the
+/// file.
 pub fn apply_entry<D: Disk>(disk: &mut D, entry: &Entry) -> Result<(), DiskFault>
     requires formed { D.honest disk.old →
         AreWellFormed (pairs_of entry.now.patches) entry.now.length }
@@ -43,8 +44,9 @@ pub fn apply_entry<D: Disk>(disk: &mut D, entry: &Entry) -> Result<(), DiskFault
     Ok(())
 }
 
-/// Applies the entries of a record to their files, one after the other. Before, within and after it, also where it
-/// fails, the record makes the same texts of whatever a crash leaves of the files, if it did so at the start.
+/// Applies the entries of a record to their files, one after the other. Before, within and after
+/// it, also where it fails, the record makes the same texts of whatever a crash leaves of the
+/// files, if it did so at the start.
 pub fn apply_all<D: Disk>(disk: &mut D, entries: &[Entry]) -> Result<(), DiskFault>
     requires applicable { D.honest disk.old → AreApplicable entries.now }
     requires fits { D.honest disk.old → IsTrue (all_fit entries.now (contents (D.files disk.old))) }
@@ -64,8 +66,8 @@ pub fn apply_all<D: Disk>(disk: &mut D, entries: &[Entry]) -> Result<(), DiskFau
     Ok(())
 }
 
-/// Syncs the files of a record. Before, within and after it, also where it fails, the record makes the same texts of
-/// whatever a crash leaves of the files, if it did so at the start.
+/// Syncs the files of a record. Before, within and after it, also where it fails, the record makes
+/// the same texts of whatever a crash leaves of the files, if it did so at the start.
 pub fn sync_all<D: Disk>(disk: &mut D, entries: &[Entry]) -> Result<(), DiskFault>
     requires { D.honest disk.old → AreApplicable entries.now }
     ensures replays { D.honest disk.new → IsStable (D.files disk.old journal_name)

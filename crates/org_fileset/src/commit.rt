@@ -12,8 +12,9 @@ use crate::apply::{apply_all, sync_all};
 use org_disk::{Disk, DiskFault, FileName};
 use org_journal::{Entry, arm, close_gate, open_gate};
 
-/// Does what an open journal's record says: applies it to its files, syncs them, and closes the gate. Where the record
-/// makes the same texts of whatever a crash leaves at the start, every image recovers to them at every moment since.
+/// Does what an open journal's record says: applies it to its files, syncs them, and closes the
+/// gate. Where the record makes the same texts of whatever a crash leaves at the start, every image
+/// recovers to them at every moment since.
 pub fn replay<D: Disk>(disk: &mut D, journal: &FileName, entries: &[Entry]) -> Result<(), DiskFault>
     requires journal { journal.now ≡ journal_name }
     requires applicable { D.honest disk.old → AreApplicable entries.now }
@@ -28,9 +29,10 @@ pub fn replay<D: Disk>(disk: &mut D, journal: &FileName, entries: &[Entry]) -> R
     close_gate(disk, journal)
 }
 
-/// Commits entries that fit their files. The body is their record, from the journal's second byte on. Where all files
-/// are on the disk at the start, every image at every moment since recovers to all files before, or to all files
-/// after. No other file is written; and behind the closed gate the record stays.
+/// Commits entries that fit their files. The body is their record, from the journal's second byte
+/// on. Where all files are on the disk at the start, every image at every moment since recovers to
+/// all files before, or to all files after. No other file is written; and behind the closed gate
+/// the record stays.
 pub fn commit_entries<D: Disk>(
     disk: &mut D,
     journal: &FileName,

@@ -1,4 +1,5 @@
-//! The laws of applying records to files, for all values: each is the contract of a function with nothing to do.
+//! The laws of applying records to files, for all values: each is the contract of a function with
+//! nothing to do.
 ghost use Rattle.std.specs.Prelude.{◌≤◌, List, ℕ, length, IsSomeAnd};
 ghost use Rattle.std.specs.List.{Contains};
 ghost use Rattle.org_disk.specs.Disk.{FileState, AreImages, write, cut, sync};
@@ -12,7 +13,8 @@ ghost use Rattle.org_fileset.specs.Recovery.{IsReopened, RecoversAsBefore};
 ghost use Rattle.org_fileset.specs.Replay.{IsAtRest, IsBeforeOrAfter};
 ghost use Rattle.org_fileset.specs.Laws.{AllStable, AreAtRest, IsArmedFor, IsFound, KeepsTexts, IsEachOldOrNew};
 
-/// Applying twice is applying once: patches that fit a text fit what they make of it, and make the same of that again.
+/// Applying twice is applying once: patches that fit a text fit what they make of it, and make the
+/// same of that again.
 pub fn applied_twice_as_once()
     ensures twice { (patches : List (ℕ × List ℕ)) (final : ℕ) (text : List ℕ)
         → AreWellFormed patches final → Fit patches final (length text)
@@ -24,8 +26,9 @@ pub fn applied_twice_as_once()
         → PatchedTo patches final part (patched patches final text) }
 {}
 
-/// Each of the calls that apply an entry to its file, made while the journal stands open with the entry's record, keeps
-/// what every image recovers to, at every moment and also where the call fails.
+/// Each of the calls that apply an entry to its file, made while the journal stands open with the
+/// entry's record, keeps what every image recovers to, at every moment and also where the call
+/// fails.
 pub fn calls_keep_texts()
     // a write of one of the entry's patches
     ensures write { (entries : List Entry) (texts : Image) (files : List ℕ → FileState)
@@ -52,10 +55,11 @@ pub fn each_file_old_or_new()
         → IsSomeAnd (recovered image) (IsEachOldOrNew changes files) }
 {}
 
-/// From crashed to opened again. A disk that is found after a crash holds one image, and all of it is on the disk. It
-/// is fit; and where that image recovers to files, so does whatever a crash leaves of it from then on. So
-/// `FileSet::open` promises of it that each image since recovers to what the first crash left (`again`), however often
-/// the opening is crashed and begun anew, and that an opening that is done leaves these files at rest (`opened`).
+/// From crashed to opened again. A disk that is found after a crash holds one image, and all of it
+/// is on the disk. It is fit; and where that image recovers to files, so does whatever a crash
+/// leaves of it from then on. So `FileSet::open` promises of it that each image since recovers to
+/// what the first crash left (`again`), however often the opening is crashed and begun anew, and
+/// that an opening that is done leaves these files at rest (`opened`).
 pub fn crashed_disk_opens_again()
     // whatever image it is, as long as it recovers to files
     ensures image { (texts : Image) (files : List ℕ → FileState) → AllStable files

@@ -1,7 +1,8 @@
 //! The files of a store as one: a commit of several files is all or nothing.
 //!
-//! What a call asks of a disk's files is asked of an honest disk alone. What is said of the files, of texts read from
-//! them, and of what a crash leaves, is said where the disk is honest as the call ends.
+//! What a call asks of a disk's files is asked of an honest disk alone. What is said of the files,
+//! of texts read from them, and of what a crash leaves, is said where the disk is honest as the
+//! call ends.
 #![tactic(auto)]
 
 mod apply;

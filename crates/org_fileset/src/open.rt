@@ -24,11 +24,11 @@ const MOST_NAMES: usize = 256;
 pub enum OpenFault {
     /// More than 256 different names were given. The disk wasn't called.
     TooManyFiles,
-    /// The journal's gate is open, and what stands behind it is no record, or one that doesn't fit its files. No
-    /// content was changed.
+    /// The journal's gate is open, and what stands behind it is no record, or one that doesn't fit
+    /// its files. No content was changed.
     BadJournal,
-    /// The file of this name has more than 67,108,864 bytes: the first such file, in byte order of the names. What a
-    /// crash had cut short was brought to an end.
+    /// The file of this name has more than 67,108,864 bytes: the first such file, in byte order of
+    /// the names. What a crash had cut short was brought to an end.
     TooLarge(FileName),
     /// A call of the disk failed.
     Device,

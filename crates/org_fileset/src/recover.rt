@@ -10,13 +10,14 @@ use org_disk::{Disk, FileName};
 use org_journal::{FRONT, FindFault, Found, find, prepare};
 use std::alloc::Global;
 
-/// Brings the journal's record to an end where its gate is open, and gives a journal without a gate one that is closed.
-/// Nothing else is written.
+/// Brings the journal's record to an end where its gate is open, and gives a journal without a gate
+/// one that is closed. Nothing else is written.
 ///
-/// On a disk that is recoverable, of which each image recovers to files, every image at every moment since the call
-/// began recovers to what an image at the start recovered to, whatever is answered; so it may be stopped, and called
-/// again. Where the journal is bad, as it reads, or is whole and its gate is closed, a crash leaves what it might have
-/// left before, whatever is answered.
+/// On a disk that is recoverable, of which each image recovers to files, every image at every
+/// moment since the call began recovers to what an image at the start recovered to, whatever is
+/// answered; so it may be stopped, and called again. Where the journal is bad, as it reads, or is
+/// whole and its gate is closed, a crash leaves what it might have left before, whatever is
+/// answered.
 pub fn recover<D: Disk>(alloc: Global, disk: &mut D, journal: &FileName) -> Result<(), FindFault>
     requires { journal.now ≡ journal_name }
     ensures reopens { D.honest disk.new → Reopens D.files D.moment D.left_since disk.old disk.new

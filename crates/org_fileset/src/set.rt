@@ -47,16 +47,18 @@ impl<D: Disk> Model for FileSet<D> {
 }
 
 impl<D: Disk> FileSet<D> {
-    /// A set of the files of the given names and of their archive files. No name is an archive file's or the journal's;
-    /// a repeated one counts once. What a crash cut short is brought to an end first.
+    /// A set of the files of the given names and of their archive files. No name is an archive
+    /// file's or the journal's; a repeated one counts once. What a crash cut short is brought to an
+    /// end first.
     ///
-    /// On a disk that is recoverable, of which each image recovers to files, every image at every moment since the call
-    /// began recovers to what an image at the start recovered to, whatever is answered; so it may be stopped, and
-    /// called again. Where the journal is bad, as it reads, or is whole and its gate is closed, a crash leaves what it
-    /// might have left before, whatever is answered.
+    /// On a disk that is recoverable, of which each image recovers to files, every image at every
+    /// moment since the call began recovers to what an image at the start recovered to, whatever is
+    /// answered; so it may be stopped, and called again. Where the journal is bad, as it reads, or
+    /// is whole and its gate is closed, a crash leaves what it might have left before, whatever is
+    /// answered.
     ///
-    /// The faults come in the order of `OpenFault`; `Device` and `OutOfMemory` as they are met. A refused call hands the
-    /// disk back.
+    /// The faults come in the order of `OpenFault`; `Device` and `OutOfMemory` as they are met. A
+    /// refused call hands the disk back.
     pub fn open(alloc: Global, disk: D, names: Vec<FileName>) -> Result<FileSet<D>, OpenRefused<D>>
         requires { All IsOrgFile names.items }
         ensures opened { IfOk result (λ set. (set.broken ≡ false) × IsOpenedFor names.items
@@ -84,7 +86,8 @@ impl<D: Disk> FileSet<D> {
         }
     }
 
-    /// The names of its files, in byte order: those that it was opened with and those of their archive files.
+    /// The names of its files, in byte order: those that it was opened with and those of their
+    /// archive files.
     pub fn names(&self) -> &[FileName]
         ensures { result.now ≡ self.now.names }
     {
@@ -111,8 +114,8 @@ impl<D: Disk> FileSet<D> {
         disk
     }
 
-    /// The bytes of a file, one of the set's or not. `Device` breaks the set; after `OutOfMemory` the file can be read
-    /// again; a broken set answers `Broken`.
+    /// The bytes of a file, one of the set's or not. `Device` breaks the set; after `OutOfMemory`
+    /// the file can be read again; a broken set answers `Broken`.
     pub fn read(&mut self, name: &FileName) -> Result<Vec<u8>, SetFault>
         ensures text { IfOk result (λ bytes. D.honest self.new.disk
             → bytes.items ≡ contents (D.files self.old.disk) name.now) }
@@ -136,14 +139,15 @@ impl<D: Disk> FileSet<D> {
         }
     }
 
-    /// Gives all of the changed files their texts at once. The texts are edits of what the files hold, and within
-    /// `LIMIT`; the names are the set's.
+    /// Gives all of the changed files their texts at once. The texts are edits of what the files
+    /// hold, and within `LIMIT`; the names are the set's.
     ///
-    /// Where all is on the disk when the call begins, then at every moment since what a crash leaves recovers to all
-    /// files as they were, or to all files with the changed texts; after Ok all is on the disk again, and after
-    /// `Device` it can be opened anew. No file is written but the changed ones and the journal, behind whose gate the
-    /// record of the changes stays. All memory is taken before the first call of the disk. Where nothing was changed,
-    /// no call of the disk is made.
+    /// Where all is on the disk when the call begins, then at every moment since what a crash
+    /// leaves recovers to all files as they were, or to all files with the changed texts; after Ok
+    /// all is on the disk again, and after `Device` it can be opened anew. No file is written but
+    /// the changed ones and the journal, behind whose gate the record of the changes stays. All
+    /// memory is taken before the first call of the disk. Where nothing was changed, no call of the
+    /// disk is made.
     pub fn commit<C: Changes<FileName>>(&mut self, changes: &C) -> Result<(), SetFault>
         requires named { All (λ change. Contains self.old.names change.0) (C.pairs changes.now) }
         requires small { All (λ change. length change.1.bytes ≤ LIMIT) (C.pairs changes.now) }

@@ -4,8 +4,8 @@ use org_disk::{Disk, FileName, MemoryDisk, Outcome};
 use std::alloc::Global;
 use std::test::Fail;
 
-/// What a crash may leave of the call that it meets, one of each kind. The gate of a journal is a byte, which may come
-/// out open, closed, or as another byte.
+/// What a crash may leave of the call that it meets, one of each kind. The gate of a journal is a
+/// byte, which may come out open, closed, or as another byte.
 pub const OUTCOMES: [Outcome; 7] = [
     Outcome::All,
     Outcome::None,

@@ -1,5 +1,5 @@
-//! What the tests of several crates share: names of files, disks in memory that hold files, journals byte for byte, and
-//! the ways in which a crash leaves a disk. No other crate uses it.
+//! What the tests of several crates share: names of files, disks in memory that hold files,
+//! journals byte for byte, and the ways in which a crash leaves a disk. No other crate uses it.
 #![tactic(auto)]
 
 mod disks;

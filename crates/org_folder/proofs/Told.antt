@@ -109,7 +109,8 @@ sync_told world name old (Err fault) right =
     let left = world.left (Sync name false ∷ old) in
     does_failed world (Sync name false) (reading left) name old refl sync fault (left_before sync left (files world old name) right.0)
 
--- The same, of a file that was opened under the name, where the record before is known by an equation.
+-- The same, of a file that was opened under the name, where the record before is known by an
+-- equation.
 
 pub does_write : (world : World) (called name : List ℕ) (from : ℕ) (bytes : List ℕ) (old mid new : List Event) (result : Answer) → AreRight world new → called ≡ name → mid ≡ old
     → new ≡ Write called from bytes (is_ok result) ∷ mid → Does world (write from bytes) name old new result

@@ -1,10 +1,12 @@
--- The calls on the files of a folder: a record of what was asked and answered, and the files that it stands for.
+-- The calls on the files of a folder: a record of what was asked and answered, and the files that
+-- it stands for.
 use Rattle.std.specs.Prelude.{◌≡◌, ◌≢◌, ◌⊎◌, ◌≤◌, ℕ, Bool, true, false, List, [], ◌∷◌, length, take, drop, if◌then◌else◌, Result, ⊤}
 use Rattle.std.specs.Str.{bytes_eq}
 use Rattle.org_disk.specs.Disk.{FileState, IsImage, AreImages, AreLeftBy, Changes, Passes, stable, write, cut, sync}
 use Rattle.org_disk.specs.declared.disk.DiskFault.{DiskFault}
 
--- A call on the file of a name, with its answer; a write, a cut and a sync also say whether they succeeded.
+-- A call on the file of a name, with its answer; a write, a cut and a sync also say whether they
+-- succeeded.
 pub data Event : Type 0 where
   -- there is no such file
   Absent : List ℕ → Event
@@ -15,8 +17,8 @@ pub data Event : Type 0 where
   Cut : List ℕ → ℕ → Bool → Event
   Sync : List ℕ → Bool → Event
 
--- What no call shows: each file as it was at first, and, after a call that failed, what its file reads as. A record
--- has its newest call first.
+-- What no call shows: each file as it was at first, and, after a call that failed, what its file
+-- reads as. A record has its newest call first.
 pub record World : Type 0 where
   pub start : List ℕ → FileState
   pub left : List Event → List ℕ
@@ -35,29 +37,38 @@ files world [] = world.start
 files world (Absent name ∷ earlier) = files world earlier
 files world (Length name n ∷ earlier) = files world earlier
 files world (Read name from bytes ∷ earlier) = files world earlier
-files world (Write name from bytes true ∷ earlier) = changed name (write from bytes) (files world earlier)
+files world (Write name from bytes true ∷ earlier) =
+    changed name (write from bytes) (files world earlier)
 files world (Write name from bytes false ∷ earlier) =
-    changed name (λ file. reading (world.left (Write name from bytes false ∷ earlier)) (write from bytes file)) (files world earlier)
+    changed name
+    (λ file. reading (world.left (Write name from bytes false ∷ earlier)) (write from bytes file))
+    (files world earlier)
 files world (Cut name n true ∷ earlier) = changed name (cut n) (files world earlier)
 files world (Cut name n false ∷ earlier) =
-    changed name (λ file. reading (world.left (Cut name n false ∷ earlier)) (cut n file)) (files world earlier)
+    changed name (λ file. reading (world.left (Cut name n false ∷ earlier)) (cut n file))
+    (files world earlier)
 files world (Sync name true ∷ earlier) = changed name sync (files world earlier)
 files world (Sync name false ∷ earlier) =
     changed name (reading (world.left (Sync name false ∷ earlier))) (files world earlier)
 
--- The answer of a call is right after these calls: a look answers what they made of the file, and a call that failed
--- left what a crash within it may leave. A name without a file stands for the empty file, after a crash too.
+-- The answer of a call is right after these calls: a look answers what they made of the file, and a
+-- call that failed left what a crash within it may leave. A name without a file stands for the
+-- empty file, after a crash too.
 abbrev pub IsRight : World → Event → List Event → Type 0
 IsRight world (Absent name) earlier = files world earlier name ≡ stable []
 IsRight world (Length name n) earlier = n ≡ length (files world earlier name).content
-IsRight world (Read name from bytes) earlier = bytes ≡ take (length bytes) (drop from (files world earlier name).content)
+IsRight world (Read name from bytes) earlier =
+    bytes ≡ take (length bytes) (drop from (files world earlier name).content)
 IsRight world (Write name from bytes true) earlier = ⊤
 IsRight world (Write name from bytes false) earlier =
-    IsImage (write from bytes (files world earlier name)) (world.left (Write name from bytes false ∷ earlier))
+    IsImage (write from bytes (files world earlier name))
+    (world.left (Write name from bytes false ∷ earlier))
 IsRight world (Cut name n true) earlier = ⊤
-IsRight world (Cut name n false) earlier = IsImage (cut n (files world earlier name)) (world.left (Cut name n false ∷ earlier))
+IsRight world (Cut name n false) earlier =
+    IsImage (cut n (files world earlier name)) (world.left (Cut name n false ∷ earlier))
 IsRight world (Sync name true) earlier = ⊤
-IsRight world (Sync name false) earlier = IsImage (files world earlier name) (world.left (Sync name false ∷ earlier))
+IsRight world (Sync name false) earlier =
+    IsImage (files world earlier name) (world.left (Sync name false ∷ earlier))
 
 -- each answer was right, and each file reads at first as a crash may leave it
 abbrev pub AreRight : World → List Event → Type 0
@@ -78,14 +89,18 @@ IsLeftAlone name (Sync other ok ∷ earlier) = (other ≢ name) × IsLeftAlone n
 abbrev pub LeftSince : World → List Event → ℕ → (List ℕ → List ℕ) → Type 0
 LeftSince world [] t image = (t ≤ 0) × AreImages (files world []) image
 LeftSince world (event ∷ earlier) t image =
-    ((t ≤ length (event ∷ earlier)) × AreImages (files world (event ∷ earlier)) image) ⊎ LeftSince world earlier t image
+    ((t ≤ length (event ∷ earlier)) × AreImages (files world (event ∷ earlier)) image)
+    ⊎ LeftSince world earlier t image
 
 -- what a call that only looks does: the files are the same, and a crash leaves an image of them
 pub record Looks (world : World) (old new : List Event) : Type 0 where
   pub same : files world new ≡ files world old
-  pub time : Passes (length old) (length new) (LeftSince world old) (LeftSince world new) (AreImages (files world old))
+  pub time : Passes (length old) (length new) (LeftSince world old) (LeftSince world new)
+      (AreImages (files world old))
 
 -- what a call with this effect on the file of a name does
-pub record Does (world : World) (effect : FileState → FileState) (name : List ℕ) (old new : List Event) (result : Result (Unit {0}) DiskFault) : Type 0 where
+pub record Does (world : World) (effect : FileState → FileState) (name : List ℕ)
+    (old new : List Event) (result : Result (Unit {0}) DiskFault) : Type 0 where
   pub changes : Changes effect name (files world old) (files world new) result
-  pub time : Passes (length old) (length new) (LeftSince world old) (LeftSince world new) (AreLeftBy effect name (files world old))
+  pub time : Passes (length old) (length new) (LeftSince world old) (LeftSince world new)
+      (AreLeftBy effect name (files world old))

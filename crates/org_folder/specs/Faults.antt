@@ -6,4 +6,5 @@ use Rattle.std.specs.declared.io.ErrorKind.TheVariants as kinds
 -- Of an error of this kind, the fault: want of memory as such, and everything else as the device's.
 abbrev pub IsToldAs : {F : Type 0} → ErrorKind → (memory device fault : F) → Type 0
 IsToldAs kind memory device fault =
-    ((kind ≡ kinds.OutOfMemory) × (fault ≡ memory)) ⊎ ((kind ≡ kinds.OutOfMemory → ⊥) × (fault ≡ device))
+    ((kind ≡ kinds.OutOfMemory) × (fault ≡ memory))
+    ⊎ ((kind ≡ kinds.OutOfMemory → ⊥) × (fault ≡ device))

@@ -63,10 +63,11 @@ pub struct Node {
     number: u64,
 }
 
-/// Looks where names of a locked folder lead, and tells the first that leads to the file of one before it. Links are followed;
-/// a name without a file leads nowhere. It changes nothing.
+/// Looks where names of a locked folder lead, and tells the first that leads to the file of one
+/// before it. Links are followed; a name without a file leads nowhere. It changes nothing.
 ///
-/// What the system answers of a name is no clause, so whether two names lead to one file isn't either.
+/// What the system answers of a name is no clause, so whether two names lead to one file isn't
+/// either.
 pub fn check_apart<R: Files + AllocGlobal>(
     rt: &R,
     folder: &LockedFolder<'_>,

@@ -9,8 +9,8 @@ mod system;
 
 pub use system::SystemCalls;
 
-/// A file that was opened under a name. Its parts are seen by the calls of the system alone, so that no other code can
-/// take the file's entry in the folder for synced.
+/// A file that was opened under a name. Its parts are seen by the calls of the system alone, so
+/// that no other code can take the file's entry in the folder for synced.
 #[derive(Drop)]
 pub struct Opened<F> {
     name: FileName,
@@ -52,14 +52,15 @@ impl<F: Drop> Opened<F> {
     }
 }
 
-/// The calls of a system on the files of one folder, as a disk needs them. A call that fails may have gone any part of
-/// its way.
+/// The calls of a system on the files of one folder, as a disk needs them. A call that fails may
+/// have gone any part of its way.
 ///
-/// A record that stands in proofs alone has, each with its answer: a name without a file, each length and read that
-/// succeeded, and each write, cut and sync. To open or make a file, and to sync its entry, leaves it as it is. Whether
-/// the answers were right (`AreRight`) is no clause: that a length and a read gave what the calls before made of the
-/// file, that a name without a file stands for the empty file, after a crash too, and that a call that failed left what
-/// a crash within it may leave. It is the premise under which a `CallsDisk` is an honest disk.
+/// A record that stands in proofs alone has, each with its answer: a name without a file, each
+/// length and read that succeeded, and each write, cut and sync. To open or make a file, and to
+/// sync its entry, leaves it as it is. Whether the answers were right (`AreRight`) is no clause:
+/// that a length and a read gave what the calls before made of the file, that a name without a file
+/// stands for the empty file, after a crash too, and that a call that failed left what a crash
+/// within it may leave. It is the premise under which a `CallsDisk` is an honest disk.
 pub trait Calls {
     /// A file of the system, open for reading and, where that is permitted, for writing.
     type File;
@@ -127,7 +128,8 @@ pub trait Calls {
         requires { IsTrue opened.now.is_entered }
         ensures { history self.new ≡ Sync opened.now.name (is_ok result) ∷ history self.old };
 
-    /// Puts the entry of a file in its folder on the device. A call that fails leaves it as little known as before.
+    /// Puts the entry of a file in its folder on the device. A call that fails leaves it as little
+    /// known as before.
     fn sync_entry(&mut self, opened: &mut Opened<Self::File>) -> Result<(), DiskFault>
         ensures name { opened.new.name ≡ opened.old.name }
         ensures ok { OnOk result (IsTrue opened.new.is_entered) }

@@ -13,25 +13,29 @@ use std::alloc::{AllocError, Global};
 use std::fs::Files;
 use std::os::unix::fs::FileExt;
 
-/// The files of a folder, as a disk over the calls of a system. An absent file and an empty one are the same: a file
-/// is made by its first write of at least one byte, and none is ever removed or renamed. A file stays open from its
-/// first use on; the first sync of a file also puts its entry in the folder on the device. A call of the system that
-/// fails, and want of memory, is a counted failure.
+/// The files of a folder, as a disk over the calls of a system. An absent file and an empty one are
+/// the same: a file is made by its first write of at least one byte, and none is ever removed or
+/// renamed. A file stays open from its first use on; the first sync of a file also puts its entry
+/// in the folder on the device. A call of the system that fails, and want of memory, is a counted
+/// failure.
 ///
-/// Its files are those that the record of its calls stands for. It is an honest disk as long as each answer in that
-/// record was right, and a wrong one ends it for good; no contract says that a system's answers are right.
+/// Its files are those that the record of its calls stands for. It is an honest disk as long as
+/// each answer in that record was right, and a wrong one ends it for good; no contract says that a
+/// system's answers are right.
 #[derive(Drop)]
 pub struct CallsDisk<C: Calls> {
     folder: Folder<C>,
     failures: u64,
 }
 
-/// The files of a folder of the operating system, as a disk. Links are followed, and permissions stay as they are. A
-/// call that a signal interrupted is made again. Files that were found in the folder itself share one sync of it, which
-/// the first sync of one of them makes, until a file is made.
+/// The files of a folder of the operating system, as a disk. Links are followed, and permissions
+/// stay as they are. A call that a signal interrupted is made again. Files that were found in the
+/// folder itself share one sync of it, which the first sync of one of them makes, until a file is
+/// made.
 ///
-/// That each answer in its record was right is a premise: no contract says what a real file gives. The record stands in
-/// proofs alone and takes no memory. `S` says what the files held at first, which no code can read.
+/// That each answer in its record was right is a premise: no contract says what a real file gives.
+/// The record stands in proofs alone and takes no memory. `S` says what the files held at first,
+/// which no code can read.
 pub type FolderDisk<R, S> = CallsDisk<SystemCalls<R, S>>;
 
 impl<C: Calls + Drop> CallsDisk<C>
@@ -61,8 +65,9 @@ impl<R: Files + AllocGlobal + Drop, S: Start> CallsDisk<SystemCalls<R, S>>
 where
     R::File: FileExt,
 {
-    /// The disk of a folder. It makes no call of the system, and its record is empty. No disk is made of a folder that
-    /// `lock_folder` wasn't asked for; the folder is to be kept as long as the disk.
+    /// The disk of a folder. It makes no call of the system, and its record is empty. No disk is
+    /// made of a folder that `lock_folder` wasn't asked for; the folder is to be kept as long as
+    /// the disk.
     pub fn new(
         rt: R,
         alloc: Global,

@@ -43,7 +43,8 @@ impl<T: Drop> From<AllocFailed<T>> for ListFault {
     }
 }
 
-/// The name of an Org file that this text is. `BadName` comes exactly where it is none, or an archive file's.
+/// The name of an Org file that this text is. `BadName` comes exactly where it is none, or an
+/// archive file's.
 #[tactic(auto, using(crate::proofs::Names::org_file_is))]
 pub fn org_file(alloc: Global, text: &str) -> Result<FileName, NameFault>
     ensures name { IfOk result (λ name. (name ≡ text.now) × IsTrue (is_org_file text.now)) }
@@ -62,9 +63,10 @@ fn is_org_file(text: &str) -> bool
     FileName::accepts(text) && !text.as_bytes().ends_with(b"_archive")
 }
 
-/// The names of the Org files of a locked folder, in the order in which the system tells them. Entries with other names are
-/// left out, and so is what is no plain file: folders, pipes, sockets and devices, those that a link leads to as well. A
-/// link that leads nowhere is a file that is absent.
+/// The names of the Org files of a locked folder, in the order in which the system tells them.
+/// Entries with other names are left out, and so is what is no plain file: folders, pipes, sockets
+/// and devices, those that a link leads to as well. A link that leads nowhere is a file that is
+/// absent.
 pub fn org_files<R: Files + AllocGlobal + Clone + Drop>(
     rt: &R,
     folder: &LockedFolder<'_>,

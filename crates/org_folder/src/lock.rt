@@ -44,9 +44,10 @@ impl<'a> LockedFolder<'a> {
     }
 }
 
-/// Locks a folder against every other call of this, until the answer is dropped or its process ends, however it ends.
-/// `Locked` comes where another answer is still held. A folder that can't be opened, or that the system doesn't lock, is
-/// answered without a lock. Nothing is made in the folder, and nothing in it is looked at.
+/// Locks a folder against every other call of this, until the answer is dropped or its process
+/// ends, however it ends. `Locked` comes where another answer is still held. A folder that can't be
+/// opened, or that the system doesn't lock, is answered without a lock. Nothing is made in the
+/// folder, and nothing in it is looked at.
 ///
 /// That the system keeps the lock is no clause: no contract says what a lock does.
 pub fn lock_folder<'a, R: Files<File = File> + AllocGlobal>(
@@ -67,9 +68,9 @@ pub fn lock_folder<'a, R: Files<File = File> + AllocGlobal>(
     Ok(LockedFolder { path, _lock: lock })
 }
 
-/// Opens a folder three times, so that where standard streams are closed their numbers are the folder's as long as the
-/// answers are held, and no file that is opened later is read or written as one of them: a folder can be neither. What
-/// can't be opened isn't held.
+/// Opens a folder three times, so that where standard streams are closed their numbers are the
+/// folder's as long as the answers are held, and no file that is opened later is read or written as
+/// one of them: a folder can be neither. What can't be opened isn't held.
 pub fn fill_streams<R: Files<File = File> + AllocGlobal>(
     rt: &R,
     path: &str,

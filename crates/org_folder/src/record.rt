@@ -1,5 +1,5 @@
-//! The record of the calls, which stands in proofs alone and takes no memory. Its two functions are proved by hand,
-//! since no code can set it.
+//! The record of the calls, which stands in proofs alone and takes no memory. Its two functions are
+//! proved by hand, since no code can set it.
 ghost use Rattle.std.specs.Prelude.{◌≡◌, List, [], ◌∷◌};
 ghost use Rattle.std.specs.Borrow.{ftrue};
 ghost use Rattle.org_folder.specs.Calls.{Event};
@@ -7,7 +7,8 @@ ghost use Rattle.org_folder.specs.Note.{event_of};
 
 use std::marker::{Model, PhantomData};
 
-/// A call with its answer, but for the file's name and the bytes. A write, a cut and a sync say whether they succeeded.
+/// A call with its answer, but for the file's name and the bytes. A write, a cut and a sync say
+/// whether they succeeded.
 #[derive(Clone, Copy)]
 pub enum Call {
     Absent,
@@ -18,7 +19,8 @@ pub enum Call {
     Sync(bool),
 }
 
-/// The calls so far, the newest first. It has no bytes; the marker makes it a type that a proof can own.
+/// The calls so far, the newest first. It has no bytes; the marker makes it a type that a proof can
+/// own.
 #[derive(Drop)]
 pub struct Record {
     marker: PhantomData<u8>,

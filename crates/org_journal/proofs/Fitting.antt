@@ -186,7 +186,8 @@ bad_size image BadJournal found = (found.0, no_record image found.0 (size_passes
 bad_size image Device found = tt
 bad_size image OutOfMemory found = absurd found
 
--- what the calls of a look at an armed journal answered, one after another, the files being the same at each
+-- what the calls of a look at an armed journal answered, one after another, the files being the
+-- same at each
 module _ (files mid new : List ℕ → FileState) (journal : List ℕ) (size : ℕ) (entries : List Entry) (named : journal ≡ journal_name)
     (sized : FindsSize (files journal).content (Ok (Some size))) (still : mid ≡ files) (same : new ≡ mid)
     (read : journal_at (drop 1 (mid journal).content) ≡ Some entries) where

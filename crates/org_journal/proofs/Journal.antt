@@ -1,4 +1,5 @@
--- A journal whose record is read begins with the record's bytes, and from such bytes the record is read.
+-- A journal whose record is read begins with the record's bytes, and from such bytes the record is
+-- read.
 use Rattle.std.proofs.Common.{◌≡◌, ℕ, zero, suc, ◌+◌, ◌*◌, ◌-◌, ◌^◌, ◌<◌, ◌≤◌, Bool, true, false, cond, leb, List, [], ◌∷◌, ◌++◌, length, take, drop, get_or, slice_index, Option, Some, None, refl, sym, ap, subst, ◌∙◌, append_assoc, arith, ◌⊎◌, inl, inr, Result, Ok, Err}
 use Rattle.std.specs.Prelude.{◌&&◌, ◌==◌, nat_eq, codes, is_some, IsTrue, IfOk, ◌↔◌}
 use Rattle.std.specs.List.{flat_map, AllByRecursion, starts_with}

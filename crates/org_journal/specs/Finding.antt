@@ -28,11 +28,14 @@ HoldsRecord journal = front_size + record_size journal ≤ length journal
 abbrev pub Finds : Image → Result Found FindFault → Type 0
 Finds image (Ok Closed) = IsFalse (is_open (image journal_name))
 Finds image (Ok (Armed entries)) =
-    IsTrue (is_open (image journal_name)) × (journal_at (drop 1 (image journal_name)) ≡ Some entries) × IsTrue (all_fit entries image)
+    IsTrue (is_open (image journal_name))
+    × (journal_at (drop 1 (image journal_name)) ≡ Some entries)
+    × IsTrue (all_fit entries image)
 Finds image (Err BadJournal) = IsTrue (is_open (image journal_name)) × (recovered image ≡ None)
 Finds image (Err Device) = Unit {0}
 -- memory is wanted only once the record's size was compared with the journal's
-Finds image (Err OutOfMemory) = IsTrue (is_open (image journal_name)) × HoldsRecord (image journal_name)
+Finds image (Err OutOfMemory) =
+    IsTrue (is_open (image journal_name)) × HoldsRecord (image journal_name)
 
 -- a record that was found is one that could be written, in whichever version it stood
 abbrev pub IsWritable : Found → Type 0
@@ -42,8 +45,10 @@ IsWritable (Armed entries) = IsWellFormed Two entries
 -- what the header alone tells: None of a closed gate, and the record's size of an open one
 abbrev pub FindsSize : List ℕ → Result (Option ℕ) FindFault → Type 0
 FindsSize journal (Ok None) = IsFalse (is_open journal)
-FindsSize journal (Ok (Some size)) = IsTrue (is_open journal) × (size ≡ record_size journal) × HoldsRecord journal
-FindsSize journal (Err BadJournal) = IsTrue (is_open journal) × (length journal < front_size + record_size journal)
+FindsSize journal (Ok (Some size)) =
+    IsTrue (is_open journal) × (size ≡ record_size journal) × HoldsRecord journal
+FindsSize journal (Err BadJournal) =
+    IsTrue (is_open journal) × (length journal < front_size + record_size journal)
 FindsSize journal (Err Device) = Unit {0}
 FindsSize journal (Err OutOfMemory) = ⊥
 
@@ -56,4 +61,5 @@ FindsRecord journal (Err OutOfMemory) = Unit {0}
 
 -- the patches of each entry are well-formed
 abbrev pub HaveWellFormedPatches : List Entry → Type 0
-HaveWellFormedPatches entries = AllByRecursion (λ entry. AreWellFormed (pairs_of entry.patches) entry.length) entries
+HaveWellFormedPatches entries =
+    AllByRecursion (λ entry. AreWellFormed (pairs_of entry.patches) entry.length) entries

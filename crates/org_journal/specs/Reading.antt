@@ -27,7 +27,8 @@ behind None = None
 
 -- a big-endian number of n bytes
 abbrev pub number_at : ℕ → List ℕ → Option (ℕ × List ℕ)
-number_at n bytes = if nat_lt (length bytes) n then None else Some (big_number n bytes, drop n bytes)
+number_at n bytes =
+    if nat_lt (length bytes) n then None else Some (big_number n bytes, drop n bytes)
 
 abbrev pub bytes_at : ℕ → List ℕ → Option (List ℕ × List ℕ)
 bytes_at n bytes = if nat_lt (length bytes) n then None else Some (take n bytes, drop n bytes)
@@ -44,18 +45,22 @@ name_at bytes = do
   name ← bytes_at count.0 count.1
   if is_utf8 name.0 && is_file_name name.0 then Some name else None
 
--- A patch may follow one that ends at this place, in a file of this final length. Only a patch that stands alone may
--- be empty.
+-- A patch may follow one that ends at this place, in a file of this final length. Only a patch that
+-- stands alone may be empty.
 abbrev pub may_follow : (place final : ℕ) (alone : Bool) (from count : ℕ) → Bool
-may_follow place final alone from count = nat_le place from && (nat_le (from + count) final && (alone || nat_le 1 count))
+may_follow place final alone from count =
+    nat_le place from && (nat_le (from + count) final && (alone || nat_le 1 count))
 
 unfoldable pub patch_at : (place final : ℕ) (alone : Bool) → List ℕ → Option (Patch × List ℕ)
 patch_at place final alone bytes = do
   from ← number_at 8 bytes
   text ← counted_at from.1
-  if may_follow place final alone from.0 (length text.0) then Some (record { from = from.0; bytes = text.0 }, text.1) else None
+  if may_follow place final alone from.0 (length text.0)
+      then Some (record { from = from.0; bytes = text.0 }, text.1)
+      else None
 
-unfoldable pub patches_at : (place final : ℕ) (alone : Bool) (count : ℕ) → List ℕ → Option (List Patch × List ℕ)
+unfoldable pub patches_at : (place final : ℕ) (alone : Bool) (count : ℕ) → List ℕ
+    → Option (List Patch × List ℕ)
 patches_at place final alone zero bytes = Some ([], bytes)
 patches_at place final alone (suc n) bytes = do
   first ← patch_at place final alone bytes
@@ -64,7 +69,8 @@ patches_at place final alone (suc n) bytes = do
 
 -- an entry of version 1 has one patch
 abbrev pub old_entry : List ℕ → (final from : ℕ) → List ℕ → Entry
-old_entry name final from bytes = record { name = name; length = final; patches = record { from = from; bytes = bytes } ∷ [] }
+old_entry name final from bytes =
+    record { name = name; length = final; patches = record { from = from; bytes = bytes } ∷ [] }
 
 unfoldable pub old_entry_at : List ℕ → Option (Entry × List ℕ)
 old_entry_at bytes = do
@@ -76,7 +82,8 @@ old_entry_at bytes = do
       then Some (old_entry name.0 final.0 from.0 text.0, text.1)
       else None
 
--- what stands in front of the patches of an entry of version 2: its name, its final length and their number
+-- what stands in front of the patches of an entry of version 2: its name, its final length and
+-- their number
 pub record Head : Type 0 where
   pub name : List ℕ
   pub final : ℕ
@@ -128,10 +135,14 @@ version_at n = if n == 1 then Some One else if n == 2 then Some Two else None
 
 -- the version, and the bytes of the record
 unfoldable pub header_at : List ℕ → Option (Version × List ℕ)
-header_at bytes = if nat_le 15 (length bytes) && (starts_with nat_eq bytes (codes "ORGJ") && (slice_index bytes 5 == 0 && slice_index bytes 6 == 0)) then (do
-  version ← version_at (slice_index bytes 4)
-  text ← counted_at (drop 7 bytes)
-  Some (version, text.0))
+header_at bytes =
+    if nat_le 15 (length bytes)
+    && (starts_with nat_eq bytes (codes "ORGJ")
+    && (slice_index bytes 5 == 0 && slice_index bytes 6 == 0))
+    then (do
+      version ← version_at (slice_index bytes 4)
+      text ← counted_at (drop 7 bytes)
+      Some (version, text.0))
     else None
 
 -- the record whose bytes a journal has behind its gate

@@ -1,4 +1,5 @@
--- What a record is, and its bytes in the two versions of the journal's format. All numbers are big-endian.
+-- What a record is, and its bytes in the two versions of the journal's format. All numbers are
+-- big-endian.
 use Rattle.std.specs.Prelude.{◌≡◌, ℕ, ◌≤◌, Bool, true, not, ◌&&◌, IsTrue, IsUtf8, List, [], ◌∷◌, ◌++◌, length, codes}
 use Rattle.std.specs.List.{flat_map, list_any, AllByRecursion}
 use Rattle.std.specs.Str.{bytes_eq}
@@ -24,14 +25,20 @@ patch_bytes patch = big_bytes 8 patch.from ++ counted_bytes patch.bytes
 
 -- version 1 writes the file's final length into the patch, of which an entry has one
 abbrev pub old_patch_bytes : ℕ → Patch → List ℕ
-old_patch_bytes final patch = big_bytes 8 patch.from ++ (big_bytes 8 final ++ counted_bytes patch.bytes)
+old_patch_bytes final patch =
+    big_bytes 8 patch.from ++ (big_bytes 8 final ++ counted_bytes patch.bytes)
 
 abbrev pub entry_bytes : Version → Entry → List ℕ
-entry_bytes One entry = name_bytes entry.name ++ flat_map (old_patch_bytes entry.length) entry.patches
-entry_bytes Two entry = name_bytes entry.name ++ (big_bytes 8 entry.length ++ (big_bytes 4 (length entry.patches) ++ flat_map patch_bytes entry.patches))
+entry_bytes One entry =
+    name_bytes entry.name ++ flat_map (old_patch_bytes entry.length) entry.patches
+entry_bytes Two entry =
+    name_bytes entry.name
+    ++ (big_bytes 8 entry.length
+    ++ (big_bytes 4 (length entry.patches) ++ flat_map patch_bytes entry.patches))
 
 abbrev pub record_bytes : Version → List Entry → List ℕ
-record_bytes version entries = big_bytes 4 (length entries) ++ flat_map (entry_bytes version) entries
+record_bytes version entries =
+    big_bytes 4 (length entries) ++ flat_map (entry_bytes version) entries
 
 abbrev pub version_number : Version → ℕ
 version_number One = 1
@@ -43,7 +50,8 @@ header_bytes version size = codes "ORGJ" ++ version_number version ∷ 0 ∷ 0 �
 
 -- the journal's bytes behind the gate
 abbrev pub journal_bytes : Version → List Entry → List ℕ
-journal_bytes version entries = header_bytes version (length (record_bytes version entries)) ++ record_bytes version entries
+journal_bytes version entries =
+    header_bytes version (length (record_bytes version entries)) ++ record_bytes version entries
 
 -- What has such bytes
 

@@ -1,5 +1,5 @@
--- What an image of a disk recovers to: with an open gate, what the journal's record makes of the files; else the files
--- themselves. And when a disk is recoverable.
+-- What an image of a disk recovers to: with an open gate, what the journal's record makes of the
+-- files; else the files themselves. And when a disk is recoverable.
 use Rattle.std.specs.Prelude.{◌≡◌, ◌≢◌, ◌⊎◌, ℕ, Bool, true, ◌&&◌, IsTrue, IsFalse, nat_le, max, List, [], ◌∷◌, length, drop, Option, Some, None, IsSomeAnd, if◌then◌else◌}
 use Rattle.std.specs.List.{list_all}
 use Rattle.std.specs.Str.{bytes_eq}
@@ -19,21 +19,26 @@ Image = List ℕ → List ℕ
 -- no patch begins behind both the end of a text of this size and the end of the patch before
 abbrev pub begins_within : (size place : ℕ) → List (ℕ × List ℕ) → Bool
 begins_within size place [] = true
-begins_within size place (patch ∷ patches) = nat_le patch.0 (max size place) && begins_within size (end_of patch) patches
+begins_within size place (patch ∷ patches) =
+    nat_le patch.0 (max size place) && begins_within size (end_of patch) patches
 
 -- the patches and the final length fit a text of this size
 abbrev pub fits : List (ℕ × List ℕ) → (final size : ℕ) → Bool
-fits patches final size = begins_within size 0 patches && nat_le final (max size (last_end 0 patches))
+fits patches final size =
+    begins_within size 0 patches && nat_le final (max size (last_end 0 patches))
 
 -- each entry fits its file
 abbrev pub all_fit : List Entry → Image → Bool
-all_fit entries image = list_all (λ entry. fits (pairs_of entry.patches) entry.length (length (image entry.name))) entries
+all_fit entries image =
+    list_all (λ entry. fits (pairs_of entry.patches) entry.length
+    (length (image entry.name))) entries
 
 -- the files that entries make of these: each has its patches applied to it
 abbrev pub replayed : List Entry → Image → Image
 replayed [] image name = image name
 replayed (entry ∷ entries) image name =
-    if bytes_eq entry.name name then patched (pairs_of entry.patches) entry.length (image name) else replayed entries image name
+    if bytes_eq entry.name name then patched (pairs_of entry.patches) entry.length (image name)
+    else replayed entries image name
 
 -- what an image recovers to; nothing where its journal is bad
 abbrev pub recovered : Image → Option Image
@@ -54,14 +59,15 @@ RecoversTo files image = IsSomeAnd (recovered image) (λ found. SameFiles found 
 abbrev pub contents : (List ℕ → FileState) → Image
 contents files name = (files name).content
 
--- a journal on the disk with an open gate and a record; the files that it does not name are on the disk too, and
--- whatever a crash leaves of the others, it recovers to the same files
+-- a journal on the disk with an open gate and a record; the files that it does not name are on the
+-- disk too, and whatever a crash leaves of the others, it recovers to the same files
 pub record IsArmed (files : List ℕ → FileState) : Type 0 where
   pub stable : IsStable (files journal_name)
   pub opened : IsTrue (is_open (files journal_name).content)
   pub entries : List Entry
   pub found : journal_at (drop 1 (files journal_name).content) ≡ Some entries
-  pub others : (name : List ℕ) → name ≢ journal_name → IsFalse (is_named name entries) → IsStable (files name)
+  pub others : (name : List ℕ) → name ≢ journal_name → IsFalse (is_named name entries)
+      → IsStable (files name)
   pub texts : Image
   pub same : (image : Image) → AreImages files image → RecoversTo texts image
 
@@ -69,6 +75,7 @@ pub record IsArmed (files : List ℕ → FileState) : Type 0 where
 abbrev pub OthersStable : (List ℕ → FileState) → Type 0
 OthersStable files = (name : List ℕ) → name ≢ journal_name → IsStable (files name)
 
--- Recoverable: all files but the journal are on the disk, or a record is being applied to them under an open gate.
+-- Recoverable: all files but the journal are on the disk, or a record is being applied to them
+-- under an open gate.
 abbrev pub IsRecoverable : (List ℕ → FileState) → Type 0
 IsRecoverable files = OthersStable files ⊎ IsArmed files

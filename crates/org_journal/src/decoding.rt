@@ -147,9 +147,9 @@ fn record_of(alloc: Global, bytes: &[u8]) -> Result<Record, RecordFault>
     Ok(Record::new(entries))
 }
 
-/// The record whose bytes stand at the front of these, which are a journal's bytes behind its gate. `Malformed` comes
-/// exactly where they don't begin with a well-formed record's bytes, in either version; memory is wanted only where
-/// they do.
+/// The record whose bytes stand at the front of these, which are a journal's bytes behind its gate.
+/// `Malformed` comes exactly where they don't begin with a well-formed record's bytes, in either
+/// version; memory is wanted only where they do.
 pub fn decode(alloc: Global, bytes: &[u8]) -> Result<Record, RecordFault>
     ensures found { IfOk result (λ entries. BeginsWith bytes.now entries) }
     ensures only { (entries : List Entry) → BeginsWith bytes.now entries

@@ -95,8 +95,8 @@ fn name_at(bytes: &[u8]) -> Option<(&str, &[u8])>
     }
 }
 
-// Whether a patch may follow one that ends at `place`, in a file of this final size. Only a patch that stands alone
-// may be empty.
+// Whether a patch may follow one that ends at `place`, in a file of this final size. Only a patch
+// that stands alone may be empty.
 fn may_follow(place: u64, size: u64, alone: bool, from: u64, count: u64) -> bool
     ensures { result ≡ may_follow place size alone from count }
 {

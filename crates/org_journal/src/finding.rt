@@ -21,8 +21,8 @@ use org_disk::{Disk, DiskFault, FileName};
 use org_splice::Patch;
 use std::alloc::Global;
 
-/// How many bytes stand in front of a record: the gate, and the header behind it. A journal that is shorter has a closed
-/// gate.
+/// How many bytes stand in front of a record: the gate, and the header behind it. A journal that is
+/// shorter has a closed gate.
 pub const FRONT: u64 = 16;
 
 /// What stands in a journal.
@@ -51,7 +51,8 @@ fn size_of<D: Disk>(disk: &mut D, journal: &FileName) -> Result<Option<u64>, Fin
     size_in(&header, length)
 }
 
-// The size of the record that the header of a journal of this many bytes gives, and nothing where the gate is closed.
+// The size of the record that the header of a journal of this many bytes gives, and nothing where
+// the gate is closed.
 fn size_in(header: &[u8], total: u64) -> Result<Option<u64>, FindFault>
     requires header { length header.now ≡ front_size }
     requires total { front_size ≤ total }
@@ -149,11 +150,11 @@ fn all_fit<D: Disk>(disk: &mut D, entries: &[Entry]) -> Result<bool, DiskFault>
     Ok(true)
 }
 
-/// Looks at the journal, and changes nothing. `Armed` comes exactly where the gate is open and a well-formed record
-/// that fits its files stands behind it, with that record; `Closed` exactly where the gate is closed; else
-/// `BadJournal`. In their place `Device` comes where a call of the disk failed, and `OutOfMemory` where memory was
-/// refused. Memory is taken only where the gate is open and the journal is long enough for the size that its
-/// header gives.
+/// Looks at the journal, and changes nothing. `Armed` comes exactly where the gate is open and a
+/// well-formed record that fits its files stands behind it, with that record; `Closed` exactly
+/// where the gate is closed; else `BadJournal`. In their place `Device` comes where a call of the
+/// disk failed, and `OutOfMemory` where memory was refused. Memory is taken only where the gate is
+/// open and the journal is long enough for the size that its header gives.
 pub fn find<D: Disk>(alloc: Global, disk: &mut D, journal: &FileName) -> Result<Found, FindFault>
     requires { journal.now ≡ journal_name }
     ensures found { D.honest disk.new → Finds (contents (D.files disk.old)) result }

@@ -1,5 +1,5 @@
-//! The writes of the journal, in the order that lets a crash at any moment leave it whole: while its bytes are written
-//! the gate is closed on the disk, and the gate alone opens and closes it.
+//! The writes of the journal, in the order that lets a crash at any moment leave it whole: while
+//! its bytes are written the gate is closed on the disk, and the gate alone opens and closes it.
 ghost use Rattle.std.specs.Prelude.{◌≤◌, ◌<◌, length, drop, ◌∷◌, OnOk, IsErr, IsTrue, is_some};
 ghost use Rattle.org_splice.specs.Overwritten.{overwritten};
 ghost use Rattle.org_disk.specs.Disk.{IsStable};
@@ -14,8 +14,8 @@ const CLOSED: u8 = 0;
 /// The first byte of a journal whose gate is open.
 pub(crate) const OPEN: u8 = 1;
 
-/// Gives a journal that is shorter than a header its gate, closed. At every moment the gate is closed, also where the
-/// call fails.
+/// Gives a journal that is shorter than a header its gate, closed. At every moment the gate is
+/// closed, also where the call fails.
 pub fn prepare<D: Disk>(disk: &mut D, journal: &FileName) -> Result<(), DiskFault>
     requires stable { D.honest disk.old → IsStable (D.files disk.old journal.now) }
     requires short { D.honest disk.old → length (D.files disk.old journal.now).content <
@@ -30,8 +30,8 @@ pub fn prepare<D: Disk>(disk: &mut D, journal: &FileName) -> Result<(), DiskFaul
     set_gate(disk, journal, CLOSED)
 }
 
-/// Puts a record's bytes behind the closed gate, on the disk. At every moment the gate is closed, also where the call
-/// fails; bytes that stood behind the new ones stay.
+/// Puts a record's bytes behind the closed gate, on the disk. At every moment the gate is closed,
+/// also where the call fails; bytes that stood behind the new ones stay.
 pub fn arm<D: Disk>(disk: &mut D, journal: &FileName, body: &[u8]) -> Result<(), DiskFault>
     requires { D.honest disk.old → HasClosedGate (D.files disk.old journal.now) }
     ensures any_moment { D.honest disk.new → PassesOver D.moment D.left_since disk.old disk.new
@@ -45,8 +45,8 @@ pub fn arm<D: Disk>(disk: &mut D, journal: &FileName, body: &[u8]) -> Result<(),
     disk.sync(journal)
 }
 
-/// Opens the gate, on the disk. Where a record stands behind it, the journal is open then. At every moment the journal
-/// differs from what it was at its first byte alone, also where the call fails.
+/// Opens the gate, on the disk. Where a record stands behind it, the journal is open then. At every
+/// moment the journal differs from what it was at its first byte alone, also where the call fails.
 pub fn open_gate<D: Disk>(disk: &mut D, journal: &FileName) -> Result<(), DiskFault>
     requires { D.honest disk.old → IsStable (D.files disk.old journal.now) }
     ensures any_moment { D.honest disk.new → PassesOver D.moment D.left_since disk.old disk.new
@@ -62,8 +62,8 @@ pub fn open_gate<D: Disk>(disk: &mut D, journal: &FileName) -> Result<(), DiskFa
     set_gate(disk, journal, OPEN)
 }
 
-/// Closes the gate, on the disk. At every moment the journal differs from what it was at its first byte alone, also
-/// where the call fails.
+/// Closes the gate, on the disk. At every moment the journal differs from what it was at its first
+/// byte alone, also where the call fails.
 pub fn close_gate<D: Disk>(disk: &mut D, journal: &FileName) -> Result<(), DiskFault>
     requires stable { D.honest disk.old → IsStable (D.files disk.old journal.now) }
     requires nonempty { D.honest disk.old → 1 ≤ length (D.files disk.old journal.now).content }

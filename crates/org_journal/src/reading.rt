@@ -1,4 +1,5 @@
-//! Whether bytes are those of a record. Nothing here takes memory: what is read is looked at and passed over.
+//! Whether bytes are those of a record. Nothing here takes memory: what is read is looked at and
+//! passed over.
 ghost use Rattle.std.specs.Prelude.{◌≡◌, ◌↔◌, ◌==◌, List, Some, IfSome, IsTrue, is_some};
 ghost use Rattle.org_journal.specs.Record.{is_named, names_differ, BeginsWith};
 ghost use Rattle.org_journal.specs.declared.record.Entry.{Entry};
@@ -144,8 +145,8 @@ fn is_journal(bytes: &[u8]) -> bool
     }
 }
 
-/// Whether the bytes behind a journal's gate begin with those of a well-formed record, in either version. Takes no
-/// memory.
+/// Whether the bytes behind a journal's gate begin with those of a well-formed record, in either
+/// version. Takes no memory.
 pub fn well_formed(bytes: &[u8]) -> bool
     ensures record { IsTrue result ↔ ((entries : List Entry) × BeginsWith bytes.now entries) }
     ensures exact { result ≡ is_some (journal_at bytes.now) }

@@ -82,7 +82,8 @@ impl Record {
 /// The version of a journal's format.
 #[derive(Clone, Copy)]
 pub enum Version {
-    /// An entry has one patch, and its file at most 16,777,216 bytes. It is read, and never written.
+    /// An entry has one patch, and its file at most 16,777,216 bytes. It is read, and never
+    /// written.
     One,
     /// An entry has up to 1,000 patches, and its file at most 67,108,864 bytes.
     Two,

@@ -359,7 +359,8 @@ property_is_line name value is says = by_test (length value == 0)
 pub tested_line : (b : ℕ) (l : List ℕ) → eqb b 42 ≡ false → list_all (λ b. not (eqb b 10)) (b ∷ l) ≡ true → SectionLine (b ∷ l)
 tested_line b l other all = record { flat = tested (b ∷ l) all; begins = record { first = b; others = l; is = refl; other = other } }
 
--- ---- a section whose planning changes: what holds of lines that may stand in it, and of its lines, holds of all
+-- ---- a section whose planning changes: what holds of lines that may stand in it, and of its
+-- lines, holds of all
 
 module _ (P : List ℕ → Type 0) (flat : (l : List ℕ) → P l → Flat l) (own : (l : List ℕ) → SectionLine l → P l) where
   all_own : (ls : List (List ℕ)) → AllByRecursion SectionLine ls → AllByRecursion P ls

@@ -1,5 +1,5 @@
--- Clocking in and out: the drawer of clock lines, the line that opens a clock, and the one that is closed (Org Syntax,
--- "Drawers", "Clocks"; Org manual, "Clocking commands").
+-- Clocking in and out: the drawer of clock lines, the line that opens a clock, and the one that is
+-- closed (Org Syntax, "Drawers", "Clocks"; Org manual, "Clocking commands").
 use Rattle.std.specs.Prelude.{◌≡◌, ℕ, Bool, ◌&&◌, if◌then◌else◌, Option, None, Some, Result, MatchResult, Ok, Err, List, [], ◌∷◌, ◌++◌, codes, take}
 use Rattle.std.specs.List.{list_any}
 use Rattle.std.specs.Option.{option_map, unwrap_or}
@@ -24,8 +24,8 @@ clock_line now = codes "CLOCK: " ++ moment_text now
 abbrev pub is_logbook : List ℕ → Bool
 is_logbook l = is_mark (codes ":LOGBOOK:") l
 
--- a line first in the LOGBOOK drawer, where the lines have one: it begins at the first `:LOGBOOK:` that has a later
--- `:END:`
+-- a line first in the LOGBOOK drawer, where the lines have one: it begins at the first `:LOGBOOK:`
+-- that has a later `:END:`
 abbrev pub in_logbook : List ℕ → List (List ℕ) → Option (List (List ℕ))
 in_logbook line [] = None
 in_logbook line (l ∷ ls) =
@@ -43,15 +43,18 @@ opened now parts = record parts { rest = logged (clock_line now) parts.rest }
 
 -- what takes the place of all that follows the first stamp of an open clock line
 abbrev pub closing_text : CivilMinute → ℕ → List ℕ
-closing_text now minutes = codes "--" ++ (moment_text now ++ (codes " => " ++ duration_text minutes 2))
+closing_text now minutes =
+    codes "--" ++ (moment_text now ++ (codes " => " ++ duration_text minutes 2))
 
--- an open clock line that runs for so many minutes, closed; none where the moment is before its start
+-- an open clock line that runs for so many minutes, closed; none where the moment is before its
+-- start
 abbrev pub closed_after : CivilMinute → List ℕ → Option ℕ → Result (List ℕ) ClockFault
 closed_after now head (Some minutes) = Ok (head ++ closing_text now minutes)
 closed_after now head None = Err ClockBackwards
 
 abbrev pub closed_clock : CivilMinute → List ℕ → Option Running → Result (List ℕ) ClockFault
-closed_clock now line (Some running) = closed_after now (take running.head line) (minutes_between running.start now)
+closed_clock now line (Some running) =
+    closed_after now (take running.head line) (minutes_between running.start now)
 closed_clock now line None = Ok line
 
 -- the line, closed where it is an open clock, unless the moment is before its start
@@ -65,15 +68,19 @@ minutes_run now line = running_clock line >>= λ running. minutes_between runnin
 -- The edit closes the open clock line at the span, and all other lines stay.
 abbrev pub Closes : CivilMinute → List ℕ → Span → Edit → Type 0
 Closes now section span edit =
-    (before : List (List ℕ)) (line : List ℕ) (after : List (List ℕ)) → IsOpenAt section span before line after
-    → MatchResult (closed_line now line) (λ closed. Gives edit section (before ++ (closed ∷ after))) (λ fault. ⊥)
+    (before : List (List ℕ)) (line : List ℕ) (after : List (List ℕ))
+    → IsOpenAt section span before line after
+    → MatchResult (closed_line now line) (λ closed. Gives edit section (before ++ (closed ∷ after)))
+    (λ fault. ⊥)
 
 -- why a line isn't closed: it can't be, or it can, and memory was refused
 abbrev pub IsWhyNot : Result (List ℕ) ClockFault → ClockFault → Type 0
 IsWhyNot closed OutOfMemory = (new : List ℕ) × (closed ≡ Ok new)
 IsWhyNot closed ClockBackwards = closed ≡ Err ClockBackwards
 
--- The open clock line at the span isn't closed: the moment is before its start, or it isn't, and memory was refused.
+-- The open clock line at the span isn't closed: the moment is before its start, or it isn't, and
+-- memory was refused.
 abbrev pub ClosesNot : CivilMinute → List ℕ → Span → ClockFault → Type 0
 ClosesNot now section span fault =
-    (before : List (List ℕ)) (line : List ℕ) (after : List (List ℕ)) → IsOpenAt section span before line after → IsWhyNot (closed_line now line) fault
+    (before : List (List ℕ)) (line : List ℕ) (after : List (List ℕ))
+    → IsOpenAt section span before line after → IsWhyNot (closed_line now line) fault

@@ -1,5 +1,5 @@
--- Clock lines: what they say, their total, and the first that is open (Org Syntax, "Clocks"; Org manual, "Clocking
--- Work Time").
+-- Clock lines: what they say, their total, and the first that is open (Org Syntax, "Clocks"; Org
+-- manual, "Clocking Work Time").
 use Rattle.std.specs.Prelude.{◌≡◌, ℕ, ◌+◌, ◌-◌, min, ◌==◌, nat_eq, Bool, true, false, not, ◌&&◌, if◌then◌else◌, ℤ, pos, negsuc, ◌-ℤ◌, Option, None, Some, is_some, List, [], ◌∷◌, ◌++◌, codes, length, take, drop}
 use Rattle.std.specs.List.{starts_with, position, sum_by}
 use Rattle.std.specs.Option.{option_map, option_map_or}
@@ -23,7 +23,8 @@ is_clock_stamp s = not s.active && has_one_time s.time && not (has_cookies s)
 
 -- where the stamp at the front of the bytes starts, and the number of its bytes
 abbrev pub clock_stamp_at : List ℕ → Option (CivilMinute × ℕ)
-clock_stamp_at text = stamp_at text >>= λ r. if is_clock_stamp r.0 then Some (start_of r.0, r.1) else None
+clock_stamp_at text =
+    stamp_at text >>= λ r. if is_clock_stamp r.0 then Some (start_of r.0, r.1) else None
 
 -- at least one byte passes, and those behind them
 abbrev pub behind_some : (ℕ → Bool) → List ℕ → Option (List ℕ)
@@ -34,7 +35,8 @@ behind_some test text = if is_passing test text then Some (behind test text) els
 
 -- what follows the mark
 abbrev pub behind_mark : List ℕ → List ℕ → Option (List ℕ)
-behind_mark mark text = if starts_with nat_eq text mark then Some (drop (length mark) text) else None
+behind_mark mark text =
+    if starts_with nat_eq text mark then Some (drop (length mark) text) else None
 
 -- a colon and two digits
 abbrev pub are_minutes : List ℕ → Bool
@@ -44,7 +46,10 @@ are_minutes text = false
 -- what follows blanks, `=>`, blanks and digits
 abbrev pub behind_hours : List ℕ → Option (List ℕ)
 behind_hours text =
-    behind_some is_blank text >>= λ arrow. behind_mark (codes "=>") arrow >>= λ gap. behind_some is_blank gap >>= λ hours. behind_some is_ascii_digit hours
+    behind_some is_blank text >>= λ arrow.
+    behind_mark (codes "=>") arrow >>= λ gap.
+    behind_some is_blank gap >>= λ hours.
+    behind_some is_ascii_digit hours
 
 -- blanks, `=>`, blanks, digits, a colon and two digits; what they say doesn't count
 abbrev pub is_duration : List ℕ → Bool
@@ -57,7 +62,8 @@ minutes_between first second = if_not_negative (minutes_of second -ℤ minutes_o
   if_not_negative (pos n) = Some n
   if_not_negative (negsuc n) = None
 
--- the minutes of a clock that `--`, a second stamp that isn't before the first, and a duration close
+-- the minutes of a clock that `--`, a second stamp that isn't before the first, and a duration
+-- close
 abbrev pub closed_minutes : CivilMinute → List ℕ → Option ℕ
 closed_minutes start text =
     behind_mark (codes "--") text >>= λ second. clock_stamp_at second >>= λ end.
@@ -66,13 +72,17 @@ closed_minutes start text =
 -- what follows the first stamp of a clock line: nothing, or what closes it
 abbrev pub clock_from : CivilMinute → ℕ → List ℕ → Option Clock
 clock_from start head text =
-    if length text == 0 then Some (Open (record { start = start; head = head })) else (closed_minutes start text >>= λ minutes. Some (Closed minutes))
+    if length text == 0 then Some (Open (record { start = start; head = head }))
+    else (closed_minutes start text >>= λ minutes. Some (Closed minutes))
 
--- the clock of a line: `CLOCK:`, blanks, a stamp and what follows it; blanks round the line don't count
+-- the clock of a line: `CLOCK:`, blanks, a stamp and what follows it; blanks round the line don't
+-- count
 abbrev pub clock_of : List ℕ → Option Clock
 clock_of line =
     let body = trimmed_end line in
-    behind_mark (codes "CLOCK:") (behind is_blank body) >>= λ after. behind_some is_blank after >>= λ text. clock_stamp_at text >>= λ start.
+    behind_mark (codes "CLOCK:") (behind is_blank body) >>= λ after.
+    behind_some is_blank after >>= λ text.
+    clock_stamp_at text >>= λ start.
     clock_from start.0 (length body - length text + start.1) (drop start.1 text)
 
 -- how many bytes of its line an open clock takes up to the end of its stamp
@@ -106,14 +116,19 @@ total lines = min (sum_by minutes_in lines) 18_446_744_073_709_551_615
 
 -- where line i stands, its newline included
 abbrev pub line_span : List (List ℕ) → ℕ → Span
-line_span lines i = record { start = length (print_lines (take i lines)); end = length (print_lines (take (i + 1) lines)) }
+line_span lines i =
+    record {
+      start = length (print_lines (take i lines));
+      end = length (print_lines (take (i + 1) lines));
+    }
 
 -- the first open clock line
 abbrev pub open_line : List (List ℕ) → Option Span
 open_line lines = option_map (line_span lines) (position is_open lines)
 
 -- The line is an open clock behind the lines `before`, and the span is its own.
-pub record IsOpenAt (section : List ℕ) (span : Span) (before : List (List ℕ)) (line : List ℕ) (after : List (List ℕ)) : Type 0 where
+pub record IsOpenAt (section : List ℕ) (span : Span) (before : List (List ℕ)) (line : List ℕ)
+    (after : List (List ℕ)) : Type 0 where
   pub lines : lines_of section ≡ before ++ (line ∷ after)
   pub start : span.start ≡ length (print_lines before)
   pub end : span.end ≡ length (print_lines before) + length line + 1

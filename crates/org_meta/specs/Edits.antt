@@ -21,9 +21,10 @@ pub record ChangesNothing (e : Edit) : Type 0 where
   pub removed : e.removed ≡ 0
   pub bytes : e.bytes ≡ []
 
--- The place is in the text: the lines `before` come before it, and a line put there takes the place of the lines `old`.
--- With the line put there, the text has the lines that `result` says.
-pub record IsPlaceFor (result : List ℕ → List (List ℕ)) (text : List ℕ) (place : Place) : Type 0 where
+-- The place is in the text: the lines `before` come before it, and a line put there takes the place
+-- of the lines `old`. With the line put there, the text has the lines that `result` says.
+pub record IsPlaceFor (result : List ℕ → List (List ℕ)) (text : List ℕ) (place : Place)
+    : Type 0 where
   pub before : List (List ℕ)
   pub old : List (List ℕ)
   pub after : List (List ℕ)

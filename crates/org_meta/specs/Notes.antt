@@ -10,7 +10,8 @@ quoted state = 34 ∷ (state ++ (34 ∷ replicate (10 - length state) 32))
 
 -- `- State "DONE"       from "TODO"       [stamp]`
 abbrev pub note_line : List ℕ → List ℕ → CivilMinute → List ℕ
-note_line new old now = codes "- State " ++ (quoted new ++ (codes " from " ++ (quoted old ++ (32 ∷ moment_text now))))
+note_line new old now =
+    codes "- State " ++ (quoted new ++ (codes " from " ++ (quoted old ++ (32 ∷ moment_text now))))
 
 -- a line before the rest
 abbrev pub with_note : List ℕ → SectionParts → SectionParts

@@ -1,4 +1,5 @@
--- Planning lines (Org Syntax, "Planning"; Org manual, "Deadlines and Scheduling", "Closing items", "Repeated tasks").
+-- Planning lines (Org Syntax, "Planning"; Org manual, "Deadlines and Scheduling", "Closing items",
+-- "Repeated tasks").
 use Rattle.std.specs.Prelude.{◌≡◌, ℕ, zero, suc, nat_le, nat_eq, Bool, true, false, not, ◌&&◌, if◌then◌else◌, MatchBool, MatchResult, Option, None, Some, Result, Ok, Err, List, [], ◌∷◌, ◌++◌, codes, count_by, length, take, drop}
 use Rattle.std.specs.List.{starts_with, list_all, list_any}
 use Rattle.std.specs.Option.{option_map_or}
@@ -48,7 +49,16 @@ entry_at text =
     let bytes = behind is_blank inner in
     stamp_at bytes >>= λ r.
     let tail = drop r.1 bytes in
-    Some (record { word = word; gap = front is_blank inner; stamp = r.0; text = take r.1 bytes; after = front is_blank tail }, behind is_blank tail)
+    Some (
+      record {
+        word = word;
+        gap = front is_blank inner;
+        stamp = r.0;
+        text = take r.1 bytes;
+        after = front is_blank tail;
+      },
+      behind is_blank tail,
+    )
 
 -- up to n entries, and the blanks at the line's end
 abbrev pub entries_at : ℕ → List ℕ → Option (List PlanningEntry × List ℕ)
@@ -76,11 +86,14 @@ pub record PlanningLine : Type 0 where
   -- from a carriage return on
   pub tail : List ℕ
 
--- a well formed planning line: at most three entries, since each word stands at most once. An odd line says nothing.
+-- a well formed planning line: at most three entries, since each word stands at most once. An odd
+-- line says nothing.
 abbrev pub planning_of : List ℕ → Option PlanningLine
 planning_of line =
     entries_at 3 (behind is_blank line) >>= λ es.
-    if each_once es.0 then Some (record { indentation = front is_blank line; entries = es.0; tail = es.1 }) else None
+    if each_once es.0
+    then Some (record { indentation = front is_blank line; entries = es.0; tail = es.1 })
+    else None
 
 -- ---- edits
 
@@ -110,7 +123,8 @@ has_others entries = list_any (λ e. not (is_closed e)) entries
 
 -- without its CLOSED entry; a line left without entries goes whole
 abbrev pub without_closed : PlanningLine → List (List ℕ)
-without_closed p = if has_others p.entries then (p.indentation ++ (kept_text p.entries ++ p.tail)) ∷ [] else []
+without_closed p =
+    if has_others p.entries then (p.indentation ++ (kept_text p.entries ++ p.tail)) ∷ [] else []
 
 -- `CLOSED:` and the moment's stamp
 abbrev pub closed_text : CivilMinute → List ℕ
@@ -118,14 +132,20 @@ closed_text now = codes "CLOSED: " ++ moment_text now
 
 -- with that CLOSED entry first, in the place of the one that it has
 abbrev pub with_closed : CivilMinute → PlanningLine → List ℕ
-with_closed now p = if has_others p.entries then p.indentation ++ (closed_text now ++ (32 ∷ (kept_text p.entries ++ p.tail))) else closed_text now
+with_closed now p =
+    if has_others p.entries
+    then p.indentation ++ (closed_text now ++ (32 ∷ (kept_text p.entries ++ p.tail)))
+    else closed_text now
 
--- the parts with another planning, made of theirs, unless it is odd; `none` is what takes the place of no planning
-abbrev pub replanned_line : (PlanningLine → List (List ℕ)) → SectionParts → Option PlanningLine → Result SectionParts PlanningFault
+-- the parts with another planning, made of theirs, unless it is odd; `none` is what takes the place
+-- of no planning
+abbrev pub replanned_line : (PlanningLine → List (List ℕ)) → SectionParts → Option PlanningLine
+    → Result SectionParts PlanningFault
 replanned_line some parts None = Err OddPlanning
 replanned_line some parts (Some p) = Ok (record parts { planning = some p })
 
-abbrev pub replanned : List (List ℕ) → (PlanningLine → List (List ℕ)) → SectionParts → List (List ℕ) → Result SectionParts PlanningFault
+abbrev pub replanned : List (List ℕ) → (PlanningLine → List (List ℕ)) → SectionParts → List (List ℕ)
+    → Result SectionParts PlanningFault
 replanned none some parts [] = Ok (record parts { planning = none })
 replanned none some parts (l ∷ ls) = replanned_line some parts (planning_of l)
 
@@ -140,7 +160,8 @@ clear_closed parts = replanned [] without_closed parts parts.planning
 
 -- one that turns done has that of the moment
 abbrev pub set_closed : CivilMinute → SectionParts → Result SectionParts PlanningFault
-set_closed now parts = replanned (closed_text now ∷ []) (λ p. with_closed now p ∷ []) parts parts.planning
+set_closed now parts =
+    replanned (closed_text now ∷ []) (λ p. with_closed now p ∷ []) parts parts.planning
 
 -- ---- repetition
 
@@ -163,12 +184,15 @@ abbrev pub behind_text : List ℕ → Result (List ℕ) PlanningFault → Result
 behind_text text (Ok more) = Ok (text ++ more)
 behind_text text (Err fault) = Err fault
 
--- the text of one entry at its next repetition, or the fault; what doesn't repeat stays, and CLOSED goes
+-- the text of one entry at its next repetition, or the fault; what doesn't repeat stays, and CLOSED
+-- goes
 abbrev pub IsRepeatedEntry : PlanningEntry → CivilMinute → Result (List ℕ) PlanningFault → Type 0
 IsRepeatedEntry e now r =
     MatchBool (is_closed e) (r ≡ Ok [])
     (MatchBool (is_repeating e)
-    ((q : Result StampValue RepeatFault) × IsRepeated e.stamp now q × MatchResult q (λ s. r ≡ Ok (entry_with e s)) (λ fault. r ≡ Err (fault_of fault)))
+    ((q : Result StampValue RepeatFault)
+    × IsRepeated e.stamp now q
+    × MatchResult q (λ s. r ≡ Ok (entry_with e s)) (λ fault. r ≡ Err (fault_of fault)))
     (r ≡ Ok (entry_text e)))
 
 -- the texts of all, or the first fault
@@ -176,16 +200,22 @@ abbrev pub AreRepeated : List PlanningEntry → CivilMinute → Result (List ℕ
 AreRepeated [] now r = r ≡ Ok []
 AreRepeated (e ∷ es) now r =
     (first : Result (List ℕ) PlanningFault) × IsRepeatedEntry e now first
-    × MatchResult first (λ text. (more : Result (List ℕ) PlanningFault) × AreRepeated es now more × (r ≡ behind_text text more)) (λ fault. r ≡ Err fault)
+    × MatchResult first
+    (λ text. (more : Result (List ℕ) PlanningFault)
+    × AreRepeated es now more
+    × (r ≡ behind_text text more))
+    (λ fault. r ≡ Err fault)
 
 -- ---- the same, computed
 
 abbrev pub repeated_entry : CivilMinute → PlanningEntry → Result (List ℕ) PlanningFault
 repeated_entry now e =
     if is_closed e then Ok []
-    else (if is_repeating e then result_map_both (entry_with e) fault_of (repeated e.stamp now) else Ok (entry_text e))
+    else (if is_repeating e then result_map_both (entry_with e) fault_of (repeated e.stamp now)
+    else Ok (entry_text e))
 
-abbrev pub behind_first : Result (List ℕ) PlanningFault → Result (List ℕ) PlanningFault → Result (List ℕ) PlanningFault
+abbrev pub behind_first : Result (List ℕ) PlanningFault → Result (List ℕ) PlanningFault
+    → Result (List ℕ) PlanningFault
 behind_first (Ok text) more = behind_text text more
 behind_first (Err fault) more = Err fault
 

@@ -25,7 +25,8 @@ pub record PutsRepeated (e : PlanningEntry) (now : CivilMinute) (old new : List 
   pub bytes : new ≡ old ++ text
 
 -- and those of all entries
-pub record PutsAllRepeated (es : List PlanningEntry) (now : CivilMinute) (old new : List ℕ) : Type 0 where
+pub record PutsAllRepeated (es : List PlanningEntry) (now : CivilMinute) (old new : List ℕ)
+    : Type 0 where
   pub text : List ℕ
   pub are : AreRepeated es now (Ok text)
   pub bytes : new ≡ old ++ text
@@ -37,10 +38,12 @@ repeated_line p text = p.indentation ++ (text ++ p.tail)
 -- no stamp of the planning repeats
 abbrev pub HasNoRepeater : List (List ℕ) → Type 0
 HasNoRepeater [] = Unit {0}
-HasNoRepeater (l ∷ ls) = (p : PlanningLine) × (planning_of l ≡ Some p) × (has_repeater p.entries ≡ false)
+HasNoRepeater (l ∷ ls) =
+    (p : PlanningLine) × (planning_of l ≡ Some p) × (has_repeater p.entries ≡ false)
 
 -- The edit gives the section with this planning line repeated.
-pub record GivesRepeatedLine (now : CivilMinute) (parts : SectionParts) (section : List ℕ) (edit : Edit) (line : List ℕ) : Type 0 where
+pub record GivesRepeatedLine (now : CivilMinute) (parts : SectionParts) (section : List ℕ)
+    (edit : Edit) (line : List ℕ) : Type 0 where
   pub planning : PlanningLine
   pub text : List ℕ
   pub well_formed : planning_of line ≡ Some planning
@@ -61,4 +64,8 @@ GivesRepeated now parts section (Some edit) = GivesRepeatedIn now parts section 
 abbrev pub FaultRepeated : CivilMinute → List (List ℕ) → PlanningFault → Type 0
 FaultRepeated now [] fault = ⊥
 FaultRepeated now (l ∷ ls) fault =
-    ((fault ≡ OddPlanning) × (planning_of l ≡ None)) ⊎ ((p : PlanningLine) × (planning_of l ≡ Some p) × (has_repeater p.entries ≡ true) × AreRepeated p.entries now (Err fault))
+    ((fault ≡ OddPlanning) × (planning_of l ≡ None))
+    ⊎ ((p : PlanningLine)
+    × (planning_of l ≡ Some p)
+    × (has_repeater p.entries ≡ true)
+    × AreRepeated p.entries now (Err fault))

@@ -1,5 +1,5 @@
--- The own lines of a heading below its heading line: planning, property drawer and the rest (Org Syntax, "Headings",
--- "Planning", "Property Drawers", "Node Properties").
+-- The own lines of a heading below its heading line: planning, property drawer and the rest (Org
+-- Syntax, "Headings", "Planning", "Property Drawers", "Node Properties").
 use Rattle.std.specs.Prelude.{◌≡◌, ℕ, suc, ◌-◌, nat_eq, nat_le, ◌==◌, Bool, not, ◌&&◌, ◌||◌, if◌then◌else◌, Option, None, Some, is_some, List, [], ◌∷◌, ◌++◌, codes, length, slice_index, take, drop}
 use Rattle.std.specs.Str.{str_eq_ignore_ascii_case}
 use Rattle.std.specs.List.{starts_with, list_all}
@@ -21,7 +21,9 @@ pub record SectionParts : Type 0 where
 abbrev pub is_planning : List ℕ → Bool
 is_planning l =
     let body = behind is_blank l in
-    starts_with nat_eq body (codes "CLOSED:") || starts_with nat_eq body (codes "DEADLINE:") || starts_with nat_eq body (codes "SCHEDULED:")
+    starts_with nat_eq body (codes "CLOSED:")
+    || starts_with nat_eq body (codes "DEADLINE:")
+    || starts_with nat_eq body (codes "SCHEDULED:")
 
 -- the line is this mark; blanks round it and ASCII case don't count
 abbrev pub is_mark : List ℕ → List ℕ → Bool
@@ -39,14 +41,18 @@ pub record NodeProperty : Type 0 where
 
 -- a colon, a nonempty name and a colon
 abbrev pub is_name_run : List ℕ → Bool
-is_name_run run = nat_le 3 (length run) && slice_index run 0 == 58 && slice_index run (length run - 1) == 58
+is_name_run run =
+    nat_le 3 (length run) && slice_index run 0 == 58 && slice_index run (length run - 1) == 58
 
 -- `:NAME:`, then nothing or blanks and a value
 abbrev pub property_of : List ℕ → Option NodeProperty
 property_of l =
     let run = front is_solid (trimmed l) in
     if is_name_run run
-    then Some (record { name = take (length run - 2) (drop 1 run); value = behind is_blank (behind is_solid (trimmed l)) })
+    then Some (record {
+      name = take (length run - 2) (drop 1 run);
+      value = behind is_blank (behind is_solid (trimmed l));
+    })
     else None
 
 -- ---- the three parts
@@ -56,7 +62,8 @@ abbrev pub planning_size : List (List ℕ) → ℕ
 planning_size [] = 0
 planning_size (l ∷ ls) = if is_planning l then 1 else 0
 
--- how many lines there are up to the first `:END:`, itself counted, where only property lines come before it
+-- how many lines there are up to the first `:END:`, itself counted, where only property lines come
+-- before it
 abbrev pub size_to_end : List (List ℕ) → Option ℕ
 size_to_end [] = None
 size_to_end (l ∷ ls) =
@@ -109,7 +116,10 @@ value_before_end name (l ∷ ls) =
 
 -- a name that a property can have: bytes that aren't blank, and not END in any case
 abbrev pub is_property_name : List ℕ → Bool
-is_property_name name = not (length name == 0) && list_all is_solid name && not (str_eq_ignore_ascii_case name (codes "END"))
+is_property_name name =
+    not (length name == 0)
+    && list_all is_solid name
+    && not (str_eq_ignore_ascii_case name (codes "END"))
 
 -- the value of the drawer's first property of that name
 abbrev pub property : List ℕ → SectionParts → Option (List ℕ)
@@ -133,4 +143,5 @@ put_in_drawer name line [] = codes ":PROPERTIES:" ∷ line ∷ codes ":END:" ∷
 put_in_drawer name line (start ∷ ls) = start ∷ put_before_end name line ls
 
 abbrev pub put : List ℕ → List ℕ → SectionParts → SectionParts
-put name value parts = record parts { drawer = put_in_drawer name (property_line name value) parts.drawer }
+put name value parts =
+    record parts { drawer = put_in_drawer name (property_line name value) parts.drawer }

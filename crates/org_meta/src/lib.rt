@@ -1,5 +1,5 @@
-//! What stands below a heading: planning, properties and clocks (Org Syntax, "Headings", "Planning",
-//! "Property Drawers"; Org manual, "Clocking Work Time", "Repeated tasks").
+//! What stands below a heading: planning, properties and clocks (Org Syntax, "Headings",
+//! "Planning", "Property Drawers"; Org manual, "Clocking Work Time", "Repeated tasks").
 #![tactic(auto)]
 
 mod clock;

@@ -6,7 +6,8 @@ use crate::texts::push_all;
 use org_stamp::{Moment, Stamp};
 use std::alloc::{AllocError, Global};
 
-/// The moment as an inactive timestamp with its time, as `[2026-07-01 Wed 10:00]`, between two texts.
+/// The moment as an inactive timestamp with its time, as `[2026-07-01 Wed 10:00]`, between two
+/// texts.
 pub(crate) fn push_moment(
     out: &mut Vec<u8>,
     before: &[u8],

@@ -32,8 +32,8 @@ fn push_note(out: &mut Vec<u8>, new: &[u8], old: &[u8], now: Moment) -> Result<(
 }
 
 /// The edit that puts the note of a repetition first into the rest of the section (Org manual,
-/// "Repeated tasks"): `- State`, the new state, `from`, the old one, each in quotes and padded to 12
-/// columns, and the moment. A heading without a state has the empty one.
+/// "Repeated tasks"): `- State`, the new state, `from`, the old one, each in quotes and padded to
+/// 12 columns, and the moment. A heading without a state has the empty one.
 pub fn add_note(
     alloc: Global,
     section: &[u8],

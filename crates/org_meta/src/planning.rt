@@ -212,8 +212,8 @@ fn nothing(alloc: Global) -> Edit
     }
 }
 
-/// The edit that puts these bytes in the place of the planning line, or before the drawer where there
-/// is none.
+/// The edit that puts these bytes in the place of the planning line, or before the drawer where
+/// there is none.
 fn replacing(line: &[u8], bytes: Vec<u8>) -> Edit
     ensures { result ≡ record { at = 0; removed = length line.now; bytes = bytes.items } }
 {
@@ -224,9 +224,9 @@ fn replacing(line: &[u8], bytes: Vec<u8>) -> Edit
     }
 }
 
-/// The edit that takes the CLOSED entry away, with the blanks behind it; a planning line left without
-/// entries goes whole. Where there is none, the edit changes nothing. OddPlanning where the planning
-/// line isn't well formed (Org Syntax, "Planning").
+/// The edit that takes the CLOSED entry away, with the blanks behind it; a planning line left
+/// without entries goes whole. Where there is none, the edit changes nothing. OddPlanning where the
+/// planning line isn't well formed (Org Syntax, "Planning").
 pub fn clear_closed(alloc: Global, section: &[u8]) -> Result<Edit, PlanningFault>
     requires { terminated section.now ≡ section.now }
     ensures ok { IfOk result (GivesOk (clear_closed (parts_of section.now)) section.now) }
@@ -245,9 +245,9 @@ pub fn clear_closed(alloc: Global, section: &[u8]) -> Result<Edit, PlanningFault
     Ok(replacing(line, without_closed(alloc, &planning)?))
 }
 
-/// The edit that puts `CLOSED: [stamp]` first in the planning line, in the place of the CLOSED entry
-/// that it has, or as a new planning line (Org manual, "Closing items"). OddPlanning where the planning
-/// line isn't well formed.
+/// The edit that puts `CLOSED: [stamp]` first in the planning line, in the place of the CLOSED
+/// entry that it has, or as a new planning line (Org manual, "Closing items"). OddPlanning where
+/// the planning line isn't well formed.
 pub fn set_closed(alloc: Global, section: &[u8], now: Moment) -> Result<Edit, PlanningFault>
     requires { terminated section.now ≡ section.now }
     ensures ok { IfOk result (GivesOk (set_closed now (parts_of section.now)) section.now) }
@@ -262,8 +262,9 @@ pub fn set_closed(alloc: Global, section: &[u8], now: Moment) -> Result<Edit, Pl
 }
 
 /// The edit that repeats each SCHEDULED or DEADLINE stamp that has a repeater, and takes the CLOSED
-/// entry away (Org manual, "Repeated tasks"); None where no stamp repeats. OddPlanning where the planning
-/// line isn't well formed; else BadRepeat or DateRange, of several faults the first entry's.
+/// entry away (Org manual, "Repeated tasks"); None where no stamp repeats. OddPlanning where the
+/// planning line isn't well formed; else BadRepeat or DateRange, of several faults the first
+/// entry's.
 pub fn repeat_planning(
     alloc: Global,
     section: &[u8],

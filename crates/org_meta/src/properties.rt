@@ -91,8 +91,8 @@ fn property_bytes(
 }
 
 /// The edit that puts a property into the section (Org manual, "Property Syntax"): its line in the
-/// place of the first of that name, or before the `:END:` of the drawer, or in a new drawer below the
-/// planning line. What is put is read again where the name is nonblank bytes and not END.
+/// place of the first of that name, or before the `:END:` of the drawer, or in a new drawer below
+/// the planning line. What is put is read again where the name is nonblank bytes and not END.
 pub fn put_property(
     alloc: Global,
     section: &[u8],

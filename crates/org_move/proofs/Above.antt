@@ -93,7 +93,8 @@ walk_end d name node next w is = sym (w.value ∙ ap (λ o. last_value name d (w
 
 -- ---- what the ancestors have
 
--- a walk from a node up that has come to `next`, and has read `found` of the ancestors below it, the lowest first
+-- a walk from a node up that has come to `next`, and has read `found` of the ancestors below it,
+-- the lowest first
 pub record Climb (d : Document) (f : ℕ → List ℕ) (node : ℕ) (next : Option ℕ) (found : List (Bor (List ℕ))) : Type 0 where
   pub within : ForSome next (λ i. i < node_count d)
   pub same : map f (ancestors_of d node) ≡ map f (way_over d next) ++ map (λ (text : Bor (List ℕ)). text.now) (reverse found)

@@ -1,5 +1,5 @@
--- What archiving keeps: documents are valid, and each node is there as often, but for the entry's own section and for the
--- heading that is made.
+-- What archiving keeps: documents are valid, and each node is there as often, but for the entry's
+-- own section and for the heading that is made.
 use Rattle.std.proofs.Common.{◌≡◌, ℕ, zero, suc, ◌+◌, ◌<◌, ◌≤◌, List, [], ◌∷◌, length, Bool, true, false, Option, Some, None, Ok, Err, refl, sym, ap, subst, ◌∙◌, arith, inl, inr}
 use Rattle.std.specs.Prelude.{◌≢◌, ◌==◌, Result, if◌then◌else◌, filter, slice_get, slice_set}
 use Rattle.std.specs.List.{AllByRecursion}

@@ -1,4 +1,5 @@
--- The pieces between the newlines of a text are its lines, and an empty one behind a newline at the end.
+-- The pieces between the newlines of a text are its lines, and an empty one behind a newline at the
+-- end.
 use Rattle.std.proofs.Common.{◌≡◌, ℕ, true, false, eqb, cond, Bool, List, [], ◌∷◌, ◌++◌, refl, sym, ap, ◌∙◌, inl, inr}
 use Rattle.std.specs.Prelude.{if◌then◌else◌}
 use Rattle.std.specs.List.{find, slice_split, onto_first}

@@ -1,4 +1,5 @@
--- The values of an archived entry's properties hold no newline, nor does the title of its place, and its section is one still.
+-- The values of an archived entry's properties hold no newline, nor does the title of its place,
+-- and its section is one still.
 use Rattle.std.proofs.Common.{◌≡◌, ℕ, zero, suc, ◌-◌, ◌/◌, Bool, true, false, eqb, not, ◌&&◌, List, [], ◌∷◌, ◌++◌, length, take, drop, map, get_or, refl, sym, subst, ◌∙◌, arith, inl, inr, Option, None, Some, Ok, Err}
 use Rattle.std.specs.Prelude.{◌≢◌, codes, if◌then◌else◌, ◌==◌, is_some, Result}
 use Rattle.std.specs.List.{AllByRecursion, find, flat_map, join_with_byte, list_all, list_any, onto_first, slice_split}

@@ -6,13 +6,16 @@ use Rattle.org_move.specs.declared.fault.MoveFault.{MoveFault}
 use Rattle.org_move.specs.Location.{Destination}
 use Rattle.org_move.specs.declared.fault.MoveFault.TheVariants.{NoSuchFile, OutOfMemory}
 
--- what was made fits the value that is defined; a fault is the one that is defined, or want of memory where a value is
-abbrev pub Gives : {A B : Type 0} → Result B MoveFault → (B → A → Type 0) → Result A MoveFault → Type 0
+-- what was made fits the value that is defined; a fault is the one that is defined, or want of
+-- memory where a value is
+abbrev pub Gives : {A B : Type 0} → Result B MoveFault → (B → A → Type 0) → Result A MoveFault
+    → Type 0
 Gives {A} {B} defined Fits (Ok made) = (value : B) × (defined ≡ Ok value) × Fits value made
 Gives {A} {B} defined Fits (Err OutOfMemory) = IsOk defined
 Gives {A} {B} defined Fits (Err fault) = defined ≡ Err fault
 
--- the same, of the place to which a subtree goes; but memory may be wanted before it is known that no file has the name
+-- the same, of the place to which a subtree goes; but memory may be wanted before it is known that
+-- no file has the name
 abbrev pub GivesPlace : Result Destination MoveFault → Result Destination MoveFault → Type 0
 GivesPlace defined (Ok made) = defined ≡ Ok made
 GivesPlace defined (Err OutOfMemory) = IfErr defined (λ fault. fault ≡ NoSuchFile)

@@ -1,4 +1,5 @@
--- An archived subtree: the properties that its root gets, and where it is put (Org manual, "Moving a tree to an archive file").
+-- An archived subtree: the properties that its root gets, and where it is put (Org manual, "Moving
+-- a tree to an archive file").
 use Rattle.std.specs.Prelude.{ℕ, ◌==◌, nat_eq, if◌then◌else◌, Option, None, Some, Result, Ok, Err, List, [], ◌∷◌, ◌++◌, codes, filter, length, take, ◌-◌, ◌+◌}
 use Rattle.std.specs.List.{ends_with, join_with_byte}
 use Rattle.std.specs.Option.{unwrap_or}
@@ -23,11 +24,13 @@ use Rattle.org_move.specs.Refile.{Moved, fault_of, is_inside, with_found}
 
 -- the moment as `2026-07-01 Wed 10:00`
 abbrev pub time_text : CivilMinute → List ℕ
-time_text now = date_text now.day ++ (32 ∷ day_name (weekday_of now.day)) ++ (32 ∷ clock_text now.minute)
+time_text now =
+    date_text now.day ++ (32 ∷ day_name (weekday_of now.day)) ++ (32 ∷ clock_text now.minute)
 
 -- a file's name without `.org`
 abbrev pub without_org : List ℕ → List ℕ
-without_org name = if ends_with nat_eq name (codes ".org") then take (length name - 4) name else name
+without_org name =
+    if ends_with nat_eq name (codes ".org") then take (length name - 4) name else name
 
 -- the nearest CATEGORY, or the file's name
 abbrev pub category_of : List ℕ → Document → ℕ → List ℕ
@@ -70,17 +73,21 @@ archived_section states name now d i =
     joined (put_each (archive_properties states name now d i) (split (node_at d i).node.section))
 
 abbrev pub archived : Keywords → List ℕ → CivilMinute → Document → ℕ → Node
-archived states name now d i = record (node_at d i).node { section = archived_section states name now d i }
+archived states name now d i =
+    record (node_at d i).node { section = archived_section states name now d i }
 
 -- ---- the heading that it goes below
 
--- the one heading of that level and title, at any place, if there is one; at the top level there is none
+-- the one heading of that level and title, at any place, if there is one; at the top level there is
+-- none
 abbrev pub target_heading : Keywords → Destination → Document → Result (Option ℕ) PathFault
 target_heading states to d =
     if to.level == 0 then Ok None
-    else one_or_none (filter (λ i. (node_at d i).node.level == to.level) (titled_nodes states to.title 0 (nodes d)))
+    else one_or_none (filter (λ i. (node_at d i).node.level == to.level)
+    (titled_nodes states to.title 0 (nodes d)))
 
--- a node put last below the heading; where there is none, last at top level, or below the heading made at the end
+-- a node put last below the heading; where there is none, last at top level, or below the heading
+-- made at the end
 abbrev pub put_last : Destination → Option ℕ → Node → Document → Document
 put_last to (Some p) node d = insert (Some p) Last node d
 put_last to None node d =
@@ -97,26 +104,37 @@ filled to None node =
 -- ---- archiving
 
 -- what is made with the heading of a destination, and the fault where there are several
-abbrev pub with_heading : {A : Type 0} → Result (Option ℕ) PathFault → (Option ℕ → Result A MoveFault) → Result A MoveFault
+abbrev pub with_heading : {A : Type 0} → Result (Option ℕ) PathFault
+    → (Option ℕ → Result A MoveFault) → Result A MoveFault
 with_heading (Ok up) make = make up
 with_heading (Err fault) make = Err (fault_of fault)
 
--- what is made where the heading at the destination, if it is there, neither lies in the entry nor above it
+-- what is made where the heading at the destination, if it is there, neither lies in the entry nor
+-- above it
 abbrev pub if_apart : {A : Type 0} → Document → ℕ → Option ℕ → A → Result A MoveFault
 if_apart d i None new = Ok new
 if_apart d i (Some p) new =
-    if is_inside d i p then Err InsideItself else (if is_inside d p i then Err AlreadyArchive else Ok new)
+    if is_inside d i p then Err InsideItself
+    else (if is_inside d p i then Err AlreadyArchive else Ok new)
 
--- archiving within a document, the text of the file of this name: the heading at `path` goes to the destination
-abbrev pub archive_within : Keywords → List ℕ → List (List ℕ) → CivilMinute → Destination → Document → Result Document MoveFault
+-- archiving within a document, the text of the file of this name: the heading at `path` goes to the
+-- destination
+abbrev pub archive_within : Keywords → List ℕ → List (List ℕ) → CivilMinute → Destination → Document
+    → Result Document MoveFault
 archive_within states name path now to d =
     with_found (find_path states d path) (λ i.
     with_heading (target_heading states to d) (λ up.
-    if_apart d i up (put_last to (parent_without i (size_of d i) up) (archived states name now d i) (take_out i d))))
+    if_apart d i up
+    (put_last to (parent_without i (size_of d i) up) (archived states name now d i)
+    (take_out i d))))
 
 -- archiving into another document, the text of the destination's file
-abbrev pub archive_across : Keywords → List ℕ → List (List ℕ) → CivilMinute → Document → Keywords → Destination → Document → Result Moved MoveFault
+abbrev pub archive_across : Keywords → List ℕ → List (List ℕ) → CivilMinute → Document → Keywords
+    → Destination → Document → Result Moved MoveFault
 archive_across states name path now source there to target =
     with_found (find_path states source path) (λ i.
     with_heading (target_heading there to target) (λ up.
-    Ok (record { source = take_out i source; target = put_last to up (archived states name now source i) target })))
+    Ok (record {
+      source = take_out i source;
+      target = put_last to up (archived states name now source i) target;
+    })))

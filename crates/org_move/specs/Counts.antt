@@ -1,5 +1,5 @@
--- How often a node is there, by its heading line without the stars and by the lines of its section (Org Syntax, "Headings",
--- "Sections").
+-- How often a node is there, by its heading line without the stars and by the lines of its section
+-- (Org Syntax, "Headings", "Sections").
 use Rattle.std.specs.Prelude.{ℕ, ◌==◌, ◌&&◌, if◌then◌else◌, List, [], ◌∷◌, Option, None, Some}
 use Rattle.std.specs.List.{sum_by}
 use Rattle.std.specs.Str.{bytes_eq}
@@ -19,7 +19,8 @@ count_in rest section d = weigh (λ r s. one_of rest section r s) d.forest
 -- what the heading counts that is made for an archived entry, where `up` is the one that is there
 abbrev pub made_count : List ℕ → List (List ℕ) → Destination → Option ℕ → ℕ
 made_count rest section to (Some up) = 0
-made_count rest section to None = if to.level == 0 then 0 else one_of rest section (32 ∷ to.title) []
+made_count rest section to None =
+    if to.level == 0 then 0 else one_of rest section (32 ∷ to.title) []
 
 -- how many nodes of all files have them, where these are the files' texts
 abbrev pub count_over : List ℕ → List (List ℕ) → List (List ℕ) → ℕ

@@ -5,7 +5,8 @@ use Rattle.org_outline.specs.Tree.{Document, Node, node_at, print_node}
 
 -- the print of a document loses the subtree of node i
 abbrev pub removal : ℕ → Document → Edit
-removal i d = record { at = (node_at d i).at; removed = length (print_node (node_at d i).node); bytes = [] }
+removal i d =
+    record { at = (node_at d i).at; removed = length (print_node (node_at d i).node); bytes = [] }
 
 -- a text gains the print of a node at a byte
 abbrev pub insertion : ℕ → Node → Edit

@@ -1,5 +1,5 @@
--- What an archived entry has of the headings above it (Org manual, "Moving a tree to an archive file", "Property Inheritance",
--- "Tag Inheritance").
+-- What an archived entry has of the headings above it (Org manual, "Moving a tree to an archive
+-- file", "Property Inheritance", "Tag Inheritance").
 use Rattle.std.specs.Prelude.{ℕ, ◌==◌, Bool, not, if◌then◌else◌, Option, None, Some, List, [], ◌∷◌, ◌++◌, map, filter, length}
 use Rattle.std.specs.List.{list_any, flat_map, slice_split}
 use Rattle.std.specs.Option.{option_and_then, option_or}
@@ -27,7 +27,8 @@ abbrev pub last_value : List ℕ → Document → List ℕ → Option (List ℕ)
 last_value name d [] = None
 last_value name d (i ∷ is) = option_or (last_value name d is) (own_value name d i)
 
--- the nearest nonempty value of a property: the heading's own, or that of an ancestor, the innermost first
+-- the nearest nonempty value of a property: the heading's own, or that of an ancestor, the
+-- innermost first
 abbrev pub nearest : List ℕ → Document → ℕ → Option (List ℕ)
 nearest name d i = last_value name d (ancestors_of d i ++ i ∷ [])
 
@@ -39,7 +40,8 @@ titles_above states d i = map (λ up. title_of states (node_at d up).node.rest) 
 
 -- their tags, each heading's as `:a:b:`
 abbrev pub tags_above : Keywords → Document → ℕ → List (List ℕ)
-tags_above states d i = map (λ up. (parts_of states (node_at d up).node.rest).tags) (ancestors_of d i)
+tags_above states d i =
+    map (λ up. (parts_of states (node_at d up).node.rest).tags) (ancestors_of d i)
 
 abbrev pub is_colon : ℕ → Bool
 is_colon b = b == 58
@@ -54,7 +56,9 @@ tag_list tags = nonempty_only (slice_split is_colon tags)
 -- each text only where it comes first, where those of `seen` came before
 abbrev pub first_ones : List (List ℕ) → List (List ℕ) → List (List ℕ)
 first_ones seen [] = []
-first_ones seen (x ∷ xs) = if list_any (λ y. bytes_eq y x) seen then first_ones seen xs else x ∷ first_ones (seen ++ x ∷ []) xs
+first_ones seen (x ∷ xs) =
+    if list_any (λ y. bytes_eq y x) seen then first_ones seen xs
+    else x ∷ first_ones (seen ++ x ∷ []) xs
 
 -- those that are there, with those of others that are new
 abbrev pub with_first : List (List ℕ) → List (List ℕ) → List (List ℕ)

@@ -1,4 +1,5 @@
--- Where an archived subtree goes (Org manual, "Moving a tree to an archive file"; Org Syntax, "Keywords").
+-- Where an archived subtree goes (Org manual, "Moving a tree to an archive file"; Org Syntax,
+-- "Keywords").
 use Rattle.std.specs.Prelude.{ℕ, nat_lt, ◌==◌, Bool, ◌&&◌, if◌then◌else◌, List, [], ◌∷◌, ◌++◌, codes, length, take, drop, Option, None, Some, Result, Ok, Err}
 use Rattle.std.specs.Borrow.{Bor}
 use Rattle.std.specs.List.{find}
@@ -17,7 +18,8 @@ use Rattle.org_move.specs.declared.fault.MoveFault.TheVariants.{AlreadyArchive, 
 use Rattle.org_move.specs.Inherited.{nonempty, nearest}
 use Rattle.org_move.specs.Refile.{with_found}
 
--- a file, and the heading in it below which the subtree goes; at level 0 there is none, and it goes to the top level
+-- a file, and the heading in it below which the subtree goes; at level 0 there is none, and it goes
+-- to the top level
 pub record Destination : Type 0 where
   pub file : List ℕ
   pub level : ℕ
@@ -37,10 +39,12 @@ value_behind l = trimmed (drop 10 (behind is_blank l))
 abbrev pub value_of_lines : List (List ℕ) → Option (List ℕ)
 value_of_lines ls = option_and_then (λ l. nonempty (value_behind l)) (find is_archive_line ls)
 
--- the value that counts for a heading of a text: that of the nearest property, of the text's line, or the default
+-- the value that counts for a heading of a text: that of the nearest property, of the text's line,
+-- or the default
 abbrev pub value_for : List ℕ → ℕ → List ℕ
 value_for text i =
-    unwrap_or (option_or (nearest (codes "ARCHIVE") (tree text) i) (value_of_lines (lines_of text))) (codes "%s_archive::")
+    unwrap_or (option_or (nearest (codes "ARCHIVE") (tree text) i) (value_of_lines (lines_of text)))
+    (codes "%s_archive::")
 
 -- ---- what a value says
 
@@ -56,13 +60,15 @@ abbrev pub halves_of : List ℕ → Option Halves
 halves_of [] = None
 halves_of (b ∷ []) = None
 halves_of (b ∷ c ∷ bs) =
-    if b == 58 && c == 58 then Some (record { file = []; heading = bs }) else option_map (with_byte b) (halves_of (c ∷ bs))
+    if b == 58 && c == 58 then Some (record { file = []; heading = bs })
+    else option_map (with_byte b) (halves_of (c ∷ bs))
 
 -- with a file's name in the place of each `%s`
 abbrev pub with_name : List ℕ → List ℕ → List ℕ
 with_name name [] = []
 with_name name (b ∷ []) = b ∷ []
-with_name name (b ∷ c ∷ bs) = if b == 37 && c == 115 then name ++ with_name name bs else b ∷ with_name name (c ∷ bs)
+with_name name (b ∷ c ∷ bs) =
+    if b == 37 && c == 115 then name ++ with_name name bs else b ∷ with_name name (c ∷ bs)
 
 -- an empty part is the same file
 abbrev pub file_named : List ℕ → List ℕ → List ℕ
@@ -76,7 +82,10 @@ pub record Heading : Type 0 where
 -- a title alone: nonempty, without keyword, priority and tags
 abbrev pub is_title_alone : Parts → Bool
 is_title_alone parts =
-    length parts.keyword == 0 && length parts.priority == 0 && length parts.tags == 0 && nat_lt 0 (length parts.title)
+    length parts.keyword == 0
+    && length parts.priority == 0
+    && length parts.tags == 0
+    && nat_lt 0 (length parts.title)
 
 -- the two as the code has them
 abbrev pub halves_made : Bor (List ℕ) × Bor (List ℕ) → Halves
@@ -99,7 +108,13 @@ heading_of states (b ∷ bs) = option_and_then (titled_line states (b ∷ bs)) (
 -- the destination that a value names in the file of this name, if it names one
 abbrev pub location_of : Keywords → List ℕ → List ℕ → Option Destination
 location_of states name value =
-    option_and_then (λ halves. option_map (λ heading. let to : Destination = record { file = file_named name halves.file; level = heading.level; title = heading.title } in to) (heading_of states halves.heading)) (halves_of value)
+    option_and_then (λ halves. option_map (λ heading. let to : Destination = record {
+      file = file_named name halves.file;
+      level = heading.level;
+      title = heading.title;
+    } in to)
+    (heading_of states halves.heading))
+    (halves_of value)
 
 -- one whose file has a name that a file can have
 abbrev pub with_file : Destination → Result Destination MoveFault
@@ -114,4 +129,5 @@ and_file (Some to) = with_file to
 abbrev pub location : Keywords → List ℕ → List (List ℕ) → List ℕ → Result Destination MoveFault
 location states name path text =
     with_found (find_path states (tree text) path) (λ i.
-    if is_archive_name name then Err AlreadyArchive else and_file (location_of states name (value_for text i)))
+    if is_archive_name name then Err AlreadyArchive
+    else and_file (location_of states name (value_for text i)))

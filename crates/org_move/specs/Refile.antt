@@ -1,4 +1,5 @@
--- A subtree made a child of another heading, of its own document or of another one (Org manual, "Refile and Copy").
+-- A subtree made a child of another heading, of its own document or of another one (Org manual,
+-- "Refile and Copy").
 use Rattle.std.specs.Prelude.{ℕ, ◌+◌, nat_le, nat_lt, Bool, ◌&&◌, if◌then◌else◌, List, Some, Result, Ok, Err}
 use Rattle.org_move.specs.declared.fault.MoveFault.{MoveFault}
 use Rattle.org_move.specs.declared.fault.MoveFault.TheVariants.{NotFound, NotUnique, InsideItself}
@@ -17,7 +18,8 @@ fault_of path.NotFound = NotFound
 fault_of path.NotUnique = NotUnique
 
 -- what is made of the heading at a path, and the fault where there is none
-abbrev pub with_found : {A : Type 0} → Result ℕ PathFault → (ℕ → Result A MoveFault) → Result A MoveFault
+abbrev pub with_found : {A : Type 0} → Result ℕ PathFault → (ℕ → Result A MoveFault)
+    → Result A MoveFault
 with_found (Ok i) make = make i
 with_found (Err fault) make = Err (fault_of fault)
 
@@ -25,12 +27,15 @@ with_found (Err fault) make = Err (fault_of fault)
 abbrev pub is_inside : Document → ℕ → ℕ → Bool
 is_inside d top i = nat_le top i && nat_lt i (top + size_of d top)
 
--- the subtree of heading i taken out, and then put below heading p, which isn't inside it: both are numbers of d
+-- the subtree of heading i taken out, and then put below heading p, which isn't inside it: both are
+-- numbers of d
 abbrev pub moved : ℕ → ℕ → Place → Document → Document
-moved i p place d = insert (parent_without i (size_of d i) (Some p)) place (node_at d i).node (take i d)
+moved i p place d =
+    insert (parent_without i (size_of d i) (Some p)) place (node_at d i).node (take i d)
 
 -- refiling within a document: the heading at `path` goes below the one at `to`
-abbrev pub refile_within : Keywords → List (List ℕ) → List (List ℕ) → Place → Document → Result Document MoveFault
+abbrev pub refile_within : Keywords → List (List ℕ) → List (List ℕ) → Place → Document
+    → Result Document MoveFault
 refile_within states path to place d =
     with_found (find_path states d path) (λ i.
     with_found (find_path states d to) (λ p.
@@ -41,9 +46,14 @@ pub record Moved : Type 0 where
   pub source : Document
   pub target : Document
 
--- refiling into another document: the heading at `path` of the source goes below the one at `to` of the target
-abbrev pub refile_across : Keywords → List (List ℕ) → Document → Keywords → List (List ℕ) → Document → Place → Result Moved MoveFault
+-- refiling into another document: the heading at `path` of the source goes below the one at `to` of
+-- the target
+abbrev pub refile_across : Keywords → List (List ℕ) → Document → Keywords → List (List ℕ) → Document
+    → Place → Result Moved MoveFault
 refile_across states path source there to target place =
     with_found (find_path states source path) (λ i.
     with_found (find_path there target to) (λ p.
-    Ok (record { source = take i source; target = insert (Some p) place (node_at source i).node target })))
+    Ok (record {
+      source = take i source;
+      target = insert (Some p) place (node_at source i).node target;
+    })))

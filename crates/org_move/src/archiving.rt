@@ -23,8 +23,8 @@ use org_splice::{Bytes, Edit};
 use org_stamp::Moment;
 use std::alloc::Global;
 
-/// The byte at which a subtree goes in last below a heading, and the level of that heading; with none, the end of the
-/// text.
+/// The byte at which a subtree goes in last below a heading, and the level of that heading; with
+/// none, the end of the text.
 fn last_below(outline: &Outline<'_>, up: Option<Node>) -> (usize, Option<usize>)
     requires { ForSome up (λ up. up < node_count (tree outline.now.text)) }
     ensures place { let d = tree outline.now.text in (to : Destination) (node : NodeOf)
@@ -87,14 +87,15 @@ fn insertion(at: usize, bytes: Vec<u8>) -> Edit
     }
 }
 
-/// The edits of two texts by which the subtree at `path` of the source, the text of the file with this name, is archived
-/// in the target, the text of the location's file (Org manual, "Moving a tree to an archive file"): the first one takes
-/// it out of the source, and the second one puts it into the target, last below the location's heading, which is made
-/// at the end where it isn't there, or last at the top level. Its root gets the properties ARCHIVE_TIME, ARCHIVE_FILE,
+/// The edits of two texts by which the subtree at `path` of the source, the text of the file with
+/// this name, is archived in the target, the text of the location's file (Org manual, "Moving a
+/// tree to an archive file"): the first one takes it out of the source, and the second one puts it
+/// into the target, last below the location's heading, which is made at the end where it isn't
+/// there, or last at the top level. Its root gets the properties ARCHIVE_TIME, ARCHIVE_FILE,
 /// ARCHIVE_OLPATH, ARCHIVE_CATEGORY, ARCHIVE_TODO and ARCHIVE_ITAGS.
 ///
-/// # Errors
-/// In this order: `NotFound` or `NotUnique` of `path`, `NotUnique` of the location's heading, and `OutOfMemory`.
+/// # Errors In this order: `NotFound` or `NotUnique` of `path`, `NotUnique` of the location's
+/// heading, and `OutOfMemory`.
 pub fn archive(
     alloc: Global,
     source: &Outline<'_>,
@@ -119,15 +120,15 @@ pub fn archive(
     Ok((without(alloc, source, node), goes_in))
 }
 
-/// The edits, to be made in this order, by which the subtree at `path` of the text of the file with this name is
-/// archived in the same text (Org manual, "Moving a tree to an archive file"): the first one takes it out, and the
-/// second one puts it in, at a byte of the text that the first one leaves, last below the location's heading, which is
-/// made at the end where it isn't there, or last at the top level. Its root gets the properties of an archived entry, as
-/// by `archive`.
+/// The edits, to be made in this order, by which the subtree at `path` of the text of the file with
+/// this name is archived in the same text (Org manual, "Moving a tree to an archive file"): the
+/// first one takes it out, and the second one puts it in, at a byte of the text that the first one
+/// leaves, last below the location's heading, which is made at the end where it isn't there, or
+/// last at the top level. Its root gets the properties of an archived entry, as by `archive`.
 ///
-/// # Errors
-/// In this order: `NotFound` or `NotUnique` of `path`, `NotUnique` of the location's heading, `InsideItself` where that
-/// heading lies in the subtree, `AlreadyArchive` where the subtree lies below it, and `OutOfMemory`.
+/// # Errors In this order: `NotFound` or `NotUnique` of `path`, `NotUnique` of the location's
+/// heading, `InsideItself` where that heading lies in the subtree, `AlreadyArchive` where the
+/// subtree lies below it, and `OutOfMemory`.
 pub fn archive_within(
     alloc: Global,
     outline: &Outline<'_>,

@@ -3,8 +3,9 @@ use org_disk::FileName;
 use org_splice::Bytes;
 use std::marker::Model;
 
-/// Where an archived subtree goes: a file, and the heading in it below which the subtree is put, which need not be
-/// there; or the file's top level (Org manual, "Moving a tree to an archive file").
+/// Where an archived subtree goes: a file, and the heading in it below which the subtree is put,
+/// which need not be there; or the file's top level (Org manual, "Moving a tree to an archive
+/// file").
 #[derive(Drop)]
 pub struct Location {
     pub(crate) file: FileName,

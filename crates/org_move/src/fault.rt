@@ -15,7 +15,8 @@ pub enum MoveFault {
     /// The heading that the subtree is to go below lies in the subtree.
     #[error("inside itself")]
     InsideItself,
-    /// The entry is archived already: its file is an archive file, or it lies below the heading to which it would go.
+    /// The entry is archived already: its file is an archive file, or it lies below the heading to
+    /// which it would go.
     #[error("already archived")]
     AlreadyArchive,
     /// The text that says where an entry goes names no place.

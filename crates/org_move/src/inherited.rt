@@ -26,8 +26,8 @@ fn own_value<'a>(outline: &Outline<'a>, node: Node, name: &[u8]) -> Option<&'a [
     nonempty(property(&outline.text()[span.start..span.end], name)?)
 }
 
-/// The nearest nonempty value of a property: the heading's own, or that of an ancestor, the innermost first (Org
-/// manual, "Property Inheritance"). Takes no memory.
+/// The nearest nonempty value of a property: the heading's own, or that of an ancestor, the
+/// innermost first (Org manual, "Property Inheritance"). Takes no memory.
 pub(crate) fn nearest<'a>(outline: &Outline<'a>, node: Node, name: &[u8]) -> Option<&'a [u8]>
     requires { node < node_count (tree outline.now.text) }
     ensures { option_map (λ value. value.now) result
@@ -43,7 +43,8 @@ pub(crate) fn nearest<'a>(outline: &Outline<'a>, node: Node, name: &[u8]) -> Opt
     None
 }
 
-/// The titles and the tags of the headings above an entry, outermost first. A heading's tags are `:a:b:`, or empty.
+/// The titles and the tags of the headings above an entry, outermost first. A heading's tags are
+/// `:a:b:`, or empty.
 #[derive(Drop)]
 pub(crate) struct Above<'a> {
     pub titles: Vec<&'a [u8]>,

@@ -1,4 +1,5 @@
-//! What refiling and archiving keep, for all values: each law is the contract of a function with nothing to do.
+//! What refiling and archiving keep, for all values: each law is the contract of a function with
+//! nothing to do.
 ghost use Rattle.std.specs.Prelude.{◌≡◌, ◌≢◌, ℕ, ◌+◌, List, Ok, Option, Some, slice_get, slice_set};
 ghost use Rattle.org_splice.specs.Lines.{IsLine};
 ghost use Rattle.org_stamp.specs.Calendar.{CivilMinute};
@@ -22,7 +23,8 @@ pub fn refiles_are_valid()
         → IsValid source → IsValid target → IsValid new.source × IsValid new.target }
 {}
 
-/// Refiling keeps how often each node is there: none is lost, none doubled, and none changed but in its level.
+/// Refiling keeps how often each node is there: none is lost, none doubled, and none changed but in
+/// its level.
 pub fn refiles_keep_counts()
     ensures within { (states : Keywords) (path to : List (List ℕ)) (place : Place)
         (d new : Document)
@@ -51,8 +53,8 @@ pub fn refiles_keep_counts()
         ≡ count_over rest section texts }
 {}
 
-/// Archiving keeps documents valid, so that each is the tree of its print, where the file's name and the title of the
-/// place are lines; and so is the title of each place that a text names.
+/// Archiving keeps documents valid, so that each is the tree of its print, where the file's name
+/// and the title of the place are lines; and so is the title of each place that a text names.
 pub fn archives_are_valid()
     ensures within { (states : Keywords) (name : List ℕ) (path : List (List ℕ)) (now : CivilMinute)
         (to : Destination) (d new : Document) → IsLine name → IsLine to.title
@@ -66,10 +68,11 @@ pub fn archives_are_valid()
         (to : Destination) → location states name path text ≡ Ok to → IsLine to.title }
 {}
 
-/// Archiving keeps how often each node is there, but that the entry becomes one with the same rest of its heading line and
-/// with the section that has its properties, and that a heading is made where the place's is not there: after it and with
-/// the entry as it was, there are as many as before it and with the entry as it is then, and with the heading made. Here
-/// `i` is the entry, and `up` the heading of the place.
+/// Archiving keeps how often each node is there, but that the entry becomes one with the same rest
+/// of its heading line and with the section that has its properties, and that a heading is made
+/// where the place's is not there: after it and with the entry as it was, there are as many as
+/// before it and with the entry as it is then, and with the heading made. Here `i` is the entry,
+/// and `up` the heading of the place.
 pub fn archives_keep_counts()
     ensures within { (states : Keywords) (name : List ℕ) (path : List (List ℕ)) (now : CivilMinute)
         (to : Destination) (d new : Document) (i : ℕ) (up : Option ℕ)

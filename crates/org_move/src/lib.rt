@@ -1,5 +1,5 @@
-//! Subtrees moved to other headings, within a text or from one text into another (Org manual, "Refile and Copy"), and
-//! subtrees archived (Org manual, "Archiving").
+//! Subtrees moved to other headings, within a text or from one text into another (Org manual,
+//! "Refile and Copy"), and subtrees archived (Org manual, "Archiving").
 //!
 //! A call only says what is to be done: it answers the edits of the texts, and changes nothing.
 #![tactic(auto)]

@@ -23,7 +23,8 @@ use std::str;
 // How many bytes `#+ARCHIVE:` has.
 const MARK_SIZE: usize = 10;
 
-/// The first bytes of the line behind its blanks, as many as `#+ARCHIVE:` has, and what follows them.
+/// The first bytes of the line behind its blanks, as many as `#+ARCHIVE:` has, and what follows
+/// them.
 fn mark_and_value(line: &[u8]) -> (&[u8], &[u8])
     ensures mark { result.0.now ≡ take 10 (behind is_blank line.now) }
     ensures value { result.1.now ≡ drop 10 (behind is_blank line.now) }
@@ -91,7 +92,8 @@ fn is_title_alone(parts: &HeadParts<'_>) -> bool
         && !parts.title.is_empty()
 }
 
-/// The level and the title of the heading that the line is, where it is a title alone; level 0 of no line.
+/// The level and the title of the heading that the line is, where it is a title alone; level 0 of
+/// no line.
 fn heading<'a>(states: &States, line: &'a [u8]) -> Option<(usize, &'a [u8])>
     ensures value { option_map heading_made result ≡ heading_of states.now line.now }
     ensures low { IfSome result (λ heading. heading.0 + 1 < 2 ^ 63) }
@@ -173,14 +175,15 @@ fn place(
     })
 }
 
-/// Where the subtree at `path` of the file of this name goes when it is archived (Org manual, "Moving a tree to an archive
-/// file"): the nearest nonempty property ARCHIVE of it or a heading above it says so; else the text's first line that
-/// begins with `#+ARCHIVE:`, if it says something; else it is the top level of the file's archive file.
+/// Where the subtree at `path` of the file of this name goes when it is archived (Org manual,
+/// "Moving a tree to an archive file"): the nearest nonempty property ARCHIVE of it or a heading
+/// above it says so; else the text's first line that begins with `#+ARCHIVE:`, if it says
+/// something; else it is the top level of the file's archive file.
 ///
-/// # Errors
-/// In this order: `NotFound` or `NotUnique` of `path`; `AlreadyArchive` where the file is an archive file; `BadLocation`
-/// where what was found isn't a file's name, `::` and then nothing or a heading line that is a title alone; `NoSuchFile`
-/// where no file can have that name; and `OutOfMemory`.
+/// # Errors In this order: `NotFound` or `NotUnique` of `path`; `AlreadyArchive` where the file is
+/// an archive file; `BadLocation` where what was found isn't a file's name, `::` and then nothing
+/// or a heading line that is a title alone; `NoSuchFile` where no file can have that name; and
+/// `OutOfMemory`.
 pub fn location(
     alloc: Global,
     outline: &Outline<'_>,

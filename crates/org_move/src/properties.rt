@@ -145,8 +145,8 @@ fn without_org(name: &[u8]) -> &[u8]
     name.strip_suffix(b".org").unwrap_or(name)
 }
 
-/// The properties of an archived entry, in their order, where the file is that of the entry, the time is the moment's
-/// text, and an entry without a keyword has an empty one.
+/// The properties of an archived entry, in their order, where the file is that of the entry, the
+/// time is the moment's text, and an entry without a keyword has an empty one.
 fn properties<'a>(
     file: &'a [u8],
     time: &'a [u8],

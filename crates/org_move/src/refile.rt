@@ -51,7 +51,8 @@ fn level_below(outline: &Outline<'_>, parent: Node) -> usize
     level_of(outline, parent) + 1
 }
 
-/// The edit that puts the subtree of a text in at a byte of that text or another one, with its root at a level.
+/// The edit that puts the subtree of a text in at a byte of that text or another one, with its root
+/// at a level.
 fn with_subtree(
     alloc: Global,
     source: &Outline<'_>,
@@ -75,13 +76,13 @@ fn with_subtree(
     })
 }
 
-/// The edits, to be made in this order, by which the subtree at `path` becomes a child of the heading at `to` (Org
-/// manual, "Refile and Copy"): the first takes it out, and the second puts it in, at a byte of the text that the first
-/// one leaves. Its root gets the level of its parent plus 1, and its descendants move by the same amount.
+/// The edits, to be made in this order, by which the subtree at `path` becomes a child of the
+/// heading at `to` (Org manual, "Refile and Copy"): the first takes it out, and the second puts it
+/// in, at a byte of the text that the first one leaves. Its root gets the level of its parent plus
+/// 1, and its descendants move by the same amount.
 ///
-/// # Errors
-/// In this order: `NotFound` or `NotUnique` of `path`, the same of `to`, `InsideItself` where `to` leads into the
-/// subtree, and `OutOfMemory`.
+/// # Errors In this order: `NotFound` or `NotUnique` of `path`, the same of `to`, `InsideItself`
+/// where `to` leads into the subtree, and `OutOfMemory`.
 pub fn refile_within(
     alloc: Global,
     outline: &Outline<'_>,
@@ -105,9 +106,10 @@ pub fn refile_within(
     Ok([without(alloc, outline, node), goes_in])
 }
 
-/// The edits of two texts by which the subtree at `path` of the source becomes a child of the heading at `to` of the
-/// target (Org manual, "Refile and Copy"): the first one takes it out of the source, and the second one puts it into
-/// the target. Its root gets the level of its parent plus 1, and its descendants move by the same amount.
+/// The edits of two texts by which the subtree at `path` of the source becomes a child of the
+/// heading at `to` of the target (Org manual, "Refile and Copy"): the first one takes it out of the
+/// source, and the second one puts it into the target. Its root gets the level of its parent plus
+/// 1, and its descendants move by the same amount.
 ///
 /// # Errors
 /// In this order: `NotFound` or `NotUnique` of `path`, the same of `to`, and `OutOfMemory`.

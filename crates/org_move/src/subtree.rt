@@ -36,7 +36,8 @@ fn with_section(
     between(alloc, front, section, back)
 }
 
-/// The lines of a subtree whose root has the properties of an archived entry of the file with this name.
+/// The lines of a subtree whose root has the properties of an archived entry of the file with this
+/// name.
 fn archived_subtree(
     alloc: Global,
     outline: &Outline<'_>,
@@ -68,7 +69,8 @@ fn with_heading(alloc: Global, to: &Location, below: &[u8]) -> Result<Vec<u8>, A
     Ok(made)
 }
 
-/// What goes in of a subtree: its lines, below a heading of a level, or below the heading of the place, which is made.
+/// What goes in of a subtree: its lines, below a heading of a level, or below the heading of the
+/// place, which is made.
 fn filled(
     alloc: Global,
     subtree: &[u8],
@@ -90,8 +92,8 @@ fn filled(
     with_heading(alloc, to, &below)
 }
 
-/// What goes in of an archived entry of the file with this name: its subtree, whose root has the properties, below a
-/// heading of a level, or below the heading of the place, which is made.
+/// What goes in of an archived entry of the file with this name: its subtree, whose root has the
+/// properties, below a heading of a level, or below the heading of the place, which is made.
 pub(crate) fn archived_lines(
     alloc: Global,
     outline: &Outline<'_>,

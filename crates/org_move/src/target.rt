@@ -19,8 +19,8 @@ fn is_at(outline: &Outline<'_>, node: Node, to: &Location) -> bool
     outline.level(node) == to.level() && outline.parts(node).title == to.title()
 }
 
-/// The one heading of the place's level and title, anywhere in the text, if there is one; at the top level there is
-/// none. Takes no memory.
+/// The one heading of the place's level and title, anywhere in the text, if there is one; at the
+/// top level there is none. Takes no memory.
 pub(crate) fn target_heading(
     outline: &Outline<'_>,
     to: &Location,

@@ -1,4 +1,5 @@
--- The headings of an edited text: those before the lines that the edit touches, those of these lines, and those behind them, moved.
+-- The headings of an edited text: those before the lines that the edit touches, those of these
+-- lines, and those behind them, moved.
 use Rattle.std.proofs.Common.{◌≡◌, ℕ, zero, suc, ◌+◌, ◌-◌, ◌<◌, ◌≤◌, ◌^◌, Bool, true, false, eqb, ltb, List, [], ◌∷◌, ◌++◌, length, drop, take, get_or, set, Option, Some, None, refl, sym, ap, subst, ◌∙◌, append_assoc, arith, add-one, add-zero, cond, eq-eqb, inl, inr}
 use Rattle.std.specs.Prelude.{map, ◌⊎◌}
 use Rattle.std.specs.List.{AllByRecursion, prefix_len}
@@ -370,7 +371,8 @@ map-same (x ∷ xs) = ap (λ l. x ∷ l) (map-same xs)
 pub spliced_items : {X Z : Type 0} (s : IntoIter X Z) (all xs : List X) → into_iter_items s ≡ all → into_iter_len s ≡ length all → Drains (into_iter_steps {X = X} {Z = Z}) s xs → xs ≡ all
 spliced_items s all xs is long d = sym (map-same xs) ∙ items_from_drains xs (d.1.0, d.1.1, λ w. (d.0, d.1.2)) (YieldsList-from_vec all is long)
 
--- the headings that the code has after the splice: us is their list, n the count of the fresh ones, ks what the field held
+-- the headings that the code has after the splice: us is their list, n the count of the fresh ones,
+-- ks what the field held
 pub can_move_now : (hs ks us : List Heading) (c : List ℕ) (removed added from to first last n : ℕ) {fresh : List Heading} → Makes hs c removed added from to first last fresh
     → n ≡ length fresh → us ≡ take first ks ++ (fresh ++ drop last ks) → ks ≡ hs → AllByRecursion (λ h. CanMove removed added h) (drop (first + n) us)
 can_move_now hs ks us c removed added from to first last n {fresh} m en eu ek =

@@ -28,7 +28,8 @@ pub record IsSection (t : List ℕ) (p : Placed) (s : Span) : Type 0 where
   pub end : s.end ≡ p.at + length (print_lines (own_lines p.node))
   pub bytes : slice_range t s.start s.end ≡ print_lines p.node.section
 
--- where the first of these headings begins that is not deeper than n, and the end where there is none
+-- where the first of these headings begins that is not deeper than n, and the end where there is
+-- none
 abbrev pub next_at : ℕ → List Heading → ℕ → ℕ
 next_at n hs end = option_map_or (λ h. h.start) (find (λ h. nat_le h.level n) hs) end
 
@@ -37,7 +38,8 @@ abbrev pub start_or : List Heading → ℕ → ℕ
 start_or [] end = end
 start_or (h ∷ hs) end = h.start
 
--- the number of the last of these headings whose level is less than n; i is the number of the first, and `best` what was found before
+-- the number of the last of these headings whose level is less than n; i is the number of the
+-- first, and `best` what was found before
 abbrev pub last_above : ℕ → ℕ → Option ℕ → List Heading → Option ℕ
 last_above n i best [] = best
 last_above n i best (h ∷ hs) = last_above n (suc i) (if nat_lt h.level n then Some i else best) hs
@@ -53,15 +55,17 @@ abbrev pub with_heading : Option ℕ → ℕ → List Heading → List Heading
 with_heading None at hs = hs
 with_heading (Some n) at hs = record { start = at; level = n } ∷ hs
 
--- the headings of a text that begins at `at` of another one; `fresh` says whether a line begins there
+-- the headings of a text that begins at `at` of another one; `fresh` says whether a line begins
+-- there
 abbrev pub heads_from : ℕ → Bool → List ℕ → List Heading
 heads_from at fresh [] = []
-heads_from at fresh (b ∷ bs) = with_heading (if fresh then level_of (b ∷ bs) else None) at (heads_from (suc at) (b == 10) bs)
+heads_from at fresh (b ∷ bs) =
+    with_heading (if fresh then level_of (b ∷ bs) else None) at (heads_from (suc at) (b == 10) bs)
 
 -- ---- an edit
 
--- the text `after` comes from a terminated text with these headings: `removed` bytes at `at` are replaced by `added`
--- others
+-- the text `after` comes from a terminated text with these headings: `removed` bytes at `at` are
+-- replaced by `added` others
 pub record IsEdit (headings : List Heading) (after : List ℕ) (at removed added : ℕ) : Type 0 where
   pub before : List ℕ
   pub headings_are : headings ≡ headings_of before

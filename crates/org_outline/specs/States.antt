@@ -1,4 +1,5 @@
--- The states that a TODO keyword may name (Org manual, "TODO keywords as workflow states"): active ones, and done ones.
+-- The states that a TODO keyword may name (Org manual, "TODO keywords as workflow states"): active
+-- ones, and done ones.
 use Rattle.std.specs.Borrow.{Bor}
 use Rattle.std.specs.Prelude.{ℕ, Bool, true, ◌&&◌, ◌||◌, not, ◌==◌, nat_le, ◌+◌, map, List, [], ◌∷◌, ◌++◌, length}
 use Rattle.std.specs.Char.{is_ascii_alphanumeric}
@@ -33,5 +34,9 @@ words_of words = map (λ w. w.now) words
 -- both lists have words, 32 at most in all, and all are distinct state words
 abbrev pub are_states : Keywords → Bool
 are_states k =
-    nat_le 1 (length k.active) && nat_le 1 (length k.done) && nat_le (length k.active + length k.done) 32
-    && list_all is_state_word k.active && list_all is_state_word k.done && all_distinct (k.active ++ k.done)
+    nat_le 1 (length k.active)
+    && nat_le 1 (length k.done)
+    && nat_le (length k.active + length k.done) 32
+    && list_all is_state_word k.active
+    && list_all is_state_word k.done
+    && all_distinct (k.active ++ k.done)

@@ -9,7 +9,8 @@ stars l = prefix_len (λ b. b == 42) l
 abbrev pub begins_with_space : List ℕ → Bool
 begins_with_space l = slice_index l 0 == 32
 
--- the level of a heading line: the count of its stars, one or more, where a space follows them directly
+-- the level of a heading line: the count of its stars, one or more, where a space follows them
+-- directly
 abbrev pub level_of : List ℕ → Option ℕ
 level_of l = if nat_lt 0 (stars l) && slice_index l (stars l) == 32 then Some (stars l) else None
 

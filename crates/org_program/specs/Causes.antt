@@ -20,7 +20,8 @@ use Rattle.org_serve.specs.declared.end.ServeEnd.TheVariants.{End, Unsettled, De
 use Rattle.org_program.specs.declared.fault.Fault.{Fault}
 use Rattle.org_program.specs.declared.fault.Fault.TheVariants.{Usage, BadName, BadStates, Locked, SameFile, Open, Ended}
 
--- what the program tells of how serving ended: nothing only where the input was served to its end, and all is settled
+-- what the program tells of how serving ended: nothing only where the input was served to its end,
+-- and all is settled
 abbrev pub told : Result ServeEnd OpenFault → Result (Unit {0}) Fault
 told (Ok End) = Ok tt
 told (Ok Unsettled) = Err (Ended Unsettled)
@@ -68,8 +69,8 @@ IsCauseOfNames new Locked = ⊥
 IsCauseOfNames new (SameFile name) = ⊥
 IsCauseOfNames new (Ended end) = ⊥
 
--- A name that may be told to share a file in a store with these names, which are few: behind the first one, in byte order,
--- of theirs, their archive files' and the journal's.
+-- A name that may be told to share a file in a store with these names, which are few: behind the
+-- first one, in byte order, of theirs, their archive files' and the journal's.
 pub record MayBeShared (names : List (List ℕ)) (name : List ℕ) : Type 0 where
   pub few : AreFew names
   pub files : List (List ℕ)
@@ -82,9 +83,9 @@ MayShare names (apart.SameFile name) = MayBeShared names name
 MayShare names apart.Device = AreFew names
 MayShare names apart.OutOfMemory = Unit {0}
 
--- Why new names and states aren't a store's, or its folder can't be had beside them. What comes first in this order is told:
--- the first bad name, bad states, a folder on which another store is open, the rest of the folder. Want of memory may
--- take the place of each.
+-- Why new names and states aren't a store's, or its folder can't be had beside them. What comes
+-- first in this order is told: the first bad name, bad states, a folder on which another store is
+-- open, the rest of the folder. Want of memory may take the place of each.
 abbrev pub IsCause : List (List ℕ) → Keywords → Fault → Type 0
 IsCause new states (BadName name) = first_bad new ≡ Some (string_bytes name)
 IsCause new states BadStates = (first_bad new ≡ None) × IsFalse (are_states states)

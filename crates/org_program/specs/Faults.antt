@@ -8,13 +8,17 @@ use Rattle.org_program.specs.Causes.{IsCause, told}
 use Rattle.org_program.specs.Lists.{states_in}
 use Rattle.org_program.specs.Words.{IsFaultOfWords, Tells}
 
--- of some words that are taken: why their names and states aren't a store's, or its folder can't be had beside them
+-- of some words that are taken: why their names and states aren't a store's, or its folder can't be
+-- had beside them
 pub record IsFaultOfStart (fault : Fault) : Type 0 where
   pub words : List (List ℕ)
   pub arguments : Arguments
   pub told : Tells words arguments
   pub cause : IsCause (map string_bytes arguments.new.items) (states_in arguments) fault
 
--- why some words aren't taken, or the store of others isn't opened, or how serving it ended: never that it ended well
+-- why some words aren't taken, or the store of others isn't opened, or how serving it ended: never
+-- that it ended well
 abbrev pub IsFaultOfRun : Fault → Type 0
-IsFaultOfRun fault = IsFaultOfWords fault ⊎ (IsFaultOfStart fault ⊎ ((end : Result ServeEnd OpenFault) × (told end ≡ Err fault)))
+IsFaultOfRun fault =
+    IsFaultOfWords fault
+    ⊎ (IsFaultOfStart fault ⊎ ((end : Result ServeEnd OpenFault) × (told end ≡ Err fault)))

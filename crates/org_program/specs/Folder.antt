@@ -1,5 +1,5 @@
--- The disk of a folder of the operating system, as the record of its calls tells it; `world` is what the folder held at
--- first, and what calls that failed left.
+-- The disk of a folder of the operating system, as the record of its calls tells it; `world` is
+-- what the folder held at first, and what calls that failed left.
 use Rattle.std.specs.Prelude.{ℕ, List, length}
 use Rattle.org_disk.specs.Disk.{FileState}
 use Rattle.org_folder.specs.Calls.{World, AreRight, LeftSince, files}
@@ -12,7 +12,8 @@ abbrev pub is_right : {R S A B F : Type 0} → World → CallsDisk (SystemCalls 
 is_right world disk = AreRight world (record_of disk)
 
 -- the files that the record stands for
-abbrev pub files_of : {R S A B F : Type 0} → World → CallsDisk (SystemCalls R S A B) F → List ℕ → FileState
+abbrev pub files_of : {R S A B F : Type 0} → World → CallsDisk (SystemCalls R S A B) F → List ℕ
+    → FileState
 files_of world disk = files world (record_of disk)
 
 -- how many calls are in the record
@@ -20,7 +21,8 @@ abbrev pub moment_of : {R S A B F : Type 0} → CallsDisk (SystemCalls R S A B) 
 moment_of disk = length (record_of disk)
 
 -- what a crash since the call of this number might have left
-abbrev pub left_of : {R S A B F : Type 0} → World → CallsDisk (SystemCalls R S A B) F → ℕ → (List ℕ → List ℕ) → Type 0
+abbrev pub left_of : {R S A B F : Type 0} → World → CallsDisk (SystemCalls R S A B) F → ℕ
+    → (List ℕ → List ℕ) → Type 0
 left_of world disk = LeftSince world (record_of disk)
 
 abbrev pub failures_of : {R S A B F : Type 0} → CallsDisk (SystemCalls R S A B) F → ℕ

@@ -9,28 +9,37 @@ use Rattle.org_program.specs.declared.arguments.Arguments.{Arguments}
 use Rattle.org_program.specs.declared.fault.Fault.{Fault}
 use Rattle.org_program.specs.declared.fault.Fault.TheVariants.{Usage, BadName, BadStates, Locked, SameFile, Open, Ended}
 
--- The command line, as clap has it: a folder, which has to be there; any number of `--new NAME`; and, at most once each,
--- `--todo LIST`, `--done LIST` and `--group K`, which are TODO, DONE and 1 where they aren't there.
+-- The command line, as clap has it: a folder, which has to be there; any number of `--new NAME`;
+-- and, at most once each, `--todo LIST`, `--done LIST` and `--group K`, which are TODO, DONE and 1
+-- where they aren't there.
 
 abbrev pub folder_argument : Rule
 folder_argument = record (new_rule (codes "DIR")) { required = true }
 
 abbrev pub new_argument : Rule
-new_argument = record (new_rule (codes "new")) { long = Some (codes "new"); value_names = 1; action = Some Append }
+new_argument =
+    record (new_rule (codes "new"))
+    { long = Some (codes "new"); value_names = 1; action = Some Append }
 
 abbrev pub todo_argument : Rule
-todo_argument = record (new_rule (codes "todo")) { long = Some (codes "todo"); value_names = 1; defaults = codes "TODO" ∷ [] }
+todo_argument =
+    record (new_rule (codes "todo"))
+    { long = Some (codes "todo"); value_names = 1; defaults = codes "TODO" ∷ [] }
 
 abbrev pub done_argument : Rule
-done_argument = record (new_rule (codes "done")) { long = Some (codes "done"); value_names = 1; defaults = codes "DONE" ∷ [] }
+done_argument =
+    record (new_rule (codes "done"))
+    { long = Some (codes "done"); value_names = 1; defaults = codes "DONE" ∷ [] }
 
 abbrev pub group_argument : Rule
-group_argument = record (new_rule (codes "group")) { long = Some (codes "group"); value_names = 1; defaults = codes "1" ∷ [] }
+group_argument =
+    record (new_rule (codes "group"))
+    { long = Some (codes "group"); value_names = 1; defaults = codes "1" ∷ [] }
 
 abbrev pub command_line : App
 command_line =
-    with_rule (with_rule (with_rule (with_rule (with_rule (new_app (codes "orgstore")) folder_argument) new_argument)
-    todo_argument) done_argument) group_argument
+    with_rule (with_rule (with_rule (with_rule (with_rule (new_app (codes "orgstore"))
+    folder_argument) new_argument) todo_argument) done_argument) group_argument
 
 -- What the words give, of which the first is the program's name.
 

@@ -48,7 +48,8 @@ pub fn read(rt: &HostRuntime) -> Result<Arguments, Fault>
     read_words(rt.alloc(), words.as_slice())
 }
 
-/// The arguments that these words are, the first being the program's name. `Usage` comes only where they aren't taken.
+/// The arguments that these words are, the first being the program's name. `Usage` comes only where
+/// they aren't taken.
 pub fn read_words(alloc: Global, words: &[String]) -> Result<Arguments, Fault>
     ensures told { IfOk result (Tells (map string_bytes words.now)) }
     ensures fault { IfErr result (IsFaultBy (AreTaken (map string_bytes words.now) → ⊥)) }

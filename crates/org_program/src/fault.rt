@@ -1,4 +1,5 @@
-//! Why the program doesn't run to the end of its input: what it says on standard error, and its exit status.
+//! Why the program doesn't run to the end of its input: what it says on standard error, and its
+//! exit status.
 ghost use Rattle.std.specs.Prelude.{◌≡◌};
 ghost use Rattle.org_fileset.specs.declared.open.OpenFault.TheVariants.{OutOfMemory};
 ghost use Rattle.org_program.specs.Causes.{listing, locking, sharing, stating};
@@ -13,10 +14,12 @@ use std::alloc::{AllocError, AllocFailed};
 use std::fmt;
 use std::fmt::{Display, Formatter};
 
-/// Why a run of the program didn't end well. It prints as what is told on standard error, with a newline at its end.
+/// Why a run of the program didn't end well. It prints as what is told on standard error, with a
+/// newline at its end.
 #[derive(Drop)]
 pub enum Fault {
-    /// The words of the command line aren't what the program takes, or ask for help: the text that says so.
+    /// The words of the command line aren't what the program takes, or ask for help: the text that
+    /// says so.
     Usage(String),
     /// A name given by `--new` is no file name in `.org`.
     BadName(String),

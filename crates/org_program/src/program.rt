@@ -23,10 +23,11 @@ use org_serve::{Counted, ServeEnd, Served, Setup, file_names};
 use org_store::OpenFault;
 use std::io::{BufWriter, Stdout};
 
-/// Runs the command lines of standard input over the folder that the arguments name, and writes their replies to standard
-/// output. A fault is to be told on standard error, as it prints, and by the exit status, which is its `status`. It tells
-/// why words aren't taken, why the store of words that are isn't opened, or how serving it ended, which is then not well;
-/// no clause can name the words that the process was given.
+/// Runs the command lines of standard input over the folder that the arguments name, and writes
+/// their replies to standard output. A fault is to be told on standard error, as it prints, and by
+/// the exit status, which is its `status`. It tells why words aren't taken, why the store of words
+/// that are isn't opened, or how serving it ended, which is then not well; no clause can name the
+/// words that the process was given.
 pub fn run(rt: &HostRuntime) -> Result<(), Fault>
     ensures { IfErr result IsFaultOfRun }
 {
@@ -90,7 +91,8 @@ fn setup<'a>(rt: &HostRuntime, arguments: &'a Arguments) -> Result<(Setup, Locke
     ))
 }
 
-// Whether the files of a store with these names are one each. Too many names are told by the opening.
+// Whether the files of a store with these names are one each. Too many names are told by the
+// opening.
 fn check_files(
     rt: &HostRuntime,
     folder: &LockedFolder<'_>,

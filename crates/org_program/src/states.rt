@@ -9,8 +9,9 @@ use crate::fault::Fault;
 use org_outline::States;
 use std::alloc::{AllocError, Global};
 
-/// The states between the commas of a list of active ones and of one of done ones. `BadStates` comes only where a store
-/// can't have them: where `States::new` refuses them, or a list has an empty word.
+/// The states between the commas of a list of active ones and of one of done ones. `BadStates`
+/// comes only where a store can't have them: where `States::new` refuses them, or a list has an
+/// empty word.
 pub fn states(alloc: Global, todo: &str, done: &str) -> Result<States, Fault>
     ensures states { IfOk result (λ states. states ≡ states_of todo.now done.now) }
     ensures accepted { IfOk result (λ states. IsTrue (are_states states)) }

@@ -1,4 +1,5 @@
--- How a line is cut into its fields, how many it has, and what its first one says: the command that it is, or none.
+-- How a line is cut into its fields, how many it has, and what its first one says: the command that
+-- it is, or none.
 use Rattle.std.proofs.Common.{◌≡◌, ℕ, zero, suc, ◌+◌, ◌-◌, ◌<◌, ◌≤◌, ◌==◌, false, List, [], ◌∷◌, ◌++◌, length, map, get_or, set, take, drop, codes, true, Option, Some, None, refl, sym, ap, ◌∙◌, arith, append_assoc, eq-eqb}
 use Rattle.std.specs.Borrow.{Bor}
 use Rattle.std.specs.List.{slice_split}

@@ -1,4 +1,5 @@
--- Steps that are told by the moment: where the disk is honest at the end, it was at each step, and all of them are told.
+-- Steps that are told by the moment: where the disk is honest at the end, it was at each step, and
+-- all of them are told.
 use Rattle.std.proofs.Common.{◌≡◌, ◌⊎◌, inl, inr, ⊎_elim, ℕ, Bool, true, false, nat_lt, List, [], ◌∷◌, ◌++◌, Option, Result, Ok, Err, refl, ap, ◌∙◌, subst, append_assoc}
 use Rattle.org_disk.specs.Disk.{FileState}
 use Rattle.org_journal.specs.Recovered.{Image}

@@ -15,7 +15,8 @@ use Rattle.org_serve.proofs.Counting.{read_apart}
 use Rattle.org_serve.proofs.Cuts.{cut-append}
 use Rattle.org_serve.proofs.Joins.{Answers-append, Appends-append, Consumes-append, Consumes-no_more, some_then}
 
--- The input so far was read, its lines are answered, and what stands behind its last newline is kept.
+-- The input so far was read, its lines are answered, and what stands behind its last newline is
+-- kept.
 pub record Served {S : Type 0} (AnswersLine : S → List ℕ → List ℕ → S → Type 0) (old new : S) (left left' written written' : Option (List ℕ)) (pending : Pending) : Type 0 where
   pub input : List ℕ
   pub out : List ℕ

@@ -1,5 +1,5 @@
--- What holds of each of the texts by which a run is told, where accepted commands keep it: they are within the limit, and
--- after refiles alone they have the same nodes.
+-- What holds of each of the texts by which a run is told, where accepted commands keep it: they are
+-- within the limit, and after refiles alone they have the same nodes.
 use Rattle.std.proofs.Common.{◌≡◌, inl, inr, ⊎_elim, ℕ, ◌+◌, true, List, [], ◌∷◌, ◌++◌, Option, Some, None, Result, Ok, Err, refl, sym, ap, ◌∙◌, subst, arith}
 use Rattle.std.specs.Prelude.{All}
 use Rattle.std.specs.List.{AllByRecursion, IsDistinct}
@@ -54,7 +54,8 @@ all_first : (P : List ℕ → Type 0) (some others : List (List ℕ)) → AllByR
 all_first P [] others all = tt
 all_first P (one ∷ some) others all = (all.0, all_first P some others all.1)
 
--- Q holds of the texts of all files after a command of a line that is allowed, where it held before it.
+-- Q holds of the texts of all files after a command of a line that is allowed, where it held before
+-- it.
 module _ (names : List (List ℕ)) (Q : List (List ℕ) → Type 0) (Allowed : List ℕ → Type 0)
     (keeps : (s : Session) (line : List ℕ) (command : Command) (files : List (List ℕ)) → s.names ≡ names → Allowed line → IsReadAs line (Ok command) → Q s.files → IsAccepted (outcome s command) files → Q files) where
   pub record Each (s : Session) (texts : Texts) : Type 0 where

@@ -153,7 +153,8 @@ module _ {D : Type 0} {honest : D → Type 0} {files : D → List ℕ → FileSt
   on_disk : IsOnDisk served.first.store.session (contents (files served.first.store.disk))
   on_disk = on_disk_first states group given (contents (files served.first.store.disk)) served.first.store.session served.begins
 
-  -- What a crash leaves of a run up to one store, over a disk that is honest there, where the opening left it at rest.
+  -- What a crash leaves of a run up to one store, over a disk that is honest there, where the
+  -- opening left it at rest.
   module _ (later : Past D) {crashes : ServeEnd} (run : Runs Line Settled served.first later crashes left left' written written') (began : honest served.first.store.disk) (honestly : honest later.store.disk)
       (rest : IsAtRest (files served.first.store.disk)) where
     since_in : (here : Past D) → LeadsBy Line served.first run.ran run.out run.mid here ⊎ (here ≡ later) → here.store.session.broken ≡ false

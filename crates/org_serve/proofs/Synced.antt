@@ -91,7 +91,8 @@ module _ {D : Type 0} (honest : D → Type 0) (files : D → List ℕ → FileSt
     rest = λ fit each. is.rest (still_recoverable (files disk) (files mid) (own h) (images h) fit) (still_recovers (files disk) (files mid) (own h) (images h) each);
   }
 
-  -- the files that are none of the run's are left alone by the syncs, and by what leaves them alone then
+  -- the files that are none of the run's are left alone by the syncs, and by what leaves them alone
+  -- then
   alone_behind : (new : D) → honest mid → LeavesAlone files moment left_since (IsForeign given (contents (files mid) journal_name)) mid new
       → LeavesAlone files moment left_since (IsForeign given (contents (files disk) journal_name)) disk new
   alone_behind new h alone =

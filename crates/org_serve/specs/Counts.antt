@@ -1,4 +1,5 @@
--- Counts of a u64, which stay at their greatest value, and those of a reader and a writer over a run.
+-- Counts of a u64, which stay at their greatest value, and those of a reader and a writer over a
+-- run.
 use Rattle.std.specs.Prelude.{◌≡◌, ◌≢◌, ℕ, ◌+◌, ◌^◌, ◌≤◌, ◌⊎◌, List, length, Option, Result, Ok}
 use Rattle.std.specs.Io.KnownBytes.{Consumes}
 use Rattle.org_disk.specs.Disk.{IsCounted}
@@ -14,13 +15,18 @@ HasRisenBy n before now = (before + n ≡ now) ⊎ (2 ^ 64 ≤ now + 1)
 abbrev pub HasRead : ℕ → Option (List ℕ) → Option (List ℕ) → Type 0
 HasRead n left left' = (input : List ℕ) × Consumes left left' input × (n ≤ length input)
 
--- A run ends with Read or Write for a cause alone, and a call of the reader or the writer that failed is always told so. The
--- counts tell it, before the run and after it: how many reads were made, how many of them failed, and how many calls of the
--- writer failed. One failure is counted where one ends the run, so neither is called once it has failed. `left` is what the
--- reader had to give.
-pub record EndsForCause (turns : ℕ) (end : Result ServeEnd OpenFault) (left left' : Option (List ℕ)) (reads reads' failed_reads failed_reads' failed_writes failed_writes' : ℕ) : Type 0 where
-  -- a read failed, or the turns are used up by reads of which each gave bytes: so the end of the input wasn't met
-  pub read_cause : end ≡ Ok Read → IsCounted failed_reads failed_reads' ⊎ (HasRisenBy turns reads reads' × HasRead turns left left')
+-- A run ends with Read or Write for a cause alone, and a call of the reader or the writer that
+-- failed is always told so. The counts tell it, before the run and after it: how many reads were
+-- made, how many of them failed, and how many calls of the writer failed. One failure is counted
+-- where one ends the run, so neither is called once it has failed. `left` is what the reader had to
+-- give.
+pub record EndsForCause (turns : ℕ) (end : Result ServeEnd OpenFault) (left left' : Option (List ℕ))
+    (reads reads' failed_reads failed_reads' failed_writes failed_writes' : ℕ) : Type 0 where
+  -- a read failed, or the turns are used up by reads of which each gave bytes: so the end of the
+  -- input wasn't met
+  pub read_cause : end ≡ Ok Read
+      → IsCounted failed_reads failed_reads'
+      ⊎ (HasRisenBy turns reads reads' × HasRead turns left left')
   -- there are no more reads than turns
   pub within_turns : reads' ≤ reads + turns
   -- a read that failed is told so

@@ -1,5 +1,5 @@
--- What serving does to a store over a disk. `files`, `moment` and `left_since` are what is seen of a disk of the type
--- D.
+-- What serving does to a store over a disk. `files`, `moment` and `left_since` are what is seen of
+-- a disk of the type D.
 use Rattle.std.specs.Prelude.{◌≡◌, ◌≢◌, ◌⊎◌, ℕ, List, ◌++◌, Option, Result, IsTrue, IsFalse}
 use Rattle.std.specs.Io.KnownBytes.{Consumes, Appends}
 use Rattle.org_disk.specs.Disk.{FileState}
@@ -17,33 +17,47 @@ use Rattle.org_serve.specs.Lines.{cut}
 use Rattle.org_serve.specs.Serving.{AnswersLineBy, FinishesBy, HasSettledBy}
 use Rattle.org_serve.specs.Transcript.{Answers}
 
--- A step from one state to the next, told by the moment: where what is good of a state holds after it, it held before it,
--- and the step did this.
+-- A step from one state to the next, told by the moment: where what is good of a state holds after
+-- it, it held before it, and the step did this.
 pub record Told {S : Type 0} (good : S → Type 0) (old new : S) (Did : Type 0) : Type 0 where
   pub before : good new → good old
   pub did : good new → Did
 
 -- a command was run over a disk; it is told where the disk is honest after it
-abbrev pub RunsHonest : {D : Type 0} → (D → Type 0) → (D → List ℕ → FileState) → (D → ℕ) → (D → ℕ → Image → Type 0) → Kept D → Command → Result Reply RunFault → Kept D → Type 0
-RunsHonest {D = D} honest files moment left_since old command answer new = Told (λ (k : Kept D). honest k.disk) old new (RunsOver files moment left_since old command answer new)
+abbrev pub RunsHonest : {D : Type 0} → (D → Type 0) → (D → List ℕ → FileState) → (D → ℕ)
+    → (D → ℕ → Image → Type 0) → Kept D → Command → Result Reply RunFault → Kept D → Type 0
+RunsHonest {D = D} honest files moment left_since old command answer new =
+    Told (λ (k : Kept D). honest k.disk) old new
+    (RunsOver files moment left_since old command answer new)
 
 -- the same of a settling
-abbrev pub SettlesHonest : {D : Type 0} → (D → Type 0) → (D → List ℕ → FileState) → (D → ℕ) → (D → ℕ → Image → Type 0) → Kept D → Result (Unit {0}) RunFault → Kept D → Type 0
-SettlesHonest {D = D} honest files moment left_since old answer new = Told (λ (k : Kept D). honest k.disk) old new (SettlesOver files moment left_since old answer new)
+abbrev pub SettlesHonest : {D : Type 0} → (D → Type 0) → (D → List ℕ → FileState) → (D → ℕ)
+    → (D → ℕ → Image → Type 0) → Kept D → Result (Unit {0}) RunFault → Kept D → Type 0
+SettlesHonest {D = D} honest files moment left_since old answer new =
+    Told (λ (k : Kept D). honest k.disk) old new
+    (SettlesOver files moment left_since old answer new)
 
 -- a line is answered by one call of the store
-abbrev pub RunsLine : {D : Type 0} → (D → Type 0) → (D → List ℕ → FileState) → (D → ℕ) → (D → ℕ → Image → Type 0) → Kept D → List ℕ → List ℕ → Kept D → Type 0
-RunsLine honest files moment left_since = AnswersLineBy (RunsHonest honest files moment left_since) (λ k. k.session)
+abbrev pub RunsLine : {D : Type 0} → (D → Type 0) → (D → List ℕ → FileState) → (D → ℕ)
+    → (D → ℕ → Image → Type 0) → Kept D → List ℕ → List ℕ → Kept D → Type 0
+RunsLine honest files moment left_since =
+    AnswersLineBy (RunsHonest honest files moment left_since) (λ k. k.session)
 
-abbrev pub HasSettledOver : {D : Type 0} → (D → Type 0) → (D → List ℕ → FileState) → (D → ℕ) → (D → ℕ → Image → Type 0) → Kept D → Kept D → Type 0
-HasSettledOver honest files moment left_since = HasSettledBy (SettlesHonest honest files moment left_since)
+abbrev pub HasSettledOver : {D : Type 0} → (D → Type 0) → (D → List ℕ → FileState) → (D → ℕ)
+    → (D → ℕ → Image → Type 0) → Kept D → Kept D → Type 0
+HasSettledOver honest files moment left_since =
+    HasSettledBy (SettlesHonest honest files moment left_since)
 
-abbrev pub FinishesOver : {D : Type 0} → (D → Type 0) → (D → List ℕ → FileState) → (D → ℕ) → (D → ℕ → Image → Type 0) → Kept D → ServeEnd → List ℕ → Kept D → Type 0
-FinishesOver honest files moment left_since = FinishesBy (SettlesHonest honest files moment left_since) (λ k. k.session)
+abbrev pub FinishesOver : {D : Type 0} → (D → Type 0) → (D → List ℕ → FileState) → (D → ℕ)
+    → (D → ℕ → Image → Type 0) → Kept D → ServeEnd → List ℕ → Kept D → Type 0
+FinishesOver honest files moment left_since =
+    FinishesBy (SettlesHonest honest files moment left_since) (λ k. k.session)
 
--- Some of the lines of what was read, from the first on, were run, and then the settling was made or wasn't. Unless a
--- write failed, what was written begins with the replies to these lines.
-pub record Runs {S : Type 0} (AnswersLine : S → List ℕ → List ℕ → S → Type 0) (Settles : S → S → Type 0) (old new : S) (end : ServeEnd) (left left' written written' : Option (List ℕ)) : Type 0 where
+-- Some of the lines of what was read, from the first on, were run, and then the settling was made
+-- or wasn't. Unless a write failed, what was written begins with the replies to these lines.
+pub record Runs {S : Type 0} (AnswersLine : S → List ℕ → List ℕ → S → Type 0)
+    (Settles : S → S → Type 0) (old new : S) (end : ServeEnd)
+    (left left' written written' : Option (List ℕ)) : Type 0 where
   pub input : List ℕ
   pub ran : List (List ℕ)
   pub others : List (List ℕ)
@@ -55,11 +69,14 @@ pub record Runs {S : Type 0} (AnswersLine : S → List ℕ → List ℕ → S �
   pub ends : (new ≡ mid) ⊎ Settles mid new
   pub wrote : end ≢ Write → (tail : List ℕ) × Appends written written' (out ++ tail)
 
--- What serving makes of a disk that is honest at the end: one that was at rest is left recoverable, and at rest again
--- where the store isn't broken then; in that case the store's files have the texts that are settled, where they had
--- them before, and all others are as they were. A store that was broken leaves it as it is.
+-- What serving makes of a disk that is honest at the end: one that was at rest is left recoverable,
+-- and at rest again where the store isn't broken then; in that case the store's files have the
+-- texts that are settled, where they had them before, and all others are as they were. A store that
+-- was broken leaves it as it is.
 pub record KeepsDisk {D : Type 0} (files : D → List ℕ → FileState) (old new : Kept D) : Type 0 where
   pub recoverable : IsAtRest (files old.disk) → IsRecoverable (files new.disk)
   pub rest : IsFalse new.session.broken → IsAtRest (files old.disk) → IsAtRest (files new.disk)
-  pub others : IsOnDisk old.session (contents (files old.disk)) → IsFalse new.session.broken → SameFiles (contents (files new.disk)) (with_texts new.session.names new.session.settled (contents (files old.disk)))
+  pub others : IsOnDisk old.session (contents (files old.disk)) → IsFalse new.session.broken
+      → SameFiles (contents (files new.disk))
+      (with_texts new.session.names new.session.settled (contents (files old.disk)))
   pub untouched : IsTrue old.session.broken → new ≡ old

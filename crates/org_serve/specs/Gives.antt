@@ -3,7 +3,8 @@ use Rattle.std.specs.Prelude.{◌≡◌, Option, None, Some, Result, Ok, Err}
 use Rattle.org_serve.specs.declared.fault.LineFault.{LineFault}
 use Rattle.org_serve.specs.declared.fault.LineFault.TheVariants.{BadLine, OutOfMemory}
 
--- What was read, as it is seen by view, is what the bytes are; or BadLine where they are nothing. Memory may be refused.
+-- What was read, as it is seen by view, is what the bytes are; or BadLine where they are nothing.
+-- Memory may be refused.
 abbrev pub GivesBy : {X Y : Type 0} → (X → Y) → Result X LineFault → Option Y → Type 0
 GivesBy view (Ok x) value = value ≡ Some (view x)
 GivesBy view (Err BadLine) value = value ≡ None

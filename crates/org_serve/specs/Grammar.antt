@@ -13,18 +13,23 @@ use Rattle.org_stamp.specs.Calendar.{CivilMinute, at_minute, civil_day}
 use Rattle.org_store.specs.declared.command.Command.{Command}
 use Rattle.org_store.specs.declared.command.Command.TheVariants.{Capture, Refile, Todo, ClockIn, ClockOut, Time, Archive, Show, Settle}
 
--- what a letter behind a backslash stands for: `\n` a newline, `\t` a tab, `\\` a backslash, `\s` a slash
+-- what a letter behind a backslash stands for: `\n` a newline, `\t` a tab, `\\` a backslash, `\s` a
+-- slash
 abbrev pub escape : ℕ → Option ℕ
 escape b =
-    if b == 110 then Some 10 else (if b == 116 then Some 9 else (if b == 92 then Some 92 else (if b == 115 then Some 47 else None)))
+    if b == 110 then Some 10
+    else (if b == 116 then Some 9
+    else (if b == 92 then Some 92 else (if b == 115 then Some 47 else None)))
 
 -- the bytes that the rest of a field stands for; true behind a backslash
 abbrev pub unescaped_from : Bool → List ℕ → Option (List ℕ)
 unescaped_from false [] = Some []
 unescaped_from true [] = None
 unescaped_from false (b ∷ bytes) =
-    if b == 92 then unescaped_from true bytes else option_map (λ text. b ∷ text) (unescaped_from false bytes)
-unescaped_from true (b ∷ bytes) = option_and_then (λ c. option_map (λ text. c ∷ text) (unescaped_from false bytes)) (escape b)
+    if b == 92 then unescaped_from true bytes
+    else option_map (λ text. b ∷ text) (unescaped_from false bytes)
+unescaped_from true (b ∷ bytes) =
+    option_and_then (λ c. option_map (λ text. c ∷ text) (unescaped_from false bytes)) (escape b)
 
 -- the bytes that a field stands for
 abbrev pub unescaped : List ℕ → Option (List ℕ)
@@ -35,19 +40,25 @@ abbrev pub escaped : List ℕ → List ℕ
 escaped [] = []
 escaped (b ∷ bytes) =
     let later = escaped bytes in
-    if b == 10 then 92 ∷ 110 ∷ later else (if b == 9 then 92 ∷ 116 ∷ later else (if b == 92 then 92 ∷ 92 ∷ later else (if b == 47 then 92 ∷ 115 ∷ later else b ∷ later)))
+    if b == 10 then 92 ∷ 110 ∷ later
+    else (if b == 9 then 92 ∷ 116 ∷ later
+    else (if b == 92 then 92 ∷ 92 ∷ later else (if b == 47 then 92 ∷ 115 ∷ later else b ∷ later)))
 
 -- FILE
 unfoldable pub file_of : List ℕ → Option (List ℕ)
-file_of field = option_and_then (λ name. if is_utf8 name && is_file_name name then Some name else None) (unescaped field)
+file_of field =
+    option_and_then (λ name. if is_utf8 name && is_file_name name then Some name else None)
+    (unescaped field)
 
 -- the titles that fields stand for, one each
 abbrev pub titles_in : List (List ℕ) → Option (List (List ℕ))
 titles_in [] = Some []
-titles_in (field ∷ fields) = option_and_then (λ title. option_map (λ titles. title ∷ titles) (titles_in fields)) (unescaped field)
+titles_in (field ∷ fields) =
+    option_and_then (λ title. option_map (λ titles. title ∷ titles) (titles_in fields))
+    (unescaped field)
 
--- PATH: titles with slashes between them. It is split at the slashes before escapes are read, so `\s` is a slash within
--- a title.
+-- PATH: titles with slashes between them. It is split at the slashes before escapes are read, so
+-- `\s` is a slash within a title.
 unfoldable pub path_of : List ℕ → Option (List (List ℕ))
 path_of field = titles_in (slice_split (λ b. b == 47) field)
 
@@ -91,28 +102,43 @@ year_of a b c d = option_and_then (λ x. option_map (λ y. 100 * x + y) (pair_of
 abbrev pub date_of : List ℕ → Option (ℕ × ℕ × ℕ)
 date_of (a ∷ b ∷ c ∷ d ∷ e ∷ f ∷ g ∷ h ∷ i ∷ j ∷ []) =
     if e == 45 && h == 45
-    then option_and_then (λ y. option_and_then (λ m. option_map (λ n. (y, m, n)) (pair_of i j)) (pair_of f g)) (year_of a b c d)
+    then option_and_then (λ y. option_and_then (λ m. option_map (λ n. (y, m, n)) (pair_of i j))
+    (pair_of f g))
+    (year_of a b c d)
     else None
 date_of _ = None
 
 -- a space and `HH:MM`: the hour and the minute
 abbrev pub time_of : List ℕ → Option (ℕ × ℕ)
 time_of (a ∷ b ∷ c ∷ d ∷ e ∷ f ∷ []) =
-    if a == 32 && d == 58 then option_and_then (λ h. option_map (λ n. (h, n)) (pair_of e f)) (pair_of b c) else None
+    if a == 32 && d == 58
+    then option_and_then (λ h. option_map (λ n. (h, n)) (pair_of e f)) (pair_of b c)
+    else None
 time_of _ = None
 
 -- the calendar has the date, in a year from 0001 to 9999
 abbrev pub is_day : ℕ → ℕ → ℕ → Bool
-is_day y m d = nat_le 1 y && nat_le y 9999 && nat_le 1 m && nat_le m 12 && nat_le 1 d && nat_le d (days_in_month (pos y) m)
+is_day y m d =
+    nat_le 1 y
+    && nat_le y 9999
+    && nat_le 1 m
+    && nat_le m 12
+    && nat_le 1 d
+    && nat_le d (days_in_month (pos y) m)
 
 -- a moment, where there is such a one
 abbrev pub moment_at : ℕ × ℕ × ℕ → ℕ × ℕ → Option CivilMinute
 moment_at (y, m, d) (h, n) =
-    if is_day y m d && nat_lt h 24 && nat_lt n 60 then Some (at_minute (civil_day y m d) (h * 60 + n)) else None
+    if is_day y m d && nat_lt h 24 && nat_lt n 60
+    then Some (at_minute (civil_day y m d) (h * 60 + n))
+    else None
 
 -- MOMENT: `YYYY-MM-DD HH:MM`
 unfoldable pub moment_of : List ℕ → Option CivilMinute
-moment_of field = option_and_then (λ date. option_and_then (λ time. moment_at date time) (time_of (drop 10 field))) (date_of (take 10 field))
+moment_of field =
+    option_and_then (λ date. option_and_then (λ time. moment_at date time)
+    (time_of (drop 10 field)))
+    (date_of (take 10 field))
 
 -- `show` FILE
 unfoldable pub show_of : List ℕ → Option Command
@@ -121,16 +147,20 @@ show_of file = option_map Show (file_of file)
 -- `capture` FILE TARGET PLACE MOMENT TEMPLATE INITIAL
 unfoldable pub capture_of : List ℕ → List ℕ → List ℕ → List ℕ → List ℕ → List ℕ → Option Command
 capture_of file target place moment template initial =
-    option_and_then (λ f. option_and_then (λ t. option_and_then (λ p. option_and_then (λ m. option_and_then (λ e. option_map (λ i.
+    option_and_then (λ f. option_and_then (λ t. option_and_then (λ p.
+    option_and_then (λ m. option_and_then (λ e. option_map (λ i.
     Capture (record { file = f; target = t; place = p; moment = m; template = e; initial = i }))
-    (unescaped initial)) (unescaped template)) (moment_of moment)) (place_of place)) (target_of target)) (file_of file)
+    (unescaped initial)) (unescaped template)) (moment_of moment))
+    (place_of place)) (target_of target)) (file_of file)
 
 -- `refile` FILE PATH FILE PATH PLACE
 unfoldable pub refile_of : List ℕ → List ℕ → List ℕ → List ℕ → List ℕ → Option Command
 refile_of file path to_file to_path place =
-    option_and_then (λ f. option_and_then (λ p. option_and_then (λ g. option_and_then (λ q. option_map (λ l.
+    option_and_then (λ f. option_and_then (λ p.
+    option_and_then (λ g. option_and_then (λ q. option_map (λ l.
     Refile (record { file = f; path = p; to_file = g; to_path = q; place = l }))
-    (place_of place)) (path_of to_path)) (file_of to_file)) (path_of path)) (file_of file)
+    (place_of place)) (path_of to_path)) (file_of to_file))
+    (path_of path)) (file_of file)
 
 -- `todo` FILE PATH STATE MOMENT
 unfoldable pub todo_of : List ℕ → List ℕ → List ℕ → List ℕ → Option Command
@@ -159,7 +189,8 @@ clock_out_of moment = option_map ClockOut (moment_of moment)
 
 -- `time` FILE PATH
 unfoldable pub clocked_of : List ℕ → List ℕ → Option Command
-clocked_of file path = option_and_then (λ f. option_map (λ p. Time f p) (path_of path)) (file_of file)
+clocked_of file path =
+    option_and_then (λ f. option_map (λ p. Time f p) (path_of path)) (file_of file)
 
 -- a line of these fields; any other word or number of fields is no command
 abbrev pub command_of_fields : List (List ℕ) → Option Command
@@ -168,7 +199,8 @@ command_of_fields (word ∷ field ∷ []) =
     if bytes_eq word (codes "show") then show_of field
     else if bytes_eq word (codes "clock-out") then clock_out_of field
     else None
-command_of_fields (word ∷ file ∷ path ∷ []) = if bytes_eq word (codes "time") then clocked_of file path else None
+command_of_fields (word ∷ file ∷ path ∷ []) =
+    if bytes_eq word (codes "time") then clocked_of file path else None
 command_of_fields (word ∷ file ∷ path ∷ moment ∷ []) =
     if bytes_eq word (codes "archive") then archive_of file path moment
     else if bytes_eq word (codes "clock-in") then clock_in_of file path moment
@@ -178,7 +210,8 @@ command_of_fields (word ∷ file ∷ path ∷ state ∷ moment ∷ []) =
 command_of_fields (word ∷ file ∷ path ∷ to_file ∷ to_path ∷ place ∷ []) =
     if bytes_eq word (codes "refile") then refile_of file path to_file to_path place else None
 command_of_fields (word ∷ file ∷ target ∷ place ∷ moment ∷ template ∷ initial ∷ []) =
-    if bytes_eq word (codes "capture") then capture_of file target place moment template initial else None
+    if bytes_eq word (codes "capture") then capture_of file target place moment template initial
+    else None
 command_of_fields _ = None
 
 -- the command that a line is, without its newline

@@ -6,7 +6,8 @@ pub record Cut : Type 0 where
   pub lines : List (List ℕ)
   pub rest : List ℕ
 
--- one more byte in front, no newline: it goes onto the first line, or onto the rest where there is no line
+-- one more byte in front, no newline: it goes onto the first line, or onto the rest where there is
+-- no line
 abbrev pub onto : ℕ → List (List ℕ) → List ℕ → Cut
 onto b [] rest = record { lines = []; rest = b ∷ rest }
 onto b (line ∷ lines) rest = record { lines = (b ∷ line) ∷ lines; rest = rest }
@@ -15,7 +16,8 @@ abbrev pub cut : List ℕ → Cut
 cut [] = record { lines = []; rest = [] }
 cut (b ∷ bytes) =
     let later = cut bytes in
-    if b == 10 then record { lines = [] ∷ later.lines; rest = later.rest } else onto b later.lines later.rest
+    if b == 10 then record { lines = [] ∷ later.lines; rest = later.rest }
+    else onto b later.lines later.rest
 
 -- lines, each with its newline, and what stands behind them
 abbrev pub joined : List (List ℕ) → List ℕ → List ℕ

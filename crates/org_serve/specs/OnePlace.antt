@@ -7,4 +7,6 @@ use Rattle.org_serve.specs.Grammar.{command_of}
 
 -- Where the line is a command, it is a refile, a show or a settling.
 abbrev pub OnlyRefiles : List ℕ → Type 0
-OnlyRefiles line = (command : Command) → command_of line ≡ Some command → IsRefile command ⊎ ((file : List ℕ) × (command ≡ Show file)) ⊎ (command ≡ Settle)
+OnlyRefiles line =
+    (command : Command) → command_of line ≡ Some command
+    → IsRefile command ⊎ ((file : List ℕ) × (command ≡ Show file)) ⊎ (command ≡ Settle)

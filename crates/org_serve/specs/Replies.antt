@@ -17,16 +17,19 @@ safe_if_risen old new = if nat_lt old new then safe_line new else []
 
 -- the reply of a call that didn't do what was asked
 abbrev pub fault_line : RunFault → List ℕ
-fault_line (Refused why) = codes "refused " ++ decimal (code_of why) ++ codes " " ++ name_of why ++ codes "\n"
+fault_line (Refused why) =
+    codes "refused " ++ decimal (code_of why) ++ codes " " ++ name_of why ++ codes "\n"
 fault_line OutOfMemory = no_memory
 fault_line Device = codes "fault Device\n"
 fault_line Broken = codes "fault Broken\n"
 
--- all that is written for a command, which so many accepted commands on the disk came before, and so many are there now
+-- all that is written for a command, which so many accepted commands on the disk came before, and
+-- so many are there now
 abbrev pub answer_text : Result Reply RunFault → ℕ → ℕ → List ℕ
 answer_text (Ok (Done n)) old new = codes "ok " ++ decimal n ++ codes "\n" ++ safe_if_risen old new
 answer_text (Ok (Safe n)) old new = safe_line n
-answer_text (Ok (Text bytes)) old new = codes "text " ++ decimal (length bytes) ++ codes "\n" ++ bytes ++ codes "\n"
+answer_text (Ok (Text bytes)) old new =
+    codes "text " ++ decimal (length bytes) ++ codes "\n" ++ bytes ++ codes "\n"
 answer_text (Ok (Time minutes)) old new = codes "time " ++ duration_text minutes 1 ++ codes "\n"
 answer_text (Err fault) old new = fault_line fault
 

@@ -22,7 +22,8 @@ pub record AreSynced (names : List (List ℕ)) (old new : List ℕ → FileState
   pub stable : (name : List ℕ) → Contains names name → IsStable (new name)
 
 -- The files of these names were synced, all of them or, where a sync failed, some.
-pub record Syncs {A E : Type 0} (names : List (List ℕ)) (old new : List ℕ → FileState) (result : Result A E) : Type 0 where
+pub record Syncs {A E : Type 0} (names : List (List ℕ)) (old new : List ℕ → FileState)
+    (result : Result A E) : Type 0 where
   pub done : OnOk result (AreSynced names old new)
   -- a crash leaves of a file what it might have left before
   pub images : (name bytes : List ℕ) → IsImage (new name) bytes → IsImage (old name) bytes
@@ -42,7 +43,8 @@ OutsideStable given files = (name : List ℕ) → IsNotStored given name → IsS
 
 -- the image recovers to what the files recover to as they read
 abbrev pub RecoversAsRead : (List ℕ → FileState) → Image → Type 0
-RecoversAsRead files image = IsSomeAnd (recovered (contents files)) (λ texts. RecoversTo texts image)
+RecoversAsRead files image =
+    IsSomeAnd (recovered (contents files)) (λ texts. RecoversTo texts image)
 
 -- what a crash leaves of the files as they were found, or what recovers to them as they read
 abbrev pub IsAsFound : (List ℕ → FileState) → Image → Type 0

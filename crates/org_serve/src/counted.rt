@@ -9,7 +9,8 @@ use std::io::{ErrorKind, Read, Write};
 /// How often a read or a write is tried while signals interrupt it.
 const ATTEMPTS: usize = 100;
 
-/// A `Source` of a std reader, and a `Sink` of a std writer: it has the bytes of what it wraps, and counts.
+/// A `Source` of a std reader, and a `Sink` of a std writer: it has the bytes of what it wraps, and
+/// counts.
 #[derive(Drop)]
 pub struct Counted<T> {
     inner: T,

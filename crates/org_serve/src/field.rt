@@ -67,8 +67,9 @@ fn unescape(alloc: Global, field: &[u8]) -> Result<Vec<u8>, LineFault>
     read_escapes(alloc, field)
 }
 
-/// The text that a field TEMPLATE, INITIAL or STATE is: the field as it stands, which isn't copied, where it has no escape.
-/// `BadLine` comes only where it has a wrong escape; `OutOfMemory` where memory for it was refused.
+/// The text that a field TEMPLATE, INITIAL or STATE is: the field as it stands, which isn't copied,
+/// where it has no escape. `BadLine` comes only where it has a wrong escape; `OutOfMemory` where
+/// memory for it was refused.
 pub fn text(alloc: Global, field: &[u8]) -> Result<TextOf<'_>, LineFault>
     ensures { Gives result (unescaped field.now) }
 {
@@ -104,8 +105,8 @@ fn named(alloc: Global, bytes: &[u8]) -> Result<FileName, LineFault>
     }
 }
 
-/// The name that a field FILE is. `BadLine` comes only where it is no file name; `OutOfMemory` where memory for it was
-/// refused.
+/// The name that a field FILE is. `BadLine` comes only where it is no file name; `OutOfMemory`
+/// where memory for it was refused.
 #[tactic(auto, unfolding(crate::specs::Grammar::file_of))]
 pub fn file(alloc: Global, field: &[u8]) -> Result<FileName, LineFault>
     ensures { Gives result (file_of field.now) }
@@ -118,8 +119,9 @@ pub fn file(alloc: Global, field: &[u8]) -> Result<FileName, LineFault>
     named(alloc, &name)
 }
 
-/// The path that a field PATH is: titles with slashes between them, of which there is one more than slashes. `BadLine`
-/// comes only where a title has a wrong escape; `OutOfMemory` where memory for it was refused.
+/// The path that a field PATH is: titles with slashes between them, of which there is one more than
+/// slashes. `BadLine` comes only where a title has a wrong escape; `OutOfMemory` where memory for
+/// it was refused.
 pub fn path(alloc: Global, field: &[u8]) -> Result<Titles, LineFault>
     ensures { Gives result (path_of field.now) }
 {
@@ -130,8 +132,8 @@ pub fn path(alloc: Global, field: &[u8]) -> Result<Titles, LineFault>
     Ok(Titles::new(titles))
 }
 
-/// The target that a field TARGET is. `BadLine` comes only where it is none; `OutOfMemory` where memory for it was
-/// refused.
+/// The target that a field TARGET is. `BadLine` comes only where it is none; `OutOfMemory` where
+/// memory for it was refused.
 #[tactic(auto, unfolding(crate::specs::Grammar::target_of))]
 pub fn target(alloc: Global, field: &[u8]) -> Result<Target, LineFault>
     ensures { Gives result (target_of field.now) }

@@ -30,8 +30,8 @@ ghost use Rattle.org_serve.specs.Replies.{answer_text, safe_line, told_safe};
 
 use org_disk::Disk;
 
-/// The lines of any bytes, each with its newline, and what stands behind the last newline are those bytes; and no
-/// line holds a newline, nor does the rest.
+/// The lines of any bytes, each with its newline, and what stands behind the last newline are those
+/// bytes; and no line holds a newline, nor does the rest.
 pub fn lines_and_rest_are_the_bytes()
     ensures whole { (bytes : List ℕ) → joined (cut bytes).lines (cut bytes).rest ≡ bytes }
     ensures lines { (bytes : List ℕ) → All HasNoNewline (cut bytes).lines }
@@ -49,8 +49,9 @@ pub fn written_path_reads_back()
         → path_of (path_field (title ∷ titles)) ≡ Some (title ∷ titles) }
 {}
 
-/// A reply that tells `safe a` ends with that line, and a commands are acknowledged as it is written, by a store that
-/// isn't broken. What a crash leaves from then on is said of such a store: `serve_disk`.
+/// A reply that tells `safe a` ends with that line, and a commands are acknowledged as it is
+/// written, by a store that isn't broken. What a crash leaves from then on is said of such a store:
+/// `serve_disk`.
 pub fn safe_tells_acknowledged()
     ensures written { (answer : Result Reply RunFault) (old new a : ℕ)
         → told_safe answer old new ≡ Some a
@@ -61,12 +62,13 @@ pub fn safe_tells_acknowledged()
         → (new.acknowledged ≡ a) × IsFalse new.broken }
 {}
 
-/// What a crash leaves while lines are served, told by `calls` of `serve`. Where the list of a store has the texts of
-/// all files as its session tells them, it goes on with those after each command that `serve` accepts. Where the disk
-/// is honest at the end, and was at rest with the settled texts of a store that wasn't broken, as it is between calls
-/// (`settled_is_on_disk`, a law of org_store), at every moment since then what a crash leaves recovers to the files
-/// after one prefix of the accepted commands, which has all that were acknowledged as it began; a command in which the
-/// disk failed may be the last of them.
+/// What a crash leaves while lines are served, told by `calls` of `serve`. Where the list of a
+/// store has the texts of all files as its session tells them, it goes on with those after each
+/// command that `serve` accepts. Where the disk is honest at the end, and was at rest with the
+/// settled texts of a store that wasn't broken, as it is between calls (`settled_is_on_disk`, a law
+/// of org_store), at every moment since then what a crash leaves recovers to the files after one
+/// prefix of the accepted commands, which has all that were acknowledged as it began; a command in
+/// which the disk failed may be the last of them.
 pub fn crashes_leave_a_prefix<D: Disk>()
     // a store that was just opened has such a list
     ensures opened { (states : Keywords) (names texts : List (List ℕ))
@@ -89,8 +91,8 @@ pub fn crashes_leave_a_prefix<D: Disk>()
         first.store.session.acknowledged) }
 {}
 
-/// Every image of a store's disk opens again while lines are served, with the names that the store was opened with: what
-/// that says is told by `every_image_opens` of org_store's laws.
+/// Every image of a store's disk opens again while lines are served, with the names that the store
+/// was opened with: what that says is told by `every_image_opens` of org_store's laws.
 pub fn every_image_opens<D: Disk>()
     // what `crashes_leave_a_prefix` tells of `serve`, where no text of the list was past the limit
     ensures served { (given : List (List ℕ)) (first last : Past D) (end : ServeEnd)
@@ -111,9 +113,10 @@ pub fn every_image_opens<D: Disk>()
         → HoldsServed served here least image → IsOpenable given image }
 {}
 
-/// No file is written but the store's own and the journal while lines are served (`crashes_leave_a_prefix`), however
-/// that ends: where the disk is honest at the end, each other file is as it was, and a crash meanwhile leaves of it what
-/// it might have left before. The files that wait at first are to be the store's own: where it was just opened, none does.
+/// No file is written but the store's own and the journal while lines are served
+/// (`crashes_leave_a_prefix`), however that ends: where the disk is honest at the end, each other
+/// file is as it was, and a crash meanwhile leaves of it what it might have left before. The files
+/// that wait at first are to be the store's own: where it was just opened, none does.
 pub fn only_own_files_are_written<D: Disk>()
     ensures alone { (first last : Past D) (end : ServeEnd)
         (left left' written written' : Option (List ℕ))
@@ -134,10 +137,11 @@ pub fn only_own_files_are_written<D: Disk>()
         × AreNames last.store.session.names last.store.waiting }
 {}
 
-/// Each node in one place, in what a crash leaves while lines are served (`crashes_leave_a_prefix`): each node is there
-/// as often, over all files of the store, as after one prefix of the accepted commands, which has all that were
-/// acknowledged when serving began. Where no line that is run is a command but a refile, a show or a settling, that is
-/// as often as when serving began.
+/// Each node in one place, in what a crash leaves while lines are served
+/// (`crashes_leave_a_prefix`): each node is there as often, over all files of the store, as after
+/// one prefix of the accepted commands, which has all that were acknowledged when serving began.
+/// Where no line that is run is a command but a refile, a show or a settling, that is as often as
+/// when serving began.
 pub fn one_place<D: Disk>()
     ensures any_moment { (given : List (List ℕ)) (first last : Past D) (end : ServeEnd)
         (left left' written written' : Option (List ℕ)) (others image : Image) (least : ℕ)

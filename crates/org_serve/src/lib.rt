@@ -1,5 +1,5 @@
-//! Command lines in, replies out: how input is cut into lines, whatever pieces it comes in, and what is written for
-//! each line.
+//! Command lines in, replies out: how input is cut into lines, whatever pieces it comes in, and
+//! what is written for each line.
 #![tactic(auto)]
 
 mod counted;

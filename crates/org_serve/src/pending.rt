@@ -26,7 +26,8 @@ impl Pending {
         }
     }
 
-    /// Adds bytes of the line. From the first that passes the limit, or whose memory is refused, none is kept.
+    /// Adds bytes of the line. From the first that passes the limit, or whose memory is refused,
+    /// none is kept.
     pub fn add(&mut self, piece: &[u8])
         ensures { (part : List ℕ) → Stands self.old part → Stands self.new (part ++ piece.now) }
     {
@@ -40,7 +41,8 @@ impl Pending {
         }
     }
 
-    /// Whether these bytes are a whole line by themselves: nothing of it is kept, and they are within the limit.
+    /// Whether these bytes are a whole line by themselves: nothing of it is kept, and they are
+    /// within the limit.
     pub fn is_whole(&self, last: &[u8]) -> bool
         ensures exact { (part : List ℕ) → Stands self.now part
             → IsTrue result ↔ ((part ≡ []) × (length last.now ≤ limit)) }

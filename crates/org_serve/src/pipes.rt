@@ -9,7 +9,8 @@ ghost use Rattle.org_serve.specs.Parts.{AppendsSome};
 #[derive(Clone, Copy)]
 pub struct PipeFault;
 
-/// Gives bytes, and counts its reads and its failures. A count that has reached 2^64 - 1 stays there.
+/// Gives bytes, and counts its reads and its failures. A count that has reached 2^64 - 1 stays
+/// there.
 pub trait Source {
     /// The bytes that reads will give from here on, where they are known.
     ghost left: { Self → Option (List ℕ) };
@@ -20,8 +21,8 @@ pub trait Source {
     /// How many of them failed.
     ghost failures: { Self → ℕ };
 
-    /// Puts the next bytes at the front of `into` and answers how many: none only at their end, or where `into` is
-    /// empty.
+    /// Puts the next bytes at the front of `into` and answers how many: none only at their end, or
+    /// where `into` is empty.
     fn read(&mut self, into: &mut [u8]) -> Result<usize, PipeFault>
         ensures bound { ReadsAtMost result into.new }
         ensures bytes { ReadConsumes (left self.old) (left self.new) result into.new }

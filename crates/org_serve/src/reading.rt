@@ -16,8 +16,8 @@ use std::alloc::Global;
 /// The most fields of a command, which a capture has.
 const MOST_FIELDS: usize = 7;
 
-/// The command that a line is, given without its newline. `BadLine` comes only where it is none; `OutOfMemory` where
-/// memory for it was refused.
+/// The command that a line is, given without its newline. `BadLine` comes only where it is none;
+/// `OutOfMemory` where memory for it was refused.
 pub fn read_command(alloc: Global, line: &[u8]) -> Result<Command<'_>, LineFault>
     ensures { Gives result (command_of line.now) }
 {

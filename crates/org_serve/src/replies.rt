@@ -16,11 +16,12 @@ use arrayvec::ArrayVec;
 use itoa::Buffer;
 use org_store::{Refusal, Reply, RunFault};
 
-/// The most bytes that are written for a command that is done: `ok ` and `safe `, a number of at most 20 digits behind
-/// each, and two newlines.
+/// The most bytes that are written for a command that is done: `ok ` and `safe `, a number of at
+/// most 20 digits behind each, and two newlines.
 const DONE_BYTES: usize = 50;
 
-/// Writes the answer to a command, and flushes. Before the command, `before` commands were on the disk; now `safe` are.
+/// Writes the answer to a command, and flushes. Before the command, `before` commands were on the
+/// disk; now `safe` are.
 pub fn write_answer<W: Sink>(
     writer: &mut W,
     answer: &Result<Reply, RunFault>,

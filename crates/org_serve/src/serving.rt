@@ -28,21 +28,24 @@ use std::alloc::Global;
 // The most bytes of one read.
 const PIECE: usize = 4096;
 
-/// Answers the lines of a reader by a store, in at most this many reads; at the end of the input it settles what isn't
-/// settled yet. A line is answered as soon as its newline was read, whatever pieces the bytes come in.
+/// Answers the lines of a reader by a store, in at most this many reads; at the end of the input it
+/// settles what isn't settled yet. A line is answered as soon as its newline was read, whatever
+/// pieces the bytes come in.
 ///
-/// Where it ends with `End`, `Unsettled` or `Device`, and the disk is honest then, the input was read to its end, and
-/// what was written is its transcript. It ends with `Read` where a read failed, and else only where the turns are used up:
-/// the lines that were read whole are answered then, and where no read failed each gave bytes, so the end of the input
-/// wasn't met. It ends with `Write` exactly where a write or a flush failed: of the lines some, from the first on, were run
-/// then, and what was written begins their replies, or is all of them and the beginning of what is written at the end. One
-/// failure is counted in either case, so neither reader nor writer is called once it has failed. There are no more reads
-/// than turns.
+/// Where it ends with `End`, `Unsettled` or `Device`, and the disk is honest then, the input was
+/// read to its end, and what was written is its transcript. It ends with `Read` where a read
+/// failed, and else only where the turns are used up: the lines that were read whole are answered
+/// then, and where no read failed each gave bytes, so the end of the input wasn't met. It ends with
+/// `Write` exactly where a write or a flush failed: of the lines some, from the first on, were run
+/// then, and what was written begins their replies, or is all of them and the beginning of what is
+/// written at the end. One failure is counted in either case, so neither reader nor writer is
+/// called once it has failed. There are no more reads than turns.
 ///
-/// The store is changed by calls of `run` and `settle` alone. What each of them did is told where the disk is honest
-/// after it (`calls`): a wrong answer takes nothing from what was done before it. What a crash leaves at any moment
-/// since the call began follows from that: `crashes_leave_a_prefix`, a law. A store that was broken is left as it is;
-/// one that wasn't is broken only where its disk counted a failure, and where it isn't, none was counted. It is broken
+/// The store is changed by calls of `run` and `settle` alone. What each of them did is told where
+/// the disk is honest after it (`calls`): a wrong answer takes nothing from what was done before
+/// it. What a crash leaves at any moment since the call began follows from that:
+/// `crashes_leave_a_prefix`, a law. A store that was broken is left as it is; one that wasn't is
+/// broken only where its disk counted a failure, and where it isn't, none was counted. It is broken
 /// where this ends with `Device`, and isn't where it ends with `End` or `Unsettled`.
 pub fn serve<D: Disk, R: Source, W: Sink>(
     alloc: Global,

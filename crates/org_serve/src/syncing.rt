@@ -12,13 +12,15 @@ use org_disk::{Disk, DiskFault, FileName};
 use org_fileset::OpenFault;
 use std::alloc::Global;
 
-/// Syncs the files of a store that is to be opened with these names: its journal, theirs and their archive files.
+/// Syncs the files of a store that is to be opened with these names: its journal, theirs and their
+/// archive files.
 ///
-/// Once it answers Ok, all files read as before, and each of the store's is on the disk: a crash leaves its content,
-/// and nothing else. Whatever it answers, a crash at any moment since it began leaves what it might have left before.
+/// Once it answers Ok, all files read as before, and each of the store's is on the disk: a crash
+/// leaves its content, and nothing else. Whatever it answers, a crash at any moment since it began
+/// leaves what it might have left before.
 ///
-/// It answers TooManyFiles where more names are given than a store may have, and no call is made of the disk then; Device
-/// where a sync failed; OutOfMemory.
+/// It answers TooManyFiles where more names are given than a store may have, and no call is made of
+/// the disk then; Device where a sync failed; OutOfMemory.
 pub fn sync_files<D: Disk>(alloc: Global, disk: &mut D, given: &[FileName]) -> Result<(), OpenFault>
     requires { All IsOrgFile given.now }
     ensures syncs { D.honest disk.new →

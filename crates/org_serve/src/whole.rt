@@ -22,7 +22,8 @@ use std::alloc::Global;
 /// What a store is opened with.
 #[derive(Drop)]
 pub struct Setup {
-    /// The names of its files. No name is an archive file's or the journal's; a repeated one counts once.
+    /// The names of its files. No name is an archive file's or the journal's; a repeated one counts
+    /// once.
     pub names: Vec<FileName>,
     /// The words that are TODO keywords.
     pub states: States,
@@ -39,30 +40,34 @@ pub struct Served<D> {
     pub end: Result<ServeEnd, OpenFault>,
 }
 
-/// Opens a store over the files of a disk, answers the lines of a reader by it as `serve` does, and gives the disk
-/// back. It hands on each store on the way with one list: the texts of all files as they were opened, and after each
-/// accepted command.
+/// Opens a store over the files of a disk, answers the lines of a reader by it as `serve` does, and
+/// gives the disk back. It hands on each store on the way with one list: the texts of all files as
+/// they were opened, and after each accepted command.
 ///
-/// What is said of a step is said where the disk is honest after it: a wrong answer later takes nothing from it. So
-/// are, up to each store on the way, the replies to the lines so far the model's; and an opening brings to an end what
-/// a crash had cut short, and leaves a journal whose gate is closed as it is.
+/// What is said of a step is said where the disk is honest after it: a wrong answer later takes
+/// nothing from it. So are, up to each store on the way, the replies to the lines so far the
+/// model's; and an opening brings to an end what a crash had cut short, and leaves a journal whose
+/// gate is closed as it is.
 ///
-/// On a disk that is recoverable, of which each image recovers to files, every image at every moment since the call
-/// began, up to a store on the way, recovers to what an image at the start recovered to, or to the files after one
-/// prefix of the commands accepted by then. Every image since an earlier store on the way that wasn't broken recovers
-/// to a prefix that has all commands that were acknowledged there: so since a reply `safe a` was answered, to one that
-/// has the first a (`laws::safe_tells_acknowledged`). Where it ends with `End`, each image at the end recovers to the
-/// files after all of them. The disk is as recoverable at the end, so that all this may be done again.
+/// On a disk that is recoverable, of which each image recovers to files, every image at every
+/// moment since the call began, up to a store on the way, recovers to what an image at the start
+/// recovered to, or to the files after one prefix of the commands accepted by then. Every image
+/// since an earlier store on the way that wasn't broken recovers to a prefix that has all commands
+/// that were acknowledged there: so since a reply `safe a` was answered, to one that has the first
+/// a (`laws::safe_tells_acknowledged`). Where it ends with `End`, each image at the end recovers to
+/// the files after all of them. The disk is as recoverable at the end, so that all this may be done
+/// again.
 ///
-/// No file is written but the store's own, the journal and those that the record of an open journal names: up to a store
-/// on the way, and at the end, each other file is as it was, and a crash leaves of it what it might have left before,
-/// on any disk (`LeavesForeign`).
+/// No file is written but the store's own, the journal and those that the record of an open journal
+/// names: up to a store on the way, and at the end, each other file is as it was, and a crash
+/// leaves of it what it might have left before, on any disk (`LeavesForeign`).
 ///
-/// The faults are those of `Store::open`, and then nothing is read or written; the ends, when each comes, and what is
-/// written then, those of `serve`. The store at the end is broken where the disk counted a failure, and isn't where it
-/// counted none. Too many names leave the disk unused. Where the journal is bad, as it reads, a crash leaves what it might
-/// have left before, whatever fault is told. With `Device`, or an opening that is refused so, it ends only where the
-/// disk counted a failure, and with `End` or `Unsettled` only where it counted none.
+/// The faults are those of `Store::open`, and then nothing is read or written; the ends, when each
+/// comes, and what is written then, those of `serve`. The store at the end is broken where the disk
+/// counted a failure, and isn't where it counted none. Too many names leave the disk unused. Where
+/// the journal is bad, as it reads, a crash leaves what it might have left before, whatever fault
+/// is told. With `Device`, or an opening that is refused so, it ends only where the disk counted a
+/// failure, and with `End` or `Unsettled` only where it counted none.
 pub fn serve_disk<D: Disk, R: Source, W: Sink>(
     alloc: Global,
     disk: D,
@@ -113,16 +118,19 @@ pub fn serve_disk<D: Disk, R: Source, W: Sink>(
     }
 }
 
-/// `serve_disk` over files that are synced first: the journal, the files of the names, and their archive files.
+/// `serve_disk` over files that are synced first: the journal, the files of the names, and their
+/// archive files.
 ///
-/// All that `serve_disk` says of a run holds of this one. But only the other files have to be on the disk at first:
-/// where they are, whatever the store's own files held that wasn't on the disk, a crash at any moment since this began
-/// leaves one image of the files as they were found, or what recovers to what they read as, or to the files after one
-/// prefix of the commands accepted by then; from each store on the way on, what it leaves is as after `serve_disk`. The
-/// disk is then left recoverable, and each image of it recovers to files; or the store wasn't opened, and the other
-/// files are on the disk as before.
+/// All that `serve_disk` says of a run holds of this one. But only the other files have to be on
+/// the disk at first: where they are, whatever the store's own files held that wasn't on the disk,
+/// a crash at any moment since this began leaves one image of the files as they were found, or what
+/// recovers to what they read as, or to the files after one prefix of the commands accepted by
+/// then; from each store on the way on, what it leaves is as after `serve_disk`. The disk is then
+/// left recoverable, and each image of it recovers to files; or the store wasn't opened, and the
+/// other files are on the disk as before.
 ///
-/// A sync that fails is an opening that is refused with `Device`. Too many names leave the disk unused.
+/// A sync that fails is an opening that is refused with `Device`. Too many names leave the disk
+/// unused.
 pub fn serve_synced<D: Disk, R: Source, W: Sink>(
     alloc: Global,
     disk: D,

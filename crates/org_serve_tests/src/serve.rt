@@ -1,7 +1,7 @@
 //! Lines served over a disk in memory.
 //!
-//! What owns a disk or a store drops it by name: left to the end of a function, each of its parts is dropped there, which
-//! the function's proof would have to follow.
+//! What owns a disk or a store drops it by name: left to the end of a function, each of its parts
+//! is dropped there, which the function's proof would have to follow.
 ghost use Rattle.std.specs.Prelude.{All};
 ghost use Rattle.org_disk.specs.Names.{IsOrgFile};
 ghost use Rattle.org_serve.specs.Group.{IsGroup};

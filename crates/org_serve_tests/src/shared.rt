@@ -6,8 +6,9 @@ use org_fixtures::two_files;
 use std::process::Abort;
 use std::test::Fail;
 
-// What a step gives, which has to go well. Where it doesn't the test stops here and lets go of nothing, so a function
-// that owns a disk or a store has no exit for each of its steps, which its proof would have to follow.
+// What a step gives, which has to go well. Where it doesn't the test stops here and lets go of
+// nothing, so a function that owns a disk or a store has no exit for each of its steps, which its
+// proof would have to follow.
 pub fn must<T>(rt: &impl Abort, given: Result<T, Fail>) -> T
     ensures { given ≡ Ok result }
 {

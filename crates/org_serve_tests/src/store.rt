@@ -1,7 +1,7 @@
 //! A store over a disk in memory.
 //!
-//! What owns a store or a command drops it by name: left to the end of a function, each of its parts is dropped there,
-//! which the function's proof would have to follow.
+//! What owns a store or a command drops it by name: left to the end of a function, each of its
+//! parts is dropped there, which the function's proof would have to follow.
 mod asking;
 mod asks;
 mod crashes;

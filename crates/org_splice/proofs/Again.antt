@@ -10,7 +10,8 @@ use Rattle.org_splice.proofs.Patching.{last_end-place, length-patched, patched-o
 
 -- Patches that fit a text of one size, and another size
 
--- what begins within a text of one size begins within one of another, if that is no shorter or reaches the final length
+-- what begins within a text of one size begins within one of another, if that is no shorter or
+-- reaches the final length
 begin_shorter : (size other final place : ℕ) (patches : List (ℕ × List ℕ)) → min size final ≤ other → Rise place patches → last_end place patches ≤ final → BeginWithin size place patches → BeginWithin other place patches
 begin_shorter size other final place [] long rise within begin = tt
 begin_shorter size other final place (patch ∷ patches) long rise within begin =

@@ -1,4 +1,5 @@
--- A splice keeps what is known of a text: its ranges stay apart and few, and it stays an edit of what it was made from.
+-- A splice keeps what is known of a text: its ranges stay apart and few, and it stays an edit of
+-- what it was made from.
 use Rattle.std.proofs.Common.{◌≡◌, ◌⊎◌, inl, inr, ⊎_elim, ℕ, ◌+◌, ◌-◌, ◌<◌, ◌≤◌, ◌++◌, eqb, List, length, get_or, take, drop, Some, sym, ◌∙◌, ap, arith, length-append, length-drop, length-take}
 use Rattle.std.proofs.lemmas.Bool.{eqb-true, cond_both}
 use Rattle.std.proofs.lemmas.List.{get_or-take, get_or_append_left}
@@ -33,8 +34,8 @@ module _ (at removed added old_size : ℕ) (within : at + removed ≤ old_size) 
         few = length-with_range (own_range at removed added (old_size - removed + added)) (cut_at (old_size - removed + added) ranges) (omega (arith, are.few, length-cut_at (old_size - removed + added) ranges));
       }
 
-  -- a position that stays outside the changed ranges is outside them before, and lies before the splice, or behind one
-  -- that keeps the length
+  -- a position that stays outside the changed ranges is outside them before, and lies before the
+  -- splice, or behind one that keeps the length
   pub IsUnchanged-changed_by : (ranges : List Span) (i : ℕ) → AreChanged old_size ranges → i < old_size - removed + added → IsUnchanged (changed_by at removed added (old_size - removed + added) ranges) i
       → ((i < at) ⊎ ((removed ≡ added) × (at + added ≤ i))) × IsUnchanged ranges i
   unfolding own size

@@ -1,4 +1,5 @@
--- The patches of an edited text: they are well formed, fit each text that it was made from, and make the text of it.
+-- The patches of an edited text: they are well formed, fit each text that it was made from, and
+-- make the text of it.
 use Rattle.std.proofs.Common.{◌≡◌, inl, inr, ⊎_elim, ℕ, ◌+◌, ◌-◌, ◌<◌, ◌≤◌, ◌++◌, max, List, [], ◌∷◌, length, get_or, take, drop, map, Option, Some, refl, sym, ◌∙◌, ap, subst, arith, append_assoc, length-drop, length-take, lit≤}
 use Rattle.std.specs.Prelude.{slice_get, slice_range, unwrap_or}
 use Rattle.std.specs.List.{AllByRecursion}

@@ -1,4 +1,5 @@
--- Texts: lists of bytes, read as lines that end with a newline (Org Syntax, "Terminology and conventions").
+-- Texts: lists of bytes, read as lines that end with a newline (Org Syntax, "Terminology and
+-- conventions").
 use Rattle.std.specs.Prelude.{◌≢◌, ℕ, Bool, true, ◌==◌, List, [], ◌∷◌, ◌++◌, if◌then◌else◌}
 use Rattle.std.specs.List.{AllByRecursion}
 

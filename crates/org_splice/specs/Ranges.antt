@@ -5,7 +5,11 @@ use Rattle.org_splice.specs.declared.Span.{Span}
 -- ranges that lie apart, from this place on and up to this size
 abbrev pub LieApart : ℕ → ℕ → List Span → Type 0
 LieApart place size [] = Unit {0}
-LieApart place size (range ∷ ranges) = (place ≤ range.start) × (range.start < range.end) × (range.end ≤ size) × LieApart (range.end + 1) size ranges
+LieApart place size (range ∷ ranges) =
+    (place ≤ range.start)
+    × (range.start < range.end)
+    × (range.end ≤ size)
+    × LieApart (range.end + 1) size ranges
 
 -- the changed ranges that are kept of a text of this size
 pub record AreChanged (size : ℕ) (ranges : List Span) : Type 0 where
@@ -44,10 +48,11 @@ last_two_joined (range ∷ next ∷ after ∷ ranges) = range ∷ last_two_joine
 abbrev pub a_thousand_of : List Span → List Span
 a_thousand_of ranges = if nat_le (length ranges) 1_000 then ranges else last_two_joined ranges
 
--- the range that a splice changes of a text that has this size afterwards: that of its bytes where the text keeps its
--- length, and else all from `at` on
+-- the range that a splice changes of a text that has this size afterwards: that of its bytes where
+-- the text keeps its length, and else all from `at` on
 abbrev pub own_range : ℕ → ℕ → ℕ → ℕ → Span
-own_range at removed added size = record { start = at; end = if removed == added then at + added else size }
+own_range at removed added size =
+    record { start = at; end = if removed == added then at + added else size }
 
 -- the ranges with one more, if it isn't empty
 abbrev pub with_range : Span → List Span → List Span
@@ -55,4 +60,5 @@ with_range own ranges = if own.start == own.end then ranges else a_thousand_of (
 
 -- the changed ranges after a splice
 abbrev pub changed_by : ℕ → ℕ → ℕ → ℕ → List Span → List Span
-changed_by at removed added size ranges = with_range (own_range at removed added size) (cut_at size ranges)
+changed_by at removed added size ranges =
+    with_range (own_range at removed added size) (cut_at size ranges)

@@ -1,4 +1,5 @@
--- Edited texts: bytes, with the ranges in which they were changed since the text was last settled, or new.
+-- Edited texts: bytes, with the ranges in which they were changed since the text was last settled,
+-- or new.
 use Rattle.std.specs.Prelude.{◌≡◌, ℕ, ◌+◌, ◌-◌, ◌<◌, List, [], ◌∷◌, ◌++◌, map, length, take, drop, slice_get, slice_range, if◌then◌else◌}
 use Rattle.org_splice.specs.declared.Span.{Span}
 use Rattle.org_splice.specs.declared.edit.Edit.{Edit}
@@ -12,7 +13,8 @@ pub record EditedText : Type 0 where
 
 -- A text was made from this one by edits: outside the changed ranges it has its bytes.
 pub record IsEditOf (old : List ℕ) (text : EditedText) : Type 0 where
-  pub same : (i : ℕ) → i < length text.bytes → IsUnchanged text.changed i → slice_get old i ≡ slice_get text.bytes i
+  pub same : (i : ℕ) → i < length text.bytes → IsUnchanged text.changed i
+      → slice_get old i ≡ slice_get text.bytes i
 
 -- a text with no edit
 abbrev pub settled : List ℕ → EditedText
@@ -22,12 +24,14 @@ settled bytes = record { bytes = bytes; changed = [] }
 abbrev pub spliced : ℕ → ℕ → List ℕ → EditedText → EditedText
 spliced at removed bytes text = record {
   bytes = take at text.bytes ++ bytes ++ drop (at + removed) text.bytes;
-  changed = changed_by at removed (length bytes) (length text.bytes - removed + length bytes) text.changed;
+  changed = changed_by at removed (length bytes)
+      (length text.bytes - removed + length bytes) text.changed;
 }
 
 -- a text with a newline put at its end, where it has bytes and doesn't end in one
 abbrev pub terminated_text : EditedText → EditedText
-terminated_text text = if is_terminated text.bytes then text else spliced (length text.bytes) 0 (10 ∷ []) text
+terminated_text text =
+    if is_terminated text.bytes then text else spliced (length text.bytes) 0 (10 ∷ []) text
 
 -- a text with edits, one after another
 abbrev pub spliced_each : List Edit → EditedText → EditedText

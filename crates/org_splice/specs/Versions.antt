@@ -43,4 +43,5 @@ pub record IsUndo (room : ℕ) (undo : Undo) (text : EditedText) : Type 0 where
 -- each of the edits can be taken back, the last first
 abbrev pub AreUndos : ℕ → List Undo → EditedText → Type 0
 AreUndos room [] text = Unit {0}
-AreUndos room (undo ∷ undos) text = AreUndos room undos text × IsUndo room undo (undone_all undos text)
+AreUndos room (undo ∷ undos) text =
+    AreUndos room undos text × IsUndo room undo (undone_all undos text)

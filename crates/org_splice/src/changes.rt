@@ -6,8 +6,8 @@ ghost use Rattle.org_splice.specs.Texts.{EditedText};
 
 use crate::editing::Editing;
 
-/// Changed texts by the names of their files, each name once, in the order in which they are to be written. They are
-/// lent: a commit copies their patches alone.
+/// Changed texts by the names of their files, each name once, in the order in which they are to be
+/// written. They are lent: a commit copies their patches alone.
 pub trait Changes<N: Eq> {
     /// Each name with its text.
     ghost pairs: { Self → List (N × EditedText) };

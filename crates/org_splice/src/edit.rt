@@ -12,8 +12,8 @@ pub struct Edit {
     pub bytes: Bytes,
 }
 
-/// How many bytes a text of this size has after edits, which can be made of it one after another. None comes only where
-/// it would have 2^64 bytes or more after one of them. Takes no memory.
+/// How many bytes a text of this size has after edits, which can be made of it one after another.
+/// None comes only where it would have 2^64 bytes or more after one of them. Takes no memory.
 pub fn size_after(size: usize, edits: &[Edit]) -> Option<usize>
     ensures size { (text : List ℕ) → length text ≡ size → CanApply edits.now text
         → IfSome result (λ after. after ≡ length (applied_each edits.now text)) }

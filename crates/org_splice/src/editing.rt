@@ -16,9 +16,10 @@ use std::alloc::AllocError;
 use std::marker::Model;
 use std::mem;
 
-/// A text that is edited in place, with the ranges of bytes that were changed since it was made or last settled. Until
-/// they are kept, its edits can be taken back, which takes no memory and can't fail: bytes are moved only within room
-/// that the text has had before, and the changed ranges of before an edit are held whole.
+/// A text that is edited in place, with the ranges of bytes that were changed since it was made or
+/// last settled. Until they are kept, its edits can be taken back, which takes no memory and can't
+/// fail: bytes are moved only within room that the text has had before, and the changed ranges of
+/// before an edit are held whole.
 ///
 /// A clause sees the text as it is, and as it was before its edits (specs/Versions.antt).
 #[derive(Drop)]
@@ -77,8 +78,9 @@ impl Editing {
         !self.undos.is_empty()
     }
 
-    /// Puts bytes in the place of `removed` bytes from the byte position `at` on. The text is changed in place: what
-    /// stands behind the removed bytes moves once. Where there is no memory the text stays as it is.
+    /// Puts bytes in the place of `removed` bytes from the byte position `at` on. The text is
+    /// changed in place: what stands behind the removed bytes moves once. Where there is no memory
+    /// the text stays as it is.
     pub fn splice(&mut self, at: usize, removed: usize, bytes: &[u8]) -> Result<(), AllocError>
         requires { at + removed ≤ length self.old.text.bytes }
         ensures ok { OnOk result
@@ -110,8 +112,8 @@ impl Editing {
         self.splice(edit.at, edit.removed, edit.bytes.as_slice())
     }
 
-    /// Puts a newline at the end of a text that has bytes and doesn't end in one. Where there is no memory the text
-    /// stays as it is.
+    /// Puts a newline at the end of a text that has bytes and doesn't end in one. Where there is no
+    /// memory the text stays as it is.
     pub fn terminate(&mut self) -> Result<(), AllocError>
         ensures ok { OnOk result (self.new ≡ revised self.old (terminated_text self.old.text)) }
         ensures bytes { OnOk result (self.new.text.bytes ≡ terminated self.old.text.bytes) }
@@ -144,7 +146,8 @@ impl Editing {
         self.undos.clear();
     }
 
-    /// Takes the text as it is for one with no change: what it is to be is written. Takes no memory.
+    /// Takes the text as it is for one with no change: what it is to be is written. Takes no
+    /// memory.
     pub fn settle(&mut self)
         ensures { self.new ≡ unedited (settled self.old.text.bytes) }
     {
@@ -152,8 +155,8 @@ impl Editing {
         self.undos.clear();
     }
 
-    /// What is to be written of the text, over any text that it was made from: the bytes of each changed range, and one
-    /// empty patch where there is none.
+    /// What is to be written of the text, over any text that it was made from: the bytes of each
+    /// changed range, and one empty patch where there is none.
     pub fn patches(&self) -> Result<Vec<Patch>, AllocError>
         ensures exact { IfOk result (λ patches. pairs_of patches.items ≡ patches_of self.now.text) }
         ensures well_formed { IfOk result
@@ -168,7 +171,8 @@ impl Editing {
     }
 }
 
-/// The bytes that a splice removes, and the changed ranges after it, with room for what takes it back.
+/// The bytes that a splice removes, and the changed ranges after it, with room for what takes it
+/// back.
 fn prepared(
     text: &[u8],
     changed: &[Span],

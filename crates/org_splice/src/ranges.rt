@@ -8,7 +8,8 @@ use std::alloc::AllocError;
 /// How many changed ranges a text keeps apart, and so how many patches it has at most.
 const MAX_PATCHES: usize = 1_000;
 
-/// The ranges, cut at the end of a text of this size. They are put into a list that isn't needed any more.
+/// The ranges, cut at the end of a text of this size. They are put into a list that isn't needed
+/// any more.
 fn cut_at(room: Vec<Span>, size: usize, ranges: &[Span]) -> Result<Vec<Span>, AllocError>
     ensures { IfOk result (λ kept. kept.items ≡ cut_at size ranges.now) }
 {
@@ -25,8 +26,8 @@ fn cut_at(room: Vec<Span>, size: usize, ranges: &[Span]) -> Result<Vec<Span>, Al
     Ok(kept)
 }
 
-/// The ranges, cut at the end of a text of this size, with one more, which becomes one with those that it touches or
-/// overlaps. They are put into a list that isn't needed any more.
+/// The ranges, cut at the end of a text of this size, with one more, which becomes one with those
+/// that it touches or overlaps. They are put into a list that isn't needed any more.
 fn joined(room: Vec<Span>, own: Span, size: usize, ranges: &[Span]) -> Result<Vec<Span>, AllocError>
     requires full { own.start < own.end }
     requires changed { AreChanged usize.MAX ranges.now }
@@ -72,8 +73,8 @@ fn keep_a_thousand(ranges: &mut Vec<Span>)
     }
 }
 
-/// The ranges, cut at the end of a text of this size, with one more, if it isn't empty. They are put into a list that
-/// isn't needed any more, so that no memory is taken where it has room.
+/// The ranges, cut at the end of a text of this size, with one more, if it isn't empty. They are
+/// put into a list that isn't needed any more, so that no memory is taken where it has room.
 pub fn with_range(
     room: Vec<Span>,
     own: Span,

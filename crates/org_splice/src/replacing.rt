@@ -3,7 +3,8 @@ ghost use Rattle.std.specs.Prelude.{◌≡◌, ◌+◌, ◌-◌, ◌≤◌, ◌+
 
 use std::alloc::AllocError;
 
-/// Puts bytes in the place of `removed` bytes from `at` on. Where the text has room for them it takes no memory.
+/// Puts bytes in the place of `removed` bytes from `at` on. Where the text has room for them it
+/// takes no memory.
 pub(crate) fn replace(
     text: &mut Vec<u8>,
     at: usize,

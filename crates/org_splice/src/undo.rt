@@ -7,7 +7,8 @@ use crate::Span;
 use crate::bytes::Bytes;
 use crate::replacing::replace;
 
-/// `added` bytes from `at` on give way to the bytes that stood there, and the changed ranges are these again.
+/// `added` bytes from `at` on give way to the bytes that stood there, and the changed ranges are
+/// these again.
 #[derive(Drop)]
 pub(crate) struct Undo {
     pub at: usize,

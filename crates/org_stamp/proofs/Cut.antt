@@ -1,4 +1,5 @@
--- Bytes are runs with blanks before each, exactly where cutting them at their blanks gives those runs.
+-- Bytes are runs with blanks before each, exactly where cutting them at their blanks gives those
+-- runs.
 use Rattle.std.proofs.Common.{◌≡◌, ◌≢◌, ℕ, suc, ◌-◌, Bool, true, false, ◌&&◌, IsTrue, append-nil, List, [], ◌∷◌, ◌++◌, length, get_or, filter, refl, sym, ap, ◌∙◌, subst, arith}
 use Rattle.std.specs.Bool.{⊤}
 use Rattle.std.specs.List.{slice_split, onto_first, list_all}
@@ -91,7 +92,8 @@ cut_more x xs ends c false e = record {
   has_runs = c.has_runs;
 }
 
--- bytes whose last is no blank are a run, perhaps an empty one, and then runs with blanks before each
+-- bytes whose last is no blank are a run, perhaps an empty one, and then runs with blanks before
+-- each
 pub cut_of : (bytes : List ℕ) → EndsPlain bytes → Cut bytes
 cut_of [] ends = record { run = []; others = []; tail = []; pieces = refl; split = refl; plain = refl; has_runs = refl }
 cut_of (x ∷ xs) ends = cut_more x xs ends (cut_of xs (ends_rest x xs ends)) (is_blank x) refl

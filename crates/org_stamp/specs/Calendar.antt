@@ -1,4 +1,5 @@
--- Days and minutes of the civil calendar, years 0001 to 9999 (Org Syntax, "Timestamps": DATE and TIME).
+-- Days and minutes of the civil calendar, years 0001 to 9999 (Org Syntax, "Timestamps": DATE and
+-- TIME).
 use Rattle.std.specs.Prelude.{ℕ, zero, suc, ◌+◌, ◌-◌, ◌*◌, ◌/◌, ◌%◌, min, nat_lt, nat_le, if◌then◌else◌, Option, None, Some, pos, ◌+ℤ◌, ◌*ℤ◌, ℤ}
 use Rattle.std.specs.Int.{IsInRange}
 use Rattle.jiff_core.specs.Calendar.{days_in_month, days_from_civil, weekday_number}
@@ -36,7 +37,8 @@ day_number d = days_from_civil (pos d.year) d.month d.day
 abbrev pub weekday_of : CivilDay → ℕ
 weekday_of d = weekday_number (day_number d)
 
--- minutes since 1970-01-01 0:00, negative before it: by them moments are ordered and their distance is taken
+-- minutes since 1970-01-01 0:00, negative before it: by them moments are ordered and their distance
+-- is taken
 abbrev pub minutes_of : CivilMinute → ℤ
 minutes_of m = day_number m.day *ℤ pos 1440 +ℤ pos m.minute
 
@@ -44,7 +46,8 @@ minutes_of m = day_number m.day *ℤ pos 1440 +ℤ pos m.minute
 abbrev pub next_day : CivilDay → CivilDay
 next_day d =
     if nat_lt d.day (days_in_month (pos d.year) d.month) then civil_day d.year d.month (d.day + 1)
-    else (if nat_lt d.month 12 then civil_day d.year (d.month + 1) 1 else civil_day (d.year + 1) 1 1)
+    else (if nat_lt d.month 12 then civil_day d.year (d.month + 1) 1
+    else civil_day (d.year + 1) 1 1)
 
 -- n days later
 unfoldable pub days_after : CivilDay → ℕ → CivilDay

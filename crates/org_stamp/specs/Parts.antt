@@ -1,4 +1,5 @@
--- The parts of a timestamp's inside (Org Syntax, "Timestamps": YYYY-MM-DD, DAYNAME, HH:MM, REPEATER-OR-DELAY).
+-- The parts of a timestamp's inside (Org Syntax, "Timestamps": YYYY-MM-DD, DAYNAME, HH:MM,
+-- REPEATER-OR-DELAY).
 use Rattle.std.specs.Prelude.{ℕ, ◌+◌, ◌-◌, ◌*◌, nat_lt, nat_le, ◌==◌, Bool, not, ◌&&◌, ◌||◌, if◌then◌else◌, Option, None, Some, List, length, slice_index, take, drop, fold, pos}
 use Rattle.std.specs.List.{list_all, position}
 use Rattle.std.specs.Char.{is_ascii_digit}
@@ -30,7 +31,12 @@ number_of text =
 -- the day, where the calendar has it in a year from 0001 to 9999
 abbrev pub day_if_any : ℕ → ℕ → ℕ → Option CivilDay
 day_if_any y m d =
-    if nat_le 1 y && nat_le y 9999 && nat_le 1 m && nat_le m 12 && nat_le 1 d && nat_le d (days_in_month (pos y) m)
+    if nat_le 1 y
+    && nat_le y 9999
+    && nat_le 1 m
+    && nat_le m 12
+    && nat_le 1 d
+    && nat_le d (days_in_month (pos y) m)
     then Some (civil_day y m d)
     else None
 
@@ -38,7 +44,10 @@ day_if_any y m d =
 abbrev pub date_of : List ℕ → Option CivilDay
 date_of text =
     if (length text == 10) && (slice_index text 4 == 45) && (slice_index text 7 == 45)
-    then (number_of (take 4 text) >>= λ y. number_of (take 2 (drop 5 text)) >>= λ m. number_of (drop 8 text) >>= λ d. day_if_any y m d)
+    then (number_of (take 4 text) >>= λ y.
+    number_of (take 2 (drop 5 text)) >>= λ m.
+    number_of (drop 8 text) >>= λ d.
+    day_if_any y m d)
     else None
 
 -- the minute of the day, from 0:00 to 23:59
@@ -48,15 +57,21 @@ minute_if_any h m = if nat_lt h 24 && nat_lt m 60 then Some (h * 60 + m) else No
 -- H:MM or HH:MM
 abbrev pub clock_of : List ℕ → Option ℕ
 clock_of text =
-    if nat_le 4 (length text) && nat_le (length text) 5 && (slice_index text (length text - 3) == 58)
-    then (number_of (take (length text - 3) text) >>= λ h. number_of (drop (length text - 2) text) >>= λ m. minute_if_any h m)
+    if nat_le 4 (length text)
+    && nat_le (length text) 5
+    && (slice_index text (length text - 3) == 58)
+    then (number_of (take (length text - 3) text) >>= λ h.
+    number_of (drop (length text - 2) text) >>= λ m.
+    minute_if_any h m)
     else None
 
 -- a time, or two joined by `-`, where `at` is the place of the first `-`
 abbrev pub times_cut : List ℕ → Option ℕ → Option Times
 times_cut text None = clock_of text >>= λ start. Some (record { start = start; end = None })
 times_cut text (Some at) =
-    clock_of (take at text) >>= λ start. clock_of (drop (at + 1) text) >>= λ end. Some (record { start = start; end = Some end })
+    clock_of (take at text) >>= λ start.
+    clock_of (drop (at + 1) text) >>= λ end.
+    Some (record { start = start; end = Some end })
 
 -- H:MM, HH:MM or a range of two
 abbrev pub times_of : List ℕ → Option Times
@@ -74,12 +89,18 @@ unit_of b =
 -- one to four digits and a unit
 abbrev pub interval_of : List ℕ → Option Interval
 interval_of text =
-    unit_of (slice_index text (length text - 1)) >>= λ unit. number_of (take (length text - 1) text) >>= λ value. Some (record { value = value; unit = unit })
+    unit_of (slice_index text (length text - 1)) >>= λ unit.
+    number_of (take (length text - 1) text) >>= λ value.
+    Some (record { value = value; unit = unit })
 
--- an interval, or two joined by `/`, of which the second is only kept; `at` is the place of the first `/`
+-- an interval, or two joined by `/`, of which the second is only kept; `at` is the place of the
+-- first `/`
 abbrev pub intervals_cut : List ℕ → Option ℕ → Option Interval
 intervals_cut text None = interval_of text
-intervals_cut text (Some at) = interval_of (take at text) >>= λ first. interval_of (drop (at + 1) text) >>= λ second. Some first
+intervals_cut text (Some at) =
+    interval_of (take at text) >>= λ first.
+    interval_of (drop (at + 1) text) >>= λ second.
+    Some first
 
 -- the first interval of a repeater
 abbrev pub first_interval_of : List ℕ → Option Interval
@@ -93,7 +114,8 @@ marked mark text = first_interval_of text >>= λ i. Some (record { mark = mark; 
 abbrev pub repeater_of : List ℕ → Option Repeater
 repeater_of text =
     if (slice_index text 0 == 46) && (slice_index text 1 == 43) then marked Restart (drop 2 text)
-    else (if (slice_index text 0 == 43) && (slice_index text 1 == 43) then marked CatchUp (drop 2 text)
+    else (if (slice_index text 0 == 43) && (slice_index text 1 == 43)
+    then marked CatchUp (drop 2 text)
     else (if slice_index text 0 == 43 then marked Cumulate (drop 1 text) else None))
 
 -- `-` or `--` before an interval (Org manual, "Deadlines and Scheduling")
@@ -113,7 +135,8 @@ is_closing b = (b == 93) || (b == 62)
 
 -- a byte of a day name: no blank, newline, digit, `+`, `-` or closing bracket
 abbrev pub is_name_byte : ℕ → Bool
-is_name_byte b = not (is_blank b || is_closing b || is_ascii_digit b || (b == 10) || (b == 43) || (b == 45))
+is_name_byte b =
+    not (is_blank b || is_closing b || is_ascii_digit b || (b == 10) || (b == 43) || (b == 45))
 
 -- what a run of bytes other than blanks says
 abbrev pub kind_of : List ℕ → Option Kind

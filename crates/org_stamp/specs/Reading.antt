@@ -39,12 +39,17 @@ cookies_with (a ∷ b ∷ more) p = None
 abbrev pub found_with : Gathered → List ℕ → Kind → Option Gathered
 found_with g run Name = if g.named then None else Some (record g { named = true })
 found_with g run (Clock t) = if is_some g.time then None else Some (record g { time = Some t })
-found_with g run (Repeat r) = cookies_with g.cookies (record { run = run; kind = Repeat r }) >>= λ cs. Some (record g { cookies = cs })
-found_with g run Delay = cookies_with g.cookies (record { run = run; kind = Delay }) >>= λ cs. Some (record g { cookies = cs })
+found_with g run (Repeat r) =
+    cookies_with g.cookies (record { run = run; kind = Repeat r }) >>= λ cs.
+    Some (record g { cookies = cs })
+found_with g run Delay =
+    cookies_with g.cookies (record { run = run; kind = Delay }) >>= λ cs.
+    Some (record g { cookies = cs })
 
 -- what lies between two blanks: nothing, or a part
 abbrev pub piece_with : Gathered → List ℕ → Option Gathered
-piece_with g run = if length run == 0 then Some g else (kind_of run >>= λ kind. found_with g run kind)
+piece_with g run =
+    if length run == 0 then Some g else (kind_of run >>= λ kind. found_with g run kind)
 
 abbrev pub pieces_with : Gathered → List (List ℕ) → Option Gathered
 pieces_with g [] = Some g

@@ -18,7 +18,11 @@ is_hour _ = false
 
 -- that many minutes from the start of the day
 abbrev pub at_total : StampValue → CivilDay → ℕ → StampValue
-at_total s day total = record s { day = days_after day (total / 1440); time = Some (record { start = total % 1440; end = None }) }
+at_total s day total =
+    record s {
+      day = days_after day (total / 1440);
+      time = Some (record { start = total % 1440; end = None });
+    }
 
 -- s moved at once by n units; hours move a time, the other units keep it
 abbrev pub moved : StampValue → Unit → ℕ → StampValue
@@ -42,7 +46,8 @@ IsLater s now = IsLaterBy s.time s now
 
 -- the day of now with the time kept, or now where hours repeat
 abbrev pub restarted : StampValue → Unit → CivilMinute → StampValue
-restarted s Hour now = record s { day = now.day; time = Some (record { start = now.minute; end = None }) }
+restarted s Hour now =
+    record s { day = now.day; time = Some (record { start = now.minute; end = None }) }
 restarted s _ now = record s { day = now.day }
 
 -- the value, unless its year is past 9999
@@ -50,18 +55,25 @@ abbrev pub in_range : StampValue → Result StampValue RepeatFault
 in_range s = if nat_le s.day.year 9999 then Ok s else Err DateRange
 
 -- `+` once, `++` the least number of times from 1 on that leads past now, `.+` once from now
-abbrev pub RepeatsBy : Mark → Interval → StampValue → CivilMinute → Result StampValue RepeatFault → Type 0
+abbrev pub RepeatsBy : Mark → Interval → StampValue → CivilMinute → Result StampValue RepeatFault
+    → Type 0
 RepeatsBy Cumulate i s now r = r ≡ in_range (shifted s i 1)
 RepeatsBy CatchUp i s now r =
-    (k : ℕ) × (1 ≤ k) × IsLater (shifted s i k) now × ((j : ℕ) → 1 ≤ j → j < k → ¬ (IsLater (shifted s i j) now)) × (r ≡ in_range (shifted s i k))
+    (k : ℕ)
+    × (1 ≤ k)
+    × IsLater (shifted s i k) now
+    × ((j : ℕ) → 1 ≤ j → j < k → ¬ (IsLater (shifted s i j) now))
+    × (r ≡ in_range (shifted s i k))
 RepeatsBy Restart i s now r = r ≡ in_range (shifted (restarted s i.unit now) i 1)
 
 -- the value 0 repeats nothing; hours repeat one time alone
-abbrev pub RepeatsAs : Option Repeater → StampValue → CivilMinute → Result StampValue RepeatFault → Type 0
+abbrev pub RepeatsAs : Option Repeater → StampValue → CivilMinute → Result StampValue RepeatFault
+    → Type 0
 RepeatsAs None s now r = r ≡ Ok s
 RepeatsAs (Some p) s now r =
     MatchBool (p.interval.value == 0) (r ≡ Ok s)
-    (MatchBool (is_hour p.interval.unit && not (has_one_time s.time)) (r ≡ Err BadRepeat) (RepeatsBy p.mark p.interval s now r))
+    (MatchBool (is_hour p.interval.unit && not (has_one_time s.time)) (r ≡ Err BadRepeat)
+    (RepeatsBy p.mark p.interval s now r))
 
 -- the timestamp at the next repetition, or the fault
 abbrev pub IsNext : StampValue → CivilMinute → Result StampValue RepeatFault → Type 0
@@ -76,7 +88,8 @@ is_later_by (Some t) s now = int_lt (minutes_of now) (minutes_of (start_of s))
 abbrev pub is_later : StampValue → CivilMinute → Bool
 is_later s now = is_later_by s.time s now
 
--- the first number from k on of which f is true; the one behind the n that are tried, where it is true of none of them
+-- the first number from k on of which f is true; the one behind the n that are tried, where it is
+-- true of none of them
 unfoldable pub first_from : (ℕ → Bool) → ℕ → ℕ → ℕ
 first_from f zero k = k
 first_from f (suc n) k = if f k then k else first_from f n (k + 1)
@@ -87,14 +100,16 @@ most_times = 2 ^ 32
 
 abbrev pub repeated_by : Mark → Interval → StampValue → CivilMinute → Result StampValue RepeatFault
 repeated_by Cumulate i s now = in_range (shifted s i 1)
-repeated_by CatchUp i s now = in_range (shifted s i (first_from (λ k. is_later (shifted s i k) now) most_times 1))
+repeated_by CatchUp i s now =
+    in_range (shifted s i (first_from (λ k. is_later (shifted s i k) now) most_times 1))
 repeated_by Restart i s now = in_range (shifted (restarted s i.unit now) i 1)
 
 abbrev pub repeated_as : Option Repeater → StampValue → CivilMinute → Result StampValue RepeatFault
 repeated_as None s now = Ok s
 repeated_as (Some p) s now =
     if p.interval.value == 0 then Ok s
-    else (if is_hour p.interval.unit && not (has_one_time s.time) then Err BadRepeat else repeated_by p.mark p.interval s now)
+    else (if is_hour p.interval.unit && not (has_one_time s.time) then Err BadRepeat
+    else repeated_by p.mark p.interval s now)
 
 -- the timestamp at the next repetition, or the fault
 abbrev pub repeated : StampValue → CivilMinute → Result StampValue RepeatFault
@@ -113,4 +128,5 @@ dated s (Some d) t = Ok (record s { day = d; time = t })
 -- the number of the first day on which a timestamp of that time starts after now
 abbrev pub target_of : Option Times → CivilMinute → ℤ
 target_of None now = day_number now.day +ℤ pos 1
-target_of (Some t) now = if nat_lt now.minute t.start then day_number now.day else day_number now.day +ℤ pos 1
+target_of (Some t) now =
+    if nat_lt now.minute t.start then day_number now.day else day_number now.day +ℤ pos 1

@@ -15,7 +15,8 @@ pub record Part : Type 0 where
   pub run : List ℕ
   pub kind : Kind
 
--- what a timestamp says: a day, perhaps a time or a range, and its repeater and delay in the order in which they stand
+-- what a timestamp says: a day, perhaps a time or a range, and its repeater and delay in the order
+-- in which they stand
 pub record StampValue : Type 0 where
   pub active : Bool
   pub day : CivilDay
@@ -68,7 +69,11 @@ pub record IsPart (p : Part) : Type 0 where
 abbrev pub HasParts : List ℕ → List Part → Type 0
 HasParts bytes [] = bytes ≡ []
 HasParts bytes (p ∷ ps) =
-    (blanks : List ℕ) × (rest : List ℕ) × (bytes ≡ blanks ++ (p.run ++ rest)) × IsBlanks blanks × IsPart p × HasParts rest ps
+    (blanks : List ℕ) × (rest : List ℕ)
+    × (bytes ≡ blanks ++ (p.run ++ rest))
+    × IsBlanks blanks
+    × IsPart p
+    × HasParts rest ps
 
 -- the parts, in whatever order, are at most one of each kind, and say the time and the cookies of s
 pub record Says (parts : List Part) (s : StampValue) : Type 0 where
@@ -169,7 +174,8 @@ two_digits n = (48 + n / 10 % 10) ∷ (48 + n % 10) ∷ []
 
 abbrev pub date_text : CivilDay → List ℕ
 date_text d =
-    (two_digits (d.year / 100) ++ two_digits d.year) ++ (45 ∷ two_digits d.month) ++ (45 ∷ two_digits d.day)
+    (two_digits (d.year / 100) ++ two_digits d.year) ++ (45 ∷ two_digits d.month)
+    ++ (45 ∷ two_digits d.day)
 
 -- the day's name in English, three letters, from 0 for Monday
 abbrev pub day_name : ℕ → List ℕ
@@ -200,7 +206,9 @@ cookies_text (p ∷ ps) = 32 ∷ (p.run ++ cookies_text ps)
 -- the one text that is printed
 abbrev pub stamp_text : StampValue → List ℕ
 stamp_text s =
-    opening s.active ∷ (date_text s.day ++ (32 ∷ day_name (weekday_of s.day)) ++ time_text s.time ++ cookies_text s.cookies ++ closing s.active ∷ [])
+    opening s.active
+    ∷ (date_text s.day ++ (32 ∷ day_name (weekday_of s.day)) ++ time_text s.time
+    ++ cookies_text s.cookies ++ closing s.active ∷ [])
 
 -- hours right-aligned in that many places, a colon, and the minutes in two digits
 abbrev pub duration_text : ℕ → ℕ → List ℕ

@@ -123,7 +123,8 @@ impl Day {
         }
     }
 
-    /// That many months later, on the month's last day where the day is missing, if the year is not past 9999.
+    /// That many months later, on the month's last day where the day is missing, if the year is not
+    /// past 9999.
     pub fn plus_months(self, months: u64) -> Option<Day>
         requires { months < 2 ^ 60 }
         ensures value { result ≡ to_year_9999 (months_after self months) }

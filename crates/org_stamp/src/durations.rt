@@ -5,8 +5,8 @@ ghost use Rattle.org_stamp.specs.Stamp.{duration_text};
 use crate::text::push_two;
 use std::alloc::{AllocError, Global};
 
-/// The duration as `H:MM` (Org manual, "Clocking commands"): the hours right-aligned in `width` places, 1 or 2, and
-/// wider where they have more digits; the minutes in two.
+/// The duration as `H:MM` (Org manual, "Clocking commands"): the hours right-aligned in `width`
+/// places, 1 or 2, and wider where they have more digits; the minutes in two.
 pub fn duration(alloc: Global, minutes: u64, width: usize) -> Result<Vec<u8>, AllocError>
     requires low { 1 ≤ width }
     requires high { width ≤ 2 }

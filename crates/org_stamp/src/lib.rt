@@ -1,4 +1,5 @@
-//! Moments, and Org's timestamps with their repeaters (Org Syntax, "Timestamps"; Org manual, "Repeated tasks").
+//! Moments, and Org's timestamps with their repeaters (Org Syntax, "Timestamps"; Org manual,
+//! "Repeated tasks").
 #![tactic(auto)]
 
 mod calendar;

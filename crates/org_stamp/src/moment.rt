@@ -30,8 +30,8 @@ impl Model for Moment {
 }
 
 impl Moment {
-    /// The moment with these parts, exactly where the calendar has the date, in a year from 1 to 9999, and the time
-    /// lies from 0:00 to 23:59.
+    /// The moment with these parts, exactly where the calendar has the date, in a year from 1 to
+    /// 9999, and the time lies from 0:00 to 23:59.
     pub fn new(year: u16, month: u8, day: u8, hour: u8, minute: u8) -> Option<Moment>
         ensures { SomeIff result (IsDay (civil_day year month day) × (hour < 24) × (minute < 60))
             (at_minute (civil_day year month day) (hour * 60 + minute)) }

@@ -39,7 +39,8 @@ pub fn least_steps_past(from: i64, step: u64, past: i64) -> u64
     least_steps(gap(from, past + 1), step)
 }
 
-/// The least number from 1 on that, times the step, leads from the day by days to the target or past it.
+/// The least number from 1 on that, times the step, leads from the day by days to the target or
+/// past it.
 pub fn least_day_steps(day: Day, step: u64, target: i64) -> u64
     requires step { 1 ≤ step }
     requires target { IsBetween (neg_ℤ (pos (2 ^ 30))) (pos (2 ^ 30)) target }
@@ -52,8 +53,8 @@ pub fn least_day_steps(day: Day, step: u64, target: i64) -> u64
     least_steps(gap(day.number() as i64, target), step)
 }
 
-/// The least number from 1 on that, times the step, leads from the day by months to the target or past it; the target
-/// is the number of the day of now, or of the one after it.
+/// The least number from 1 on that, times the step, leads from the day by months to the target or
+/// past it; the target is the number of the day of now, or of the one after it.
 pub fn least_month_steps(day: Day, step: u64, now: Day, target: i64) -> u64
     requires step { 1 ≤ step }
     requires bound { step < 2 ^ 40 }

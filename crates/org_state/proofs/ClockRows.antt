@@ -145,7 +145,8 @@ path_first = refl
 
 -- ---- clock lines
 
--- outside a drawer, indented, with a carriage return: what follows the timestamp goes; of two the first counts
+-- outside a drawer, indented, with a carriage return: what follows the timestamp goes; of two the
+-- first counts
 carriage_return : List ℕ
 carriage_return =
     line (codes "* A") ++ line (codes "** B") ++ line (codes "  CLOCK: [2026-06-30 10:00] " ++ 9 ∷ 13 ∷ []) ++ line (codes "CLOCK: [2026-07-01 Wed 09:00]")

@@ -191,7 +191,8 @@ two_made t i e e2 k new r edits shut lt at gives rest is =
 
 -- ---- a repeated section
 
--- a note, a property and a planning line put into a section, each edit made for the section as it was
+-- a note, a property and a planning line put into a section, each edit made for the section as it
+-- was
 pub repeat_lines : (ls : List (List ℕ)) (note property planning : Edit) (n name value line : List ℕ)
     → Gives note (print_lines ls) (joined (with_note n (split ls)))
     → Gives property (print_lines ((split ls).planning ++ (split ls).drawer)) (joined (put name value (record (split ls) { rest = [] })))

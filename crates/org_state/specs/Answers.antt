@@ -10,20 +10,30 @@ use Rattle.org_state.specs.declared.fault.StateFault.{StateFault}
 use Rattle.org_state.specs.declared.fault.StateFault.TheVariants.{OutOfMemory}
 use Rattle.org_state.specs.Todo.{Own, with_own_at, heading_to_change, IsTodo}
 
--- one edit or more, which make the print of this document of the text; no edit where nothing changes
+-- one edit or more, which make the print of this document of the text; no edit where nothing
+-- changes
 abbrev pub Makes : Option Document → List ℕ → List Edit → Type 0
 Makes None text edits = edits ≡ []
 Makes (Some new) text edits = (edits ≢ []) × AreEdits edits text (print new)
 
--- edits that make what is defined, or the fault that is; memory is wanted only where a heading is to change
-abbrev pub AnswersTodo : Keywords → List (List ℕ) → List ℕ → CivilMinute → List ℕ → Result (Vec Edit Global) StateFault → Type 0
+-- edits that make what is defined, or the fault that is; memory is wanted only where a heading is
+-- to change
+abbrev pub AnswersTodo : Keywords → List (List ℕ) → List ℕ → CivilMinute → List ℕ
+    → Result (Vec Edit Global) StateFault → Type 0
 AnswersTodo states path state now text (Ok edits) =
-    (new : Option Document) × IsTodo states path state now (tree text) (Ok new) × Makes new text edits.items
-AnswersTodo states path state now text (Err OutOfMemory) = (i : ℕ) × (heading_to_change states path state (tree text) ≡ Ok (Some i))
-AnswersTodo states path state now text (Err fault) = IsTodo states path state now (tree text) (Err fault)
+    (new : Option Document)
+    × IsTodo states path state now (tree text) (Ok new)
+    × Makes new text edits.items
+AnswersTodo states path state now text (Err OutOfMemory) =
+    (i : ℕ) × (heading_to_change states path state (tree text) ≡ Ok (Some i))
+AnswersTodo states path state now text (Err fault) =
+    IsTodo states path state now (tree text) (Err fault)
 
--- edits of a text that give heading i the own lines that are defined, or the fault that is, unless memory ran out
-abbrev pub AnswersOwn : (Result Own StateFault → Type 0) → List ℕ → ℕ → Result (Vec Edit Global) StateFault → Type 0
-AnswersOwn IsDefined text i (Ok edits) = (own : Own) × IsDefined (Ok own) × Makes (Some (with_own_at i (tree text) own)) text edits.items
+-- edits of a text that give heading i the own lines that are defined, or the fault that is, unless
+-- memory ran out
+abbrev pub AnswersOwn : (Result Own StateFault → Type 0) → List ℕ → ℕ
+    → Result (Vec Edit Global) StateFault → Type 0
+AnswersOwn IsDefined text i (Ok edits) =
+    (own : Own) × IsDefined (Ok own) × Makes (Some (with_own_at i (tree text) own)) text edits.items
 AnswersOwn IsDefined text i (Err OutOfMemory) = Unit {0}
 AnswersOwn IsDefined text i (Err fault) = IsDefined (Err fault)

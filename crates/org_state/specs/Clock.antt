@@ -1,5 +1,6 @@
--- Clocks of a document: the running clock, a clock that is opened or closed, and the time clocked at a heading and below it
--- (Org Syntax, "Clocks"; Org manual, "Clocking commands", "The clock table").
+-- Clocks of a document: the running clock, a clock that is opened or closed, and the time clocked
+-- at a heading and below it (Org Syntax, "Clocks"; Org manual, "Clocking commands", "The clock
+-- table").
 use Rattle.std.specs.Prelude.{◌≡◌, ℕ, ◌+◌, ◌==◌, Vec, min, Bool, if◌then◌else◌, Option, None, Some, is_some, Result, Ok, Err, List, [], ◌∷◌}
 use Rattle.std.specs.Global.{Global}
 use Rattle.std.specs.List.{position, sum_by}
@@ -34,7 +35,8 @@ use Rattle.org_state.specs.Todo.{fault_of_path}
 abbrev pub runs_at : Placed → Bool
 runs_at p = is_some (open_line p.node.section)
 
--- the number of the first heading where a clock runs; what stands before the first heading isn't looked at
+-- the number of the first heading where a clock runs; what stands before the first heading isn't
+-- looked at
 abbrev pub running_heading : Document → Option ℕ
 running_heading d = position runs_at (nodes d)
 
@@ -44,7 +46,9 @@ span_from start span = record { start = start + span.start; end = start + span.e
 
 -- the heading, and its first open clock line in the print
 abbrev pub running_at : Document → ℕ → Option Running
-running_at d i = option_map (λ span. record { heading = i; line = span_from (section_start d i) span }) (open_line (node_at d i).node.section)
+running_at d i =
+    option_map (λ span. record { heading = i; line = span_from (section_start d i) span })
+    (open_line (node_at d i).node.section)
 
 -- the first open clock line of the document
 abbrev pub running_in : Document → Option Running
@@ -79,17 +83,23 @@ closed_first now (l ∷ ls) =
 
 -- the first clock that runs at heading i closed
 abbrev pub with_closed : CivilMinute → ℕ → Document → Result Document StateFault
-with_closed now i d = result_map_both (with_section_at i d) fault_of_clock (closed_first now (node_at d i).node.section)
+with_closed now i d =
+    result_map_both (with_section_at i d) fault_of_clock
+    (closed_first now (node_at d i).node.section)
 
 -- ---- in, where a clock runs
 
--- a clock opened at heading i, the one that runs at heading `from` closed; nothing changes where both are one heading
+-- a clock opened at heading i, the one that runs at heading `from` closed; nothing changes where
+-- both are one heading
 abbrev pub switched : CivilMinute → ℕ → Document → ℕ → Result (Option Document) StateFault
 switched now from d i =
-    if i == from then Ok None else result_map_both (λ closed. Some (with_opened now i closed)) (λ fault. fault) (with_closed now from d)
+    if i == from then Ok None
+    else result_map_both (λ closed. Some (with_opened now i closed)) (λ fault. fault)
+    (with_closed now from d)
 
 -- at the heading that was found
-abbrev pub switched_at : CivilMinute → ℕ → Document → Result ℕ PathFault → Result (Option Document) StateFault
+abbrev pub switched_at : CivilMinute → ℕ → Document → Result ℕ PathFault
+    → Result (Option Document) StateFault
 switched_at now from d (Ok i) = switched now from d i
 switched_at now from d (Err fault) = Err (fault_of_path fault)
 
@@ -97,40 +107,59 @@ switched_at now from d (Err fault) = Err (fault_of_path fault)
 
 -- the minutes of all closed clock lines of a heading and of those below it, at most 2^64 - 1
 abbrev pub clocked_minutes : Document → ℕ → ℕ
-clocked_minutes d i = min (weigh_node (λ rest section. sum_by minutes_in section) (node_at d i).node) 18_446_744_073_709_551_615
+clocked_minutes d i =
+    min (weigh_node (λ rest section. sum_by minutes_in section)
+    (node_at d i).node) 18_446_744_073_709_551_615
 
 -- those of the heading at a path
 abbrev pub clocked_at : Keywords → List (List ℕ) → Document → Result ℕ PathFault
-clocked_at states path d = result_map_both (clocked_minutes d) (λ fault. fault) (find_path states d path)
+clocked_at states path d =
+    result_map_both (clocked_minutes d) (λ fault. fault) (find_path states d path)
 
 -- ---- what calls answer
 
--- an edit that opens a clock at the heading at a path, or why there is no such heading; memory is wanted only where there is
-abbrev pub AnswersOpening : Keywords → List (List ℕ) → CivilMinute → List ℕ → Result Edit StateFault → Type 0
+-- an edit that opens a clock at the heading at a path, or why there is no such heading; memory is
+-- wanted only where there is
+abbrev pub AnswersOpening : Keywords → List (List ℕ) → CivilMinute → List ℕ → Result Edit StateFault
+    → Type 0
 AnswersOpening states path now text (Ok edit) =
-    (i : ℕ) × (find_path states (tree text) path ≡ Ok i) × AreEdits (edit ∷ []) text (print (with_opened now i (tree text)))
-AnswersOpening states path now text (Err OutOfMemory) = (i : ℕ) × (find_path states (tree text) path ≡ Ok i)
+    (i : ℕ)
+    × (find_path states (tree text) path ≡ Ok i)
+    × AreEdits (edit ∷ []) text (print (with_opened now i (tree text)))
+AnswersOpening states path now text (Err OutOfMemory) =
+    (i : ℕ) × (find_path states (tree text) path ≡ Ok i)
 AnswersOpening states path now text (Err fault) =
     (why : PathFault) × (find_path states (tree text) path ≡ Err why) × (fault ≡ fault_of_path why)
 
--- an edit that closes the first clock that runs at heading i, or why it can't be closed; memory is wanted only where it can
+-- an edit that closes the first clock that runs at heading i, or why it can't be closed; memory is
+-- wanted only where it can
 abbrev pub AnswersClosing : CivilMinute → List ℕ → ℕ → Result Edit StateFault → Type 0
 AnswersClosing now text i (Ok edit) =
-    (new : Document) × (with_closed now i (tree text) ≡ Ok new) × AreEdits (edit ∷ []) text (print new)
-AnswersClosing now text i (Err OutOfMemory) = (new : Document) × (with_closed now i (tree text) ≡ Ok new)
+    (new : Document)
+    × (with_closed now i (tree text) ≡ Ok new)
+    × AreEdits (edit ∷ []) text (print new)
+AnswersClosing now text i (Err OutOfMemory) =
+    (new : Document) × (with_closed now i (tree text) ≡ Ok new)
 AnswersClosing now text i (Err fault) = with_closed now i (tree text) ≡ Err fault
 
 -- the same, by the section
 abbrev pub ClosesSection : CivilMinute → Document → ℕ → Result Edit StateFault → Type 0
 ClosesSection now d i (Ok edit) =
-    (new : List (List ℕ)) × (closed_first now (node_at d i).node.section ≡ Ok new) × EditsSection edit d i new
-ClosesSection now d i (Err OutOfMemory) = (new : List (List ℕ)) × (closed_first now (node_at d i).node.section ≡ Ok new)
+    (new : List (List ℕ))
+    × (closed_first now (node_at d i).node.section ≡ Ok new)
+    × EditsSection edit d i new
+ClosesSection now d i (Err OutOfMemory) =
+    (new : List (List ℕ)) × (closed_first now (node_at d i).node.section ≡ Ok new)
 ClosesSection now d i (Err fault) = with_closed now i d ≡ Err fault
 
--- edits that clock in at the heading that was found, where a clock runs at heading `from`, or why that can't be; memory is
--- wanted only where something is to change
-abbrev pub AnswersSwitch : CivilMinute → List ℕ → ℕ → Result ℕ PathFault → Result (Vec Edit Global) StateFault → Type 0
+-- edits that clock in at the heading that was found, where a clock runs at heading `from`, or why
+-- that can't be; memory is wanted only where something is to change
+abbrev pub AnswersSwitch : CivilMinute → List ℕ → ℕ → Result ℕ PathFault
+    → Result (Vec Edit Global) StateFault → Type 0
 AnswersSwitch now text from found (Ok edits) =
-    (new : Option Document) × (switched_at now from (tree text) found ≡ Ok new) × Makes new text edits.items
-AnswersSwitch now text from found (Err OutOfMemory) = (new : Document) × (switched_at now from (tree text) found ≡ Ok (Some new))
+    (new : Option Document)
+    × (switched_at now from (tree text) found ≡ Ok new)
+    × Makes new text edits.items
+AnswersSwitch now text from found (Err OutOfMemory) =
+    (new : Document) × (switched_at now from (tree text) found ≡ Ok (Some new))
 AnswersSwitch now text from found (Err fault) = switched_at now from (tree text) found ≡ Err fault

@@ -13,7 +13,8 @@ rest_start d i = (node_at d i).at + (node_at d i).node.level
 
 -- where its section begins
 abbrev pub section_start : Document → ℕ → ℕ
-section_start d i = (node_at d i).at + length (heading_line (node_at d i).node.level (node_at d i).node.rest) + 1
+section_start d i =
+    (node_at d i).at + length (heading_line (node_at d i).node.level (node_at d i).node.rest) + 1
 
 -- the edit of a part of a text that begins at `start`
 abbrev pub moved : ℕ → Edit → Edit

@@ -70,8 +70,8 @@ fn last_repeat(alloc: Global, section: &[u8], now: Moment) -> Result<Edit, Alloc
     put_property(alloc, section, b"LAST_REPEAT", &stamp)
 }
 
-/// The edits of the heading's section, as edits of the text, and that of its keyword: the last first,
-/// so that each stands where it does in the text as it was.
+/// The edits of the heading's section, as edits of the text, and that of its keyword: the last
+/// first, so that each stands where it does in the text as it was.
 fn last_first(
     alloc: Global,
     outline: &Outline<'_>,

@@ -1,5 +1,5 @@
-//! What holds of changes of TODO states and of clocks, for all values: each law is the contract of a function with
-//! nothing to do.
+//! What holds of changes of TODO states and of clocks, for all values: each law is the contract of
+//! a function with nothing to do.
 ghost use Rattle.std.specs.Prelude.{◌≡◌, ◌<◌, ◌+◌, ◌∷◌, ◌++◌, [], ℕ, min, List, Option, Some, Result, Ok, IsTrue, drop, slice_get};
 ghost use Rattle.std.specs.Option.{option_map};
 ghost use Rattle.org_stamp.specs.Calendar.{CivilMinute, IsDay};
@@ -25,8 +25,8 @@ pub fn outcome_computes()
         → IsTodo states path state now d r → todo states path state now d ≡ r }
 {}
 
-/// A change of a state keeps a document valid, so that the tree of the new text is what was made: no line that it puts in
-/// is a heading line.
+/// A change of a state keeps a document valid, so that the tree of the new text is what was made:
+/// no line that it puts in is a heading line.
 pub fn changes_are_valid()
     ensures changed { (states : Keywords) (path : List (List ℕ)) (state : List ℕ)
         (now : CivilMinute) (d new : Document) → IsTrue (are_states states)
@@ -56,8 +56,8 @@ pub fn closed_clocks_are_closed()
         → with_closed now i d ≡ Ok new → open_clocks new ≡ drop 1 (open_clocks d) }
 {}
 
-/// Clocking keeps to one clock: where none is open one runs after clocking in, where one runs none does after clocking
-/// out, and clocking in elsewhere leaves one, there.
+/// Clocking keeps to one clock: where none is open one runs after clocking in, where one runs none
+/// does after clocking out, and clocking in elsewhere leaves one, there.
 pub fn one_clock_runs()
     ensures opened { (now : CivilMinute) (i : ℕ) (d : Document) → IsDay now.day → now.minute < 1440
         → i < node_count d → open_clocks d ≡ []
@@ -70,7 +70,8 @@ pub fn one_clock_runs()
         → open_clocks new ≡ (i, clock_line now) ∷ [] }
 {}
 
-/// Clocking keeps a document valid, so that the tree of the new text is what was made: a clock line is no heading line.
+/// Clocking keeps a document valid, so that the tree of the new text is what was made: a clock line
+/// is no heading line.
 pub fn clocks_are_valid()
     ensures opened { (now : CivilMinute) (i : ℕ) (d : Document) → i < node_count d → IsValid d
         → IsValid (with_opened now i d) }
@@ -87,7 +88,8 @@ pub fn clocks_are_valid()
         → switched now from (tree t) i ≡ Ok (Some new) → tree (print new) ≡ new }
 {}
 
-/// Closing a clock adds to the time clocked at its heading the minutes from its start to the moment.
+/// Closing a clock adds to the time clocked at its heading the minutes from its start to the
+/// moment.
 pub fn closing_adds_its_minutes()
     ensures { (now : CivilMinute) (i : ℕ) (line : List ℕ) (more : List (ℕ × List ℕ))
         (minutes : ℕ) (d new : Document) → IsDay now.day → now.minute < 1440

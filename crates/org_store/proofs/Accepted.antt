@@ -1,4 +1,5 @@
--- A command that is to be accepted gives files of the store new texts, which are put in the places of others.
+-- A command that is to be accepted gives files of the store new texts, which are put in the places
+-- of others.
 use Rattle.std.proofs.Common.{◌≡◌, ◌⊎◌, inl, inr, sym, ap, ◌∙◌, subst, ℕ, ◌-◌, ◌^◌, ◌==◌, ◌≤◌, nat_lt, length, map, Bool, true, false, List, [], ◌∷◌, Option, Some, None, Result, Ok, Err, refl, if◌then◌else◌, arith}
 use Rattle.std.specs.List.{AllByRecursion}
 use Rattle.std.specs.Option.{option_map, option_or, unwrap_or}

@@ -1,5 +1,5 @@
--- An archiving keeps how often each node is there over all files of a store, but for the entry's section and for the heading
--- that is made.
+-- An archiving keeps how often each node is there over all files of a store, but for the entry's
+-- section and for the heading that is made.
 use Rattle.std.proofs.Common.{◌≡◌, ◌≢◌, inl, inr, ℕ, List, length, Option, Some, None, Result, Ok, Err, refl, ◌∙◌, ap, subst, arith}
 use Rattle.std.specs.List.{IsDistinct, sum_by}
 use Rattle.std.specs.Str.{bytes_eq}

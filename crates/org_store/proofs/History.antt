@@ -1,4 +1,5 @@
--- The list of texts by which a run is told: what a command adds to it, and what of a session stands in it.
+-- The list of texts by which a run is told: what a command adds to it, and what of a session stands
+-- in it.
 use Rattle.std.proofs.Common.{◌≡◌, ◌⊎◌, inl, inr, ⊎_elim, ℕ, zero, suc, ◌+◌, ◌<◌, true, false, List, [], ◌∷◌, ◌++◌, length, Option, Some, None, Result, Ok, Err, refl, sym, ap, ◌∙◌, subst, arith}
 use Rattle.std.specs.Prelude.{slice_get, IsErrOf, if◌then◌else◌, nat_eq}
 use Rattle.std.proofs.lemmas.Bool.{cases_Bool, false≢true}
@@ -189,7 +190,8 @@ before_end (one ∷ texts) files (suc k) at is = ⊎_elim (λ old. inl old) (λ 
 abbrev pub Stands : {D : Type 0} → Past D → Session → Type 0
 Stands last s = slice_get last.texts s.accepted ≡ Some s.files
 
--- a session that is reached from here: it is the one here, or its texts stand in the list, or it isn't counted at the end
+-- a session that is reached from here: it is the one here, or its texts stand in the list, or it
+-- isn't counted at the end
 abbrev pub Counts : {D : Type 0} → Past D → Past D → Session → Type 0
 Counts last here s = (s ≡ here.store.session) ⊎ (Stands last s ⊎ (last.store.session.accepted < s.accepted))
 

@@ -23,8 +23,8 @@ module _ {D : Type 0} (files : D → List ℕ → FileState) (moment : D → ℕ
     alone = alone_fewer files moment left_since Alone Under old.disk new.disk leaves.alone fewer;
   }
 
-  -- The settled texts are those of the disk's files, and a crash at the start leaves an image of these. What is left
-  -- then recovers to what is settled, and that is allowed.
+  -- The settled texts are those of the disk's files, and a crash at the start leaves an image of
+  -- these. What is left then recovers to what is settled, and that is allowed.
   module _ (old : Kept D) (Left : Image → Type 0) (Alone : List ℕ → Type 0) (Failed : Type 0) (start : (image : Image) → left_since old.disk (moment old.disk) image → AreImages (files old.disk) image)
       (own : old.session.settled ≡ texts_of (contents (files old.disk)) old.session.names) (quiet : (image : Image) → Holds old.session (contents (files old.disk)) old.session.settled image → Left image) where
     still : IsAtRest (files old.disk) → (image : Image) → AreImages (files old.disk) image → Left image

@@ -1,5 +1,5 @@
--- What holds of the list of texts, where accepted commands keep it: its texts are within the limit, and after refiles
--- alone they have the same nodes.
+-- What holds of the list of texts, where accepted commands keep it: its texts are within the limit,
+-- and after refiles alone they have the same nodes.
 use Rattle.std.proofs.Common.{◌≡◌, ⊎_elim, ℕ, ◌+◌, false, List, [], ◌∷◌, ◌++◌, Option, Some, None, Result, Ok, Err, refl, sym, ap, ◌∙◌, subst, arith}
 use Rattle.std.specs.Prelude.{slice_get, IsSomeAnd}
 use Rattle.std.specs.List.{All, AllByRecursion, IsDistinct}

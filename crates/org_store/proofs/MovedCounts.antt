@@ -1,5 +1,5 @@
--- Refiles and archivings, one after another, keep how often each node is there over all files of a store, but for the
--- sections of the entries that are archived and for the headings that are made.
+-- Refiles and archivings, one after another, keep how often each node is there over all files of a
+-- store, but for the sections of the entries that are archived and for the headings that are made.
 use Rattle.std.proofs.Common.{◌≡◌, ◌⊎◌, inl, inr, ⊎_elim, ℕ, zero, suc, ◌+◌, ◌≤◌, ◌==◌, false, List, [], ◌∷◌, ◌++◌, length, Option, Some, None, refl, sym, ◌∙◌, ap, subst, if◌then◌else◌, arith, length-append}
 use Rattle.std.specs.List.{All, AllByRecursion, IsDistinct, sum_by}
 use Rattle.std.specs.Prelude.{slice_get}
@@ -87,7 +87,8 @@ then_moves before most old mid new few later first = record {
   );
 }
 
--- From one text of the list to a later one there are at most as many new sections as commands between.
+-- From one text of the list to a later one there are at most as many new sections as commands
+-- between.
 abbrev pub Moved : ℕ → Texts → Type 0
 Moved base texts = (i k : ℕ) (one other : List (List ℕ)) → base ≤ i → slice_get texts i ≡ Some one → slice_get texts (i + k) ≡ Some other → HaveNodesButFew k other one
 

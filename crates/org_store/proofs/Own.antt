@@ -91,7 +91,8 @@ settles_names old new (Err Device) step = ap (λ (s : Session). s.names) step.1.
 settles_names old new (Err Broken) step = ap (λ (s : Session). s.names) step.1
 
 module _ {D : Type 0} (files : D → List ℕ → FileState) (moment : D → ℕ) (left_since : D → ℕ → Image → Type 0) where
-  -- Calls of a store whose waiting files are its own: they still are, and no other file was written.
+  -- Calls of a store whose waiting files are its own: they still are, and no other file was
+  -- written.
   pub record KeepsToItsOwn (old new : Kept D) : Type 0 where
     pub names : new.session.names ≡ old.session.names
     pub waits : AreNames old.session.names new.waiting

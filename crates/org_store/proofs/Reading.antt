@@ -37,7 +37,8 @@ only_reads_none {steady = steady} {honest = honest} {failures = failures} {files
   accounts = accounts_as stays (λ no. absurd no) (accounts_none steady honest failures old.disk);
 }
 
--- a call of the set of files that only looks at the disk, and an answer that is the device's fault just where the set's is
+-- a call of the set of files that only looks at the disk, and an answer that is the device's fault
+-- just where the set's is
 pub only_reads_set : {D X A : Type 0} {steady : Type 0} {honest : D → Type 0} {failures : D → ℕ} {files : D → List ℕ → FileState} {moment : D → ℕ} {left_since : D → ℕ → Image → Type 0} {old new : OpenFiles D} {answer : Result A RunFault}
     (result : Result X SetFault) → (IsErrOf answer Broken → ⊥) → (IsErrOf answer Device → IsErrOf result set.Device) → (IsErrOf result set.Device → IsErrOf answer Device)
     → old.broken ≡ false → new.names ≡ old.names → new.held.before.waiting ≡ old.held.before.waiting → (honest new.disk → Looks files moment left_since old.disk new.disk)

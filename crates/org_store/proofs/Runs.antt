@@ -143,13 +143,14 @@ falls old new command step = elim step.1 [
 
 -- Sessions that are reached by calls.
 
--- The session has no fewer accepted commands than the one before a run, and no more than the one after it.
+-- The session has no fewer accepted commands than the one before a run, and no more than the one
+-- after it.
 pub record IsBetween (old new mid : Session) : Type 0 where
   pub no_fewer : old.accepted ≤ mid.accepted
   pub no_more : mid.accepted ≤ new.accepted
 
--- What a crash leaves recovers to the files after the commands that were acknowledged, or for those of a session that
--- was reached; `others` are the files that aren't the store's.
+-- What a crash leaves recovers to the files after the commands that were acknowledged, or for those
+-- of a session that was reached; `others` are the files that aren't the store's.
 abbrev pub IsLeftOf : Session → Image → (Session → Type 0) → Image → Type 0
 IsLeftOf old others IsReached image = Holds old others old.settled image ⊎ ((mid : Session) × IsReached mid × Holds old others mid.files image)
 

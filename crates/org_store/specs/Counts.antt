@@ -14,17 +14,26 @@ pub record SameCounts (old new : Session) : Type 0 where
 
 -- a command got this answer
 abbrev pub Counts : Session → Result Reply RunFault → Session → Type 0
-Counts old (Ok (Done n)) new = (n ≡ old.accepted + 1) × (new.accepted ≡ n) × (new.acknowledged ≡ (if fills old then n else old.acknowledged)) × (new.group ≡ old.group)
+Counts old (Ok (Done n)) new =
+    (n ≡ old.accepted + 1)
+    × (new.accepted ≡ n)
+    × (new.acknowledged ≡ (if fills old then n else old.acknowledged))
+    × (new.group ≡ old.group)
 Counts old (Ok (Text bytes)) new = SameCounts old new
 Counts old (Ok (Time minutes)) new = SameCounts old new
-Counts old (Ok (Safe n)) new = (n ≡ old.accepted) × (new.accepted ≡ n) × (new.acknowledged ≡ n) × (new.group ≡ old.group)
+Counts old (Ok (Safe n)) new =
+    (n ≡ old.accepted) × (new.accepted ≡ n) × (new.acknowledged ≡ n) × (new.group ≡ old.group)
 Counts old (Err (Refused why)) new = SameCounts old new
 Counts old (Err OutOfMemory) new = SameCounts old new
-Counts old (Err Device) new = ((new.accepted ≡ old.accepted) ⊎ (new.accepted ≡ old.accepted + 1)) × (new.acknowledged ≡ old.acknowledged) × (new.group ≡ old.group)
+Counts old (Err Device) new =
+    ((new.accepted ≡ old.accepted) ⊎ (new.accepted ≡ old.accepted + 1))
+    × (new.acknowledged ≡ old.acknowledged)
+    × (new.group ≡ old.group)
 Counts old (Err Broken) new = SameCounts old new
 
 -- settling got this answer
-pub record SettledCounts (old : Session) (answer : Result (Unit {0}) RunFault) (new : Session) : Type 0 where
+pub record SettledCounts (old : Session) (answer : Result (Unit {0}) RunFault) (new : Session)
+    : Type 0 where
   pub accepted : new.accepted ≡ old.accepted
   pub acknowledged : new.acknowledged ≡ (if is_ok answer then old.accepted else old.acknowledged)
   pub group : new.group ≡ old.group

@@ -24,14 +24,16 @@ use Rattle.org_store.specs.Left.{IsLeft, IsLeftAlone}
 use Rattle.org_store.specs.Counts.{Counts, SameCounts}
 use Rattle.org_store.specs.Runs.{LeavesDisk}
 
--- The store was `old`, a command that is to do this is planned as these edits of what is held, or isn't, and the store is
--- `new`.
+-- The store was `old`, a command that is to do this is planned as these edits of what is held, or
+-- isn't, and the store is `new`.
 abbrev pub Plans : Session → Outcome → Result Plan RunFault → Holding → Session → Type 0
-Plans old outcome (Ok plan) held new = (outcome ≡ changed old (new_texts plan held.now)) × (new ≡ old)
+Plans old outcome (Ok plan) held new =
+    (outcome ≡ changed old (new_texts plan held.now)) × (new ≡ old)
 Plans old outcome (Err fault) held new = Does old outcome (Err fault) new
 
 -- the same of a command that may change nothing: then there is no plan
-abbrev pub PlansOrStays : Session → Outcome → Result (Option Plan) RunFault → Holding → Session → Type 0
+abbrev pub PlansOrStays : Session → Outcome → Result (Option Plan) RunFault → Holding → Session
+    → Type 0
 PlansOrStays old outcome (Ok (Some plan)) held new = Plans old outcome (Ok plan) held new
 PlansOrStays old outcome (Ok None) held new = (outcome ≡ changed old []) × (new ≡ old)
 PlansOrStays old outcome (Err fault) held new = Plans old outcome (Err fault) held new
@@ -44,37 +46,54 @@ Reads old (Err Device) new = new ≡ failed_in_read old
 Reads old (Err Broken) new = ⊥
 Reads old (Err (Refused why)) new = ⊥
 
--- A heading was looked for, and it is there; or it isn't, for this reason; or its file couldn't be read.
-abbrev pub LooksUp : {A : Type 0} → Session → Result ℕ PathFault → Result A RunFault → Session → Type 0
+-- A heading was looked for, and it is there; or it isn't, for this reason; or its file couldn't be
+-- read.
+abbrev pub LooksUp : {A : Type 0} → Session → Result ℕ PathFault → Result A RunFault → Session
+    → Type 0
 LooksUp old found (Ok _) new = ((i : ℕ) × (found ≡ Ok i)) × (new ≡ old)
-LooksUp old found (Err (Refused why)) new = ((fault : PathFault) × (found ≡ Err fault) × (why ≡ refusal_of_path fault)) × (new ≡ old)
+LooksUp old found (Err (Refused why)) new =
+    ((fault : PathFault) × (found ≡ Err fault) × (why ≡ refusal_of_path fault)) × (new ≡ old)
 LooksUp old found (Err OutOfMemory) new = new ≡ old
 LooksUp old found (Err Device) new = new ≡ failed_in_read old
 LooksUp old found (Err Broken) new = ⊥
 
--- What a call does that is to have this outcome: to the session, to the disk, and to the counts whatever the disk does.
-pub record Acts {D : Type 0} (files : D → List ℕ → FileState) (moment : D → ℕ) (left_since : D → ℕ → Image → Type 0)
-    (honest : D → Type 0) (old : Kept D) (outcome : Outcome) (answer : Result Reply RunFault) (new : Kept D) : Type 0 where
+-- What a call does that is to have this outcome: to the session, to the disk, and to the counts
+-- whatever the disk does.
+pub record Acts {D : Type 0} (files : D → List ℕ → FileState) (moment : D → ℕ)
+    (left_since : D → ℕ → Image → Type 0)
+    (honest : D → Type 0) (old : Kept D) (outcome : Outcome) (answer : Result Reply RunFault)
+    (new : Kept D) : Type 0 where
   pub does : honest new.disk → Does old.session outcome answer new.session
   pub disk : honest new.disk → LeavesDisk files moment left_since old new
-      (IsLeft old.session (contents (files old.disk)) outcome answer new.session.accepted) (IsLeftAlone old.session old.waiting outcome answer new.session.accepted) (IsErrOf answer Device)
+      (IsLeft old.session (contents (files old.disk)) outcome answer new.session.accepted)
+      (IsLeftAlone old.session old.waiting outcome answer new.session.accepted)
+      (IsErrOf answer Device)
   pub counts : Counts old.session answer new.session
   pub works : IsErrOf answer Broken → ⊥
   pub breaks : IsErrOf answer Device ↔ IsTrue new.session.broken
 
--- the store was `old`, one more command with these texts after it gets this answer, and the store is `new`
+-- the store was `old`, one more command with these texts after it gets this answer, and the store
+-- is `new`
 abbrev pub Keeps : Session → List (List ℕ) → Result (Unit {0}) RunFault → Session → Type 0
 Keeps old files (Ok _) new = new ≡ done old files
 Keeps old files (Err OutOfMemory) new = new ≡ old
-Keeps old files (Err Device) new = IsTrue (fills old) × ((left : List (List ℕ)) × (now : List (List ℕ)) × (new ≡ torn_in old left now))
+Keeps old files (Err Device) new =
+    IsTrue (fills old)
+    × ((left : List (List ℕ)) × (now : List (List ℕ)) × (new ≡ torn_in old left now))
 Keeps old files (Err Broken) new = ⊥
 Keeps old files (Err (Refused why)) new = ⊥
 
 -- what becomes of the counts
 abbrev pub KeepsCounts : Session → Result (Unit {0}) RunFault → Session → Type 0
-KeepsCounts old (Ok _) new = (new.accepted ≡ old.accepted + 1) × (new.acknowledged ≡ (if fills old then old.accepted + 1 else old.acknowledged)) × (new.group ≡ old.group)
+KeepsCounts old (Ok _) new =
+    (new.accepted ≡ old.accepted + 1)
+    × (new.acknowledged ≡ (if fills old then old.accepted + 1 else old.acknowledged))
+    × (new.group ≡ old.group)
 KeepsCounts old (Err OutOfMemory) new = SameCounts old new
-KeepsCounts old (Err Device) new = (new.accepted ≡ old.accepted + 1) × (new.acknowledged ≡ old.acknowledged) × (new.group ≡ old.group)
+KeepsCounts old (Err Device) new =
+    (new.accepted ≡ old.accepted + 1)
+    × (new.acknowledged ≡ old.acknowledged)
+    × (new.group ≡ old.group)
 KeepsCounts old (Err Broken) new = ⊥
 KeepsCounts old (Err (Refused why)) new = ⊥
 

@@ -24,19 +24,24 @@ use Rattle.org_store.specs.InOrder.{text_at, texts_of}
 use Rattle.org_store.specs.Reopening.{AreSmall}
 use Rattle.org_store.specs.Session.{Session}
 
--- Each node is as often over these texts as over the others, by its heading line without the stars and by the lines of
--- its section (Org Syntax, "Headings", "Sections").
+-- Each node is as often over these texts as over the others, by its heading line without the stars
+-- and by the lines of its section (Org Syntax, "Headings", "Sections").
 abbrev pub HaveSameNodes : List (List ℕ) → List (List ℕ) → Type 0
-HaveSameNodes texts others = (rest : List ℕ) (section : List (List ℕ)) → count_over rest section texts ≡ count_over rest section others
+HaveSameNodes texts others =
+    (rest : List ℕ) (section : List (List ℕ))
+    → count_over rest section texts ≡ count_over rest section others
 
--- the image recovers to files, and over those of these names each node is as often as over these texts
+-- the image recovers to files, and over those of these names each node is as often as over these
+-- texts
 abbrev pub HasNodesOf : List (List ℕ) → List (List ℕ) → Image → Type 0
-HasNodesOf names texts image = IsSomeAnd (recovered image) (λ files. HaveSameNodes (texts_of files names) texts)
+HasNodesOf names texts image =
+    IsSomeAnd (recovered image) (λ files. HaveSameNodes (texts_of files names) texts)
 
--- The image recovers to files, and over those of these names each node is as often as after one prefix of the accepted
--- commands, which has at least so many of them.
+-- The image recovers to files, and over those of these names each node is as often as after one
+-- prefix of the accepted commands, which has at least so many of them.
 abbrev pub HasNodesOfPrefix : List (List ℕ) → List (List (List ℕ)) → ℕ → Image → Type 0
-HasNodesOfPrefix names texts least image = (k : ℕ) × (least ≤ k) × IsSomeAnd (slice_get texts k) (λ files. HasNodesOf names files image)
+HasNodesOfPrefix names texts least image =
+    (k : ℕ) × (least ≤ k) × IsSomeAnd (slice_get texts k) (λ files. HasNodesOf names files image)
 
 -- a session of a store that was opened with these names
 pub record IsSessionOf (given : List (List ℕ)) (s : Session) : Type 0 where
@@ -61,7 +66,8 @@ MayBeAccepted (Err Broken) = ⊥
 
 -- These commands got these answers, and none but refiles were accepted.
 abbrev pub OnlyRefiles : List Command → List (Result Reply RunFault) → Type 0
-OnlyRefiles (command ∷ commands) (answer ∷ answers) = (MayBeAccepted answer → IsRefile command) × OnlyRefiles commands answers
+OnlyRefiles (command ∷ commands) (answer ∷ answers) =
+    (MayBeAccepted answer → IsRefile command) × OnlyRefiles commands answers
 OnlyRefiles [] answers = Unit {0}
 OnlyRefiles (command ∷ commands) [] = Unit {0}
 
@@ -71,9 +77,10 @@ MayRefile (Ran command answer) = MayBeAccepted answer → IsRefile command
 MayRefile (Settled answer) = Unit {0}
 MayRefile (Grouped group) = Unit {0}
 
--- These texts of all files have one entry archived, the one at a path of a session's file, and each other node as often
--- (Org manual, "Moving a tree to an archive file").
-pub record ArchivesOne (s : Session) (file : List ℕ) (path : List (List ℕ)) (now : CivilMinute) (files : List (List ℕ)) : Type 0 where
+-- These texts of all files have one entry archived, the one at a path of a session's file, and each
+-- other node as often (Org manual, "Moving a tree to an archive file").
+pub record ArchivesOne (s : Session) (file : List ℕ) (path : List (List ℕ)) (now : CivilMinute)
+    (files : List (List ℕ)) : Type 0 where
   -- the entry: the heading at the path, by its number in the text of its file
   pub text : List ℕ
   pub in_file : text_at s.names s.files file ≡ Some text
@@ -86,10 +93,14 @@ pub record ArchivesOne (s : Session) (file : List ℕ) (path : List (List ℕ)) 
   pub in_target : text_at s.names s.files to.file ≡ Some target
   pub up : Option ℕ
   pub heading : target_heading s.states to (tree target) ≡ Ok up
-  -- with the entry as it was, each node is there as often as before with the entry as it is then and with the heading made
-  pub counts : (rest : List ℕ) (section : List (List ℕ)) → let own = (node_at (tree text) entry).node in
+  -- with the entry as it was, each node is there as often as before with the entry as it is then
+  -- and with the heading made
+  pub counts : (rest : List ℕ) (section : List (List ℕ))
+      → let own = (node_at (tree text) entry).node in
       count_over rest section files + one_of rest section own.rest own.section
-      ≡ count_over rest section s.files + one_of rest section own.rest (archived_section s.states file now (tree text) entry) + made_count rest section to up
+      ≡ count_over rest section s.files
+      + one_of rest section own.rest (archived_section s.states file now (tree text) entry)
+      + made_count rest section to up
 
 -- an archiving from a file with a name that a store's files have
 abbrev pub IsArchiving : Command → Type 0
@@ -107,12 +118,13 @@ pub record NewSection : Type 0 where
   pub old : List (List ℕ)
   pub new : List (List ℕ)
 
--- Each node is as often over these texts as over the others, but that these nodes have new sections, and that headings with
--- these rests of their lines were made, with empty sections.
+-- Each node is as often over these texts as over the others, but that these nodes have new
+-- sections, and that headings with these rests of their lines were made, with empty sections.
 abbrev pub HaveNodesBut : List NewSection → List (List ℕ) → List (List ℕ) → List (List ℕ) → Type 0
 HaveNodesBut roots made texts others = (rest : List ℕ) (section : List (List ℕ)) →
     count_over rest section texts + sum_by (λ root. one_of rest section root.rest root.old) roots
-    ≡ count_over rest section others + sum_by (λ root. one_of rest section root.rest root.new) roots + sum_by (λ line. one_of rest section line []) made
+    ≡ count_over rest section others + sum_by (λ root. one_of rest section root.rest root.new) roots
+    + sum_by (λ line. one_of rest section line []) made
 
 -- .. with at most so many new sections, and at most one heading made for each of these.
 pub record HaveNodesButFew (most : ℕ) (texts others : List (List ℕ)) : Type 0 where

@@ -13,16 +13,31 @@ use Rattle.org_store.specs.Session.{Session, Kept}
 -- a store that was just opened, over files of these names that have these texts
 abbrev pub opened : Keywords → List (List ℕ) → List (List ℕ) → Session
 opened states names texts =
-    record { states = states; names = names; files = texts; settled = texts; accepted = 0; acknowledged = 0; group = 1; broken = false }
+    record {
+      states = states;
+      names = names;
+      files = texts;
+      settled = texts;
+      accepted = 0;
+      acknowledged = 0;
+      group = 1;
+      broken = false;
+    }
 
--- A store that was just opened with these states and the given names. `honest` and `files` are what is seen of its disk.
-pub record IsOpened {D : Type 0} (honest : D → Type 0) (files : D → List ℕ → FileState) (states : Keywords) (given : List (List ℕ)) (store : Kept D) : Type 0 where
-  pub session : store.session ≡ opened states store.session.names (texts_of (contents (files store.disk)) store.session.names)
+-- A store that was just opened with these states and the given names. `honest` and `files` are what
+-- is seen of its disk.
+pub record IsOpened {D : Type 0} (honest : D → Type 0) (files : D → List ℕ → FileState)
+    (states : Keywords) (given : List (List ℕ)) (store : Kept D) : Type 0 where
+  pub session : store.session
+      ≡ opened states store.session.names
+      (texts_of (contents (files store.disk)) store.session.names)
   pub set : IsOpenedFor given store.session.names (honest store.disk) (contents (files store.disk))
   pub waits : store.waiting ≡ []
 
 -- An opening over the disk `before` that was refused for this fault, and handed it back as `now`.
-pub record IsRefused {D : Type 0} (honest : D → Type 0) (files : D → List ℕ → FileState) (given : List (List ℕ)) (before now : D) (fault : OpenFault) : Type 0 where
+pub record IsRefused {D : Type 0} (honest : D → Type 0) (files : D → List ℕ → FileState)
+    (given : List (List ℕ)) (before now : D) (fault : OpenFault) : Type 0 where
   pub set : IsRefusedFor honest files given before now fault
   -- what recovers to files of these names is refused as long as memory or the disk fails
-  pub again : honest now → IsOpenable given (contents (files before)) → (fault ≡ OutOfMemory) ⊎ (fault ≡ Device)
+  pub again : honest now → IsOpenable given (contents (files before))
+      → (fault ≡ OutOfMemory) ⊎ (fault ≡ Device)

@@ -7,11 +7,14 @@ use Rattle.org_store.specs.declared.command.RunFault.{RunFault}
 use Rattle.org_store.specs.declared.command.RunFault.TheVariants.{Device, Broken}
 use Rattle.org_store.specs.Files.{OpenFiles}
 
--- A call over files that work reads those that it needs, where they aren't held, and does nothing else to the disk. The
--- files were `old`, this was answered, and the files are `new`. `steady`, `honest`, `failures`, `files`, `moment` and
--- `left_since` are what is seen of a disk of the type D.
-pub record OnlyReads {D A : Type 0} (steady : Type 0) (honest : D → Type 0) (failures : D → ℕ) (files : D → List ℕ → FileState) (moment : D → ℕ)
-    (left_since : D → ℕ → Image → Type 0) (old new : OpenFiles D) (answer : Result A RunFault) : Type 0 where
+-- A call over files that work reads those that it needs, where they aren't held, and does nothing
+-- else to the disk. The files were `old`, this was answered, and the files are `new`. `steady`,
+-- `honest`, `failures`, `files`, `moment` and `left_since` are what is seen of a disk of the type
+-- D.
+pub record OnlyReads {D A : Type 0} (steady : Type 0) (honest : D → Type 0) (failures : D → ℕ)
+    (files : D → List ℕ → FileState) (moment : D → ℕ)
+    (left_since : D → ℕ → Image → Type 0) (old new : OpenFiles D) (answer : Result A RunFault)
+    : Type 0 where
   -- the disk is only looked at
   pub looks : honest new.disk → Looks files moment left_since old.disk new.disk
   pub names : new.names ≡ old.names

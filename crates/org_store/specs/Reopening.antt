@@ -8,8 +8,8 @@ use Rattle.org_journal.specs.Recovered.{Image, RecoversTo}
 abbrev pub AreSameNames : List (List ℕ) → List (List ℕ) → Type 0
 AreSameNames one other = (name : List ℕ) → Contains one name ↔ Contains other name
 
--- The given names are few, and the image recovers to files of which none of these names, nor of an archive file's, is
--- past the limit.
+-- The given names are few, and the image recovers to files of which none of these names, nor of an
+-- archive file's, is past the limit.
 pub record IsOpenable (given : List (List ℕ)) (image : Image) : Type 0 where
   pub few : AreFew given
   pub names : List (List ℕ)

@@ -26,8 +26,8 @@ pub record Session : Type 0 where
   -- a call of the disk failed: the store does nothing any more
   pub broken : Bool
 
--- A store over a disk of the type D: with the names of the files that wait for a commit, in the order in which commands
--- touched them.
+-- A store over a disk of the type D: with the names of the files that wait for a commit, in the
+-- order in which commands touched them.
 pub record Kept (D : Type 0) : Type 0 where
   pub disk : D
   pub session : Session
@@ -51,7 +51,8 @@ session_over texts states files tally = record {
 }
 
 -- .. and the store
-abbrev pub kept_over : {D : Type 0} → (D → List ℕ → FileState) → Keywords → OpenFiles D → Tally → Kept D
+abbrev pub kept_over : {D : Type 0} → (D → List ℕ → FileState) → Keywords → OpenFiles D → Tally
+    → Kept D
 kept_over files states opened tally = record {
   disk = opened.disk;
   session = session_over (λ disk. contents (files disk)) states opened tally;

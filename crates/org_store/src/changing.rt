@@ -30,8 +30,8 @@ use org_fileset::SetFault;
 use org_outline::States;
 use org_texts::Plan;
 
-/// Counts one more command, which made the texts what they are. Where it fills the group, all is settled; else the texts
-/// are kept in memory.
+/// Counts one more command, which made the texts what they are. Where it fills the group, all is
+/// settled; else the texts are kept in memory.
 fn keep_or_settle<D: Disk>(files: &mut Files<D>, tally: &mut Tally) -> Result<(), RunFault>
     requires unbroken { files.old.broken ≡ false }
     requires small { AreSmallToWrite files.old.held.now }
@@ -84,8 +84,9 @@ fn keep_or_settle<D: Disk>(files: &mut Files<D>, tally: &mut Tally) -> Result<()
     }
 }
 
-/// Counts one more command, which made the texts what they are, unless the accepted commands are as many as can be
-/// counted. Where it is refused, or there is no memory, all of its edits are taken back.
+/// Counts one more command, which made the texts what they are, unless the accepted commands are as
+/// many as can be counted. Where it is refused, or there is no memory, all of its edits are taken
+/// back.
 fn count<D: Disk>(files: &mut Files<D>, tally: &mut Tally) -> Result<Reply, RunFault>
     requires unbroken { files.old.broken ≡ false }
     requires small { AreSmallToWrite files.old.held.now }
@@ -112,8 +113,8 @@ fn count<D: Disk>(files: &mut Files<D>, tally: &mut Tally) -> Result<Reply, RunF
     Ok(Reply::Done(tally.accepted))
 }
 
-/// Accepts one more command, which makes these edits. Where it is refused, or there is no memory, all of its edits are
-/// taken back.
+/// Accepts one more command, which makes these edits. Where it is refused, or there is no memory,
+/// all of its edits are taken back.
 fn accept<D: Disk>(
     files: &mut Files<D>,
     tally: &mut Tally,
@@ -139,7 +140,8 @@ fn accept<D: Disk>(
     count(files, tally)
 }
 
-/// Accepts one more command, which changes nothing: what was done for it to the texts is taken back.
+/// Accepts one more command, which changes nothing: what was done for it to the texts is taken
+/// back.
 fn accept_unchanged<D: Disk>(files: &mut Files<D>, tally: &mut Tally) -> Result<Reply, RunFault>
     requires unbroken { files.old.broken ≡ false }
     requires counted { tally.old.acknowledged ≤ tally.old.accepted }
@@ -159,8 +161,8 @@ fn accept_unchanged<D: Disk>(files: &mut Files<D>, tally: &mut Tally) -> Result<
     count(files, tally)
 }
 
-/// What a command that changes files is to change: its files are read where they aren't held, and made ready. Nothing is
-/// edited. There is no plan where nothing changes.
+/// What a command that changes files is to change: its files are read where they aren't held, and
+/// made ready. Nothing is edited. There is no plan where nothing changes.
 fn plan<'a, D: Disk>(
     files: &mut Files<D>,
     states: &States,

@@ -15,7 +15,8 @@ use std::alloc::AllocError;
 use std::borrow::CowSlice;
 use std::marker::Model;
 
-/// A text of a command: bytes of the line that it was read from, which aren't copied, or bytes that were made for it.
+/// A text of a command: bytes of the line that it was read from, which aren't copied, or bytes that
+/// were made for it.
 ///
 /// A clause sees them as a list.
 #[derive(Drop)]
@@ -76,7 +77,8 @@ pub struct Capture<'a> {
     pub initial: TextOf<'a>,
 }
 
-/// A subtree that becomes a child of another heading, of its file or of another one (Org manual, "Refile and Copy").
+/// A subtree that becomes a child of another heading, of its file or of another one (Org manual,
+/// "Refile and Copy").
 #[derive(Drop)]
 pub struct Refile {
     /// The file that the subtree leaves.
@@ -91,7 +93,8 @@ pub struct Refile {
     pub place: Place,
 }
 
-/// Another TODO state of a heading (Org manual, "Basic TODO functionality", "Closing items", "Repeated tasks").
+/// Another TODO state of a heading (Org manual, "Basic TODO functionality", "Closing items",
+/// "Repeated tasks").
 #[derive(Drop)]
 pub struct Todo<'a> {
     /// The file of the heading.
@@ -131,18 +134,20 @@ pub struct ClockIn {
 pub enum Command<'a> {
     /// Puts a new entry into a file.
     Capture(Capture<'a>),
-    /// Makes a subtree a child of another heading. The two paths are looked up before anything moves, and the place among
-    /// the children is that behind the move. A refile changes its files, also where it leaves their bytes.
+    /// Makes a subtree a child of another heading. The two paths are looked up before anything
+    /// moves, and the place among the children is that behind the move. A refile changes its files,
+    /// also where it leaves their bytes.
     Refile(Refile),
     /// Puts a heading into another TODO state. Where it has that state already, all bytes stay.
     Todo(Todo<'a>),
-    /// Moves a subtree to its archive: to the location that the nearest nonempty property ARCHIVE of it or a heading above
-    /// it names, else the file's first line `#+ARCHIVE:`, else to the top level of the file's archive file. Its root gets
-    /// properties that tell when it was archived, and where it was.
+    /// Moves a subtree to its archive: to the location that the nearest nonempty property ARCHIVE
+    /// of it or a heading above it names, else the file's first line `#+ARCHIVE:`, else to the top
+    /// level of the file's archive file. Its root gets properties that tell when it was archived,
+    /// and where it was.
     Archive(Archive),
-    /// Starts a clock at a heading, and stops the one that runs elsewhere, at the same moment. The clock that runs is the
-    /// first open one of all files, in byte order of their names. Where it is the heading's own, all bytes stay, whatever
-    /// the moment.
+    /// Starts a clock at a heading, and stops the one that runs elsewhere, at the same moment. The
+    /// clock that runs is the first open one of all files, in byte order of their names. Where it
+    /// is the heading's own, all bytes stay, whatever the moment.
     ClockIn(ClockIn),
     /// Stops the clock that runs (Org manual, "Clocking commands").
     ClockOut {
@@ -193,7 +198,8 @@ pub enum Refusal {
     NotUnique,
     /// The heading that a subtree is to go below lies in the subtree.
     InsideItself,
-    /// The file is an archive file already, or the entry lies below the heading that it would be archived to.
+    /// The file is an archive file already, or the entry lies below the heading that it would be
+    /// archived to.
     AlreadyArchive,
     /// The state is none of the store's.
     UnknownState,

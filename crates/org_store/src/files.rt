@@ -28,17 +28,18 @@ use org_texts::{Held, Plan, Texts};
 use std::alloc::{AllocError, Global};
 use std::marker::Model;
 
-/// Files of a disk that are changed in memory: each is read once, and edited there until a commit puts all changed texts
-/// on the disk as one.
+/// Files of a disk that are changed in memory: each is read once, and edited there until a commit
+/// puts all changed texts on the disk as one.
 ///
-/// A clause sees its disk, its names, and what is held: the texts as they are, and as they were before the command that
-/// runs (specs/Files.antt).
+/// A clause sees its disk, its names, and what is held: the texts as they are, and as they were
+/// before the command that runs (specs/Files.antt).
 #[derive(Drop)]
 pub(crate) struct Files<D: Disk> {
     alloc: Global,
     set: FileSet<D>,
     texts: Texts,
-    // Which files are held and known to have no clock that runs, by the numbers of their names; it may end early.
+    // Which files are held and known to have no clock that runs, by the numbers of their names; it
+    // may end early.
     quiet: Vec<bool>,
 }
 
@@ -62,9 +63,9 @@ impl<D: Disk> Model for Files<D> {
 }
 
 impl<D: Disk> Files<D> {
-    /// The files of the given names and of their archive files, with nothing held. No name is an archive file's or the
-    /// journal's; a repeated one counts once. What a crash cut short is brought to an end first: see `FileSet::open`,
-    /// whose faults it answers.
+    /// The files of the given names and of their archive files, with nothing held. No name is an
+    /// archive file's or the journal's; a repeated one counts once. What a crash cut short is
+    /// brought to an end first: see `FileSet::open`, whose faults it answers.
     pub(crate) fn open(
         alloc: Global,
         disk: D,
@@ -93,7 +94,8 @@ impl<D: Disk> Files<D> {
         }
     }
 
-    /// Whether it is the name of one of the files: of those that were given, or of their archive files.
+    /// Whether it is the name of one of the files: of those that were given, or of their archive
+    /// files.
     pub(crate) fn has(&self, name: &FileName) -> bool
         ensures { result ≡ is_name self.now.names name.now }
     {
@@ -160,8 +162,8 @@ impl<D: Disk> Files<D> {
         self.alloc
     }
 
-    /// Reads one of the files, where it isn't held. No text changes by it. `Device` breaks the files; after `OutOfMemory`
-    /// the file can be read again.
+    /// Reads one of the files, where it isn't held. No text changes by it. `Device` breaks the
+    /// files; after `OutOfMemory` the file can be read again.
     pub(crate) fn load(&mut self, name: &FileName) -> Result<(), RunFault>
         requires name { is_name self.old.names name.now ≡ true }
         requires unbroken { self.old.broken ≡ false }
@@ -185,8 +187,8 @@ impl<D: Disk> Files<D> {
         Ok(())
     }
 
-    // Makes the text of one of the files, which is held, ready for a command. Where there is no memory, all edits of the
-    // command are taken back.
+    // Makes the text of one of the files, which is held, ready for a command. Where there is no
+    // memory, all edits of the command are taken back.
     fn make_ready(&mut self, name: &FileName) -> Result<(), AllocError>
         requires { IsSome (text_of self.old.held.now name.now) }
         ensures memory { StaysInMemory self.old self.new }
@@ -197,9 +199,9 @@ impl<D: Disk> Files<D> {
         self.texts.make_ready(name)
     }
 
-    /// Makes one of the files ready for a command: it is read where it isn't held, a last line without a newline gets one,
-    /// and its headings are read where they aren't held. The faults are those of `load`; the command's edits are to be
-    /// taken back behind them.
+    /// Makes one of the files ready for a command: it is read where it isn't held, a last line
+    /// without a newline gets one, and its headings are read where they aren't held. The faults are
+    /// those of `load`; the command's edits are to be taken back behind them.
     pub(crate) fn ready(&mut self, name: &FileName) -> Result<(), RunFault>
         requires name { is_name self.old.names name.now ≡ true }
         requires unbroken { self.old.broken ≡ false }
@@ -225,7 +227,8 @@ impl<D: Disk> Files<D> {
         is_noted(&self.quiet, index)
     }
 
-    /// Notes that no clock runs in the file of this number, until an edit of it is put. Nothing else changes.
+    /// Notes that no clock runs in the file of this number, until an edit of it is put. Nothing
+    /// else changes.
     pub(crate) fn note_quiet(&mut self, index: usize)
         requires begun { self.old.held.now ≡ self.old.held.before }
         requires quiet { (name : List ℕ) → slice_get self.old.names index ≡ Some name
@@ -235,8 +238,8 @@ impl<D: Disk> Files<D> {
         note(&mut self.quiet, index);
     }
 
-    /// Makes the edits of a plan, in memory. `TooLarge` where one of the texts would be past the limit; then, and where
-    /// there is no memory, all edits of the command are taken back.
+    /// Makes the edits of a plan, in memory. `TooLarge` where one of the texts would be past the
+    /// limit; then, and where there is no memory, all edits of the command are taken back.
     pub(crate) fn put(&mut self, plan: &Plan<'_>) -> Result<(), RunFault>
         requires { IsPlanFor self.old.names self.old.held plan.now }
         ensures memory { StaysInMemory self.old self.new }
@@ -272,8 +275,9 @@ impl<D: Disk> Files<D> {
         self.texts.keep();
     }
 
-    /// Commits the texts as they are, of which those that wait are within the limit, as they always are between commands:
-    /// see `FileSet::commit`. `OutOfMemory` leaves all as it was. Where no text waits, no call of the disk is made.
+    /// Commits the texts as they are, of which those that wait are within the limit, as they always
+    /// are between commands: see `FileSet::commit`. `OutOfMemory` leaves all as it was. Where no
+    /// text waits, no call of the disk is made.
     pub(crate) fn commit(&mut self) -> Result<(), SetFault>
         requires unbroken { self.old.broken ≡ false }
         requires small { (self.old.held.now ≡ self.old.held.before)
@@ -333,7 +337,8 @@ fn is_noted(quiet: &[bool], index: usize) -> bool
     matches!(quiet.get(index), Some(true))
 }
 
-/// Notes the file of this number, where it is noted already or is the next one. Without memory it isn't noted.
+/// Notes the file of this number, where it is noted already or is the next one. Without memory it
+/// isn't noted.
 fn note(quiet: &mut Vec<bool>, index: usize)
     ensures { (i : ℕ) → slice_get quiet.new.items i ≡ Some true
         → (i ≡ index) ⊎ (slice_get quiet.old.items i ≡ Some true) }

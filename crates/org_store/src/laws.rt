@@ -66,8 +66,8 @@ pub fn runs_join()
         → Run old (commands ++ later) (answers ++ more) new }
 {}
 
-/// The texts that are settled are those of the disk's files: on a store that was just opened (`Store::open`), and after
-/// each call in which the disk didn't fail.
+/// The texts that are settled are those of the disk's files: on a store that was just opened
+/// (`Store::open`), and after each call in which the disk didn't fail.
 pub fn settled_is_on_disk<D: Disk>()
     ensures opened { (states : Keywords) (names : List (List ℕ)) (files : Image)
         → IsOnDisk (opened states names (texts_of files names)) files }
@@ -81,10 +81,11 @@ pub fn settled_is_on_disk<D: Disk>()
         → IsOnDisk new.session (contents (D.files new.disk)) }
 {}
 
-/// A store writes no file but its own and the journal: the files that a command gives new texts, and so those that wait for
-/// a commit, are files of the store's names. Calls of a store that was just opened (`Store::open`), for which no file
-/// waits, leave every other file alone: each is as it was, and a crash meanwhile leaves of it what it might have left
-/// before, whatever lies in the folder and whether it is on the disk or not.
+/// A store writes no file but its own and the journal: the files that a command gives new texts,
+/// and so those that wait for a commit, are files of the store's names. Calls of a store that was
+/// just opened (`Store::open`), for which no file waits, leave every other file alone: each is as
+/// it was, and a crash meanwhile leaves of it what it might have left before, whatever lies in the
+/// folder and whether it is on the disk or not.
 pub fn only_its_own_files_are_written<D: Disk>()
     ensures written { (s : Session) (command : Command)
         → AreNames s.names (written (outcome s command)) }
@@ -101,14 +102,16 @@ pub fn only_its_own_files_are_written<D: Disk>()
         × AreNames last.store.session.names last.store.waiting }
 {}
 
-/// What a crash leaves of a run of the calls that change a store: commands, settlings and new sizes of the group. A run
-/// is told with one list, of the texts of all files after each accepted command. On a disk that was at rest and honest
-/// when it began, under a store that wasn't broken, a crash since then leaves the files as they were settled then, or
-/// as they were after one prefix of the accepted commands, which has all that were accepted then; a command in which
-/// the disk failed may be the last of them. What is settled is on the disk between calls (`settled_is_on_disk`).
+/// What a crash leaves of a run of the calls that change a store: commands, settlings and new sizes
+/// of the group. A run is told with one list, of the texts of all files after each accepted
+/// command. On a disk that was at rest and honest when it began, under a store that wasn't broken,
+/// a crash since then leaves the files as they were settled then, or as they were after one prefix
+/// of the accepted commands, which has all that were accepted then; a command in which the disk
+/// failed may be the last of them. What is settled is on the disk between calls
+/// (`settled_is_on_disk`).
 ///
-/// `CallPast` is what a call promises where the disk is honest after it, with what it adds to the list. The list needs
-/// the texts only where the session tells them: others may be any.
+/// `CallPast` is what a call promises where the disk is honest after it, with what it adds to the
+/// list. The list needs the texts only where the session tells them: others may be any.
 pub fn calls_leave_a_prefix<D: Disk>()
     // a store that was just opened has such a list
     ensures opened { (states : Keywords) (names texts : List (List ℕ))
@@ -157,10 +160,11 @@ pub fn calls_leave_a_prefix<D: Disk>()
         → IsOpenable given image }
 {}
 
-/// Each node in one place. What a crash leaves of a run of calls (`calls_leave_a_prefix`) has each node as often, over
-/// all files of the store, as the texts that it recovers to: as after the commands that were acknowledged when the run
-/// began, or after one prefix of the accepted commands. Where no command but refiles is accepted, that is as often as
-/// when the run began: a crash within a refile loses no node of the subtree and doubles none, in the old place or the
+/// Each node in one place. What a crash leaves of a run of calls (`calls_leave_a_prefix`) has each
+/// node as often, over all files of the store, as the texts that it recovers to: as after the
+/// commands that were acknowledged when the run began, or after one prefix of the accepted
+/// commands. Where no command but refiles is accepted, that is as often as when the run began: a
+/// crash within a refile loses no node of the subtree and doubles none, in the old place or the
 /// new.
 pub fn one_place<D: Disk>()
     ensures held { (given : List (List ℕ)) (s : Session) (others image : Image)
@@ -187,8 +191,8 @@ pub fn one_place<D: Disk>()
         → Run old commands answers new → IsFalse new.broken → OnlyRefiles commands answers
         → HaveSameNodes new.files old.files
         × (HaveSameNodes old.settled old.files → HaveSameNodes new.settled new.files) }
-    // One archiving: what may be on the disk then is as before, or each node of its subtree is in the old place or the
-    // new, the root there with its properties.
+    // One archiving: what may be on the disk then is as before, or each node of its subtree is in
+    // the old place or the new, the root there with its properties.
     ensures archive { (given : List (List ℕ)) (first last : Past D) (it : Archiving)
         (answer : Result Reply RunFault)
         → IsSessionOf given first.store.session → IsFalse first.store.session.broken
@@ -197,9 +201,9 @@ pub fn one_place<D: Disk>()
         → (k : ℕ) (texts : List (List ℕ)) → first.store.session.accepted ≤ k
         → slice_get last.texts k ≡ Some texts → (texts ≡ first.store.session.files)
         ⊎ ArchivesOne first.store.session it.file it.path it.moment texts }
-    // Where none but refiles and archivings are accepted: from one text of the list to another, which is k commands
-    // later, as often, but that for each of these at most one node has another section under the same heading line, and
-    // at most one heading is made.
+    // Where none but refiles and archivings are accepted: from one text of the list to another,
+    // which is k commands later, as often, but that for each of these at most one node has another
+    // section under the same heading line, and at most one heading is made.
     ensures moves { (given : List (List ℕ)) (first last : Past D) (calls : List Call)
         → IsSessionOf given first.store.session → Lists first.store.session first.texts
         → All (AreSmall first.store.session.names) first.texts
@@ -209,13 +213,15 @@ pub fn one_place<D: Disk>()
         → HaveNodesButFew k other one }
 {}
 
-/// There is one way to put names in order, each once. So the given names are few or too many, and never both.
+/// There is one way to put names in order, each once. So the given names are few or too many, and
+/// never both.
 pub fn one_sorting()
     ensures { (given first second : List (List ℕ)) → AreSorted given first → AreSorted given second
         → first ≡ second }
 {}
 
-/// No text of a store's files is past the limit after an opening, nor after any command that is accepted.
+/// No text of a store's files is past the limit after an opening, nor after any command that is
+/// accepted.
 pub fn texts_stay_small()
     ensures opened { (files : Image) (names : List (List ℕ)) → first_large files names ≡ None
         → AreSmall names (texts_of files names) }
@@ -223,8 +229,9 @@ pub fn texts_stay_small()
         → AreSmall s.names s.files → IsAccepted (outcome s command) files → AreSmall s.names files }
 {}
 
-/// A refile that is accepted keeps how often each node is there over all files, by its heading line without the stars and
-/// by the lines of its section: none is lost, none doubled. No name of a store's files stands twice, and each has a text.
+/// A refile that is accepted keeps how often each node is there over all files, by its heading line
+/// without the stars and by the lines of its section: none is lost, none doubled. No name of a
+/// store's files stands twice, and each has a text.
 pub fn refiles_keep_counts()
     ensures { (s : Session) (it : Refiling)
         (files : List (List ℕ)) → IsDistinct bytes_eq s.names → length s.files ≡ length s.names
@@ -233,9 +240,10 @@ pub fn refiles_keep_counts()
         → count_over rest section files ≡ count_over rest section s.files }
 {}
 
-/// An archiving that is accepted keeps how often each node is there over all files, but that its entry becomes one with the
-/// same rest of the heading line and with the section that has the archive's properties, and that a heading is made where
-/// the location's isn't there: the nodes below the entry, and all others, are as often there as before.
+/// An archiving that is accepted keeps how often each node is there over all files, but that its
+/// entry becomes one with the same rest of the heading line and with the section that has the
+/// archive's properties, and that a heading is made where the location's isn't there: the nodes
+/// below the entry, and all others, are as often there as before.
 pub fn archives_keep_counts()
     ensures { (s : Session) (it : Archiving)
         (files : List (List ℕ)) → IsDistinct bytes_eq s.names → length s.files ≡ length s.names
@@ -243,8 +251,9 @@ pub fn archives_keep_counts()
         → ArchivesOne s it.file it.path it.moment files }
 {}
 
-/// Every image of a store's disk opens again, with the names that the store was opened with: over a disk that holds
-/// such an image, `Store::open` answers Ok, OutOfMemory, or Device with a counted failure, and nothing else.
+/// Every image of a store's disk opens again, with the names that the store was opened with: over a
+/// disk that holds such an image, `Store::open` answers Ok, OutOfMemory, or Device with a counted
+/// failure, and nothing else.
 pub fn every_image_opens<D: Disk>()
     // what a refused opening of such an image tells
     ensures faults { (given : List (List ℕ)) (disk now : D) (fault : OpenFault)
@@ -252,7 +261,8 @@ pub fn every_image_opens<D: Disk>()
         → IsReason given (D.honest now) (contents (D.files disk)) (contents (D.files now)) fault
         → (fault ≡ Device → HasRisen (D.failures disk) (D.failures now))
         → (fault ≡ OutOfMemory) ⊎ ((fault ≡ Device) × HasRisen (D.failures disk) (D.failures now)) }
-    // what a crash left of a store's files is such an image, as long as no text of them was past the limit
+    // what a crash left of a store's files is such an image, as long as no text of them was past
+    // the limit
     ensures held { (given : List (List ℕ)) (s : Session) (others image : Image)
         (texts : List (List ℕ)) → AreFew given → AreSorted (with_archives given) s.names
         → AreSmall s.names texts → Holds s others texts image → IsOpenable given image }

@@ -22,10 +22,11 @@ use std::marker::Model;
 
 /// Org files on a disk, and what was done to them since the store was opened.
 ///
-/// A clause sees its disk, its session (specs/Session.antt) and which of its files wait for a commit. What is said of
-/// files and of crashes is said where the disk is honest after the call; of crashes in `run` and `settle` also only where
-/// it was at rest, as an opening of a recoverable disk and each call without a failure leave it (`LeavesDisk`,
-/// specs/Runs.antt). A store that is broken does nothing any more: open its files anew.
+/// A clause sees its disk, its session (specs/Session.antt) and which of its files wait for a
+/// commit. What is said of files and of crashes is said where the disk is honest after the call; of
+/// crashes in `run` and `settle` also only where it was at rest, as an opening of a recoverable
+/// disk and each call without a failure leave it (`LeavesDisk`, specs/Runs.antt). A store that is
+/// broken does nothing any more: open its files anew.
 #[derive(Drop)]
 pub struct Store<D: Disk> {
     files: Files<D>,
@@ -43,8 +44,8 @@ impl<D: Disk> Model for Store<D> {
 
     ghost view = { λ s. kept_over D.files s.states s.files s.tally };
 
-    // Between commands nothing is edited that isn't kept, and where all commands are acknowledged, none of their texts
-    // waits, and they are on the disk.
+    // Between commands nothing is edited that isn't kept, and where all commands are acknowledged,
+    // none of their texts waits, and they are on the disk.
     ghost invariant = { λ s. (s.tally.acknowledged ≤ s.tally.accepted)
         × (s.files.held.now ≡ s.files.held.before)
         × (D.honest s.files.disk
@@ -53,18 +54,21 @@ impl<D: Disk> Model for Store<D> {
 }
 
 impl<D: Disk> Store<D> {
-    /// A store over the files of the given names and of their archive files, with nothing accepted and a group of 1. No
-    /// name is an archive file's or the journal's; a repeated one counts once. What a crash cut short is brought to an
-    /// end first; after Ok a whole journal whose gate was closed is as it was. No file is written but the journal and those
-    /// that the record of an open one names.
+    /// A store over the files of the given names and of their archive files, with nothing accepted
+    /// and a group of 1. No name is an archive file's or the journal's; a repeated one counts once.
+    /// What a crash cut short is brought to an end first; after Ok a whole journal whose gate was
+    /// closed is as it was. No file is written but the journal and those that the record of an open
+    /// one names.
     ///
-    /// On a disk that is recoverable, and honest after the call, of which each image recovers to files, every image at
-    /// every moment since the call began recovers to what an image at the start recovered to, whatever is answered; so
-    /// it may be crashed, and called again. Where the journal is bad, as it reads, or is whole and its gate is closed, a
-    /// crash leaves what it might have left before.
+    /// On a disk that is recoverable, and honest after the call, of which each image recovers to
+    /// files, every image at every moment since the call began recovers to what an image at the
+    /// start recovered to, whatever is answered; so it may be crashed, and called again. Where the
+    /// journal is bad, as it reads, or is whole and its gate is closed, a crash leaves what it
+    /// might have left before.
     ///
-    /// The faults come in the order of `OpenFault`; `Device` and `OutOfMemory` as they are met, and they alone on a
-    /// disk that recovers to files of these names, none past the limit. A refused call hands the disk back.
+    /// The faults come in the order of `OpenFault`; `Device` and `OutOfMemory` as they are met, and
+    /// they alone on a disk that recovers to files of these names, none past the limit. A refused
+    /// call hands the disk back.
     pub fn open(
         alloc: Global,
         disk: D,
@@ -116,7 +120,8 @@ impl<D: Disk> Store<D> {
         self.files.is_broken()
     }
 
-    /// Sets how many commands are accepted before they are settled, from 1 to 1,000. It settles nothing by itself.
+    /// Sets how many commands are accepted before they are settled, from 1 to 1,000. It settles
+    /// nothing by itself.
     pub fn set_group(&mut self, group: u32)
         requires { IsGroup group }
         ensures { self.new ≡ record self.old {
@@ -137,11 +142,13 @@ impl<D: Disk> Store<D> {
 
     /// Puts all accepted commands on the disk.
     ///
-    /// At every moment since the call began, what a crash leaves recovers to the files after the commands that were
-    /// acknowledged then, or for those after all that are accepted. `OutOfMemory` leaves files and counts as they were.
-    /// `Device` comes only where the disk counted a failure in this call, and breaks the store; `Broken` comes exactly
-    /// where it was broken before. No file is written but those that wait for a commit, and the journal. Where no
-    /// accepted command waits to be acknowledged, it does nothing; where no file waits, it makes no call of the disk.
+    /// At every moment since the call began, what a crash leaves recovers to the files after the
+    /// commands that were acknowledged then, or for those after all that are accepted.
+    /// `OutOfMemory` leaves files and counts as they were. `Device` comes only where the disk
+    /// counted a failure in this call, and breaks the store; `Broken` comes exactly where it was
+    /// broken before. No file is written but those that wait for a commit, and the journal. Where
+    /// no accepted command waits to be acknowledged, it does nothing; where no file waits, it makes
+    /// no call of the disk.
     pub fn settle(&mut self) -> Result<(), RunFault>
         ensures did { D.honest self.new.disk
             → SettlesOver D.files D.moment D.left_since self.old result self.new }
@@ -164,15 +171,17 @@ impl<D: Disk> Store<D> {
 
     /// Runs one command.
     ///
-    /// At every moment since the call began, what a crash leaves recovers to the files after the commands that were
-    /// acknowledged then, or, where this command settles, for those after all that are accepted when it ends. It writes
-    /// only where it settles, and no file then but those that wait for a commit, those that it gives new texts, and the
-    /// journal; where no file waits and it gives none a new text, it writes nothing (`IsLeftAlone`, specs/Left.antt).
+    /// At every moment since the call began, what a crash leaves recovers to the files after the
+    /// commands that were acknowledged then, or, where this command settles, for those after all
+    /// that are accepted when it ends. It writes only where it settles, and no file then but those
+    /// that wait for a commit, those that it gives new texts, and the journal; where no file waits
+    /// and it gives none a new text, it writes nothing (`IsLeftAlone`, specs/Left.antt).
     ///
-    /// `Refused` and `OutOfMemory` leave files and counts as they were; where a settling finds no memory, this command
-    /// is undone, and those before it stay pending. `Device` comes only where the disk counted a failure in this call,
-    /// and breaks the store; `Broken` comes exactly where it was broken before. `Settle` does nothing where no accepted
-    /// command waits to be acknowledged, and makes no call of the disk where no file waits for a commit.
+    /// `Refused` and `OutOfMemory` leave files and counts as they were; where a settling finds no
+    /// memory, this command is undone, and those before it stay pending. `Device` comes only where
+    /// the disk counted a failure in this call, and breaks the store; `Broken` comes exactly where
+    /// it was broken before. `Settle` does nothing where no accepted command waits to be
+    /// acknowledged, and makes no call of the disk where no file waits for a commit.
     pub fn run(&mut self, command: &Command<'_>) -> Result<Reply, RunFault>
         ensures did { D.honest self.new.disk
             → RunsOver D.files D.moment D.left_since self.old command.now result self.new }

@@ -8,7 +8,8 @@ pub(crate) struct Tally {
     pub(crate) accepted: u64,
     /// How many of these are on the disk for certain.
     pub(crate) acknowledged: u64,
-    /// How many commands may be accepted and not acknowledged before they are settled, from 1 to 1,000.
+    /// How many commands may be accepted and not acknowledged before they are settled, from 1 to
+    /// 1,000.
     pub(crate) group: u32,
 }
 

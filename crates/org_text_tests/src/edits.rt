@@ -1,4 +1,5 @@
-//! What tests of several crates share: states, a moment, paths, edits, patches, and texts after an edit.
+//! What tests of several crates share: states, a moment, paths, edits, patches, and texts after an
+//! edit.
 ghost use Rattle.std.specs.Prelude.{[], ◌∷◌};
 ghost use Rattle.org_splice.specs.Edits.{AreEdits};
 

@@ -33,7 +33,8 @@ enum Action {
 enum Fact {
     /// These texts wait, in this order, each with one patch.
     Waiting(&'static [(&'static str, &'static [u8])]),
-    /// The text of a name, how many headings are held with it, and where the subtree of the second lies.
+    /// The text of a name, how many headings are held with it, and where the subtree of the second
+    /// lies.
     Text(&'static str, &'static [u8], usize, Option<Span>),
     /// Whether a text has one patch, of no bytes.
     IsSettled(&'static str, bool),
@@ -310,8 +311,8 @@ const IN_PLACE: &[Step] = &[
     Step::Is(Fact::Absent("c.org")),
 ];
 
-// Texts wait in the order in which they are ready: the first is terminated as it is, and waits before the second, which
-// gets a newline.
+// Texts wait in the order in which they are ready: the first is terminated as it is, and waits
+// before the second, which gets a newline.
 const IN_ORDER: &[Step] = &[
     Step::Do(Action::Hold("b.org", b"* B\n")),
     Step::Do(Action::Hold("a.org", b"* A")),
@@ -322,7 +323,8 @@ const IN_ORDER: &[Step] = &[
     NONE_WAITS,
 ];
 
-// Changes are the texts that wait: the last command changes b.org, which waits, and c.org, which is new.
+// Changes are the texts that wait: the last command changes b.org, which waits, and c.org, which is
+// new.
 const CHANGED: &[Step] = &[
     Step::Do(Action::Hold("a.org", b"* A")),
     Step::Do(Action::Hold("c.org", b"")),

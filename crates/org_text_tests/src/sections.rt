@@ -1,5 +1,5 @@
-//! Parts of sections, their properties and notes, and clocks that are opened where another one runs, which no command
-//! leaves open: rows whose bytes the rules of sections and of clocking fix.
+//! Parts of sections, their properties and notes, and clocks that are opened where another one
+//! runs, which no command leaves open: rows whose bytes the rules of sections and of clocking fix.
 ghost use Rattle.std.specs.Prelude.{◌≡◌};
 ghost use Rattle.org_splice.specs.Lines.{terminated};
 
@@ -153,7 +153,8 @@ const ROWS: &[(&[u8], Fact)] = &[
         b":PROPERTIES:\n:END:\ntext\n",
         Fact::Changed(
             Change::Noted(b"DONE", b"TODO"),
-            b":PROPERTIES:\n:END:\n- State \"DONE\"       from \"TODO\"       [2005-10-03 Mon 09:05]\ntext\n",
+            b":PROPERTIES:\n:END:\n\
+                - State \"DONE\"       from \"TODO\"       [2005-10-03 Mon 09:05]\ntext\n",
         ),
     ),
     // A clock comes first in the drawer that is there, in whatever case it is written.
@@ -161,7 +162,8 @@ const ROWS: &[(&[u8], Fact)] = &[
         b"* A\nx\n:Logbook:\nCLOCK: [2026-06-01 Mon 10:00]\n:end:\n** B\n",
         Fact::Changed(
             Change::Opened,
-            b"* A\nx\n:Logbook:\nCLOCK: [2026-07-01 Wed 10:00]\nCLOCK: [2026-06-01 Mon 10:00]\n:end:\n** B\n",
+            b"* A\nx\n:Logbook:\n\
+                CLOCK: [2026-07-01 Wed 10:00]\nCLOCK: [2026-06-01 Mon 10:00]\n:end:\n** B\n",
         ),
     ),
     // No other clock is closed by it.
@@ -169,7 +171,8 @@ const ROWS: &[(&[u8], Fact)] = &[
         b"* B\nCLOCK: [2026-06-01 Mon 10:00]\n* A\n",
         Fact::Changed(
             Change::Opened,
-            b"* B\nCLOCK: [2026-06-01 Mon 10:00]\n* A\n:LOGBOOK:\nCLOCK: [2026-07-01 Wed 10:00]\n:END:\n",
+            b"* B\nCLOCK: [2026-06-01 Mon 10:00]\n\
+                * A\n:LOGBOOK:\nCLOCK: [2026-07-01 Wed 10:00]\n:END:\n",
         ),
     ),
 ];

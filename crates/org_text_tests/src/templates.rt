@@ -146,7 +146,8 @@ const ROWS: &[Row] = &[
     ("%i", LARGE / 2, "", 1, Made::Text("", 0)),
     // 2^6 times 2^20 bytes.
     ("%i", 64, "y", LARGE, Made::Length(67_108_864)),
-    // Each of 2^19 initial texts has three bytes, and one more of the line before it than the last one had.
+    // Each of 2^19 initial texts has three bytes, and one more of the line before it than the last
+    // one had.
     ("%i", LARGE / 2, "b\nb", 1, Made::Length(137_440_264_192)),
     // Two bytes more behind each newline.
     ("> %i", 1, "\n", LARGE, Made::Length(3_145_730)),

@@ -16,8 +16,8 @@ use Rattle.org_texts.specs.Texts.{TextSet, text_of}
 abbrev pub waits : TextSet → List ℕ → Bool
 waits set name = list_any (bytes_eq name) set.waiting
 
--- A text made of a file: outside the ranges that were changed it has the file's bytes, and it is the file where it
--- doesn't wait for a commit.
+-- A text made of a file: outside the ranges that were changed it has the file's bytes, and it is
+-- the file where it doesn't wait for a commit.
 pub record IsTextOf (file : List ℕ) (waiting : Bool) (text : EditedText) : Type 0 where
   pub edit : IsEditOf file text
   pub ranges : AreChanged (length text.bytes) text.changed
@@ -25,12 +25,14 @@ pub record IsTextOf (file : List ℕ) (waiting : Bool) (text : EditedText) : Typ
 
 -- Each text is made of its file, and each name that waits has a text.
 pub record StandOver (files : List ℕ → List ℕ) (set : TextSet) : Type 0 where
-  pub each : (name : List ℕ) (text : EditedText) → text_of set name ≡ Some text → IsTextOf (files name) (waits set name) text
+  pub each : (name : List ℕ) (text : EditedText) → text_of set name ≡ Some text
+      → IsTextOf (files name) (waits set name) text
   pub held : AreAmong (keys_of set.texts) set.waiting
 
 -- the files with the edits of one of them
 abbrev pub files_with : FileEdits → (List ℕ → List ℕ) → List ℕ → List ℕ
-files_with change files name = if bytes_eq change.file name then applied_each change.edits.items (files name) else files name
+files_with change files name =
+    if bytes_eq change.file name then applied_each change.edits.items (files name) else files name
 
 abbrev pub files_with_second : Option FileEdits → (List ℕ → List ℕ) → List ℕ → List ℕ
 files_with_second None files = files

@@ -5,8 +5,8 @@ use Rattle.org_splice.specs.Texts.{EditedText}
 use Rattle.org_outline.specs.Outline.{headings_of}
 use Rattle.org_outline.specs.declared.heads.Heading.{Heading}
 
--- A text as it is, and as it was before the command that runs; and whether its headings are held: the text is
--- terminated then.
+-- A text as it is, and as it was before the command that runs; and whether its headings are held:
+-- the text is terminated then.
 pub record HeldText : Type 0 where
   pub text : EditedText
   pub before : EditedText

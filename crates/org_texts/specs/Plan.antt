@@ -25,7 +25,8 @@ planned plan set = with_second plan.second (with_edits plan.first set)
 
 -- the edits can be made of the text of their name, which is held
 abbrev pub CanEdit : FileEdits → TextSet → Type 0
-CanEdit change set = IsSomeAnd (text_of set change.file) (λ text. CanApply change.edits.items text.bytes)
+CanEdit change set =
+    IsSomeAnd (text_of set change.file) (λ text. CanApply change.edits.items text.bytes)
 
 -- A plan for these texts: its edits can be made, the second file's behind the first's.
 pub record IsPlan (plan : Plan) (set : TextSet) : Type 0 where

@@ -6,13 +6,14 @@ use Rattle.std.specs.Str.{bytes_eq}
 use Rattle.org_splice.specs.Texts.{EditedText, terminated_text, settled}
 use Rattle.org_texts.specs.Held.{HeldText}
 
--- Texts under the names of their files, each name once; and the names of those that wait for a commit, in the order of
--- their first touch.
+-- Texts under the names of their files, each name once; and the names of those that wait for a
+-- commit, in the order of their first touch.
 pub record TextSet : Type 0 where
   pub texts : List (List ℕ × EditedText)
   pub waiting : List (List ℕ)
 
--- The texts as they are, and as they were before the command that runs; and for each whether its headings are held.
+-- The texts as they are, and as they were before the command that runs; and for each whether its
+-- headings are held.
 pub record Holding : Type 0 where
   pub now : TextSet
   pub before : TextSet
@@ -36,12 +37,14 @@ held_over set files name = bytes_or (files name) (text_of set name)
 
 -- the texts with one more, which the disk has
 abbrev pub with_text : List ℕ → List ℕ → TextSet → TextSet
-with_text name bytes set = record { texts = set.texts ++ (name, settled bytes) ∷ []; waiting = set.waiting }
+with_text name bytes set =
+    record { texts = set.texts ++ (name, settled bytes) ∷ []; waiting = set.waiting }
 
 -- the values by name, with the one of this name changed
 abbrev pub with_change : {X : Type 0} → List ℕ → (X → X) → List (List ℕ × X) → List (List ℕ × X)
 with_change name change [] = []
-with_change name change (e ∷ es) = if bytes_eq name e.0 then (e.0, change e.1) ∷ es else e ∷ with_change name change es
+with_change name change (e ∷ es) =
+    if bytes_eq name e.0 then (e.0, change e.1) ∷ es else e ∷ with_change name change es
 
 -- the names with one more, if it isn't there
 abbrev pub with_name : List ℕ → List (List ℕ) → List (List ℕ)

@@ -11,9 +11,9 @@ use org_splice::{Edit, Editing};
 use std::alloc::{AllocError, Global};
 use std::marker::Model;
 
-/// The text of a file, as it is and as it was before the command that runs, with its headings where they are held. They
-/// are read when a command first needs them, follow each edit, and are let go where there is no memory for that and when
-/// edits are taken back.
+/// The text of a file, as it is and as it was before the command that runs, with its headings where
+/// they are held. They are read when a command first needs them, follow each edit, and are let go
+/// where there is no memory for that and when edits are taken back.
 ///
 /// A clause sees specs/Held.antt.
 #[derive(Drop)]
@@ -70,8 +70,9 @@ impl Held {
         self.heads.as_ref()
     }
 
-    /// Makes the text ready for a command: a last line without a newline gets one, and the headings are read where they
-    /// aren't held. `AllocError` comes where there is no memory; the text may be terminated then.
+    /// Makes the text ready for a command: a last line without a newline gets one, and the headings
+    /// are read where they aren't held. `AllocError` comes where there is no memory; the text may
+    /// be terminated then.
     pub fn make_ready(&mut self, alloc: Global) -> Result<(), AllocError>
         ensures ok { OnOk result
             (self.new
@@ -88,8 +89,8 @@ impl Held {
         Ok(())
     }
 
-    /// Makes edits, one after another, in place. The headings follow. `AllocError` comes where there is no memory; some
-    /// of the edits may be made then.
+    /// Makes edits, one after another, in place. The headings follow. `AllocError` comes where
+    /// there is no memory; some of the edits may be made then.
     pub fn apply(&mut self, edits: &Edits) -> Result<(), AllocError>
         requires { CanApply edits.now.items self.old.text.bytes }
         ensures text { OnOk result
@@ -135,7 +136,8 @@ impl Held {
         Ok(())
     }
 
-    /// Takes all edits back. The headings of a text that was edited are let go. Takes no memory, and can't fail.
+    /// Takes all edits back. The headings of a text that was edited are let go. Takes no memory,
+    /// and can't fail.
     pub fn undo(&mut self)
         ensures text { self.new.text ≡ self.old.before }
         ensures before { self.new.before ≡ self.old.before }

@@ -1,7 +1,8 @@
-//! Texts of files, held in memory and edited in place: what a store has of its files. No disk is in it.
+//! Texts of files, held in memory and edited in place: what a store has of its files. No disk is in
+//! it.
 //!
-//! While a command runs, each text also is what it was before the command. `keep` makes the command's edits the texts',
-//! `undo` takes them back; neither takes memory, and neither can fail.
+//! While a command runs, each text also is what it was before the command. `keep` makes the
+//! command's edits the texts', `undo` takes them back; neither takes memory, and neither can fail.
 #![tactic(auto)]
 
 mod held;

@@ -6,7 +6,8 @@ use org_splice::Edit;
 use std::borrow::Cow;
 use std::marker::Model;
 
-/// The name of a file that a command changes: one that was given with it, which isn't copied, or one that was made for it.
+/// The name of a file that a command changes: one that was given with it, which isn't copied, or
+/// one that was made for it.
 ///
 /// A clause sees its bytes.
 #[derive(Drop)]
@@ -50,8 +51,8 @@ impl<'a> NameOf<'a> {
     }
 }
 
-/// Edits in order, of which there is one at least: each is one of the text that those before it leave. A single one takes
-/// no memory of its own.
+/// Edits in order, of which there is one at least: each is one of the text that those before it
+/// leave. A single one takes no memory of its own.
 ///
 /// A clause sees them as a list.
 #[derive(Drop)]

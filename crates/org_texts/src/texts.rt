@@ -18,12 +18,12 @@ use org_splice::{Changes, Editing};
 use std::alloc::{AllocError, Global};
 use std::marker::Model;
 
-/// Texts by the names of their files, each name once. A command edits them in place, and its edits are kept or taken back
-/// as a whole, which takes no memory and can't fail. Where a call of a command finds no memory, it takes all of the
-/// command's edits back.
+/// Texts by the names of their files, each name once. A command edits them in place, and its edits
+/// are kept or taken back as a whole, which takes no memory and can't fail. Where a call of a
+/// command finds no memory, it takes all of the command's edits back.
 ///
-/// A clause sees the texts as they are and as they were before the command, each time with the names of those that wait
-/// for a commit (specs/Texts.antt).
+/// A clause sees the texts as they are and as they were before the command, each time with the
+/// names of those that wait for a commit (specs/Texts.antt).
 #[derive(Drop)]
 pub struct Texts {
     held: IndexMap<FileName, Held>,
@@ -31,7 +31,8 @@ pub struct Texts {
     waiting: IndexSet<FileName>,
     // How many of them waited before the command.
     waited: usize,
-    // Where the text that was made ready last stands: the next command mostly asks for it again. Only a guess.
+    // Where the text that was made ready last stands: the next command mostly asks for it again.
+    // Only a guess.
     last: usize,
 }
 
@@ -93,9 +94,10 @@ impl Texts {
         }
     }
 
-    /// Makes the text of this name, which is held, ready for a command: a last line without a newline gets one, and the
-    /// headings are read where they aren't held. It waits for a commit from then on, also where it stays as it is, so that
-    /// texts wait in the order in which a command makes them ready. `AllocError` takes all edits of the command back.
+    /// Makes the text of this name, which is held, ready for a command: a last line without a
+    /// newline gets one, and the headings are read where they aren't held. It waits for a commit
+    /// from then on, also where it stays as it is, so that texts wait in the order in which a
+    /// command makes them ready. `AllocError` takes all edits of the command back.
     pub fn make_ready(&mut self, name: &FileName) -> Result<(), AllocError>
         requires { IsSome (text_of self.old.now name.now) }
         ensures now { OnOk result (self.new.now ≡ terminated_in name.now self.old.now) }
@@ -179,7 +181,8 @@ impl Texts {
         self.waited = self.waiting.len();
     }
 
-    /// Takes all texts as they are for what the disk has: a commit put them there. None waits. Takes no memory.
+    /// Takes all texts as they are for what the disk has: a commit put them there. None waits.
+    /// Takes no memory.
     pub fn settle(&mut self)
         ensures now { self.new.now ≡ settled_set self.old.now }
         ensures before { self.new.before ≡ settled_set self.old.now }
@@ -197,8 +200,8 @@ impl Texts {
         self.waiting.len()
     }
 
-    /// The name and the text of one that waits for a commit, counted from 0 in the order of their first touch. Nothing is
-    /// copied.
+    /// The name and the text of one that waits for a commit, counted from 0 in the order of their
+    /// first touch. Nothing is copied.
     pub fn waiting(&self, index: usize) -> (&FileName, &Editing)
         requires { index < length (pairs self.now.now) }
         ensures { slice_get (pairs self.now.now) index ≡ Some (result.0.now, result.1.now.text) }
@@ -297,7 +300,8 @@ fn add(names: &mut IndexSet<FileName>, name: &FileName) -> Result<(), AllocError
     Ok(())
 }
 
-/// Makes the text of this name, which is held, ready, as far as there is memory. Where it stands becomes the guess.
+/// Makes the text of this name, which is held, ready, as far as there is memory. Where it stands
+/// becomes the guess.
 fn ready_at(
     held: &mut IndexMap<FileName, Held>,
     guess: &mut usize,

@@ -115,7 +115,8 @@ fn goes_on(
         && leaves(rt, alloc, disk, name, "aX")
 }
 
-// Whether the k-th of the six calls fails without effect, and that one alone; where there is none, they are made.
+// Whether the k-th of the six calls fails without effect, and that one alone; where there is none,
+// they are made.
 fn fails_once(
     rt: &impl Abort,
     alloc: Global,
@@ -135,7 +136,8 @@ fn fails_once(
         && holds(rt, alloc, disk, name, b"aX")
 }
 
-// What the row asks of a disk, of two crashes or failures the later one; then whether it goes as the row says.
+// What the row asks of a disk, of two crashes or failures the later one; then whether it goes as
+// the row says.
 fn goes(rt: &impl Abort, alloc: Global, disk: &mut MemoryDisk, name: &FileName, row: &Row) -> bool {
     match row {
         Row::Crash(calls, k, outcome, left) => {

@@ -195,7 +195,8 @@ fn an_old_record_is_ended_and_a_new_one_follows(rt: HostRuntime) {
     drop(disk);
 }
 
-// Whether the gate was opened for what the crash leaves, at the write of the gate and at the sync after it.
+// Whether the gate was opened for what the crash leaves, at the write of the gate and at the sync
+// after it.
 fn is_gate_open(is_write: bool, outcome: Outcome) -> bool {
     match outcome {
         Outcome::All | Outcome::Fill(1) => true,
@@ -229,8 +230,8 @@ fn crashes(
     is_changed(rt, alloc, image_of(rt, alloc, disk), changed) && answer.is_err()
 }
 
-// Whether both files are changed, or neither is, as it should be, for each way in which the k-th call may crash; before
-// the commit there are so many calls.
+// Whether both files are changed, or neither is, as it should be, for each way in which the k-th
+// call may crash; before the commit there are so many calls.
 fn crashes_at(rt: &impl Abort, alloc: Global, journal: &[u8], before: u64, k: u64) -> bool {
     for outcome in &OUTCOMES {
         let changed = is_done(k.saturating_sub(before), *outcome);

@@ -10,8 +10,8 @@ use org_fixtures::{OUTCOMES, TEXT, numbered_names};
 use std::alloc::Global;
 use std::process::Abort;
 
-// The gate of a record that a crash left half applied, the gate once a set was opened, and the text of inbox.org then: an
-// open record is ended, and a closed one is left.
+// The gate of a record that a crash left half applied, the gate once a set was opened, and the text
+// of inbox.org then: an open record is ended, and a closed one is left.
 const GATES: &[(u8, u8, &[u8])] = &[
     (1, 0, &TEXT),
     (0, 0, b"* TO"),
@@ -28,7 +28,8 @@ fn leaves(rt: &impl Abort, alloc: Global, gate: u8, after: u8, inbox: &[u8]) -> 
     opens_with(rt, alloc, disk, "a.org", b"* A\n", inbox) && is_left
 }
 
-// Whether inbox.org holds this text once a set over a.org alone was opened: a record counts for other files too.
+// Whether inbox.org holds this text once a set over a.org alone was opened: a record counts for
+// other files too.
 fn holds_beside(rt: &impl Abort, alloc: Global, gate: u8, inbox: &[u8]) -> bool {
     let mut disk = open(rt, alloc, crashed(rt, alloc, gate), &["a.org"]).into_disk();
     let is_held = holds(rt, alloc, &mut disk, "inbox.org", inbox);
@@ -36,7 +37,8 @@ fn holds_beside(rt: &impl Abort, alloc: Global, gate: u8, inbox: &[u8]) -> bool 
     is_held
 }
 
-// Opens with a crash at the k-th call, and opens what is left: whether inbox.org has this text then, and a.org its own.
+// Opens with a crash at the k-th call, and opens what is left: whether inbox.org has this text
+// then, and a.org its own.
 fn has_opened_twice(
     rt: &impl Abort,
     alloc: Global,
@@ -77,7 +79,8 @@ fn openings(rt: HostRuntime) {
     }
 }
 
-// Whether a set has so many names; where there is none, they are too many, and refused before any call.
+// Whether a set has so many names; where there is none, they are too many, and refused before any
+// call.
 fn is_taken(
     opened: &Result<FileSet<MemoryDisk>, OpenRefused<MemoryDisk>>,
     names: Option<usize>,
@@ -120,7 +123,8 @@ fn is_refusal(fault: &Option<OpenFault>, file: Option<&str>) -> bool {
     }
 }
 
-// Whether an opening over an a.org of this length refuses this file as too large, if one, and ends what a crash left.
+// Whether an opening over an a.org of this length refuses this file as too large, if one, and ends
+// what a crash left.
 fn opens_large(rt: &impl Abort, alloc: Global, length: usize, file: Option<&str>) -> bool {
     let text = vec![in alloc; b'*'; length].expect(rt, "memory");
     let disk = disk_with(rt, alloc, &with_gate(1), &text, b"* TO");

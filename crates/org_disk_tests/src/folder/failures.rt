@@ -159,7 +159,8 @@ impl Seek for FailingFile {
     }
 }
 
-// Whether every kind of call on a file is made. Made again, they leave the same, wherever they were broken off.
+// Whether every kind of call on a file is made. Made again, they leave the same, wherever they were
+// broken off.
 fn works<D: Disk>(disk: &mut D, name: &FileName) -> bool {
     let mut bytes = [0; 8];
     disk.write_at(name, 0, b"* A\n* B\n").is_ok()
@@ -171,7 +172,8 @@ fn works<D: Disk>(disk: &mut D, name: &FileName) -> bool {
         && disk.length(name).is_ok()
 }
 
-// Whether the disk counts one failure over the work, in which a call of the system fails, and over the work once more.
+// Whether the disk counts one failure over the work, in which a call of the system fails, and over
+// the work once more.
 fn fails_once<C: Calls + Drop>(disk: &mut CallsDisk<C>, a: &FileName) -> bool
 where
     C::File: Drop,
@@ -191,8 +193,8 @@ fn failing_system(rt: &impl Abort, host: &HostRuntime, fails_in: u64) -> Failing
     }
 }
 
-// The same of a new folder's disk at which the call of the system with this number fails; then the file holds what the
-// work leaves.
+// The same of a new folder's disk at which the call of the system with this number fails; then the
+// file holds what the work leaves.
 fn fails_at(rt: &impl Abort, host: &HostRuntime, fails_in: u64) -> bool {
     make_folder(rt, host, "one_fails", &[]);
     let a = name_of(rt, host.alloc(), "a.org");
@@ -203,8 +205,9 @@ fn fails_at(rt: &impl Abort, host: &HostRuntime, fails_in: u64) -> bool {
     fails_once && holds(rt, host, "one_fails/a.org", b"* A\n* C\n")
 }
 
-// The work makes 12 calls of the system: the file is made, seen to be empty and written; its folder is looked for, opened and
-// synced, and the file synced; it is cut, written, synced, read and measured.
+// The work makes 12 calls of the system: the file is made, seen to be empty and written; its folder
+// is looked for, opened and synced, and the file synced; it is cut, written, synced, read and
+// measured.
 #[test]
 fn each_call_of_the_system_fails_once(rt: HostRuntime) {
     for fails_in in 1..13usize {

@@ -41,8 +41,8 @@ const LINKED: &[Step] = &[
     Step::Holds("linked/folder.org/target", b"* A\n"),
 ];
 
-// The first sync of a file that was made looks for its folder, which it syncs, and a later one doesn't: both files are
-// taken out of the folder once one of them was synced.
+// The first sync of a file that was made looks for its folder, which it syncs, and a later one
+// doesn't: both files are taken out of the folder once one of them was synced.
 const ENTERED: &[Step] = &[
     Step::Call("a.org", Call::Write(b"* A\n"), Ok(0), 0),
     Step::Call("b.org", Call::Write(b"* B\n"), Ok(0), 0),
@@ -60,8 +60,9 @@ const FILES: &[(&str, Entry)] = &[
     ("found/c.org", Entry::File(b"* C\n")),
 ];
 
-// Of files that were found the first sync takes the folder, for all of them, until a file is made: of two that are
-// opened and taken out of the folder the first is synced without a look for its folder, and the second isn't.
+// Of files that were found the first sync takes the folder, for all of them, until a file is made:
+// of two that are opened and taken out of the folder the first is synced without a look for its
+// folder, and the second isn't.
 const FOUND: &[Step] = &[
     Step::Call("a.org", Call::Sync, Ok(0), 0),
     Step::Call("b.org", Call::Length, Ok(4), 0),
@@ -79,8 +80,8 @@ const FAILING: &[(&str, Entry)] = &[
     ("failing/link.org", Entry::Link("nowhere/target")),
 ];
 
-// Failures that whoever may do all meets too: a name that became a folder's, and a link into a folder that isn't there.
-// Each is counted, and later calls go on.
+// Failures that whoever may do all meets too: a name that became a folder's, and a link into a
+// folder that isn't there. Each is counted, and later calls go on.
 const COUNTED: &[Step] = &[
     Step::Other("failing/was_file.org", Entry::Gone),
     Step::Other("failing/was_file.org", Entry::Folder),

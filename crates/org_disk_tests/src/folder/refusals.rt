@@ -43,7 +43,8 @@ fn answer(may: bool, answer: u64) -> Result<u64, DiskFault> {
     if may { Ok(answer) } else { Err(DiskFault) }
 }
 
-// A file is read and another one written past its four bytes exactly where that may be; what fails is counted.
+// A file is read and another one written past its four bytes exactly where that may be; what fails
+// is counted.
 fn permitted(may_read: bool, may_write: bool) -> [Step; 3] {
     let unread = u64::from(!may_read);
     let failures = unread + u64::from(!may_write);

@@ -79,7 +79,8 @@ static ROWS: &[(u8, Body, &[u8], Answer)] = &[
     (1, (&TWO, ALL, &[], b""), b"* A\n* B\n", Answer::Other),
 ];
 
-// Whether `find` says this, and a set of files is refused where the journal is bad, and nowhere else.
+// Whether `find` says this, and a set of files is refused where the journal is bad, and nowhere
+// else.
 fn is_as_told(
     rt: &impl Abort,
     alloc: Global,

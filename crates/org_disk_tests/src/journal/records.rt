@@ -64,7 +64,8 @@ static VERSION_1: &[Row] = &[
     ((&OLD, ALL, &[(15, &[0, 0, 2, 1])], b""), Record::Malformed), // 513 entries
     ((&OLD, ALL, &[(15, &[0xff; 4])], b""), Record::Malformed),
     ((&OLD, ALL, &[(27, b"txt")], b""), Record::Malformed), // inbox.txt
-    ((&OLD, ALL, &[(30, &[0xff; 8])], b""), Record::Malformed), // a patch that ends past the final length
+    // a patch that ends past the final length
+    ((&OLD, ALL, &[(30, &[0xff; 8])], b""), Record::Malformed),
     // a file of 16,777,217 bytes
     (
         (&OLD, ALL, &[(38, &[0, 0, 0, 0, 1, 0, 0, 1])], b""),
@@ -77,8 +78,10 @@ static VERSION_1: &[Row] = &[
 ];
 
 static VERSION_2: &[Row] = &[
-    ((&TWO, ALL, &[(66, &[2])], b""), Record::Malformed), // the second patch begins within the first
-    ((&TWO, ALL, &[(66, &[8])], b""), Record::Malformed), // the second patch ends past the final length
+    // the second patch begins within the first
+    ((&TWO, ALL, &[(66, &[2])], b""), Record::Malformed),
+    // the second patch ends past the final length
+    ((&TWO, ALL, &[(66, &[8])], b""), Record::Malformed),
     ((&TWO, ALL, &[(38, &[0, 0, 0, 0])], b""), Record::Malformed), // no patch
     ((&TWO, ALL, &[(38, &[0, 0, 0, 1])], b""), Record::Malformed), // one patch, and bytes left over
     (

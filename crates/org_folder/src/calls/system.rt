@@ -1,5 +1,6 @@
-//! The calls of the operating system. Each method makes the call that the trait names, again where a signal interrupts
-//! it, and what it takes to reach the file, and then notes what the trait's clauses say.
+//! The calls of the operating system. Each method makes the call that the trait names, again where
+//! a signal interrupts it, and what it takes to reach the file, and then notes what the trait's
+//! clauses say.
 ghost use Rattle.std.specs.Prelude.{◌≡◌, [], ◌∷◌, string_bytes, IfOk};
 ghost use Rattle.std.specs.Path.{path_buf_bytes, path_join};
 ghost use Rattle.org_folder.specs.Note.{event_of};
@@ -18,8 +19,9 @@ use std::{fs, io};
 
 /// The files of a folder of the operating system, which held what `S` says at first.
 ///
-/// Their record takes no memory. No contract says what a real file gives, so that each answer in it was right can only
-/// be supposed. Nor does one say which call of the system a method makes: what it notes has to be read against that.
+/// Their record takes no memory. No contract says what a real file gives, so that each answer in it
+/// was right can only be supposed. Nor does one say which call of the system a method makes: what
+/// it notes has to be read against that.
 #[derive(Drop)]
 pub struct SystemCalls<R: Files, S: Start> {
     rt: R,
@@ -46,8 +48,8 @@ where
         })
     }
 
-    // The file of a name, and whether it stands in the folder itself, so that no link leads to it. What is no plain file
-    // isn't opened: a pipe would wait for its other end.
+    // The file of a name, and whether it stands in the folder itself, so that no link leads to it.
+    // What is no plain file isn't opened: a pipe would wait for its other end.
     fn find(&self, name: &FileName) -> io::Result<(R::File, bool)> {
         let path = self.path_of(name)?;
         let path = path.as_path();
@@ -100,8 +102,8 @@ where
     }
 }
 
-// A file that was found absent. One that has bytes by now was made by another name or another program since: it isn't
-// written over.
+// A file that was found absent. One that has bytes by now was made by another name or another
+// program since: it isn't written over.
 fn only_empty<F: OpenFile + Drop>(file: F) -> io::Result<F> {
     if file.metadata()?.len() > 0 {
         return Err(Error::from(ErrorKind::AlreadyExists));
@@ -188,7 +190,8 @@ where
         answer
     }
 
-    // A file that was found in the folder itself was there when the folder was synced: nobody else makes any.
+    // A file that was found in the folder itself was there when the folder was synced: nobody else
+    // makes any.
     fn sync_entry(&mut self, opened: &mut Opened<R::File>) -> Result<(), DiskFault> {
         if !(opened.is_own && self.is_synced) {
             answered(self.sync_folder_of(&opened.name))?;

@@ -5,7 +5,8 @@ ghost use Rattle.org_program.specs.Statuses.{status_of};
 use super::Fault;
 
 impl Fault {
-    /// The exit status: 1 where serving didn't end well, 2 for the command line, 3 where the store wasn't opened.
+    /// The exit status: 1 where serving didn't end well, 2 for the command line, 3 where the store
+    /// wasn't opened.
     pub fn status(&self) -> u8
         ensures { result ≡ status_of self.now }
     {

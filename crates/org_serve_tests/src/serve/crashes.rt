@@ -1,5 +1,5 @@
-//! Crashes of the disk, and what opening it again finds: the files are as after none of a step's lines, or after the
-//! first, and so on.
+//! Crashes of the disk, and what opening it again finds: the files are as after none of a step's
+//! lines, or after the first, and so on.
 use super::steps::{
     ACROSS, ARCHIVE_WITHIN, BACK, CAPTURES, CLOCK_ELSEWHERE, CLOCK_OUT, IN_AND_OUT, REFILE_WITHIN,
     REPEATED, Step, THERE_AND_BACK, TO_A_DAY, TO_A_HEAD, TO_ANOTHER_FILE, TO_THE_ARCHIVE,
@@ -76,7 +76,8 @@ fn crash_each_opening(rt: &(impl Abort + AllocGlobal), disk: &MemoryDisk, step: 
     }
 }
 
-// A crash in this way leaves the files as after so many of the lines, and opening them again may be stopped in turn.
+// A crash in this way leaves the files as after so many of the lines, and opening them again may be
+// stopped in turn.
 fn crash(rt: &(impl Abort + AllocGlobal), group: u32, step: &Step, number: u64) {
     let ended = serve_crashing(rt, files(rt, step), group, step.lines, way(number));
     let safe = safe_in(&ended.written);
@@ -101,8 +102,8 @@ fn crash_in_each_way(rt: &(impl Abort + AllocGlobal), group: u32, step: &Step) {
     }
 }
 
-// Each step crashes at every call, its lines settled in groups of this size. A group that isn't full is settled at the
-// end of the input.
+// Each step crashes at every call, its lines settled in groups of this size. A group that isn't
+// full is settled at the end of the input.
 fn crash_each(rt: &(impl Abort + AllocGlobal), rows: &[(u32, &Step)]) {
     for (group, step) in rows {
         crash_in_each_way(rt, *group, step);

@@ -13,8 +13,9 @@ use std::alloc::Global;
 use std::process::Abort;
 use std::test::Fail;
 
-// In groups of which size the lines of a step are settled; the step, and lines that follow it; how many calls all these
-// make behind the opening; and what is told where one of these fails, one of two.
+// In groups of which size the lines of a step are settled; the step, and lines that follow it; how
+// many calls all these make behind the opening; and what is told where one of these fails, one of
+// two.
 type Failed = (u32, &'static Step, &'static str, u64, [&'static str; 2]);
 
 // The lines of a step, and those that follow.
@@ -44,8 +45,8 @@ fn is_told(ended: &Ended, told: &[&str; 2]) -> bool {
         && (written == told[0].as_bytes() || written == told[1].as_bytes())
 }
 
-// Where this call of an opening fails it is refused, and the files are as they were; where a later one fails, so many
-// lines of the step are done as may be.
+// Where this call of an opening fails it is refused, and the files are as they were; where a later
+// one fails, so many lines of the step are done as may be.
 fn fail_at(rt: &(impl Abort + AllocGlobal), row: &Failed, lines: &[u8], call: u64, opening: u64) {
     let (group, step, _, _, told) = row;
     let ended = serve_failing(rt, *group, step, lines, call);
@@ -122,9 +123,9 @@ fn each_failed_call(rt: HostRuntime) {
 }
 
 const MOVED: &[Failed] = &[
-    // Each file is asked for its length and read; the record and the open gate are written with a sync each; each file's
-    // patch is written, of which the source's has no bytes, and it is asked for its length; the source is cut; both are
-    // synced, and the gate is closed with a sync.
+    // Each file is asked for its length and read; the record and the open gate are written with a
+    // sync each; each file's patch is written, of which the source's has no bytes, and it is asked
+    // for its length; the source is cut; both are synced, and the gate is closed with a sync.
     (1, ACROSS, "settle\n", 17, SETTLED),
     (1, REFILE_WITHIN, "settle\n", 11, SETTLED),
     // the made headings and the entry are one insertion
@@ -140,11 +141,11 @@ fn each_failed_call_of_a_move(rt: HostRuntime) {
 const CHANGED: &[Failed] = &[
     (1, TO_THE_ARCHIVE, "settle\n", 17, SETTLED),
     (1, ARCHIVE_WITHIN, "settle\n", 11, SETTLED),
-    // The files up to that of the clock that runs, three, are asked for their length and read. Of the two that change each
-    // is written in one place, and none is cut.
+    // The files up to that of the clock that runs, three, are asked for their length and read. Of
+    // the two that change each is written in one place, and none is cut.
     (1, CLOCK_ELSEWHERE, "settle\n", 18, SETTLED),
-    // The file is written in two places, at its keyword and from its planning line on: one write more than a refile within
-    // it takes.
+    // The file is written in two places, at its keyword and from its planning line on: one write
+    // more than a refile within it takes.
     (1, REPEATED, "settle\n", 12, SETTLED),
 ];
 

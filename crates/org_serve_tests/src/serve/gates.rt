@@ -12,11 +12,12 @@ const RECORD: u64 = 3;
 
 const GATE: u64 = 5;
 
-// An archive asks both files for their length and reads them, though the archive file isn't there; the record is written
-// and synced, and the gate is the seventh call.
+// An archive asks both files for their length and reads them, though the archive file isn't there;
+// the record is written and synced, and the gate is the seventh call.
 const ARCHIVE_GATE: u64 = 7;
 
-// Behind the gate's sync the source's patch is written, and it is asked for its length and cut; then the archive file's.
+// Behind the gate's sync the source's patch is written, and it is asked for its length and cut;
+// then the archive file's.
 const ARCHIVE_FILE: u64 = 12;
 
 // What a crash at this call behind the opening leaves, as the lines of a step are served.

@@ -7,7 +7,8 @@ use org_fixtures::OUTCOMES;
 use org_serve::ServeEnd;
 use std::process::Abort;
 
-// What is left of the disk where the input breaks off behind these lines, so that nothing is settled at its end.
+// What is left of the disk where the input breaks off behind these lines, so that nothing is
+// settled at its end.
 fn broken_off(rt: &(impl Abort + AllocGlobal), lines: &str, written: &str) -> MemoryDisk {
     let mut reader = in_pieces(lines, 4096, 2);
     let mut writer = Page::new(rt.alloc(), 0);
@@ -16,8 +17,8 @@ fn broken_off(rt: &(impl Abort + AllocGlobal), lines: &str, written: &str) -> Me
     disk
 }
 
-// Lines served in groups of three, what is written for them, and how many of the captures are done then, whatever a crash
-// leaves of it: a group that isn't full, and one that is settled.
+// Lines served in groups of three, what is written for them, and how many of the captures are done
+// then, whatever a crash leaves of it: a group that isn't full, and one that is settled.
 const BROKEN_OFF: &[(&str, &str, u64)] = &[
     (TWO_LINES, "ok 1\nok 2\n", 0),
     (

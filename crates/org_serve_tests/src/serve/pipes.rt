@@ -111,7 +111,8 @@ pub fn pipe(
     }
 }
 
-// Serves these pieces over an empty a.org and a b.org of one heading, in groups of one: how it ends.
+// Serves these pieces over an empty a.org and a b.org of one heading, in groups of one: how it
+// ends.
 fn end_of(
     rt: &(impl Abort + AllocGlobal),
     reader: &mut Pieces<'_>,
@@ -123,9 +124,9 @@ fn end_of(
     end
 }
 
-// An input, the size of its pieces, which of its reads fails, if it isn't 0, and in how many turns it is served; how that
-// ends, how many reads were made, and what was written. Where a read fails, or the turns are used up, the lines that were
-// read whole are answered.
+// An input, the size of its pieces, which of its reads fails, if it isn't 0, and in how many turns
+// it is served; how that ends, how many reads were made, and what was written. Where a read fails,
+// or the turns are used up, the lines that were read whole are answered.
 type Read = (&'static str, usize, u64, u64, ServeEnd, u64, &'static str);
 
 const READ: &[Read] = &[
@@ -173,8 +174,8 @@ const WRITES: u64 = 12;
 
 const WRITTEN: &[u8] = b"text 4\n* Z\n\nok 1\nsafe 1\nrefused 20 BadLine\nrefused 20 BadLine\n";
 
-// Where this call of the writer fails serving ends there, and what was written by then is the front of what else is; where
-// none does, as for 0, all is written.
+// Where this call of the writer fails serving ends there, and what was written by then is the front
+// of what else is; where none does, as for 0, all is written.
 fn is_written(rt: &(impl Abort + AllocGlobal), fails_at: u64) -> bool {
     let mut reader = in_pieces(
         "show\tb.org\ncapture\ta.org\ttop\tlast\t2026-07-01 10:00\t* N\t\n\nshow\ta.org",

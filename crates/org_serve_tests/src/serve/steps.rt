@@ -3,8 +3,8 @@ use crate::shared::two;
 use org_disk::MemoryDisk;
 use std::process::Abort;
 
-// Lines: what a.org and b.org hold before them, and what shows of two files answer after none of them, after the first,
-// and so on.
+// Lines: what a.org and b.org hold before them, and what shows of two files answer after none of
+// them, after the first, and so on.
 pub struct Step {
     pub a: &'static str,
     pub b: &'static str,
@@ -46,7 +46,8 @@ pub fn safe_in(written: &[u8]) -> u64 {
     }
 }
 
-// So many lines of the step may be done: those that were told to be safe, or with these a whole group or all.
+// So many lines of the step may be done: those that were told to be safe, or with these a whole
+// group or all.
 pub fn may_be_done(step: &Step, group: u32, safe: u64, done: u64) -> bool {
     done == safe || done == safe.saturating_add(u64::from(group)).min(all_of(step))
 }
@@ -79,7 +80,8 @@ pub const ACROSS: &Step = &Step {
     ],
 };
 
-// The last line of the source has no newline, and the source comes behind the target in the order of names.
+// The last line of the source has no newline, and the source comes behind the target in the order
+// of names.
 pub const BACK: &Step = &Step {
     a: "* T\n** K\n",
     b: "* A\n** B\n*** C",
@@ -154,7 +156,8 @@ pub const TO_THE_ARCHIVE: &Step = &Step {
     ],
 };
 
-// Neither file ends in a newline, the archive comes behind the source in the order of names, and its heading is made.
+// Neither file ends in a newline, the archive comes behind the source in the order of names, and
+// its heading is made.
 pub const TO_ANOTHER_FILE: &Step = &Step {
     a: "#+ARCHIVE: b.org::* Old\n* A\n** B",
     b: "* Z",
@@ -176,7 +179,8 @@ pub const ARCHIVE_WITHIN: &Step = &Step {
     shown: &[
         "text 26\n#+ARCHIVE: ::* Old\n* A\n* B\ntext 3\n* Z\n",
         "text 131\n#+ARCHIVE: ::* Old\n* B\n* Old\n** A\n:PROPERTIES:\n\
-            :ARCHIVE_TIME: 2026-07-01 Wed 10:00\n:ARCHIVE_FILE: a.org\n:ARCHIVE_CATEGORY: a\n:END:\n\
+            :ARCHIVE_TIME: 2026-07-01 Wed 10:00\n:ARCHIVE_FILE: a.org\n\
+            :ARCHIVE_CATEGORY: a\n:END:\n\
             \ntext 3\n* Z\n",
     ],
 };
@@ -193,12 +197,14 @@ pub const TWO_ARCHIVES: &Step = &Step {
             :ARCHIVE_FILE: a.org\n:ARCHIVE_CATEGORY: a\n:END:\n\n",
         "text 0\n\ntext 202\n* A\n:PROPERTIES:\n:ARCHIVE_TIME: 2026-07-01 Wed 10:00\n\
             :ARCHIVE_FILE: a.org\n:ARCHIVE_CATEGORY: a\n:END:\n* B\n:PROPERTIES:\n\
-            :ARCHIVE_TIME: 2026-07-01 Wed 10:00\n:ARCHIVE_FILE: a.org\n:ARCHIVE_CATEGORY: a\n:END:\n\
+            :ARCHIVE_TIME: 2026-07-01 Wed 10:00\n:ARCHIVE_FILE: a.org\n\
+            :ARCHIVE_CATEGORY: a\n:END:\n\
             \n",
     ],
 };
 
-// The clock that is closed stands in the file that comes later by its name, and neither file ends in a newline.
+// The clock that is closed stands in the file that comes later by its name, and neither file ends
+// in a newline.
 pub const CLOCK_ELSEWHERE: &Step = &Step {
     a: "* A",
     b: "* B\nCLOCK: [2026-07-01 Wed 08:00]",
@@ -246,7 +252,8 @@ pub const REPEATED: &Step = &Step {
         "text 45\n* TODO A\nSCHEDULED: <2026-06-30 Tue ++1d>\n* B\ntext 3\n* Z\n",
         "text 164\n* TODO A\nSCHEDULED: <2026-07-02 Thu ++1d>\n:PROPERTIES:\n\
             :LAST_REPEAT: [2026-07-01 Wed 10:00]\n:END:\n\
-            - State \"DONE\"       from \"TODO\"       [2026-07-01 Wed 10:00]\n* B\n\ntext 3\n* Z\n",
+            - State \"DONE\"       from \"TODO\"       [2026-07-01 Wed 10:00]\n\
+            * B\n\ntext 3\n* Z\n",
     ],
 };
 

@@ -42,8 +42,8 @@ fn run_synced(rt: &(impl Abort + AllocGlobal), disk: MemoryDisk) -> Ended {
     }
 }
 
-// A crash may take what wasn't synced until its file is synced, which is the first call; nothing takes it after that.
-// What was told as safe is there.
+// A crash may take what wasn't synced until its file is synced, which is the first call; nothing
+// takes it after that. What was told as safe is there.
 fn is_right(call: u64, written: &[u8], shown: &[u8]) -> bool {
     let is_kept = shown.starts_with(b"text 8\n* A\n* B\n\n");
     let is_captured = shown.ends_with(b"\ntext 8\n* Z\n* K\n\n");
@@ -52,7 +52,8 @@ fn is_right(call: u64, written: &[u8], shown: &[u8]) -> bool {
     (call == 1 || is_kept) && is_b_whole && (!is_safe || is_captured)
 }
 
-// A run over a disk that is stopped or fails at this call, of which what a crash leaves is right: whether it was opened.
+// A run over a disk that is stopped or fails at this call, of which what a crash leaves is right:
+// whether it was opened.
 fn is_opened(rt: &(impl Abort + AllocGlobal), disk: MemoryDisk, call: u64) -> bool {
     let ended = run_synced(rt, disk);
     let shown = served(rt, image(rt, &ended.disk), SHOW);

@@ -8,7 +8,8 @@ use org_stamp::Moment;
 use org_store::{Capture, Command, Refile, Reply, RunFault, Store, TextOf, Todo};
 use std::process::Abort;
 
-// A path is that of one heading of this title, or for an empty one that of no titles, which no line can name.
+// A path is that of one heading of this title, or for an empty one that of no titles, which no line
+// can name.
 type Path = &'static str;
 
 // A command.
@@ -101,7 +102,8 @@ fn command<'a>(rt: &(impl Abort + AllocGlobal), ask: &'a Ask) -> Command<'a> {
     }
 }
 
-// What a command is answered, of which nothing is said here: the proofs of what calls this have less to carry on.
+// What a command is answered, of which nothing is said here: the proofs of what calls this have
+// less to carry on.
 fn run(store: &mut Store<MemoryDisk>, command: &Command<'_>) -> Result<Reply, RunFault> {
     store.run(command)
 }
@@ -136,7 +138,8 @@ fn has_counts(store: &Store<MemoryDisk>, accepted: u64, acknowledged: u64) -> bo
     store.accepted() == accepted && store.acknowledged() == acknowledged
 }
 
-// A command, what it is answered, and how many commands are accepted then and how many of them on the disk.
+// A command, what it is answered, and how many commands are accepted then and how many of them on
+// the disk.
 pub type Row = (Ask, Answer, u64, u64);
 
 // Asks each of them in turn.

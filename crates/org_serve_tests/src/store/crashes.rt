@@ -21,8 +21,8 @@ const CAPTURED: &Step = &Step {
     ],
 };
 
-// Makes a capture into each of two files, in groups, and tells how many were acknowledged and how many accepted, and
-// the disk then.
+// Makes a capture into each of two files, in groups, and tells how many were acknowledged and how
+// many accepted, and the disk then.
 fn captured_twice(
     rt: &(impl Abort + AllocGlobal),
     store: Store<MemoryDisk>,
@@ -47,8 +47,8 @@ fn captured_twice(
     (acknowledged, accepted, store.into_disk())
 }
 
-// Makes two captures, in groups, over a disk that crashes on the way, and tells how many were acknowledged, how many
-// accepted, and how many are in the files that the crash left.
+// Makes two captures, in groups, over a disk that crashes on the way, and tells how many were
+// acknowledged, how many accepted, and how many are in the files that the crash left.
 fn crashed(rt: &(impl Abort + AllocGlobal), group: u32, at: (u64, Outcome)) -> (u64, u64, u64) {
     let mut disk = two(rt, CAPTURED.a, CAPTURED.b);
     disk.crash_at(at.0, at.1);
@@ -61,8 +61,9 @@ fn crashed(rt: &(impl Abort + AllocGlobal), group: u32, at: (u64, Outcome)) -> (
     (acknowledged, accepted, done_in(rt, left, CAPTURED))
 }
 
-// Crashes the two captures at each of so many calls behind the opening, in each way: what is left is one of the states
-// between those that were acknowledged and those that were accepted. After all calls both are there.
+// Crashes the two captures at each of so many calls behind the opening, in each way: what is left
+// is one of the states between those that were acknowledged and those that were accepted. After all
+// calls both are there.
 fn crash_each_call(rt: &(impl Abort + AllocGlobal), group: u32, calls: u64) {
     let before_end = calls_of_opening(rt).saturating_add(calls).saturating_sub(1);
     for number in 0..ways(before_end) {
@@ -73,9 +74,9 @@ fn crash_each_call(rt: &(impl Abort + AllocGlobal), group: u32, calls: u64) {
     assert!(rt; crashed(rt, group, (end, Outcome::None)) == (2, 2, 2));
 }
 
-// Each capture reads a length and a text, and makes nine calls to be settled. In a group of two they read two calls each,
-// and are settled in one: the record and the gate with a sync each, a write and a length for each file, a sync of each,
-// and the gate with its sync.
+// Each capture reads a length and a text, and makes nine calls to be settled. In a group of two
+// they read two calls each, and are settled in one: the record and the gate with a sync each, a
+// write and a length for each file, a sync of each, and the gate with its sync.
 #[test]
 fn crashed_at_every_call(rt: HostRuntime) {
     for (group, calls) in [(1, 23), (2, 17)] {

@@ -54,7 +54,8 @@ fn is_broken(store: &mut Store<MemoryDisk>) -> bool {
     store.is_broken() && store.settle() == Err(RunFault::Broken)
 }
 
-// The disk fails at this call of a capture, which is accepted or not, and is done then at most where it is accepted.
+// The disk fails at this call of a capture, which is accepted or not, and is done then at most
+// where it is accepted.
 fn fail_at(rt: &(impl Abort + AllocGlobal), call: u64, is_accepted: bool) {
     let mut store = failing(rt, call);
     ask_each(rt, &mut store, if is_accepted { ACCEPTED } else { REFUSED });
@@ -74,8 +75,8 @@ fn go_well(rt: &(impl Abort + AllocGlobal)) {
     assert!(rt; calls == calls_of_opening(rt).saturating_add(11));
 }
 
-// A capture reads a length and a text; then it writes the record, opens the gate, writes the file, asks for its length,
-// and closes the gate, with a sync behind each of the four writes.
+// A capture reads a length and a text; then it writes the record, opens the gate, writes the file,
+// asks for its length, and closes the gate, with a sync behind each of the four writes.
 #[test]
 fn a_failing_device(rt: HostRuntime) {
     for call in 1..12u64 {

@@ -76,7 +76,8 @@ fn plan_within<'a, D: Disk>(
     Ok(plan_of_two_edits(alloc, &command.file, edits)?)
 }
 
-/// The edits of two files, whose texts are ready, that archive a subtree of the first in the second, the location's file.
+/// The edits of two files, whose texts are ready, that archive a subtree of the first in the
+/// second, the location's file.
 fn plan_across<'a, D: Disk>(
     files: &Files<D>,
     states: &States,
@@ -108,8 +109,8 @@ fn plan_across<'a, D: Disk>(
     Ok(plan_of_two(alloc, file, goes_out, to_file, goes_in))
 }
 
-/// What an archiving to this location is to change, from a file that is ready. It is refused for the location's file first,
-/// then for the heading there.
+/// What an archiving to this location is to change, from a file that is ready. It is refused for
+/// the location's file first, then for the heading there.
 fn plan_archive_to<'a, D: Disk>(
     files: &mut Files<D>,
     states: &States,
@@ -140,8 +141,9 @@ fn plan_archive_to<'a, D: Disk>(
     Ok(plan_across(files, states, command, to)?)
 }
 
-/// What an archiving is to change. It is refused for its file first, then for its path, then where the file is an archive
-/// file, then for its location, then for the location's file and the heading there.
+/// What an archiving is to change. It is refused for its file first, then for its path, then where
+/// the file is an archive file, then for its location, then for the location's file and the heading
+/// there.
 pub(crate) fn plan_archive<'a, D: Disk>(
     files: &mut Files<D>,
     states: &States,

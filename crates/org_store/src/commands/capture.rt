@@ -87,8 +87,8 @@ fn plan_entry<'a, D: Disk>(
     Ok(plan_of_one(files.alloc(), NameOf::given(&command.file), edit))
 }
 
-/// What a capture into a file is to change. It is refused for its file first, then for its template, then for its entry,
-/// then for its target.
+/// What a capture into a file is to change. It is refused for its file first, then for its
+/// template, then for its entry, then for its target.
 pub(crate) fn plan_capture<'a, D: Disk>(
     files: &mut Files<D>,
     states: &States,

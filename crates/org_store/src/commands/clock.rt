@@ -40,7 +40,8 @@ fn look_up(states: &States, held: &Held, command: &ClockIn) -> Result<(), StateF
     Ok(())
 }
 
-/// The edits of a file, whose text is ready, that clock in at one of its headings. No clock runs in it.
+/// The edits of a file, whose text is ready, that clock in at one of its headings. No clock runs in
+/// it.
 fn plan_start<'a>(
     alloc: Global,
     states: &States,
@@ -61,8 +62,8 @@ fn plan_start<'a>(
     Ok(Some(plan_of_one(alloc, NameOf::given(&command.file), edit)))
 }
 
-/// The edits of a file, whose text is ready, that clock in at one of its headings, where this clock runs in it; none where
-/// it is the heading's own.
+/// The edits of a file, whose text is ready, that clock in at one of its headings, where this clock
+/// runs in it; none where it is the heading's own.
 fn plan_switch<'a>(
     alloc: Global,
     states: &States,
@@ -82,7 +83,8 @@ fn plan_switch<'a>(
     Ok(plan_of(&command.file, edits))
 }
 
-/// The edits of a file, whose text is ready, that clock in at one of its headings. This clock runs in it, or none.
+/// The edits of a file, whose text is ready, that clock in at one of its headings. This clock runs
+/// in it, or none.
 fn plan_in_text<'a>(
     alloc: Global,
     states: &States,
@@ -126,8 +128,8 @@ fn plan_stop<'a>(
     Ok(Some(plan_of_one(alloc, file, edit)))
 }
 
-/// The edits of two files, whose texts are ready, that stop the clock that runs in the first, and clock in at a heading of
-/// the second.
+/// The edits of two files, whose texts are ready, that stop the clock that runs in the first, and
+/// clock in at a heading of the second.
 fn plan_move<'a>(
     alloc: Global,
     states: &States,
@@ -186,8 +188,8 @@ fn look_up_in<D: Disk>(
     Ok(())
 }
 
-/// What clocking in at a heading of one of the files is to change, where no clock runs in another one. This clock runs in
-/// it, or none.
+/// What clocking in at a heading of one of the files is to change, where no clock runs in another
+/// one. This clock runs in it, or none.
 fn start_in_one<'a, D: Disk>(
     files: &mut Files<D>,
     states: &States,
@@ -214,7 +216,8 @@ fn start_in_one<'a, D: Disk>(
     Ok(plan_in_text(files.alloc(), states, held, command, running)?)
 }
 
-/// What clocking in at a heading of one of the files is to change, where this clock runs in another one.
+/// What clocking in at a heading of one of the files is to change, where this clock runs in another
+/// one.
 fn start_beside<'a, D: Disk>(
     files: &mut Files<D>,
     states: &States,
@@ -246,9 +249,9 @@ fn start_beside<'a, D: Disk>(
     Ok(Some(plan))
 }
 
-/// What clocking in is to change; no plan where the clock that runs is the heading's own. It is refused for its file first,
-/// then for its path, then where the moment is before the start of the clock that is to be stopped. Where that one runs in
-/// another file, its text is the plan's first.
+/// What clocking in is to change; no plan where the clock that runs is the heading's own. It is
+/// refused for its file first, then for its path, then where the moment is before the start of the
+/// clock that is to be stopped. Where that one runs in another file, its text is the plan's first.
 pub(crate) fn plan_clock_in<'a, D: Disk>(
     files: &mut Files<D>,
     states: &States,
@@ -304,8 +307,8 @@ fn stop_running<'a, D: Disk>(
     Ok(plan_stop(files.alloc(), states, held, clock, moment)?)
 }
 
-/// What clocking out is to change. It is refused where no clock runs, and where the moment is before the start of the one
-/// that does.
+/// What clocking out is to change. It is refused where no clock runs, and where the moment is
+/// before the start of the one that does.
 pub(crate) fn plan_clock_out<'a, D: Disk>(
     files: &mut Files<D>,
     states: &States,

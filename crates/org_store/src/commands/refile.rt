@@ -46,7 +46,8 @@ fn plan_within<'a>(
     Ok(plan_of_two_edits(alloc, &command.file, edits)?)
 }
 
-/// The edits of two files, whose texts are ready, that move a subtree from the first into the second.
+/// The edits of two files, whose texts are ready, that move a subtree from the first into the
+/// second.
 fn plan_across<'a>(
     alloc: Global,
     states: &States,
@@ -148,8 +149,9 @@ fn refile_in_two<'a, D: Disk>(
     Ok(plan_across(files.alloc(), states, source, target, command)?)
 }
 
-/// What a refile is to change. It is refused for the name of its source first, then for that of its target, then for the
-/// path in the source, then for the one in the target, then where the target lies in what is moved.
+/// What a refile is to change. It is refused for the name of its source first, then for that of its
+/// target, then for the path in the source, then for the one in the target, then where the target
+/// lies in what is moved.
 pub(crate) fn plan_refile<'a, D: Disk>(
     files: &mut Files<D>,
     states: &States,

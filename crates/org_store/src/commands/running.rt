@@ -46,8 +46,9 @@ fn running_in_file<D: Disk>(
     Ok(found)
 }
 
-/// The clock that runs: the first over the files in byte order of their names. Each file is read where it isn't held, up to
-/// the one where a clock runs; all texts stay as they are. A file that was searched isn't searched again until it changes.
+/// The clock that runs: the first over the files in byte order of their names. Each file is read
+/// where it isn't held, up to the one where a clock runs; all texts stay as they are. A file that
+/// was searched isn't searched again until it changes.
 pub(crate) fn running_clock<D: Disk>(
     files: &mut Files<D>,
     states: &States,

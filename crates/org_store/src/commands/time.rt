@@ -19,7 +19,8 @@ use org_disk::{Disk, FileName};
 use org_outline::{States, Titles};
 use org_state::clocked;
 
-/// The minutes clocked at a heading, and below it, of one of the files. What was done to its text is to be taken back.
+/// The minutes clocked at a heading, and below it, of one of the files. What was done to its text
+/// is to be taken back.
 fn clocked_in_file<D: Disk>(
     files: &mut Files<D>,
     states: &States,
@@ -41,8 +42,8 @@ fn clocked_in_file<D: Disk>(
     Ok(clocked(&outline_of(held, states), path.as_slice())?)
 }
 
-/// Answers the time clocked at a heading and below it. `NoSuchFile` where the file is none of the store's; then
-/// `NotFound` or `NotUnique` of the path. All texts stay as they are.
+/// Answers the time clocked at a heading and below it. `NoSuchFile` where the file is none of the
+/// store's; then `NotFound` or `NotUnique` of the path. All texts stay as they are.
 pub(crate) fn time<D: Disk>(
     files: &mut Files<D>,
     states: &States,

@@ -22,7 +22,8 @@ use org_state::{StateFault, todo};
 use org_texts::{Held, Plan};
 use std::alloc::Global;
 
-/// The edits of a file, whose text is ready, that put one of its headings into another state; none where nothing changes.
+/// The edits of a file, whose text is ready, that put one of its headings into another state; none
+/// where nothing changes.
 fn plan_state<'a>(
     alloc: Global,
     states: &States,
@@ -44,8 +45,8 @@ fn plan_state<'a>(
     Ok(plan_of(&command.file, edits))
 }
 
-/// What a change of a state is to change; no plan where nothing changes. It is refused for its file first, then for its
-/// path, then for its state, then for the heading's planning.
+/// What a change of a state is to change; no plan where nothing changes. It is refused for its file
+/// first, then for its path, then for its state, then for the heading's planning.
 pub(crate) fn plan_todo<'a, D: Disk>(
     files: &mut Files<D>,
     states: &States,

@@ -55,7 +55,8 @@ fn give(rt: &impl Abort, old: &mut Vec<u8>, text: &Editing) -> bool {
     old.as_slice() == text.bytes()
 }
 
-/// Splices a text at random, settles it, and splices it so often again: whether its patches then give it.
+/// Splices a text at random, settles it, and splices it so often again: whether its patches then
+/// give it.
 fn give_text(
     rt: &impl Abort,
     alloc: Global,

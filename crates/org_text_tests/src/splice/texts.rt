@@ -1,4 +1,5 @@
-//! Texts that are edited in place, whose edits are taken back, kept or settled, and what their patches are.
+//! Texts that are edited in place, whose edits are taken back, kept or settled, and what their
+//! patches are.
 use crate::edits::{NONE, Patched, Splice, edit_of, edits_of, has, make, patch_count};
 use org_splice::{Editing, Patch, size_after};
 use std::alloc::Global;
@@ -188,7 +189,8 @@ fn texts_under_edit(rt: HostRuntime) {
     assert_goes(&rt, rt.alloc(), EDITED);
 }
 
-/// Changes every other byte of a text, and asserts that each is a patch of its own, up to a thousand.
+/// Changes every other byte of a text, and asserts that each is a patch of its own, up to a
+/// thousand.
 fn assert_counts(rt: &impl Abort, text: &mut Editing) {
     for i in 0..1_001usize {
         splice(rt, text, 2 * i, 1, b"b");

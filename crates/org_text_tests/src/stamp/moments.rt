@@ -1,8 +1,8 @@
 //! Moments of the calendar.
 use org_stamp::Moment;
 
-/// A year, month, day, hour and minute, and where the calendar has that moment, the minutes from 1970-01-01 00:00 to it,
-/// and how many days after Monday its day is.
+/// A year, month, day, hour and minute, and where the calendar has that moment, the minutes from
+/// 1970-01-01 00:00 to it, and how many days after Monday its day is.
 type Row = (u16, u8, u8, u8, u8, Option<(i64, u8)>);
 
 const ROWS: &[Row] = &[

@@ -3,8 +3,8 @@ use org_stamp::{RepeatFault, Stamp};
 use std::alloc::Global;
 use std::process::Abort;
 
-/// Each row is a timestamp, the moment at which it is repeated, if it is, and what it becomes by the proleptic Gregorian
-/// calendar, where a day that a month lacks is its last.
+/// Each row is a timestamp, the moment at which it is repeated, if it is, and what it becomes by
+/// the proleptic Gregorian calendar, where a day that a month lacks is its last.
 const ROWS: &str = "\
 # Printed; the last of them have their parts in every order.
 <2026-07-01>: <2026-07-01 Wed>
@@ -65,9 +65,10 @@ const ROWS: &str = "\
 <9999-12-31 ++1m> at [2026-07-01 10:00]: DateRange
 <9999-06-01 +1y> at [2026-07-01 10:00]: DateRange
 <9999-12-31 23:00 ++1h> at [9999-12-31 23:59]: DateRange
-# For each unit and kind of repeater, from 0001-01-01, to the last date that is reached and past it, from a leap day to a
-# leap year and to none, and from a month's end to shorter months (years keep the month). Hours with `+` and `.+` are at
-# most 9999, short of the next leap year, so they come to the leap day from the day before.
+# For each unit and kind of repeater, from 0001-01-01, to the last date that is reached and past it,
+# from a leap day to a leap year and to none, and from a month's end to shorter months (years keep
+# the month). Hours with `+` and `.+` are at most 9999, short of the next leap year, so they come to
+# the leap day from the day before.
 <0001-01-01 00:00 +9999h> at [2026-07-01]: <0002-02-21 Thu 15:00 +9999h>
 <9999-12-31 22:59 +1h> at [2026-07-01]: <9999-12-31 Fri 23:59 +1h>
 <9999-12-31 23:00 +1h> at [2026-07-01]: DateRange
@@ -196,8 +197,8 @@ fn prints(rt: &impl Abort, alloc: Global, stamp: &Stamp<'_>, text: &str) -> bool
     stamp.print(alloc).expect(rt, "memory").as_slice() == text.as_bytes()
 }
 
-/// Whether a timestamp, repeated where a moment is given with it, becomes this one, or is refused by the fault of this
-/// name.
+/// Whether a timestamp, repeated where a moment is given with it, becomes this one, or is refused
+/// by the fault of this name.
 fn becomes(rt: &impl Abort, alloc: Global, given: &str, wanted: &str) -> bool {
     let Some((from, now)) = given.split_once(" at ") else {
         return prints(rt, alloc, &stamp(rt, given), wanted);

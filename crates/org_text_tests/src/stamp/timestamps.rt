@@ -1,8 +1,8 @@
 //! What is read of timestamps.
 use org_stamp::Stamp;
 
-/// How long a timestamp is, the minutes from 1970-01-01 00:00 to its moment, and whether it is active, has a time, has
-/// cookies, and repeats.
+/// How long a timestamp is, the minutes from 1970-01-01 00:00 to its moment, and whether it is
+/// active, has a time, has cookies, and repeats.
 type Read = (usize, i64, bool, bool, bool, bool);
 
 /// 2026-07-01 00:00, in minutes from 1970-01-01 00:00.

@@ -7,7 +7,8 @@ use Rattle.org_serve.specs.Crashes.{RunsLine}
 use Rattle.org_serve.proofs.Inputs.{Served}
 use Rattle.org_serve.proofs.serving.serve.Given as goal
 
--- what was read so far is served, with so many reads, each of which gave bytes, and no call of the reader or the writer has failed
+-- what was read so far is served, with so many reads, each of which gave bytes, and no call of the
+-- reader or the writer has failed
 abbrev pub invariant-loop : goal.invariant-loop
 invariant-loop g l =
     (Served (RunsLine g.D.Disk.honest g.D.Disk.files g.D.Disk.moment g.D.Disk.left_since) l.initial.store l.store

@@ -4,7 +4,8 @@ use Rattle.org_stamp.specs.Parts.{is_blank}
 use Rattle.org_stamp.specs.Reading.{nothing, gathered, pieces_with}
 use Rattle.org_stamp.proofs.inside.read_pieces.Given as goal
 
--- what was found, with the pieces that are left, is what all the pieces say; no blank stands since `start`
+-- what was found, with the pieces that are left, is what all the pieces say; no blank stands since
+-- `start`
 abbrev pub invariant-loop-at : goal.invariant-loop-at
 invariant-loop-at l = record {
   start : l.start ≤ l.at;

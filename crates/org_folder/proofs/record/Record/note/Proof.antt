@@ -1,4 +1,5 @@
--- An empty body. The borrow of the record is opened and closed at another ghost value; the call is an enum by value, still owned at exit.
+-- An empty body. The borrow of the record is opened and closed at another ghost value; the call is
+-- an enum by value, still owned at exit.
 use Rattle.std.proofs.Common.{ℕ, ◌<◌, ◌^◌, List, [], ◌∷◌, length, refl, MutBor}
 use seplogic.Ra.Ura.{Ura}
 use mir.Syntax.{named}
