@@ -1,4 +1,5 @@
-use Rattle.std.proofs.Common.{◌≡◌, ◌∙◌, inl, Ok, Err, Result, refl, sym, subst, ap, rules}
+use Rattle.std.proofs.Common.{◌≡◌, ◌∙◌, ⊎_elim, inl, inr, false, Ok, Err, Result, refl, sym, subst, ap, rules}
+use Rattle.std.proofs.lemmas.Bool.{false≢true}
 use Rattle.org_journal.specs.Recovered.{contents}
 use Rattle.org_store.specs.declared.command.RunFault.{RunFault}
 use Rattle.org_store.specs.declared.command.RunFault.TheVariants.{Broken}
@@ -52,3 +53,23 @@ returns-in-Capture-clause-did g c =
       waits = c.act.ensures.waits honest;
       idle = record { untouched = λ broken. absurd (acts.works broken); nothing = search rules; unneeded = search rules };
     })
+
+pub returns-in-Capture-clause-counts : goal.returns-in-Capture-clause-counts
+returns-in-Capture-clause-counts g c = rw (← c.self.view_is) c.act.ensures.acts.counts
+
+pub returns-in-Capture-clause-idle : goal.returns-in-Capture-clause-idle
+returns-in-Capture-clause-idle g c =
+    let acts = c.act.ensures.acts in
+    rw (← c.self.view_is) (record { untouched = λ broken. absurd (acts.works broken); nothing = search rules; unneeded = search rules })
+
+pub returns-in-Capture-clause-broken : goal.returns-in-Capture-clause-broken
+returns-in-Capture-clause-broken g c =
+    let acts = c.act.ensures.acts in
+    let unbroken : c.self.inside.files.broken ≡ false = search rules in
+    rw (← c.self.view_is) (record {
+      before = (λ broken. absurd (acts.works broken), λ broken. absurd (false≢true (sym unbroken ∙ broken)));
+      behind = (λ broken. inr (acts.breaks.1 broken), ⊎_elim (λ broken. absurd (false≢true (sym unbroken ∙ broken))) acts.breaks.0);
+    })
+
+pub returns-in-Capture-clause-accounts : goal.returns-in-Capture-clause-accounts
+returns-in-Capture-clause-accounts g c = rw (← c.self.view_is) c.act.ensures.accounts

@@ -74,3 +74,6 @@ returns-in_err-commit-clause-did g c =
       waits = ap (λ (held : Holding). held.before.waiting) c.in_err-commit.ensures.held;
       idle = search rules;
     })
+
+pub returns-clause-counts : goal.returns-clause-counts
+returns-clause-counts g c = rw (← c.self.view_is) (record { accepted = refl; acknowledged = refl; group = refl })
