@@ -19,3 +19,4 @@ pub mod Recovering
 mod Committing
 mod Kept
 pub mod Crashed
+pub mod Middle

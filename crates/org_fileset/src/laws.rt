@@ -1,17 +1,20 @@
 //! The laws of applying records to files, for all values: each is the contract of a function with
 //! nothing to do.
-ghost use Rattle.std.specs.Prelude.{◌≤◌, List, ℕ, length, IsSomeAnd};
+ghost use Rattle.std.specs.Prelude.{◌≤◌, ◌⊎◌, List, ℕ, length, IsSomeAnd};
 ghost use Rattle.std.specs.List.{Contains};
+ghost use Rattle.org_disk.specs.Accounts.{LeavesOver};
 ghost use Rattle.org_disk.specs.Disk.{FileState, AreImages, write, cut, sync};
 ghost use Rattle.org_splice.specs.Patches.{AreWellFormed, Fit, PatchedTo, IsPartlyPatched, patched};
 ghost use Rattle.org_splice.specs.Texts.{EditedText};
 ghost use Rattle.org_journal.specs.declared.record.Entry.{Entry};
 ghost use Rattle.org_splice.specs.declared.patch.Patch.{Patch};
-ghost use Rattle.org_journal.specs.Recovered.{Image, RecoversTo, recovered, contents};
+ghost use Rattle.org_journal.specs.Recovered.{Image, RecoversTo, SameFiles, recovered, contents};
 ghost use Rattle.org_fileset.specs.Entries.{changed};
 ghost use Rattle.org_fileset.specs.Recovery.{IsReopened, RecoversAsBefore};
-ghost use Rattle.org_fileset.specs.Replay.{IsAtRest, IsBeforeOrAfter};
-ghost use Rattle.org_fileset.specs.Laws.{AllStable, AreAtRest, IsArmedFor, IsFound, KeepsTexts, IsEachOldOrNew};
+ghost use Rattle.org_fileset.specs.Replay.{IsAtRest, IsBeforeOrAfter, IsCommitted};
+ghost use Rattle.org_fileset.specs.Laws.{AllStable, AreAtRest, AreOtherFiles, IsArmedFor, IsBetween, IsFound, KeepsTexts, IsEachOldOrNew};
+
+use org_disk::Disk;
 
 /// Applying twice is applying once: patches that fit a text fit what they make of it, and make the
 /// same of that again.
@@ -82,4 +85,31 @@ pub fn crashed_disk_opens_again()
     // and where it is done, they are all there
     ensures opened { (texts : Image) (old new : List ℕ → FileState) → AllStable old
         → RecoversTo texts (contents old) → IsReopened old new → AreAtRest texts new }
+{}
+
+/// The middle of a commit counts. What a commit promises of a crash at any moment since it began it
+/// promises of every disk that it passes through: one that is at rest there has all files as they
+/// were, or all with the changed texts.
+pub fn middle_of_a_commit_counts<D: Disk>()
+    ensures middle { (old mid new : D) (after : Image) → D.honest mid → IsAtRest (D.files mid)
+        → IsBetween D.moment D.left_since old mid new
+        → LeavesOver D.moment D.left_since old new (IsBeforeOrAfter (contents (D.files old)) after)
+        → SameFiles (contents (D.files mid)) (contents (D.files old))
+        ⊎ SameFiles (contents (D.files mid)) after }
+    // So the promise is false of a body that commits other files on its way: a part of the changed
+    // ones by a record of their own, or a file without what it had, which is put back later.
+    ensures apart { (old mid new : D) (half after : Image) → D.honest mid
+        → IsAtRest (D.files old) → IsCommitted half (D.files old) (D.files mid)
+        → AreOtherFiles half (contents (D.files old)) → AreOtherFiles half after
+        → IsBetween D.moment D.left_since old mid new
+        → LeavesOver D.moment D.left_since old new (IsBeforeOrAfter (contents (D.files old)) after)
+        → ⊥ }
+    // So it is of two commits, one behind the other, of which the first is done.
+    ensures two { (old mid new : D) (half last after : Image) → D.honest mid
+        → IsAtRest (D.files old) → IsCommitted half (D.files old) (D.files mid)
+        → LeavesOver D.moment D.left_since old mid (IsBeforeOrAfter (contents (D.files old)) half)
+        → LeavesOver D.moment D.left_since mid new (IsBeforeOrAfter (contents (D.files mid)) last)
+        → AreOtherFiles half (contents (D.files old)) → AreOtherFiles half after
+        → LeavesOver D.moment D.left_since old new (IsBeforeOrAfter (contents (D.files old)) after)
+        → ⊥ }
 {}

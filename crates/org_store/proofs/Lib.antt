@@ -33,3 +33,4 @@ pub mod Calls
 pub mod OnePlace
 pub mod Listed
 pub mod MovedCounts
+pub mod Middle

@@ -1,10 +1,8 @@
 -- Capture: a new entry in a file (Org manual, "Capture").
 use Rattle.std.specs.Prelude.{◌≡◌, ℕ, List, Option, Some, None, Result, Ok, Err, Vec}
 use Rattle.std.specs.Global.{Global}
-use Rattle.org_splice.specs.Edits.{AreEdits}
-use Rattle.org_outline.specs.Tree.{Document, Node, print}
+use Rattle.org_outline.specs.Tree.{Node}
 use Rattle.org_stamp.specs.Calendar.{CivilMinute}
-use Rattle.org_texts.specs.declared.plan.Plan.{Plan}
 use Rattle.org_capture.specs.declared.fault.CaptureFault.{CaptureFault}
 use Rattle.org_capture.specs.declared.fault.CaptureFault.TheVariants.{BadEntry, OutOfMemory}
 use Rattle.org_capture.specs.Entry.{IsEntry, entry_in}

@@ -7,6 +7,7 @@ ghost use Rattle.org_disk.specs.Accounts.{LeavesOver};
 ghost use Rattle.org_journal.specs.Recovered.{Image, IsRecoverable, contents};
 ghost use Rattle.org_disk.specs.Names.{IsDiskName, IsOrgFile};
 ghost use Rattle.org_fileset.specs.Names.{with_archives, AreSorted, AreFew, first_large};
+ghost use Rattle.org_fileset.specs.Laws.{AreOtherFiles, IsBetween};
 ghost use Rattle.org_fileset.specs.Opening.{IsReason};
 ghost use Rattle.org_fileset.specs.Replay.{IsAtRest};
 ghost use Rattle.org_fileset.specs.Writes.{LeavesAlone};
@@ -25,13 +26,13 @@ ghost use Rattle.org_store.specs.declared.command.RunFault.TheVariants as run_fa
 ghost use Rattle.org_store.specs.Calls.{Call, CallOver, CallPast, CallsPast, grouped};
 ghost use Rattle.org_store.specs.Calls.Call.{Ran};
 ghost use Rattle.org_store.specs.History.{Past, Lists, HoldsPrefix};
-ghost use Rattle.org_store.specs.Left.{IsApart, IsLeft};
+ghost use Rattle.org_store.specs.Left.{IsApart, IsLeft, PutsOnDisk};
 ghost use Rattle.org_store.specs.OnePlace.{ArchivesOne, HaveNodesButFew, HaveSameNodes, HasNodesOf, HasNodesOfPrefix, IsSessionOf, MayMove, MayRefile, OnlyRefiles};
-ghost use Rattle.org_store.specs.Outcome.{IsAccepted, outcome, written};
+ghost use Rattle.org_store.specs.Outcome.{AsksToSettle, IsAccepted, outcome, written};
 ghost use Rattle.org_store.specs.Reopening.{AreSameNames, AreSmall, IsOpenable};
 ghost use Rattle.org_store.specs.Opening.{opened};
 ghost use Rattle.org_store.specs.Runs.{RunsOver, SettlesOver, IsOnDisk};
-ghost use Rattle.org_store.specs.InOrder.{AreNames, texts_of};
+ghost use Rattle.org_store.specs.InOrder.{AreNames, texts_of, with_texts};
 ghost use Rattle.org_store.specs.Session.{Session, Kept, Holds};
 ghost use Rattle.org_store.specs.Step.{Step, Run, IsReply};
 
@@ -158,6 +159,35 @@ pub fn calls_leave_a_prefix<D: Disk>()
         → CallsPast D.files D.moment D.left_since first calls last
         → HoldsPrefix first.store.session others last.texts least image
         → IsOpenable given image }
+{}
+
+/// The middle of a call counts. What a call of a store promises of a crash at any moment since it
+/// began it promises of every disk that it passes through: what lies there recovers to the files
+/// after the commands that were acknowledged when it began, or to those that the call puts on the
+/// disk.
+pub fn middle_of_a_call_counts<D: Disk>()
+    ensures run { (old new : Kept D) (mid : D) (command : Command) (answer : Result Reply RunFault)
+        → D.honest mid → IsAtRest (D.files old.disk)
+        → IsBetween D.moment D.left_since old.disk mid new.disk
+        → RunsOver D.files D.moment D.left_since old command answer new
+        → IsLeft old.session (contents (D.files old.disk)) (outcome old.session command) answer
+        new.session.accepted (contents (D.files mid)) }
+    ensures settle { (old new : Kept D) (mid : D) (answer : Result (Unit {0}) RunFault)
+        → D.honest mid → IsAtRest (D.files old.disk)
+        → IsBetween D.moment D.left_since old.disk mid new.disk
+        → SettlesOver D.files D.moment D.left_since old answer new
+        → IsLeft old.session (contents (D.files old.disk)) AsksToSettle answer
+        new.session.accepted (contents (D.files mid)) }
+    // So the promise is false of a body that puts other files on the disk on its way, as one does
+    // that takes an acknowledged subtree away and puts it back.
+    ensures apart { (old new : Kept D) (mid : D) (command : Command)
+        (answer : Result Reply RunFault) → D.honest mid → IsAtRest (D.files old.disk)
+        → IsAtRest (D.files mid) → IsBetween D.moment D.left_since old.disk mid new.disk
+        → let s = old.session in let others = contents (D.files old.disk) in
+        AreOtherFiles (contents (D.files mid)) (with_texts s.names s.settled others)
+        → ((texts : List (List ℕ)) → PutsOnDisk s (outcome s command) new.session.accepted texts
+        → AreOtherFiles (contents (D.files mid)) (with_texts s.names texts others))
+        → RunsOver D.files D.moment D.left_since old command answer new → ⊥ }
 {}
 
 /// Each node in one place. What a crash leaves of a run of calls (`calls_leave_a_prefix`) has each

@@ -1,4 +1,4 @@
-use Rattle.std.proofs.Common.{◌≡◌, ◌∙◌, false, true, Result, Ok, Err, List, ℕ, refl, sym, ap, subst, rules}
+use Rattle.std.proofs.Common.{◌≡◌, ◌∙◌, false, true, Result, Ok, Err, refl, sym, ap, subst, rules}
 use Rattle.std.specs.Option.{IsSome}
 use Rattle.org_journal.specs.Recovered.{Image, contents}
 use Rattle.org_capture.specs.Entry.{IsEntry}

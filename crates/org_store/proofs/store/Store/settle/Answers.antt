@@ -4,16 +4,13 @@ use Rattle.org_store.specs.declared.command.RunFault.TheVariants.{Broken}
 use Rattle.org_disk.specs.Accounts.{LeavesOver}
 use Rattle.org_fileset.specs.Writes.{LeavesAlone, IsOther}
 use Rattle.org_texts.specs.Texts.{Holding, TextSet, held_over}
-use Rattle.org_fileset.specs.declared.fault.SetFault.{SetFault}
-use Rattle.org_store.specs.declared.tally.Tally.{Tally}
-use Rattle.org_store.specs.Files.{CommitsTexts}
 use Rattle.org_store.specs.InOrder.{HoldsEither, texts_of}
 use Rattle.org_store.specs.Keeping.{fault_of_set}
 use Rattle.org_store.specs.Left.{IsLeft, IsLeftAlone}
 use Rattle.org_store.specs.Outcome.{AsksToSettle}
 use Rattle.org_store.specs.Step.{Settles}
 use Rattle.org_store.proofs.Leaving.{leaves_unwritten}
-use Rattle.org_store.proofs.Sessions.{Fails, leaves_settled, settle_failed, settle_leaves}
+use Rattle.org_store.proofs.Sessions.{Fails, settle_failed, settle_leaves}
 use Rattle.org_store.proofs.store.Store.settle.Goals as goal
 
 pub returns-then-is_broken-clause-did : goal.returns-then-is_broken-clause-did
