@@ -1,8 +1,10 @@
-use Rattle.std.proofs.Common.{◌≡◌, ◌∙◌, ℕ, List, false, Ok, sym, ap, subst, rules}
+use Rattle.std.proofs.Common.{◌≡◌, ◌∙◌, ℕ, List, false, true, Ok, Err, sym, ap, subst, rules}
 use Rattle.std.specs.Option.{ForSome, IsSome}
 use Rattle.org_journal.specs.Recovered.{contents}
 use Rattle.org_texts.specs.Plan.{IsPlan}
 use Rattle.org_texts.specs.Texts.{Holding, TextSet, text_of}
+use Rattle.org_store.specs.declared.command.RunFault.TheVariants.{Refused}
+use Rattle.org_store.specs.declared.command.Refusal.TheVariants.{TooLarge}
 use Rattle.org_store.specs.Files.{AreReady, AreSmallToWrite, OpenFiles, PutsPlan, files_of, has_large, new_texts, texts_in}
 use Rattle.org_store.specs.Quiet.{Forgets}
 use Rattle.org_store.proofs.Held.{first_held, second_held, small_put, sound_put}
@@ -45,3 +47,14 @@ returns-clause-puts g c =
     subst (λ (set : TextSet). has_large (texts_in set (files_of plan)) ≡ false) now (sym test ∙ c.if-is_large.false) in
     let same : inside.texts ≡ c.args.self.now.held = ap (λ (f : OpenFiles g.row.D.Denot). f.held) c.self.view_is in
     subst (λ (h : Holding). PutsPlan plan h (Ok tt) c.apply.new.self) same (small, now, subst AreSmallToWrite (sym now) (small_put plan inside.texts ready c.self.invariant.0.small small))
+
+pub returns-then-is_large-clause-puts : goal.returns-then-is_large-clause-puts
+returns-then-is_large-clause-puts g c =
+    let inside = c.self.inside in
+    let plan = c.args.plan.now in
+    let now = c.in_ok-apply.ensures.now in
+    let test : c.is_large.result ≡ has_large (texts_in c.apply.new.self.now (files_of plan)) = c.is_large.ensures in
+    let large : has_large (new_texts plan inside.texts.now) ≡ true =
+    subst (λ (set : TextSet). has_large (texts_in set (files_of plan)) ≡ true) now (sym test ∙ c.if-is_large.true) in
+    let same : inside.texts ≡ c.args.self.now.held = ap (λ (f : OpenFiles g.row.D.Denot). f.held) c.self.view_is in
+    subst (λ (h : Holding). PutsPlan plan h (Err (Refused TooLarge)) c.undo.new.self) same (large, c.undo.ensures.now ∙ c.in_ok-apply.ensures.before)
