@@ -93,6 +93,9 @@ returns-in-Err-clause-did g c = λ honest.
       runs_keep d.honest d.files d.moment d.left_since (kept_runs d.honest d.files d.moment d.left_since (returns-in-Err-clause-calls g c).0 honest),
     )
 
+pub returns-in-Err-clause-broken : goal.returns-in-Err-clause-broken
+returns-in-Err-clause-broken g c = tt
+
 pub returns-clause-causes : goal.returns-clause-causes
 returns-clause-causes g c =
     let all : c.loop.counter ≡ c.args.turns = omega arith in

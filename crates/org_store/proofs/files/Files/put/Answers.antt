@@ -7,8 +7,8 @@ use Rattle.org_store.specs.declared.command.RunFault.TheVariants.{Refused}
 use Rattle.org_store.specs.declared.command.Refusal.TheVariants.{TooLarge}
 use Rattle.org_store.specs.Files.{AreReady, AreSmallToWrite, OpenFiles, PutsPlan, files_of, has_large, new_texts, texts_in}
 use Rattle.org_store.specs.Quiet.{Forgets}
-use Rattle.org_store.proofs.Held.{first_held, second_held, small_put, sound_put}
-use Rattle.org_store.proofs.Quiet.{noted_put}
+use Rattle.org_store.proofs.Held.{first_held, second_held, small_put, sound_put, sound_undone}
+use Rattle.org_store.proofs.Quiet.{noted_put, noted_undone}
 use Rattle.org_store.proofs.files.Files.put.Goals as goal
 
 pub is_large-requires-clause-first : goal.is_large-requires-clause-first
@@ -58,3 +58,20 @@ returns-then-is_large-clause-puts g c =
     subst (λ (set : TextSet). has_large (texts_in set (files_of plan)) ≡ true) now (sym test ∙ c.if-is_large.true) in
     let same : inside.texts ≡ c.args.self.now.held = ap (λ (f : OpenFiles g.row.D.Denot). f.held) c.self.view_is in
     subst (λ (h : Holding). PutsPlan plan h (Err (Refused TooLarge)) c.undo.new.self) same (large, c.undo.ensures.now ∙ c.in_ok-apply.ensures.before)
+
+pub invariant_of-self-then-is_large : goal.invariant_of-self-then-is_large
+invariant_of-self-then-is_large g c =
+    let inside = c.self.inside in
+    let plan = c.args.plan.now in
+    let is : IsPlan plan inside.texts.now = rw (← c.self.view_is) at c.requires.is in
+    let now = c.in_ok-apply.ensures.now in
+    let before = c.in_ok-apply.ensures.before in
+    let live = (inside.set.broken ≡ false) × g.D.Disk.honest inside.set.disk in
+    let files = contents (g.D.Disk.files inside.set.disk) in
+    let named : c.names.result.now ≡ inside.set.names = search rules in (
+      sound_undone inside.set.names live files c.apply.new.self c.undo.new.self c.undo.ensures.now c.undo.ensures.before
+          (sound_put plan inside.set.names live files inside.texts c.apply.new.self is now before c.self.invariant.0),
+      noted_undone inside.set.names c.forget_plan.new.quiet.items c.apply.new.self c.undo.new.self c.undo.ensures.now c.undo.ensures.before
+          (noted_put plan inside.set.names inside.quiet.items c.forget_plan.new.quiet.items inside.texts c.apply.new.self now before
+          (subst (λ (ns : List (List ℕ)). Forgets ns (files_of plan) inside.quiet.items c.forget_plan.new.quiet.items) named c.forget_plan.ensures) c.self.invariant.1),
+    )
