@@ -277,6 +277,35 @@ fn failing(rt: &impl Abort, alloc: Global, call: u64) -> MemoryDisk {
     disk
 }
 
+// A disk on which a commit left the gate open, and failed to sync it.
+fn open_unsynced(rt: &impl Abort, alloc: Global) -> MemoryDisk {
+    let (disk, answer) = change(rt, alloc, failing(rt, alloc, 4), &BOTH);
+    hold(rt, answer.is_err());
+    disk
+}
+
+// Whether an opening over it that crashes at the k-th call changes both files, or neither, as it
+// should be: it syncs the gate first.
+fn crashes_reopened(rt: &impl Abort, alloc: Global, k: u64) -> bool {
+    for outcome in &OUTCOMES {
+        let mut disk = open_unsynced(rt, alloc);
+        disk.crash_at(k, *outcome);
+        let image = image_of(rt, alloc, opened_disk(rt, alloc, disk));
+        if !is_changed(rt, alloc, image, k > 1 || is_gate_open(false, *outcome)) {
+            return false;
+        }
+    }
+    true
+}
+
+#[test]
+fn an_opening_syncs_an_open_gate_first(rt: HostRuntime) {
+    let alloc = rt.alloc();
+    for k in 1..24usize {
+        hold_row(&rt, crashes_reopened(&rt, alloc, k as u64), k);
+    }
+}
+
 #[test]
 fn a_failed_sync_of_the_gate_breaks_the_set(rt: HostRuntime) {
     let alloc = rt.alloc();
