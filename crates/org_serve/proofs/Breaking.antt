@@ -5,9 +5,9 @@ use Rattle.org_disk.specs.Accounts.{Accounts}
 use Rattle.org_disk.proofs.Accounting.{accounts_none, accounts_then}
 use Rattle.org_journal.proofs.Accounted.{accounts_quiet}
 use Rattle.org_disk.specs.Disk.{HasRisen}
-use Rattle.org_store.specs.declared.command.RunFault.{RunFault}
-use Rattle.org_store.specs.declared.command.RunFault.TheVariants as run
-use Rattle.org_store.specs.Session.{Session, Kept}
+use Rattle.org_commands.specs.declared.command.RunFault.{RunFault}
+use Rattle.org_commands.specs.declared.command.RunFault.TheVariants as run
+use Rattle.org_commands.specs.Session.{Session, Kept}
 use Rattle.org_serve.specs.declared.end.ServeEnd.{ServeEnd}
 use Rattle.org_serve.specs.declared.end.ServeEnd.TheVariants.{End, Unsettled, Device, Read, Write}
 use Rattle.org_serve.specs.Serving.{HasBroken, EndsBroken, end_of}

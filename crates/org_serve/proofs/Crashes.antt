@@ -3,10 +3,10 @@ use Rattle.std.proofs.Common.{◌≡◌, ◌≢◌, ◌⊎◌, inl, inr, ⊎_eli
 use Rattle.std.specs.Io.KnownBytes.{Appends}
 use Rattle.org_disk.specs.Disk.{FileState}
 use Rattle.org_journal.specs.Recovered.{Image}
-use Rattle.org_store.specs.declared.command.Command.{Command}
-use Rattle.org_store.specs.declared.command.RunFault.{RunFault}
-use Rattle.org_store.specs.Session.{Kept}
-use Rattle.org_store.specs.Step.{Step, Settles}
+use Rattle.org_commands.specs.declared.command.Command.{Command}
+use Rattle.org_commands.specs.declared.command.RunFault.{RunFault}
+use Rattle.org_commands.specs.Session.{Kept}
+use Rattle.org_commands.specs.Step.{Step, Settles}
 use Rattle.org_store.proofs.Runs.{Course, course_none, course_run, course_settle}
 use Rattle.org_serve.specs.declared.end.ServeEnd.{ServeEnd}
 use Rattle.org_serve.specs.declared.end.ServeEnd.TheVariants.{End, Unsettled, Device, Read, Write}

@@ -9,8 +9,8 @@ use Rattle.std.proofs.lemmas.Bool.{ne_eqb, eqb-true}
 use Rattle.std.proofs.lemmas.List.{length-map, length-set, length-append, length-take, take_rest, take_more_set, map_push}
 use Rattle.std.proofs.lemmas.List.Elements.{All-from_get_or}
 use Rattle.std.proofs.lemmas.List.Splits.{length-slice_split, slice_split_none}
-use Rattle.org_store.specs.declared.command.Command.{Command}
-use Rattle.org_store.specs.declared.command.Command.TheVariants.{Settle}
+use Rattle.org_commands.specs.declared.command.Command.{Command}
+use Rattle.org_commands.specs.declared.command.Command.TheVariants.{Settle}
 use Rattle.org_serve.specs.Grammar.{show_of, capture_of, refile_of, todo_of, clock_in_of, clock_out_of, clocked_of, archive_of, command_of, command_of_fields}
 
 more_than_seven : (fields : List (List ℕ)) → 7 < length fields → command_of_fields fields ≡ None

@@ -8,13 +8,13 @@ use Rattle.org_journal.specs.Recovered.{Image, contents}
 use Rattle.org_fileset.specs.Replay.{IsAtRest}
 use Rattle.org_fileset.proofs.Commits.{at_rest_recovers}
 use Rattle.org_fileset.proofs.Recovers.{recovers_as}
-use Rattle.org_store.specs.declared.command.Command.{Command}
-use Rattle.org_store.specs.InOrder.{with_texts}
-use Rattle.org_store.specs.Session.{Session, Kept, Holds}
-use Rattle.org_store.specs.Outcome.{outcome}
-use Rattle.org_store.specs.Step.{Step}
+use Rattle.org_commands.specs.declared.command.Command.{Command}
+use Rattle.org_commands.specs.InOrder.{with_texts}
+use Rattle.org_commands.specs.Session.{Session, Kept, Holds}
+use Rattle.org_commands.specs.Outcome.{outcome}
+use Rattle.org_commands.specs.Step.{Step}
 use Rattle.org_store.specs.History.{Past, Lists, HoldsPrefix}
-use Rattle.org_store.specs.Runs.{IsOnDisk}
+use Rattle.org_commands.specs.Runs.{IsOnDisk}
 use Rattle.org_store.proofs.History.{Begin, Counts, Stands, Texts, adds, begin_adds, further, lists_settling, lists_step, same_or_sound, texts_after, torn}
 use Rattle.org_store.proofs.Runs.{Course, HaveTexts, IsBetween, course_none, course_run, course_settle, falls, holds_back, on_disk_after}
 use Rattle.org_serve.specs.Parts.{WritesSome}

@@ -1,7 +1,7 @@
 -- How the pieces of an input are served, one by one.
 use Rattle.std.proofs.Common.{◌≡◌, ◌≢◌, ◌⊎◌, inl, inr, ⊎_elim, ℕ, List, [], ◌++◌, Option, refl, sym, ap, ◌∙◌, subst, append_assoc, append-nil}
 use Rattle.std.specs.Io.KnownBytes.{Consumes, Appends, IsAtEnd}
-use Rattle.org_store.specs.Session.{Session}
+use Rattle.org_commands.specs.Session.{Session}
 use Rattle.org_serve.specs.declared.pending.Pending.{Pending}
 use Rattle.org_serve.specs.declared.end.ServeEnd.{ServeEnd}
 use Rattle.org_serve.specs.declared.end.ServeEnd.TheVariants.{Read, Write}

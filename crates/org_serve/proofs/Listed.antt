@@ -10,18 +10,18 @@ use Rattle.org_disk.specs.Disk.{FileState}
 use Rattle.org_outline.specs.States.{Keywords}
 use Rattle.org_journal.specs.Recovered.{Image, contents}
 use Rattle.org_fileset.specs.Names.{AreFew}
-use Rattle.org_store.specs.declared.command.Command.{Command}
-use Rattle.org_store.specs.declared.command.Reply.{Reply}
-use Rattle.org_store.specs.declared.command.Reply.TheVariants.{Done, Safe, Text, Time}
-use Rattle.org_store.specs.declared.command.RunFault.{RunFault}
-use Rattle.org_store.specs.declared.command.RunFault.TheVariants.{Refused, OutOfMemory, Device, Broken}
-use Rattle.org_store.specs.InOrder.{text_at}
+use Rattle.org_commands.specs.declared.command.Command.{Command}
+use Rattle.org_commands.specs.declared.command.Reply.{Reply}
+use Rattle.org_commands.specs.declared.command.Reply.TheVariants.{Done, Safe, Text, Time}
+use Rattle.org_commands.specs.declared.command.RunFault.{RunFault}
+use Rattle.org_commands.specs.declared.command.RunFault.TheVariants.{Refused, OutOfMemory, Device, Broken}
+use Rattle.org_commands.specs.InOrder.{text_at}
 use Rattle.org_store.specs.History.{Past, Adds, Lists, HoldsPrefix}
 use Rattle.org_store.specs.OnePlace.{HaveSameNodes, HasNodesOf, HasNodesOfPrefix, IsSessionOf}
-use Rattle.org_store.specs.Outcome.{Accepts, AsksToSettle, IsAccepted, outcome, show}
+use Rattle.org_commands.specs.Outcome.{Accepts, AsksToSettle, IsAccepted, outcome, show}
 use Rattle.org_store.specs.Reopening.{IsOpenable, AreSmall}
-use Rattle.org_store.specs.Session.{Session}
-use Rattle.org_store.specs.Step.{Step}
+use Rattle.org_commands.specs.Session.{Session}
+use Rattle.org_commands.specs.Step.{Step}
 use Rattle.org_store.proofs.Follows.{step_setting}
 use Rattle.org_store.proofs.History.{Texts, lists_step}
 use Rattle.org_store.proofs.Listed.{KeptNodes, each_at, keeps_nodes, keeps_small, prefix_nodes, prefix_opens, prefix_same}

@@ -11,15 +11,15 @@ use Rattle.org_fileset.specs.Recovery.{EachRecovers, IsReopened, RecoversAsBefor
 use Rattle.org_fileset.specs.Replay.{IsAtRest}
 use Rattle.org_fileset.specs.Writes.{LeavesAlone, IsUnconcerned}
 use Rattle.org_fileset.proofs.Writes.{alone_fewer}
-use Rattle.org_store.specs.declared.command.RunFault.{RunFault}
-use Rattle.org_store.specs.declared.command.RunFault.TheVariants as run
-use Rattle.org_store.specs.declared.command.RunFault.TheVariants.{Refused, OutOfMemory, Broken}
-use Rattle.org_store.specs.InOrder.{texts_of, with_texts}
+use Rattle.org_commands.specs.declared.command.RunFault.{RunFault}
+use Rattle.org_commands.specs.declared.command.RunFault.TheVariants as run
+use Rattle.org_commands.specs.declared.command.RunFault.TheVariants.{Refused, OutOfMemory, Broken}
+use Rattle.org_commands.specs.InOrder.{texts_of, with_texts}
 use Rattle.org_store.specs.Opening.{opened}
-use Rattle.org_store.specs.Runs.{IsOnDisk}
-use Rattle.org_store.specs.Session.{Session, Kept, Holds}
-use Rattle.org_store.specs.Step.{Settles}
-use Rattle.org_store.proofs.Keeping.{others_same}
+use Rattle.org_commands.specs.Runs.{IsOnDisk}
+use Rattle.org_commands.specs.Session.{Session, Kept, Holds}
+use Rattle.org_commands.specs.Step.{Settles}
+use Rattle.org_commands.proofs.Keeping.{others_same}
 use Rattle.org_serve.specs.declared.end.ServeEnd.{ServeEnd}
 use Rattle.org_serve.specs.declared.end.ServeEnd.TheVariants.{End, Device, Read, Write}
 use Rattle.org_store.specs.History.{Past, Lists}

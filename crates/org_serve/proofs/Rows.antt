@@ -5,8 +5,8 @@ use Rattle.std.specs.Str.{is_utf8}
 use Rattle.org_outline.specs.declared.moves.Place.TheVariants.{First, Last}
 use Rattle.org_capture.specs.declared.target.Target.TheVariants.{Top, Head, Path, Date}
 use Rattle.org_stamp.specs.Calendar.{at_minute, civil_day}
-use Rattle.org_store.specs.declared.command.Command.TheVariants.{Capture, Refile, Show}
-use Rattle.org_store.specs.declared.command.RunFault.TheVariants.{Device}
+use Rattle.org_commands.specs.declared.command.Command.TheVariants.{Capture, Refile, Show}
+use Rattle.org_commands.specs.declared.command.RunFault.TheVariants.{Device}
 use Rattle.org_serve.specs.Grammar.{command_of, unescaped, escaped, moment_of, file_of, path_of, path_field, show_of, capture_of, refile_of, target_of, place_of}
 use Rattle.org_serve.specs.Lines.{cut}
 use Rattle.org_serve.specs.Replies.{answer_text}

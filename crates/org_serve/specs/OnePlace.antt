@@ -1,7 +1,7 @@
 -- Lines that move what is there, and make nothing new.
 use Rattle.std.specs.Prelude.{◌≡◌, ◌⊎◌, ℕ, List, Some}
-use Rattle.org_store.specs.declared.command.Command.{Command}
-use Rattle.org_store.specs.declared.command.Command.TheVariants.{Show, Settle}
+use Rattle.org_commands.specs.declared.command.Command.{Command}
+use Rattle.org_commands.specs.declared.command.Command.TheVariants.{Show, Settle}
 use Rattle.org_store.specs.OnePlace.{IsRefile}
 use Rattle.org_serve.specs.Grammar.{command_of}
 

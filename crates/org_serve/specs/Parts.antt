@@ -1,7 +1,7 @@
 -- What a write that failed leaves, and what was written where one ends a run.
 use Rattle.std.specs.Prelude.{◌≡◌, ◌⊎◌, ℕ, List, [], ◌++◌, Option, Result}
 use Rattle.std.specs.Io.KnownBytes.{Appends}
-use Rattle.org_store.specs.declared.command.RunFault.{RunFault}
+use Rattle.org_commands.specs.declared.command.RunFault.{RunFault}
 use Rattle.org_serve.specs.Lines.{cut}
 use Rattle.org_serve.specs.Replies.{settled_text}
 use Rattle.org_serve.specs.Transcript.{AnswersRest}

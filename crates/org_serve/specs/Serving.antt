@@ -1,12 +1,12 @@
 -- What serving does to a store. S is what runs the lines, as a session or a store over a disk;
 -- `session` is the session of it.
 use Rattle.std.specs.Prelude.{◌≡◌, ◌≢◌, ◌⊎◌, ℕ, ◌<◌, ◌≤◌, Bool, true, false, IsTrue, IsFalse, nat_lt, List, [], length, Option, None, Some, Result, Ok, Err}
-use Rattle.org_store.specs.declared.command.Command.{Command}
-use Rattle.org_store.specs.declared.command.Reply.{Reply}
-use Rattle.org_store.specs.declared.command.RunFault.{RunFault}
-use Rattle.org_store.specs.declared.command.RunFault.TheVariants as run
-use Rattle.org_store.specs.Session.{Session}
-use Rattle.org_store.specs.Step.{Step, Settles}
+use Rattle.org_commands.specs.declared.command.Command.{Command}
+use Rattle.org_commands.specs.declared.command.Reply.{Reply}
+use Rattle.org_commands.specs.declared.command.RunFault.{RunFault}
+use Rattle.org_commands.specs.declared.command.RunFault.TheVariants as run
+use Rattle.org_commands.specs.Session.{Session}
+use Rattle.org_commands.specs.Step.{Step, Settles}
 use Rattle.org_serve.specs.declared.end.ServeEnd.{ServeEnd}
 use Rattle.org_serve.specs.declared.end.ServeEnd.TheVariants.{End, Unsettled, Device, Read, Write}
 use Rattle.org_serve.specs.declared.fault.LineFault.{LineFault}

@@ -12,9 +12,9 @@ use Rattle.org_fileset.specs.Names.{with_archives, AreFew, AreSorted, first_larg
 use Rattle.org_fileset.specs.Recovery.{EachRecovers, IsReopened, RecoversAsBefore, is_closed}
 use Rattle.org_fileset.specs.Writes.{LeavesAlone, IsUnconcerned}
 use Rattle.org_store.specs.History.{Past, HoldsPrefix}
-use Rattle.org_store.specs.InOrder.{texts_of}
+use Rattle.org_commands.specs.InOrder.{texts_of}
 use Rattle.org_store.specs.Opening.{opened}
-use Rattle.org_store.specs.Session.{Session, Holds}
+use Rattle.org_commands.specs.Session.{Session, Holds}
 use Rattle.org_serve.specs.declared.end.ServeEnd.{ServeEnd}
 use Rattle.org_serve.specs.declared.end.ServeEnd.TheVariants.{End, Unsettled, Device, Read, Write}
 use Rattle.org_serve.specs.History.{PastLine, HasSettledPast, LeadsBy}

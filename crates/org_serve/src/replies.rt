@@ -4,7 +4,7 @@ ghost use Rattle.std.specs.Io.KnownBytes.{Appends};
 ghost use Rattle.std.specs.List.{flat_map};
 ghost use Rattle.arrayvec.specs.ArrayVec.{array_vec_len};
 ghost use Rattle.org_stamp.specs.Stamp.{duration_text};
-ghost use Rattle.org_store.specs.declared.command.RunFault.TheVariants.{Refused};
+ghost use Rattle.org_commands.specs.declared.command.RunFault.TheVariants.{Refused};
 ghost use Rattle.org_disk.specs.Disk.{IsCounted};
 ghost use Rattle.org_serve.specs.Faults.{fault_text};
 ghost use Rattle.org_serve.specs.Parts.{AppendsSome};

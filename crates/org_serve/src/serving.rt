@@ -9,7 +9,7 @@ ghost use Rattle.org_serve.specs.Lines.{cut};
 ghost use Rattle.org_serve.specs.Parts.{AppendsSome, EndsText, WritesSome};
 ghost use Rattle.org_serve.specs.Pending.{Stands};
 ghost use Rattle.org_serve.specs.Replies.{settled_text};
-ghost use Rattle.org_store.specs.declared.command.RunFault.{RunFault};
+ghost use Rattle.org_commands.specs.declared.command.RunFault.{RunFault};
 ghost use Rattle.org_serve.specs.Serving.{IsReadAs, AnswersReadBy, HasBroken, EndsBroken, end_of, Serves};
 ghost use Rattle.org_serve.specs.Crashes.{RunsHonest, RunsLine, HasSettledOver, FinishesOver, Runs, KeepsDisk};
 ghost use Rattle.org_serve.specs.Transcript.{AnswersRest};

@@ -24,17 +24,17 @@ use Rattle.org_state.specs.declared.fault.StateFault.{StateFault}
 use Rattle.org_state.specs.declared.run.Running.{Running}
 use Rattle.org_state.specs.Clock.{clocked_at, running_in}
 use Rattle.org_state.specs.Todo.{todo as in_state}
-use Rattle.org_store.specs.declared.command.Command.{Command}
-use Rattle.org_store.specs.declared.command.Command.TheVariants.{Capture, Refile, Todo, ClockIn, ClockOut, Archive, Time, Show, Settle}
-use Rattle.org_store.specs.declared.command.Refusal.TheVariants.{TooLarge}
-use Rattle.org_store.specs.Capture.{new_entry}
-use Rattle.org_store.specs.Clocks.{running_over}
-use Rattle.org_store.specs.Clocking.{clocked_in, clocked_out, clock_moved}
-use Rattle.org_store.specs.Files.{has_large}
-use Rattle.org_store.specs.InOrder.{AreNames, is_name, text_at, with_all}
-use Rattle.org_store.specs.Refile.{text_within, texts_across}
-use Rattle.org_store.specs.Session.{Session}
-use Rattle.org_store.specs.Outcome.{Accepts, AsksToSettle, Outcome, Refuses, Shows, Tells, written, changed, with_document, with_entry, capture, refile, with_moved, with_minutes, with_state, time, todo, with_clock_moved, clock_in_beside, clock_in, clock_out, archive_to, archive_at, archive, show, outcome}
+use Rattle.org_commands.specs.declared.command.Command.{Command}
+use Rattle.org_commands.specs.declared.command.Command.TheVariants.{Capture, Refile, Todo, ClockIn, ClockOut, Archive, Time, Show, Settle}
+use Rattle.org_commands.specs.declared.command.Refusal.TheVariants.{TooLarge}
+use Rattle.org_commands.specs.Capture.{new_entry}
+use Rattle.org_commands.specs.Clocks.{running_over}
+use Rattle.org_commands.specs.Clocking.{clocked_in, clocked_out, clock_moved}
+use Rattle.org_commands.specs.Files.{has_large}
+use Rattle.org_commands.specs.InOrder.{AreNames, is_name, text_at, with_all}
+use Rattle.org_commands.specs.Refile.{text_within, texts_across}
+use Rattle.org_commands.specs.Session.{Session}
+use Rattle.org_commands.specs.Outcome.{Accepts, AsksToSettle, Outcome, Refuses, Shows, Tells, written, changed, with_document, with_entry, capture, refile, with_moved, with_minutes, with_state, time, todo, with_clock_moved, clock_in_beside, clock_in, clock_out, archive_to, archive_at, archive, show, outcome}
 
 -- texts of which none is past the limit
 abbrev pub AreWithin : List (List ℕ × List ℕ) → Type 0

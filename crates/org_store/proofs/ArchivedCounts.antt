@@ -18,13 +18,13 @@ use Rattle.org_move.specs.Refile.{Moved}
 use Rattle.org_move.proofs.Archives.{across_keeps, across_stays_valid, within_keeps, within_stays_valid}
 use Rattle.org_move.proofs.Moving.{found_of}
 use Rattle.org_move.proofs.Values.{name_line, place_line}
-use Rattle.org_store.specs.declared.command.Archive.{Archive as Archiving}
-use Rattle.org_store.specs.declared.command.Command.TheVariants.{Archive}
-use Rattle.org_store.specs.InOrder.{text_at, with_text}
+use Rattle.org_commands.specs.declared.command.Archive.{Archive as Archiving}
+use Rattle.org_commands.specs.declared.command.Command.TheVariants.{Archive}
+use Rattle.org_commands.specs.InOrder.{text_at, with_text}
 use Rattle.org_store.specs.OnePlace.{ArchivesOne}
-use Rattle.org_store.specs.Outcome.{Accepts, archive, archive_at, archive_to, outcome, with_moved}
-use Rattle.org_store.specs.Refile.{text_within, texts_across}
-use Rattle.org_store.specs.Session.{Session}
+use Rattle.org_commands.specs.Outcome.{Accepts, archive, archive_at, archive_to, outcome, with_moved}
+use Rattle.org_commands.specs.Refile.{text_within, texts_across}
+use Rattle.org_commands.specs.Session.{Session}
 use Rattle.org_store.proofs.NodeCounts.{accepted_are, again, still_at, still_long, sum_put, weight}
 
 -- the heading of a place where something was made

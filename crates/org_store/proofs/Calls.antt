@@ -7,22 +7,22 @@ use Rattle.org_disk.proofs.Moments.{passes_as}
 use Rattle.org_journal.specs.Recovered.{Image, IsRecoverable, contents}
 use Rattle.org_fileset.specs.Replay.{IsAtRest}
 use Rattle.org_fileset.proofs.Writes.{alone_fewer}
-use Rattle.org_store.specs.declared.command.Command.TheVariants.{Settle}
-use Rattle.org_store.specs.declared.command.Reply.{Reply}
-use Rattle.org_store.specs.declared.command.Reply.TheVariants.{Safe}
-use Rattle.org_store.specs.declared.command.RunFault.{RunFault}
-use Rattle.org_store.specs.declared.command.RunFault.TheVariants.{Refused, OutOfMemory, Device, Broken}
+use Rattle.org_commands.specs.declared.command.Command.TheVariants.{Settle}
+use Rattle.org_commands.specs.declared.command.Reply.{Reply}
+use Rattle.org_commands.specs.declared.command.Reply.TheVariants.{Safe}
+use Rattle.org_commands.specs.declared.command.RunFault.{RunFault}
+use Rattle.org_commands.specs.declared.command.RunFault.TheVariants.{Refused, OutOfMemory, Device, Broken}
 use Rattle.org_store.specs.Calls.{Call, grouped, CallOver, CallPast, CallsPast}
 use Rattle.org_store.specs.Calls.Call.{Ran, Settled, Grouped}
 use Rattle.org_store.specs.History.{Past, Lists, HoldsPrefix}
-use Rattle.org_store.specs.Left.{IsLeftAlone, MayHaveWritten}
-use Rattle.org_store.specs.Outcome.{AsksToSettle, outcome}
-use Rattle.org_store.specs.Runs.{RunsOver, SettlesOver, IsOnDisk}
-use Rattle.org_store.specs.Session.{Session, Kept, Holds}
-use Rattle.org_store.specs.Step.{Step, Settles}
-use Rattle.org_store.specs.Waiting.{Waits, WaitsSettled}
+use Rattle.org_commands.specs.Left.{IsLeftAlone, MayHaveWritten}
+use Rattle.org_commands.specs.Outcome.{AsksToSettle, outcome}
+use Rattle.org_commands.specs.Runs.{RunsOver, SettlesOver, IsOnDisk}
+use Rattle.org_commands.specs.Session.{Session, Kept, Holds}
+use Rattle.org_commands.specs.Step.{Step, Settles}
+use Rattle.org_commands.specs.Waiting.{Waits, WaitsSettled}
 use Rattle.org_store.proofs.History.{Begin, Counts, adds, begin_adds, further, lists_settling, lists_step, none_added, same_or_sound, texts_after, torn}
-use Rattle.org_store.proofs.Keeping.{left_as}
+use Rattle.org_commands.proofs.Keeping.{left_as}
 use Rattle.org_store.proofs.Runs.{Course, answers_broken, course_none, course_run, course_leaves, falls, leaves_as, no_settling, settling_ends}
 
 -- A settling, and the command to settle.

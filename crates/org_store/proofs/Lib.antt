@@ -1,24 +1,3 @@
-mod Rows
-pub mod InOrder
-pub mod Committing
-pub mod Held
-pub mod Waiting
-pub mod Quiet
-pub mod Commits
-pub mod Keeping
-pub mod Reading
-pub mod Leaving
-pub mod Acting
-pub mod Planned
-pub mod Plans
-pub mod Captures
-pub mod Refiles
-pub mod Archives
-pub mod Todos
-pub mod Running
-pub mod Clocks
-pub mod Times
-pub mod Sessions
 pub mod Settled
 pub mod Accepted
 pub mod Follows

@@ -10,20 +10,20 @@ use Rattle.std.proofs.lemmas.Option.{slice_get_within, get_or_from_slice_get}
 use Rattle.org_disk.specs.Disk.{FileState}
 use Rattle.org_journal.specs.Recovered.{Image}
 use Rattle.org_fileset.specs.Names.{with_archives, AreSorted, AreFew}
-use Rattle.org_store.specs.declared.command.Command.{Command}
-use Rattle.org_store.specs.declared.command.Command.TheVariants.{Settle}
-use Rattle.org_store.specs.declared.command.Reply.{Reply}
-use Rattle.org_store.specs.declared.command.Reply.TheVariants.{Done, Safe, Text, Time}
-use Rattle.org_store.specs.declared.command.RunFault.{RunFault}
-use Rattle.org_store.specs.declared.command.RunFault.TheVariants.{Refused, OutOfMemory, Device, Broken}
+use Rattle.org_commands.specs.declared.command.Command.{Command}
+use Rattle.org_commands.specs.declared.command.Command.TheVariants.{Settle}
+use Rattle.org_commands.specs.declared.command.Reply.{Reply}
+use Rattle.org_commands.specs.declared.command.Reply.TheVariants.{Done, Safe, Text, Time}
+use Rattle.org_commands.specs.declared.command.RunFault.{RunFault}
+use Rattle.org_commands.specs.declared.command.RunFault.TheVariants.{Refused, OutOfMemory, Device, Broken}
 use Rattle.org_store.specs.Calls.{Call, CallPast, CallsPast}
 use Rattle.org_store.specs.Calls.Call.{Ran, Settled, Grouped}
 use Rattle.org_store.specs.History.{Past, Lists, HoldsPrefix}
 use Rattle.org_store.specs.OnePlace.{HaveSameNodes, HasNodesOf, HasNodesOfPrefix, IsRefile, IsSessionOf, MayBeAccepted, MayRefile}
-use Rattle.org_store.specs.Outcome.{IsAccepted, outcome}
+use Rattle.org_commands.specs.Outcome.{IsAccepted, outcome}
 use Rattle.org_store.specs.Reopening.{IsOpenable, AreSmall}
-use Rattle.org_store.specs.Session.{Session, Kept, Holds}
-use Rattle.org_store.specs.Step.{Step}
+use Rattle.org_commands.specs.Session.{Session, Kept, Holds}
+use Rattle.org_commands.specs.Step.{Step}
 use Rattle.org_store.proofs.Calls.{call_lists, reply_of, settle_steps}
 use Rattle.org_store.proofs.Follows.{step_setting}
 use Rattle.org_store.proofs.History.{Texts}

@@ -6,11 +6,11 @@ use Rattle.org_journal.specs.Recovered.{Image, SameFiles, contents}
 use Rattle.org_fileset.specs.Laws.{AreOtherFiles, IsBetween}
 use Rattle.org_fileset.specs.Replay.{IsAtRest}
 use Rattle.org_fileset.proofs.Middle.{counts_between, rest_recovers}
-use Rattle.org_store.specs.declared.command.RunFault.{RunFault}
-use Rattle.org_store.specs.InOrder.{with_texts}
-use Rattle.org_store.specs.Left.{IsLeft, PutsOnDisk}
-use Rattle.org_store.specs.Outcome.{Outcome}
-use Rattle.org_store.specs.Session.{Session}
+use Rattle.org_commands.specs.declared.command.RunFault.{RunFault}
+use Rattle.org_commands.specs.InOrder.{with_texts}
+use Rattle.org_commands.specs.Left.{IsLeft, PutsOnDisk}
+use Rattle.org_commands.specs.Outcome.{Outcome}
+use Rattle.org_commands.specs.Session.{Session}
 
 pub left_between : {D : Type 0} (files : D → List ℕ → FileState) (moment : D → ℕ) (left_since : D → ℕ → Image → Type 0) (old mid new : D) {A : Type 0}
     (s : Session) (others : Image) (does : Outcome) (answer : Result A RunFault) (accepted : ℕ)

@@ -16,15 +16,15 @@ use Rattle.org_outline.specs.Tree.{Node, node_at, tree}
 use Rattle.org_move.specs.Archive.{archived_section}
 use Rattle.org_move.specs.Counts.{count_over, made_count, one_of}
 use Rattle.org_move.specs.Location.{Destination}
-use Rattle.org_store.specs.declared.command.Archive.{Archive as Archiving}
-use Rattle.org_store.specs.declared.command.Command.{Command}
-use Rattle.org_store.specs.declared.command.Command.TheVariants.{Archive}
+use Rattle.org_commands.specs.declared.command.Archive.{Archive as Archiving}
+use Rattle.org_commands.specs.declared.command.Command.{Command}
+use Rattle.org_commands.specs.declared.command.Command.TheVariants.{Archive}
 use Rattle.org_store.specs.Calls.{Call, CallsPast}
 use Rattle.org_store.specs.History.{Past, Adds, Lists}
 use Rattle.org_store.specs.OnePlace.{ArchivesOne, HaveNodesButFew, IsArchiving, IsRefile, MayMove, NewSection}
-use Rattle.org_store.specs.Outcome.{IsAccepted, Accepts, outcome}
+use Rattle.org_commands.specs.Outcome.{IsAccepted, Accepts, outcome}
 use Rattle.org_store.specs.Reopening.{AreSmall}
-use Rattle.org_store.specs.Session.{Session}
+use Rattle.org_commands.specs.Session.{Session}
 use Rattle.org_store.proofs.ArchivedCounts.{archive_keeps}
 use Rattle.org_store.proofs.History.{Texts, before_end}
 use Rattle.org_store.proofs.Listed.{each_at, has_calls, keeps_small}

@@ -14,12 +14,12 @@ use Rattle.org_move.specs.declared.fault.MoveFault.{MoveFault}
 use Rattle.org_move.specs.Counts.{count_in, count_over}
 use Rattle.org_move.specs.Refile.{Moved, refile_across, refile_within}
 use Rattle.org_move.proofs.Kept.{across_counts, across_valid, within_counts, within_valid}
-use Rattle.org_store.specs.declared.command.Refusal.TheVariants.{TooLarge}
-use Rattle.org_store.specs.Files.{has_large}
-use Rattle.org_store.specs.InOrder.{is_name, text_at, with_all, with_text}
-use Rattle.org_store.specs.Outcome.{Accepts, Refuses, changed, refile, with_moved}
-use Rattle.org_store.specs.Refile.{text_within, texts_across}
-use Rattle.org_store.specs.Session.{Session}
+use Rattle.org_commands.specs.declared.command.Refusal.TheVariants.{TooLarge}
+use Rattle.org_commands.specs.Files.{has_large}
+use Rattle.org_commands.specs.InOrder.{is_name, text_at, with_all, with_text}
+use Rattle.org_commands.specs.Outcome.{Accepts, Refuses, changed, refile, with_moved}
+use Rattle.org_commands.specs.Refile.{text_within, texts_across}
+use Rattle.org_commands.specs.Session.{Session}
 
 -- ---- one text is new
 

@@ -13,18 +13,18 @@ use Rattle.std.proofs.lemmas.Slice.Eq.{bytes_eq-Decides}
 use Rattle.org_disk.proofs.Names.{name_cases}
 use Rattle.org_journal.specs.Recovered.{Image, SameFiles, recovered}
 use Rattle.org_move.specs.Counts.{count_over}
-use Rattle.org_store.specs.declared.command.Command.{Command}
-use Rattle.org_store.specs.declared.command.Reply.{Reply}
-use Rattle.org_store.specs.declared.command.Reply.TheVariants.{Done, Safe, Text, Time}
-use Rattle.org_store.specs.declared.command.RunFault.{RunFault}
-use Rattle.org_store.specs.declared.command.RunFault.TheVariants.{Refused, OutOfMemory, Device, Broken}
-use Rattle.org_store.specs.InOrder.{is_name, text_at, texts_of, with_texts}
+use Rattle.org_commands.specs.declared.command.Command.{Command}
+use Rattle.org_commands.specs.declared.command.Reply.{Reply}
+use Rattle.org_commands.specs.declared.command.Reply.TheVariants.{Done, Safe, Text, Time}
+use Rattle.org_commands.specs.declared.command.RunFault.{RunFault}
+use Rattle.org_commands.specs.declared.command.RunFault.TheVariants.{Refused, OutOfMemory, Device, Broken}
+use Rattle.org_commands.specs.InOrder.{is_name, text_at, texts_of, with_texts}
 use Rattle.org_store.specs.OnePlace.{HaveSameNodes, HasNodesOf, IsSessionOf, IsRefile, MayBeAccepted, OnlyRefiles}
-use Rattle.org_store.specs.Outcome.{IsAccepted, Accepts, outcome}
+use Rattle.org_commands.specs.Outcome.{IsAccepted, Accepts, outcome}
 use Rattle.org_store.specs.Reopening.{AreSmall}
-use Rattle.org_store.specs.Session.{Session, Holds}
-use Rattle.org_store.specs.Step.{Step, Run, done, fills, settled}
-use Rattle.org_store.proofs.InOrder.{apart_from, texts_same}
+use Rattle.org_commands.specs.Session.{Session, Holds}
+use Rattle.org_commands.specs.Step.{Step, Run, done, fills, settled}
+use Rattle.org_commands.proofs.InOrder.{apart_from, texts_same}
 use Rattle.org_store.proofs.NodeCounts.{not_again, refile_keeps}
 use Rattle.org_store.proofs.Reopening.{StaysSmall, apart_names, step_small}
 use Rattle.org_store.proofs.Runs.{falls}

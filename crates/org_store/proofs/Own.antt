@@ -8,21 +8,21 @@ use Rattle.org_disk.proofs.Names.{name_cases, same_name}
 use Rattle.org_journal.specs.Recovered.{Image}
 use Rattle.org_fileset.specs.Writes.{LeavesAlone, IsOther}
 use Rattle.org_fileset.proofs.Writes.{alone_fewer, alone_none, alone_then}
-use Rattle.org_store.specs.declared.command.Command.{Command}
-use Rattle.org_store.specs.declared.command.Reply.{Reply}
-use Rattle.org_store.specs.declared.command.Reply.TheVariants.{Done, Safe, Text, Time}
-use Rattle.org_store.specs.declared.command.RunFault.{RunFault}
-use Rattle.org_store.specs.declared.command.RunFault.TheVariants.{Refused, OutOfMemory, Device, Broken}
+use Rattle.org_commands.specs.declared.command.Command.{Command}
+use Rattle.org_commands.specs.declared.command.Reply.{Reply}
+use Rattle.org_commands.specs.declared.command.Reply.TheVariants.{Done, Safe, Text, Time}
+use Rattle.org_commands.specs.declared.command.RunFault.{RunFault}
+use Rattle.org_commands.specs.declared.command.RunFault.TheVariants.{Refused, OutOfMemory, Device, Broken}
 use Rattle.org_store.specs.Calls.{Call, CallPast, CallsPast}
 use Rattle.org_store.specs.Calls.Call.{Ran, Settled, Grouped}
 use Rattle.org_store.specs.History.{Past}
-use Rattle.org_store.specs.InOrder.{AreNames, is_name}
-use Rattle.org_store.specs.Left.{IsApart, IsLeftAlone, IsSpared}
-use Rattle.org_store.specs.Outcome.{Outcome, Accepts, AsksToSettle, Refuses, Shows, Tells, written, outcome}
-use Rattle.org_store.specs.Runs.{RunsOver, SettlesOver}
-use Rattle.org_store.specs.Session.{Session, Kept}
-use Rattle.org_store.specs.Step.{Settles}
-use Rattle.org_store.specs.Waiting.{Joins, Waits, WaitsSettled, is_waiting}
+use Rattle.org_commands.specs.InOrder.{AreNames, is_name}
+use Rattle.org_commands.specs.Left.{IsApart, IsLeftAlone, IsSpared}
+use Rattle.org_commands.specs.Outcome.{Outcome, Accepts, AsksToSettle, Refuses, Shows, Tells, written, outcome}
+use Rattle.org_commands.specs.Runs.{RunsOver, SettlesOver}
+use Rattle.org_commands.specs.Session.{Session, Kept}
+use Rattle.org_commands.specs.Step.{Settles}
+use Rattle.org_commands.specs.Waiting.{Joins, Waits, WaitsSettled, is_waiting}
 use Rattle.org_store.proofs.Accepted.{written_named}
 use Rattle.org_store.proofs.Follows.{step_setting}
 

@@ -15,16 +15,16 @@ use Rattle.org_fileset.specs.declared.open.OpenFault.{OpenFault}
 use Rattle.org_fileset.specs.declared.open.OpenFault.TheVariants.{TooManyFiles, BadJournal, TooLarge, Device, OutOfMemory}
 use Rattle.org_fileset.proofs.Elements.{no_member, cons_cases, cons_here, cons_later}
 use Rattle.org_fileset.proofs.Sorted.{all_sorted, archives_apart, archives_grow}
-use Rattle.org_store.specs.declared.command.Command.{Command}
-use Rattle.org_store.specs.declared.command.Reply.{Reply}
-use Rattle.org_store.specs.declared.command.Reply.TheVariants.{Done, Safe, Text, Time}
-use Rattle.org_store.specs.declared.command.RunFault.{RunFault}
-use Rattle.org_store.specs.declared.command.RunFault.TheVariants as run
-use Rattle.org_store.specs.InOrder.{texts_of, with_all, with_text, with_texts}
-use Rattle.org_store.specs.Session.{Session, Holds}
-use Rattle.org_store.specs.Outcome.{IsAccepted, Outcome, Accepts, Shows, Tells, AsksToSettle, Refuses, outcome}
-use Rattle.org_store.specs.Step.{Step, fills, done, settled}
-use Rattle.org_store.specs.Left.{IsLeft, PutsOnDisk}
+use Rattle.org_commands.specs.declared.command.Command.{Command}
+use Rattle.org_commands.specs.declared.command.Reply.{Reply}
+use Rattle.org_commands.specs.declared.command.Reply.TheVariants.{Done, Safe, Text, Time}
+use Rattle.org_commands.specs.declared.command.RunFault.{RunFault}
+use Rattle.org_commands.specs.declared.command.RunFault.TheVariants as run
+use Rattle.org_commands.specs.InOrder.{texts_of, with_all, with_text, with_texts}
+use Rattle.org_commands.specs.Session.{Session, Holds}
+use Rattle.org_commands.specs.Outcome.{IsAccepted, Outcome, Accepts, Shows, Tells, AsksToSettle, Refuses, outcome}
+use Rattle.org_commands.specs.Step.{Step, fills, done, settled}
+use Rattle.org_commands.specs.Left.{IsLeft, PutsOnDisk}
 use Rattle.org_store.specs.Reopening.{AreSameNames, IsOpenable, AreSmall}
 use Rattle.org_store.proofs.Accepted.{AreWithin, accepted_puts}
 use Rattle.org_store.proofs.Runs.{falls}

@@ -4,16 +4,16 @@ use Rattle.std.proofs.lemmas.Bool.{cases_Bool, false≢true}
 use Rattle.org_disk.specs.Disk.{FileState}
 use Rattle.org_outline.specs.States.{Keywords}
 use Rattle.org_texts.specs.Texts.{TextSet, nothing_held}
-use Rattle.org_store.specs.declared.command.Reply.{Reply}
-use Rattle.org_store.specs.declared.command.Reply.TheVariants.{Done, Safe, Text, Time}
-use Rattle.org_store.specs.declared.command.RunFault.{RunFault}
-use Rattle.org_store.specs.declared.command.RunFault.TheVariants.{Refused, OutOfMemory, Device, Broken}
-use Rattle.org_store.specs.declared.tally.Tally.{Tally}
-use Rattle.org_store.specs.Files.{OpenFiles}
-use Rattle.org_store.specs.Session.{Session, kept_over}
-use Rattle.org_store.specs.Outcome.{Outcome}
-use Rattle.org_store.specs.Step.{Does, IsSettled, done, fills}
-use Rattle.org_store.specs.Waiting.{NoneWaits}
+use Rattle.org_commands.specs.declared.command.Reply.{Reply}
+use Rattle.org_commands.specs.declared.command.Reply.TheVariants.{Done, Safe, Text, Time}
+use Rattle.org_commands.specs.declared.command.RunFault.{RunFault}
+use Rattle.org_commands.specs.declared.command.RunFault.TheVariants.{Refused, OutOfMemory, Device, Broken}
+use Rattle.org_commands.specs.declared.tally.Tally.{Tally}
+use Rattle.org_commands.specs.Files.{OpenFiles}
+use Rattle.org_commands.specs.Session.{Session, kept_over}
+use Rattle.org_commands.specs.Outcome.{Outcome}
+use Rattle.org_commands.specs.Step.{Does, IsSettled, done, fills}
+use Rattle.org_commands.specs.Waiting.{NoneWaits}
 
 -- a session that is broken
 settled_broken : (s : Session) → s.broken ≡ true → IsSettled s

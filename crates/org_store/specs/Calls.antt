@@ -4,13 +4,13 @@
 use Rattle.std.specs.Prelude.{◌≡◌, ℕ, List, [], ◌∷◌, Result}
 use Rattle.org_disk.specs.Disk.{FileState}
 use Rattle.org_journal.specs.Recovered.{Image}
-use Rattle.org_store.specs.declared.command.Command.{Command}
-use Rattle.org_store.specs.declared.command.Reply.{Reply}
-use Rattle.org_store.specs.declared.command.RunFault.{RunFault}
+use Rattle.org_commands.specs.declared.command.Command.{Command}
+use Rattle.org_commands.specs.declared.command.Reply.{Reply}
+use Rattle.org_commands.specs.declared.command.RunFault.{RunFault}
 use Rattle.org_store.specs.History.{Past, Adds}
-use Rattle.org_store.specs.Outcome.{outcome}
-use Rattle.org_store.specs.Runs.{RunsOver, SettlesOver}
-use Rattle.org_store.specs.Session.{Session, Kept}
+use Rattle.org_commands.specs.Outcome.{outcome}
+use Rattle.org_commands.specs.Runs.{RunsOver, SettlesOver}
+use Rattle.org_commands.specs.Session.{Session, Kept}
 
 -- A call of a store, with its answer.
 pub data Call : Type 0 where

@@ -2,8 +2,8 @@
 -- each accepted command.
 use Rattle.std.specs.Prelude.{◌≡◌, ◌⊎◌, ℕ, ◌+◌, ◌≤◌, List, [], ◌∷◌, ◌++◌, length, slice_get, Some, IsFalse, IsSomeAnd}
 use Rattle.org_journal.specs.Recovered.{Image}
-use Rattle.org_store.specs.Outcome.{Outcome, IsAccepted}
-use Rattle.org_store.specs.Session.{Session, Kept, Holds}
+use Rattle.org_commands.specs.Outcome.{Outcome, IsAccepted}
+use Rattle.org_commands.specs.Session.{Session, Kept, Holds}
 
 -- A store, and at place k of the list the texts of all its files after the first k accepted
 -- commands.

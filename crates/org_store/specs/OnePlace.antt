@@ -10,19 +10,19 @@ use Rattle.org_fileset.specs.Names.{with_archives, AreSorted}
 use Rattle.org_move.specs.Archive.{archived_section, target_heading}
 use Rattle.org_move.specs.Counts.{count_over, made_count, one_of}
 use Rattle.org_move.specs.Location.{Destination, location}
-use Rattle.org_store.specs.declared.command.Archive.{Archive as Archiving}
-use Rattle.org_store.specs.declared.command.Refile.{Refile as Refiling}
-use Rattle.org_store.specs.declared.command.Command.{Command}
-use Rattle.org_store.specs.declared.command.Command.TheVariants.{Archive, Refile}
-use Rattle.org_store.specs.declared.command.Reply.{Reply}
-use Rattle.org_store.specs.declared.command.Reply.TheVariants.{Done, Safe, Text, Time}
-use Rattle.org_store.specs.declared.command.RunFault.{RunFault}
-use Rattle.org_store.specs.declared.command.RunFault.TheVariants.{Refused, OutOfMemory, Device, Broken}
+use Rattle.org_commands.specs.declared.command.Archive.{Archive as Archiving}
+use Rattle.org_commands.specs.declared.command.Refile.{Refile as Refiling}
+use Rattle.org_commands.specs.declared.command.Command.{Command}
+use Rattle.org_commands.specs.declared.command.Command.TheVariants.{Archive, Refile}
+use Rattle.org_commands.specs.declared.command.Reply.{Reply}
+use Rattle.org_commands.specs.declared.command.Reply.TheVariants.{Done, Safe, Text, Time}
+use Rattle.org_commands.specs.declared.command.RunFault.{RunFault}
+use Rattle.org_commands.specs.declared.command.RunFault.TheVariants.{Refused, OutOfMemory, Device, Broken}
 use Rattle.org_store.specs.Calls.{Call}
 use Rattle.org_store.specs.Calls.Call.{Ran, Settled, Grouped}
-use Rattle.org_store.specs.InOrder.{text_at, texts_of}
+use Rattle.org_commands.specs.InOrder.{text_at, texts_of}
 use Rattle.org_store.specs.Reopening.{AreSmall}
-use Rattle.org_store.specs.Session.{Session}
+use Rattle.org_commands.specs.Session.{Session}
 
 -- Each node is as often over these texts as over the others, by its heading line without the stars
 -- and by the lines of its section (Org Syntax, "Headings", "Sections").

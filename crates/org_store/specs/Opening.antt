@@ -6,9 +6,9 @@ use Rattle.org_fileset.specs.Opening.{IsOpenedFor, IsRefusedFor}
 use Rattle.org_fileset.specs.declared.open.OpenFault.{OpenFault}
 use Rattle.org_fileset.specs.declared.open.OpenFault.TheVariants.{Device, OutOfMemory}
 use Rattle.org_outline.specs.States.{Keywords}
-use Rattle.org_store.specs.InOrder.{texts_of}
+use Rattle.org_commands.specs.InOrder.{texts_of}
 use Rattle.org_store.specs.Reopening.{IsOpenable}
-use Rattle.org_store.specs.Session.{Session, Kept}
+use Rattle.org_commands.specs.Session.{Session, Kept}
 
 -- a store that was just opened, over files of these names that have these texts
 abbrev pub opened : Keywords → List (List ℕ) → List (List ℕ) → Session

@@ -7,13 +7,10 @@ ghost use Rattle.org_fileset.specs.Opening.{IsDeviceRefusal, disk_in};
 ghost use Rattle.org_fileset.specs.Recovery.{Reopens};
 ghost use Rattle.org_store.specs.Group.{IsGroup};
 ghost use Rattle.org_store.specs.Opening.{IsOpened, IsRefused};
-ghost use Rattle.org_store.specs.Runs.{IsBrokenBy, IsIdle, RunsOver, SettlesOver};
-ghost use Rattle.org_store.specs.Counts.{Counts, SettledCounts};
+ghost use Rattle.org_commands.specs.Runs.{IsBrokenBy, IsIdle, RunsOver, SettlesOver};
+ghost use Rattle.org_commands.specs.Counts.{Counts, SettledCounts};
 
-use crate::act::act;
-use crate::command::{Command, Reply, RunFault};
-use crate::files::Files;
-use crate::tally::Tally;
+use org_commands::{Command, Files, Reply, RunFault, Tally, act};
 use org_disk::{Disk, FileName};
 use org_fileset::OpenRefused;
 use org_outline::States;
@@ -22,10 +19,10 @@ use std::marker::Model;
 
 /// Org files on a disk, and what was done to them since the store was opened.
 ///
-/// A clause sees its disk, its session (specs/Session.antt) and which of its files wait for a
-/// commit. What is said of files and of crashes is said where the disk is honest after the call; of
-/// crashes in `run` and `settle` also only where it was at rest, as an opening of a recoverable
-/// disk and each call without a failure leave it (`LeavesDisk`, specs/Runs.antt). A store that is
+/// A clause sees its disk, its session (`Session` of org_commands) and which of its files wait for
+/// a commit. What is said of files and of crashes is said where the disk is honest after the call;
+/// of crashes in `run` and `settle` also only where it was at rest, as an opening of a recoverable
+/// disk and each call without a failure leave it (`LeavesDisk` of org_commands). A store that is
 /// broken does nothing any more: open its files anew.
 #[derive(Drop)]
 pub struct Store<D: Disk> {
@@ -36,9 +33,9 @@ pub struct Store<D: Disk> {
 
 impl<D: Disk> Model for Store<D> {
     ghost use Rattle.std.specs.Prelude.{◌≡◌, ◌≤◌};
-    ghost use Rattle.org_store.specs.Session.{Kept, kept_over};
-    ghost use Rattle.org_store.specs.Step.{IsSettled};
-    ghost use Rattle.org_store.specs.Waiting.{NoneWaits};
+    ghost use Rattle.org_commands.specs.Session.{Kept, kept_over};
+    ghost use Rattle.org_commands.specs.Step.{IsSettled};
+    ghost use Rattle.org_commands.specs.Waiting.{NoneWaits};
 
     ghost Value = { Kept D };
 
@@ -175,7 +172,7 @@ impl<D: Disk> Store<D> {
     /// commands that were acknowledged then, or, where this command settles, for those after all
     /// that are accepted when it ends. It writes only where it settles, and no file then but those
     /// that wait for a commit, those that it gives new texts, and the journal; where no file waits
-    /// and it gives none a new text, it writes nothing (`IsLeftAlone`, specs/Left.antt).
+    /// and it gives none a new text, it writes nothing (`IsLeftAlone` of org_commands).
     ///
     /// `Refused` and `OutOfMemory` leave files and counts as they were; where a settling finds no
     /// memory, this command is undone, and those before it stay pending. `Device` comes only where

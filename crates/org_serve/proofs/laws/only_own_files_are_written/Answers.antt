@@ -1,5 +1,5 @@
 use Rattle.std.proofs.Common.{ℕ, List, sym, subst}
-use Rattle.org_store.specs.InOrder.{AreNames}
+use Rattle.org_commands.specs.InOrder.{AreNames}
 use Rattle.org_serve.proofs.Foreign.{own_runs}
 use Rattle.org_serve.proofs.Honest.{past_runs}
 use Rattle.org_serve.proofs.laws.only_own_files_are_written.Goals as goal

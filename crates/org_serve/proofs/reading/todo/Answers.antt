@@ -1,5 +1,5 @@
 use Rattle.std.proofs.Common.{◌≡◌, ◌∙◌, None, sym, rules}
-use Rattle.org_store.specs.declared.command.Command.TheVariants.{Todo}
+use Rattle.org_commands.specs.declared.command.Command.TheVariants.{Todo}
 use Rattle.org_serve.specs.Grammar.{file_of, path_of, unescaped, moment_of, todo_of}
 use Rattle.org_serve.proofs.Nodes.{refused, last_none}
 use Rattle.org_serve.proofs.reading.todo.Goals as goal

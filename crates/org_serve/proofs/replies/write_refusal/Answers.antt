@@ -1,7 +1,7 @@
 use Rattle.std.proofs.Common.{◌≡◌, ℕ, List, ◌∷◌, ◌++◌, OnOk, OnErr, codes, subst, rules}
 use Rattle.std.specs.Fmt.{decimal}
 use Rattle.std.specs.Io.KnownBytes.{Appends}
-use Rattle.org_store.specs.Refusals.{code_of, name_of}
+use Rattle.org_commands.specs.Refusals.{code_of, name_of}
 use Rattle.org_serve.specs.Parts.{AppendsSome}
 use Rattle.org_serve.proofs.Pieces.{number_then}
 use Rattle.org_serve.proofs.replies.write_refusal.Goals as goal

@@ -1,5 +1,5 @@
 use Rattle.org_journal.specs.Recovered.{contents}
-use Rattle.org_store.specs.Outcome.{AsksToSettle, outcome}
+use Rattle.org_commands.specs.Outcome.{AsksToSettle, outcome}
 use Rattle.org_store.proofs.Middle.{left_between, nothing_else_at_rest}
 use Rattle.org_store.proofs.laws.middle_of_a_call_counts.Goals as goal
 

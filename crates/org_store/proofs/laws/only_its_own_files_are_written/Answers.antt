@@ -1,5 +1,5 @@
 use Rattle.std.proofs.Common.{ℕ, List, sym, subst}
-use Rattle.org_store.specs.InOrder.{AreNames}
+use Rattle.org_commands.specs.InOrder.{AreNames}
 use Rattle.org_store.proofs.Accepted.{written_named}
 use Rattle.org_store.proofs.Own.{own_calls}
 use Rattle.org_store.proofs.laws.only_its_own_files_are_written.Goals as goal

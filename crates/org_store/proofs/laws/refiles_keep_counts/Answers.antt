@@ -1,5 +1,5 @@
 use Rattle.std.proofs.Common.{refl}
-use Rattle.org_store.specs.InOrder.{text_at}
+use Rattle.org_commands.specs.InOrder.{text_at}
 use Rattle.org_store.proofs.NodeCounts.{refile_keeps}
 use Rattle.org_store.proofs.laws.refiles_keep_counts.Goals as goal
 

@@ -1,18 +1,18 @@
 use Rattle.std.proofs.Common.{◌≡◌, ◌∙◌, ⊎_elim, inl, inr, false, Err, Result, refl, sym, subst, ap, rules}
 use Rattle.std.proofs.lemmas.Bool.{false≢true}
 use Rattle.org_journal.specs.Recovered.{contents}
-use Rattle.org_store.specs.declared.command.RunFault.{RunFault}
-use Rattle.org_store.specs.declared.command.RunFault.TheVariants.{Broken}
-use Rattle.org_store.specs.declared.command.Command.{Command}
-use Rattle.org_store.specs.declared.command.Command.TheVariants.{Settle}
-use Rattle.org_store.specs.declared.command.Reply.{Reply}
-use Rattle.org_store.specs.InOrder.{texts_of}
-use Rattle.org_store.specs.Left.{IsLeft, IsLeftAlone}
-use Rattle.org_store.specs.Outcome.{outcome}
-use Rattle.org_store.specs.Runs.{RunsOver}
-use Rattle.org_store.specs.Step.{Step}
+use Rattle.org_commands.specs.declared.command.RunFault.{RunFault}
+use Rattle.org_commands.specs.declared.command.RunFault.TheVariants.{Broken}
+use Rattle.org_commands.specs.declared.command.Command.{Command}
+use Rattle.org_commands.specs.declared.command.Command.TheVariants.{Settle}
+use Rattle.org_commands.specs.declared.command.Reply.{Reply}
+use Rattle.org_commands.specs.InOrder.{texts_of}
+use Rattle.org_commands.specs.Left.{IsLeft, IsLeftAlone}
+use Rattle.org_commands.specs.Outcome.{outcome}
+use Rattle.org_commands.specs.Runs.{RunsOver}
+use Rattle.org_commands.specs.Step.{Step}
 use Rattle.org_store.proofs.Calls.{reply_of, settling_runs}
-use Rattle.org_store.proofs.Leaving.{leaves_unwritten}
+use Rattle.org_commands.proofs.Leaving.{leaves_unwritten}
 use Rattle.org_store.proofs.store.Store.run.Goals as goal
 
 pub returns-then-is_broken-clause-did : goal.returns-then-is_broken-clause-did

@@ -1,16 +1,16 @@
 use Rattle.std.proofs.Common.{◌≡◌, [], ap, inl, false, Ok, Err, refl, subst, rules}
 use Rattle.org_journal.specs.Recovered.{contents}
-use Rattle.org_store.specs.declared.command.RunFault.TheVariants.{Broken}
+use Rattle.org_commands.specs.declared.command.RunFault.TheVariants.{Broken}
 use Rattle.org_disk.specs.Accounts.{LeavesOver}
 use Rattle.org_fileset.specs.Writes.{LeavesAlone, IsOther}
 use Rattle.org_texts.specs.Texts.{Holding, TextSet, held_over}
-use Rattle.org_store.specs.InOrder.{HoldsEither, texts_of}
-use Rattle.org_store.specs.Keeping.{fault_of_set}
-use Rattle.org_store.specs.Left.{IsLeft, IsLeftAlone}
-use Rattle.org_store.specs.Outcome.{AsksToSettle}
-use Rattle.org_store.specs.Step.{Settles}
-use Rattle.org_store.proofs.Leaving.{leaves_unwritten}
-use Rattle.org_store.proofs.Sessions.{Fails, settle_failed, settle_leaves}
+use Rattle.org_commands.specs.InOrder.{HoldsEither, texts_of}
+use Rattle.org_commands.specs.Keeping.{fault_of_set}
+use Rattle.org_commands.specs.Left.{IsLeft, IsLeftAlone}
+use Rattle.org_commands.specs.Outcome.{AsksToSettle}
+use Rattle.org_commands.specs.Step.{Settles}
+use Rattle.org_commands.proofs.Leaving.{leaves_unwritten}
+use Rattle.org_commands.proofs.Sessions.{Fails, settle_failed, settle_leaves}
 use Rattle.org_store.proofs.store.Store.settle.Goals as goal
 
 pub returns-then-is_broken-clause-did : goal.returns-then-is_broken-clause-did

@@ -1,0 +1,111 @@
+-- Calls that only read: handed on, and one after another.
+use Rattle.std.proofs.Common.{◌≡◌, ◌∙◌, ◌⊎◌, inr, ⊎_elim, ℕ, false, List, Result, Ok, Err, refl, sym}
+use Rattle.std.specs.Prelude.{◌↔◌, IsErrOf, IsTrue}
+use Rattle.std.proofs.lemmas.Bool.{false≢true}
+use Rattle.org_disk.specs.Accounts.{Accounts, Looks}
+use Rattle.org_disk.specs.Disk.{FileState}
+use Rattle.org_disk.proofs.Accounting.{accounts_fine, accounts_none, accounts_then, looks_none, looks_then}
+use Rattle.org_journal.specs.Recovered.{Image}
+use Rattle.org_fileset.specs.declared.fault.SetFault.{SetFault}
+use Rattle.org_fileset.specs.declared.fault.SetFault.TheVariants as set
+use Rattle.org_commands.specs.declared.command.RunFault.{RunFault}
+use Rattle.org_commands.specs.declared.command.RunFault.TheVariants.{Device, Broken}
+use Rattle.org_commands.specs.Files.{OpenFiles}
+use Rattle.org_commands.specs.Keeping.{fault_of_set}
+use Rattle.org_commands.specs.Reading.{OnlyReads}
+
+-- the accounts of a call, where another answer fails just where its own does
+accounts_as : {D : Type 0} {steady : Type 0} {honest : D → Type 0} {failures : D → ℕ} {old new : D} {Failed Fails : Type 0} → (Fails → Failed) → (Failed → Fails)
+    → Accounts steady honest failures old new Failed → Accounts steady honest failures old new Fails
+accounts_as back on call = record {
+  was_honest = call.was_honest;
+  stays_honest = call.stays_honest;
+  no_less = call.no_less;
+  risen = λ fails. call.risen (back fails);
+  equal = λ fine. call.equal (λ failed. fine (on failed));
+}
+
+-- a call that did nothing
+pub only_reads_none : {D A : Type 0} {steady : Type 0} {honest : D → Type 0} {failures : D → ℕ} {files : D → List ℕ → FileState} {moment : D → ℕ} {left_since : D → ℕ → Image → Type 0} {old : OpenFiles D} {answer : Result A RunFault}
+    → old.broken ≡ false → (IsErrOf answer Broken → ⊥) → (IsErrOf answer Device → ⊥) → OnlyReads steady honest failures files moment left_since old old answer
+only_reads_none {steady = steady} {honest = honest} {failures = failures} {files = files} {moment = moment} {left_since = left_since} {old = old} unbroken works stays = record {
+  looks = λ h. looks_none files moment left_since old.disk;
+  names = refl;
+  waits = refl;
+  works = works;
+  breaks = (λ fell. absurd (stays fell), λ broken. absurd (false≢true (sym unbroken ∙ broken)));
+  accounts = accounts_as stays (λ no. absurd no) (accounts_none steady honest failures old.disk);
+}
+
+-- a call of the set of files that only looks at the disk, and an answer that is the device's fault
+-- just where the set's is
+pub only_reads_set : {D X A : Type 0} {steady : Type 0} {honest : D → Type 0} {failures : D → ℕ} {files : D → List ℕ → FileState} {moment : D → ℕ} {left_since : D → ℕ → Image → Type 0} {old new : OpenFiles D} {answer : Result A RunFault}
+    (result : Result X SetFault) → (IsErrOf answer Broken → ⊥) → (IsErrOf answer Device → IsErrOf result set.Device) → (IsErrOf result set.Device → IsErrOf answer Device)
+    → old.broken ≡ false → new.names ≡ old.names → new.held.before.waiting ≡ old.held.before.waiting → (honest new.disk → Looks files moment left_since old.disk new.disk)
+    → IsTrue new.broken ↔ (IsTrue old.broken ⊎ IsErrOf result set.Device) → Accounts steady honest failures old.disk new.disk (IsErrOf result set.Device)
+    → OnlyReads steady honest failures files moment left_since old new answer
+only_reads_set result works back on unbroken names waits looks breaks accounts = record {
+  looks = looks;
+  names = names;
+  waits = waits;
+  works = works;
+  breaks = (λ fell. breaks.1 (inr (back fell)), λ broken. ⊎_elim (λ was. absurd (false≢true (sym unbroken ∙ was))) on (breaks.0 broken));
+  accounts = accounts_as back on accounts;
+}
+
+-- a fault of the set, and the files' own
+module _ {X A : Type 0} (result : Result X SetFault) (answer : Result A RunFault) where
+  pub set_works : (fault : SetFault) → result ≡ Err fault → answer ≡ Err (fault_of_set fault) → (IsErrOf result set.Broken → ⊥) → IsErrOf answer Broken → ⊥
+  set_works set.OutOfMemory was is whole fell = cc
+  set_works set.Device was is whole fell = cc
+  set_works set.Broken was is whole fell = whole was
+
+  pub set_back : (fault : SetFault) → result ≡ Err fault → answer ≡ Err (fault_of_set fault) → IsErrOf answer Device → IsErrOf result set.Device
+  set_back set.OutOfMemory was is fell = absurd (cc)
+  set_back set.Device was is fell = was
+  set_back set.Broken was is fell = absurd (cc)
+
+  pub set_on : (fault : SetFault) → result ≡ Err fault → answer ≡ Err (fault_of_set fault) → IsErrOf result set.Device → IsErrOf answer Device
+  set_on set.OutOfMemory was is fell = absurd (cc)
+  set_on set.Device was is fell = is
+  set_on set.Broken was is fell = absurd (cc)
+
+-- one fault, in answers of two types
+same_fault : {A B : Type 0} (fault other : RunFault) → ◌≡◌ {A = Result A RunFault} (Err fault) (Err other) → ◌≡◌ {A = Result B RunFault} (Err fault) (Err other)
+same_fault fault other is = let one : fault ≡ other = cc in cc
+
+module _ {D : Type 0} {steady : Type 0} {honest : D → Type 0} {failures : D → ℕ} {files : D → List ℕ → FileState} {moment : D → ℕ} {left_since : D → ℕ → Image → Type 0} {A B : Type 0} where
+  -- a call, and another answer that has these faults just where its own has
+  only_reads_as : {old new : OpenFiles D} {first : Result A RunFault} {second : Result B RunFault} → (IsErrOf second Broken → IsErrOf first Broken) → (IsErrOf second Device → IsErrOf first Device)
+      → (IsErrOf first Device → IsErrOf second Device) → OnlyReads steady honest failures files moment left_since old new first → OnlyReads steady honest failures files moment left_since old new second
+  only_reads_as broken back on call = record {
+    looks = call.looks;
+    names = call.names;
+    waits = call.waits;
+    works = λ was. call.works (broken was);
+    breaks = (λ fell. call.breaks.0 (back fell), λ fell. on (call.breaks.1 fell));
+    accounts = accounts_as back on call.accounts;
+  }
+
+  -- its fault, handed on
+  pub only_reads_fault : {old new : OpenFiles D} {fault : RunFault} {answer : Result B RunFault} → answer ≡ Err fault
+      → OnlyReads {A = A} steady honest failures files moment left_since old new (Err fault) → OnlyReads steady honest failures files moment left_since old new answer
+  only_reads_fault {fault = fault} is call =
+      only_reads_as (λ broken. same_fault fault Broken (sym is ∙ broken)) (λ fell. same_fault fault Device (sym is ∙ fell)) (λ fell. is ∙ same_fault fault Device fell) call
+
+  -- an answer of its own, behind a call that didn't fail
+  pub only_reads_fine : {old new : OpenFiles D} {x : A} {answer : Result B RunFault} → (IsErrOf answer Broken → ⊥) → (IsErrOf answer Device → ⊥)
+      → OnlyReads steady honest failures files moment left_since old new (Ok x) → OnlyReads steady honest failures files moment left_since old new answer
+  only_reads_fine works stays call = only_reads_as (λ broken. absurd (works broken)) (λ fell. absurd (stays fell)) (λ fell. absurd (cc)) call
+
+  -- a call that didn't fail, and one after it
+  pub only_reads_then : {old mid new : OpenFiles D} {x : A} {answer : Result B RunFault} → OnlyReads steady honest failures files moment left_since old mid (Ok x)
+      → OnlyReads steady honest failures files moment left_since mid new answer → OnlyReads steady honest failures files moment left_since old new answer
+  only_reads_then first second = record {
+    looks = λ h. looks_then (first.looks (second.accounts.was_honest h)) (second.looks h);
+    names = second.names ∙ first.names;
+    waits = second.waits ∙ first.waits;
+    works = second.works;
+    breaks = second.breaks;
+    accounts = accounts_then (accounts_fine (λ fell. absurd (cc)) first.accounts) second.accounts;
+  }

@@ -1,0 +1,179 @@
+-- What the calls of a store's files do to its session.
+use Rattle.std.proofs.Common.{◌≡◌, inl, inr, ⊎_elim, ℕ, ◌+◌, false, true, List, [], Option, Some, Result, Ok, Err, refl, sym, ◌∙◌, ap, subst}
+use Rattle.std.specs.Prelude.{◌↔◌, IsErrOf, IsOkAnd, IsTrue, MatchResult}
+use Rattle.org_disk.specs.Disk.{FileState, AreImages, LeavesOnly}
+use Rattle.org_outline.specs.States.{Keywords}
+use Rattle.org_journal.specs.Recovered.{Image, IsRecoverable, contents}
+use Rattle.org_fileset.specs.declared.fault.SetFault.{SetFault}
+use Rattle.org_fileset.specs.declared.fault.SetFault.TheVariants as set
+use Rattle.org_fileset.specs.Replay.{IsAtRest}
+use Rattle.org_fileset.specs.Writes.{LeavesAlone, IsOther}
+use Rattle.org_fileset.proofs.Writes.{alone_fewer}
+use Rattle.org_texts.specs.declared.plan.Plan.{Plan}
+use Rattle.org_texts.specs.Texts.{Holding, held_over}
+use Rattle.org_commands.specs.declared.command.Reply.{Reply}
+use Rattle.org_commands.specs.declared.command.RunFault.{RunFault}
+use Rattle.org_commands.specs.declared.command.RunFault.TheVariants.{Refused, OutOfMemory, Device, Broken}
+use Rattle.org_commands.specs.declared.tally.Tally.{Tally}
+use Rattle.org_commands.specs.Files.{CommitsTexts, OpenFiles}
+use Rattle.org_commands.specs.InOrder.{HoldsEither, texts_of}
+use Rattle.org_commands.specs.Session.{Session, Kept, kept_over, session_over}
+use Rattle.org_commands.specs.Outcome.{Outcome, AsksToSettle, Accepts}
+use Rattle.org_commands.specs.Step.{Does, Settles, failed_in_read, fills}
+use Rattle.org_commands.specs.Left.{IsLeft, IsLeftAlone}
+use Rattle.org_commands.specs.Keeping.{Plans, PlansOrStays, Reads, fault_of_set}
+use Rattle.org_commands.specs.Runs.{LeavesDisk}
+use Rattle.org_commands.proofs.Committing.{leaves_as}
+use Rattle.org_commands.proofs.InOrder.{texts_same}
+use Rattle.org_commands.proofs.Keeping.{same_fault}
+use Rattle.org_commands.proofs.Leaving.{leaves_unwritten, leaves_weaker}
+
+-- what a settling answers, where it is no Ok
+pub record Fails {D : Type 0} (old new : OpenFiles D) (result : Result (Unit {0}) SetFault) (fault : SetFault) : Type 0 where
+  pub is : result ≡ Err fault
+  pub unbroken : old.broken ≡ false
+  pub memory : IsErrOf result set.OutOfMemory → new ≡ old
+  pub works : IsErrOf result set.Broken → ⊥
+  pub breaks : IsErrOf result set.Device ↔ IsTrue new.broken
+  pub names : new.names ≡ old.names
+
+pub settle_failed : {D : Type 0} (texts : D → Image) (states : Keywords) (old new : OpenFiles D) (tally : Tally) (result : Result (Unit {0}) SetFault) (fault : SetFault) → Fails old new result fault
+    → Settles (session_over texts states old tally) (Err (fault_of_set fault)) (session_over texts states new tally)
+settle_failed {D} texts states old new tally result set.OutOfMemory fails =
+    (fails.unbroken, ap (λ (files : OpenFiles D). session_over texts states files tally) (fails.memory fails.is))
+settle_failed texts states old new tally result set.Device fails =
+    let fell : new.broken ≡ true = fails.breaks.0 fails.is in
+    (fails.unbroken, (texts_of (held_over new.held.before (texts new.disk)) new.names, texts_of (texts new.disk) new.names, rw (fell, fails.names) refl))
+settle_failed texts states old new tally result set.Broken fails = absurd (fails.works fails.is)
+
+-- what a settling that failed leaves of the disk
+module _ {D : Type 0} (files : D → List ℕ → FileState) (moment : D → ℕ) (left_since : D → ℕ → Image → Type 0) (states : Keywords) (old new : OpenFiles D) (tally : Tally)
+    (start : (image : Image) → left_since old.disk (moment old.disk) image → AreImages (files old.disk) image) where
+  abbrev before : Kept D
+  before = kept_over files states old tally
+
+  abbrev now : Kept D
+  now = kept_over files states new tally
+
+  settle_unwritten : (fault : RunFault) → new ≡ old → LeavesDisk files moment left_since before now (IsLeft {A = Unit {0}} before.session (contents (files old.disk)) AsksToSettle (Err fault) now.session.accepted)
+      (IsLeftAlone {A = Unit {0}} before.session before.waiting AsksToSettle (Err fault) now.session.accepted) (IsErrOf {T = Unit {0}} (Err fault) Device)
+  settle_unwritten fault same =
+      leaves_unwritten files moment left_since before (IsLeft {A = Unit {0}} before.session (contents (files old.disk)) AsksToSettle (Err fault) now.session.accepted)
+      (IsLeftAlone {A = Unit {0}} before.session before.waiting AsksToSettle (Err fault) now.session.accepted) (IsErrOf {T = Unit {0}} (Err fault) Device) start refl (λ image holds. inl holds) now (ap (λ (held : OpenFiles D). held.disk) same) refl
+
+  pub settle_leaves : (result : Result (Unit {0}) SetFault) (fault : SetFault) → Fails old new result fault
+      → (IsAtRest (files old.disk) → LeavesOnly (moment old.disk) (moment new.disk) (left_since old.disk) (left_since new.disk) (HoldsEither old.names (contents (files old.disk)) before.session.files))
+      → (IsAtRest (files old.disk) → IsRecoverable (files new.disk)) → LeavesAlone files moment left_since (IsOther old.held.before.waiting) old.disk new.disk
+      → LeavesDisk files moment left_since before now (IsLeft {A = Unit {0}} before.session (contents (files old.disk)) AsksToSettle (Err (fault_of_set fault)) now.session.accepted)
+      (IsLeftAlone {A = Unit {0}} before.session before.waiting AsksToSettle (Err (fault_of_set fault)) now.session.accepted) (IsErrOf {T = Unit {0}} (Err (fault_of_set fault)) Device)
+  settle_leaves result set.OutOfMemory fails leaves fit alone = settle_unwritten OutOfMemory (fails.memory fails.is)
+  settle_leaves result set.Device fails leaves fit alone = record {
+    any_moment = λ rest. leaves_as (leaves rest) (λ image either. ⊎_elim (λ held. inl held) (λ all. inr (refl, (before.session.files, refl, all))) either);
+    others = λ fine. absurd (fine refl);
+    rest = λ fine. absurd (fine refl);
+    recoverable = fit;
+    alone = alone_fewer files moment left_since (IsLeftAlone {A = Unit {0}} before.session before.waiting AsksToSettle (Err Device) now.session.accepted) (IsOther old.held.before.waiting) old.disk new.disk alone (λ name this. this refl);
+  }
+  settle_leaves result set.Broken fails leaves fit alone = absurd (fails.works fails.is)
+
+-- what the commit of a command that fills the group leaves of the disk
+module _ {D : Type 0} (files : D → List ℕ → FileState) (moment : D → ℕ) (left_since : D → ℕ → Image → Type 0) (states : Keywords) (old new : OpenFiles D) (was now : Tally) (waiting after : List (List ℕ))
+    (full : fills (session_over (λ disk. contents (files disk)) states old was) ≡ true) (more : now.accepted ≡ was.accepted + 1) where
+  abbrev LeavesFilled : Result (Unit {0}) RunFault → Type 0
+  LeavesFilled answer = LeavesDisk files moment left_since (kept_over files states old was) (kept_over files states new now)
+      (IsLeft (kept_over files states old was).session (contents (files old.disk)) (Accepts waiting after) answer now.accepted)
+      (IsLeftAlone (kept_over files states old was).session [] (Accepts waiting after) answer now.accepted) (IsErrOf answer Device)
+
+  pub leaves_filled : new.names ≡ old.names → CommitsTexts {A = Unit {0}} {E = SetFault} files moment left_since old.names waiting after old.disk new.disk (Ok (tt {0})) → LeavesFilled (Ok (tt {0}))
+  leaves_filled names made = record {
+    any_moment = λ rest. leaves_as (made.any_moment rest) (λ image either. ⊎_elim (λ held. inl held) (λ all. inr (tt, (after, (refl, full, more), all))) either);
+    others = λ fine. rw (names, made.texts) made.others;
+    rest = λ fine. made.rest;
+    recoverable = made.recoverable;
+    alone = alone_fewer files moment left_since (IsLeftAlone {A = Unit {0}} (kept_over files states old was).session [] (Accepts waiting after) (Ok (tt {0})) now.accepted) (IsOther waiting) old.disk new.disk made.alone (λ name this. this tt full more);
+  }
+
+  pub leaves_torn : (fault : SetFault) → CommitsTexts {A = Unit {0}} {E = SetFault} files moment left_since old.names waiting after old.disk new.disk (Err fault) → LeavesFilled (Err Device)
+  leaves_torn fault made = record {
+    any_moment = λ rest. leaves_as (made.any_moment rest) (λ image either. ⊎_elim (λ held. inl held) (λ all. inr (refl, (after, (refl, full, more), all))) either);
+    others = λ fine. absurd (fine refl);
+    rest = λ fine. absurd (fine refl);
+    recoverable = made.recoverable;
+    alone = alone_fewer files moment left_since (IsLeftAlone {A = Unit {0}} (kept_over files states old was).session [] (Accepts waiting after) (Err Device) now.accepted) (IsOther waiting) old.disk new.disk made.alone (λ name this. this refl full more);
+  }
+
+-- .. and that of a settling
+pub leaves_settled : {D : Type 0} (files : D → List ℕ → FileState) (moment : D → ℕ) (left_since : D → ℕ → Image → Type 0) (states : Keywords) (old new : OpenFiles D) (was now : Tally) → new.names ≡ old.names
+    → CommitsTexts {A = Unit {0}} {E = SetFault} files moment left_since old.names old.held.before.waiting (session_over (λ disk. contents (files disk)) states old was).files old.disk new.disk (Ok (tt {0}))
+    → LeavesDisk files moment left_since (kept_over files states old was) (kept_over files states new now) (IsLeft {A = Unit {0}} (kept_over files states old was).session (contents (files old.disk)) AsksToSettle (Ok (tt {0})) now.accepted)
+    (IsLeftAlone {A = Unit {0}} (kept_over files states old was).session old.held.before.waiting AsksToSettle (Ok (tt {0})) now.accepted) (IsErrOf {T = Unit {0}} {E = RunFault} (Ok (tt {0})) Device)
+leaves_settled files moment left_since states old new was now names made = record {
+  any_moment = λ rest. leaves_as (made.any_moment rest) (λ image either. ⊎_elim (λ held. inl held) (λ all. inr (tt, ((session_over (λ disk. contents (files disk)) states old was).files, refl, all))) either);
+  others = λ fine. rw (names, made.texts) made.others;
+  rest = λ fine. made.rest;
+  recoverable = made.recoverable;
+  alone = alone_fewer files moment left_since (IsLeftAlone {A = Unit {0}} (kept_over files states old was).session old.held.before.waiting AsksToSettle (Ok (tt {0})) now.accepted) (IsOther old.held.before.waiting) old.disk new.disk made.alone (λ name this. this tt);
+}
+
+-- the same fault of a settling, handed on as a command's
+pub leaves_handed : {D : Type 0} (files : D → List ℕ → FileState) (moment : D → ℕ) (left_since : D → ℕ → Image → Type 0) (old new : Kept D) (result : Result (Unit {0}) RunFault) (given : Result Reply RunFault) (fault : RunFault)
+    → result ≡ Err fault → given ≡ Err fault
+    → LeavesDisk files moment left_since old new (IsLeft old.session (contents (files old.disk)) AsksToSettle result new.session.accepted) (IsLeftAlone old.session old.waiting AsksToSettle result new.session.accepted) (IsErrOf result Device)
+    → LeavesDisk files moment left_since old new (IsLeft old.session (contents (files old.disk)) AsksToSettle given new.session.accepted) (IsLeftAlone old.session old.waiting AsksToSettle given new.session.accepted) (IsErrOf given Device)
+leaves_handed files moment left_since old new result given fault was is leaves =
+    let s = old.session in
+    let others = contents (files old.disk) in
+    let n = new.session.accepted in
+    subst (λ (r : Result Reply RunFault). LeavesDisk files moment left_since old new (IsLeft s others AsksToSettle r n) (IsLeftAlone s old.waiting AsksToSettle r n) (IsErrOf r Device)) (sym is)
+    (leaves_weaker files moment left_since old new (IsLeft {A = Unit {0}} s others AsksToSettle (Err fault) n) (IsLeft {A = Reply} s others AsksToSettle (Err fault) n)
+    (IsLeftAlone {A = Unit {0}} s old.waiting AsksToSettle (Err fault) n) (IsLeftAlone {A = Reply} s old.waiting AsksToSettle (Err fault) n)
+    (IsErrOf {T = Unit {0}} (Err fault) Device) (IsErrOf {T = Reply} (Err fault) Device)
+    (subst (λ (r : Result (Unit {0}) RunFault). LeavesDisk files moment left_since old new (IsLeft s others AsksToSettle r n) (IsLeftAlone s old.waiting AsksToSettle r n) (IsErrOf r Device)) was leaves)
+    (λ image left. left) (λ name this. this) (same_fault fault Device))
+
+-- a call that changes no text
+still_texts : {D : Type 0} (texts : D → Image) (old new : OpenFiles D) → new.names ≡ old.names → texts new.disk ≡ texts old.disk
+    → ((name : List ℕ) → held_over new.held.before (texts new.disk) name ≡ held_over old.held.before (texts old.disk) name)
+    → texts_of (held_over new.held.before (texts new.disk)) new.names ≡ texts_of (held_over old.held.before (texts old.disk)) old.names
+still_texts texts old new names same over =
+    ap (texts_of (held_over new.held.before (texts new.disk))) names
+    ∙ texts_same (held_over new.held.before (texts new.disk)) (held_over old.held.before (texts old.disk)) old.names (λ name there. over name)
+
+pub session_still : {D : Type 0} (texts : D → Image) (states : Keywords) (old new : OpenFiles D) (tally : Tally) → new.names ≡ old.names → texts new.disk ≡ texts old.disk
+    → ((name : List ℕ) → held_over new.held.before (texts new.disk) name ≡ held_over old.held.before (texts old.disk) name)
+    → new.broken ≡ old.broken → session_over texts states new tally ≡ session_over texts states old tally
+session_still texts states old new tally names same over still =
+    let held = still_texts texts old new names same over in
+    rw (held, same, names, still) refl
+
+pub session_failed : {D : Type 0} (texts : D → Image) (states : Keywords) (old new : OpenFiles D) (tally : Tally) → new.names ≡ old.names → texts new.disk ≡ texts old.disk
+    → ((name : List ℕ) → held_over new.held.before (texts new.disk) name ≡ held_over old.held.before (texts old.disk) name)
+    → new.broken ≡ true → session_over texts states new tally ≡ failed_in_read (session_over texts states old tally)
+session_failed texts states old new tally names same over fell =
+    let held = still_texts texts old new names same over in
+    rw (held, same, names, fell) refl
+
+-- a fault of a reading, told of any command
+pub does_read : (A : Type 0) (old new : Session) (outcome : Outcome) (fault : RunFault) → old.broken ≡ false → Reads {A = A} old (Err fault) new → Does old outcome (Err fault) new
+does_read A old new outcome OutOfMemory unbroken reads = (unbroken, reads)
+does_read A old new outcome Device unbroken reads = (unbroken, inl reads)
+does_read A old new outcome Broken unbroken reads = absurd reads
+does_read A old new outcome (Refused why) unbroken reads = absurd reads
+
+-- the same fault, handed on
+pub reads_fault : {A B : Type 0} (old new : Session) (result : Result A RunFault) (given : Result B RunFault) (fault : RunFault) → result ≡ Err fault → given ≡ Err fault → Reads old result new → Reads old given new
+reads_fault {A} {B} old new result given fault was is reads =
+    subst (λ (r : Result B RunFault). Reads old r new) (sym is) (go fault (subst (λ (r : Result A RunFault). Reads old r new) was reads))
+  where
+    go : (f : RunFault) → Reads {A = A} old (Err f) new → Reads {A = B} old (Err f) new
+    go OutOfMemory r = r
+    go Device r = r
+    go Broken r = r
+    go (Refused why) r = r
+
+-- a planner that always has a plan is one of those that may have none
+pub some_planned : (s : Session) (told : Outcome) (first : Result Plan RunFault) (held : Holding) (new : Session) (answer : Result (Option Plan) RunFault)
+    → MatchResult first (λ plan. IsOkAnd answer (λ given. given ≡ Some plan)) (λ fault. answer ≡ Err fault) → Plans s told first held new → PlansOrStays s told answer held new
+some_planned s told (Ok plan) held new (Ok given) is plans = subst (λ (o : Option Plan). PlansOrStays s told (Ok o) held new) (sym is) plans
+some_planned s told (Ok plan) held new (Err fault) is plans = absurd is
+some_planned s told (Err fault) held new answer is plans = subst (λ (r : Result (Option Plan) RunFault). PlansOrStays s told r held new) (sym is) plans

@@ -1,0 +1,50 @@
+use Rattle.std.proofs.Common.{◌≡◌, ◌∙◌, ◌∷◌, [], Some, Err, ap, subst, rules}
+use Rattle.org_journal.specs.Recovered.{Image, contents}
+use Rattle.org_outline.specs.Tree.{tree}
+use Rattle.org_state.specs.Clock.{running_in}
+use Rattle.org_texts.specs.Texts.{text_of}
+use Rattle.org_commands.specs.Clocks.{RunsIn}
+use Rattle.org_commands.specs.Files.{AreReady}
+use Rattle.org_commands.specs.Session.{Kept, session_over}
+use Rattle.org_commands.proofs.Acting.{kept_same}
+use Rattle.org_commands.proofs.Held.{keeps_same, none_ready}
+use Rattle.org_commands.proofs.Plans.{is_ready, one_name}
+use Rattle.org_commands.proofs.Running.{runs_ready}
+use Rattle.org_commands.proofs.Sessions.{reads_fault}
+use Rattle.org_commands.proofs.commands.running.running_in_file.Goals as goal
+
+pub returns-in_err-ready-clause-reads : goal.returns-in_err-ready-clause-reads
+returns-in_err-ready-clause-reads g c tally honest =
+    let given : c.from_residual.result ≡ Err c.in_err-ready.field-0.0 = search rules in
+    let texts : g.row.D.Denot → Image = λ disk. contents (g.D.Disk.files disk) in
+    let states = c.args.states.now in
+    reads_fault (session_over texts states c.args.files.now tally) (session_over texts states c.ready.new.self tally) c.ready.result c.from_residual.result c.in_err-ready.field-0.0 c.in_err-ready.was given
+    (c.ready.ensures.reads states tally honest)
+
+pub held-requires : goal.held-requires
+held-requires g c =
+    let held = c.ready.new.self.held in
+    let file = c.args.file.now in
+    let ready : AreReady (file ∷ []) held = c.in_ok-ready.ensures.ready [] (none_ready c.args.files.now.held c.requires.between.begun) in
+    is_ready (file ∷ []) held file ready (one_name file)
+
+pub returns-clause-runs : goal.returns-clause-runs
+returns-clause-runs g c =
+    let held = c.ready.new.self.held in
+    let file = c.args.file.now in
+    let seen = c.held.result.now.text in
+    let ready : AreReady (file ∷ []) held = c.in_ok-ready.ensures.ready [] (none_ready c.args.files.now.held c.requires.between.begun) in
+    let at : text_of held.now file ≡ Some seen = search rules in
+    let found : running_in (tree seen.bytes) ≡ c.running-found.result = search rules in
+    subst (RunsIn c.undo.new.self.held.before file) found (runs_ready held c.undo.new.self.held.before file seen ready at c.undo.ensures.before)
+
+pub returns-clause-reads : goal.returns-clause-reads
+returns-clause-reads g c tally honest =
+    let d = g.D.Disk in
+    let undone = c.undo.ensures in
+    let states = c.args.states.now in
+    ap (λ (k : Kept g.row.D.Denot). k.session) (kept_same d.files states c.ready.new.self c.undo.new.self tally undone.memory undone.before)
+    ∙ c.in_ok-ready.ensures.reads states tally (subst d.honest undone.memory.disk honest)
+
+pub returns-clause-keeps : goal.returns-clause-keeps
+returns-clause-keeps g c = keeps_same c.args.files.now.held c.ready.new.self.held c.undo.new.self.held c.ready.ensures.keeps c.undo.ensures.before

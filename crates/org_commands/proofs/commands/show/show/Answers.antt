@@ -1,0 +1,75 @@
+use Rattle.std.proofs.Common.{◌≡◌, ◌∙◌, false, true, Some, Result, Ok, Err, List, ℕ, refl, sym, ap, subst, rules}
+use Rattle.std.proofs.lemmas.Bool.{false≢true}
+use Rattle.org_journal.specs.Recovered.{contents}
+use Rattle.org_texts.specs.Texts.{TextSet, held_over, text_of}
+use Rattle.org_commands.specs.declared.command.Refusal.TheVariants.{NoSuchFile}
+use Rattle.org_commands.specs.declared.command.Reply.{Reply}
+use Rattle.org_commands.specs.declared.command.Reply.TheVariants.{Text}
+use Rattle.org_commands.specs.declared.command.RunFault.{RunFault}
+use Rattle.org_commands.specs.declared.command.RunFault.TheVariants.{OutOfMemory}
+use Rattle.org_commands.specs.InOrder.{is_name, text_at}
+use Rattle.org_commands.specs.Keeping.{Acts}
+use Rattle.org_commands.specs.Outcome.{show}
+use Rattle.org_commands.specs.Session.{Session, kept_over}
+use Rattle.org_commands.proofs.Acting.{acts_quiet, acts_read, acts_refused}
+use Rattle.org_commands.proofs.InOrder.{none_at}
+use Rattle.org_commands.proofs.Plans.{text_held}
+use Rattle.org_commands.proofs.commands.show.show.Goals as goal
+
+pub returns-then-not-has-clause-acts : goal.returns-then-not-has-clause-acts
+returns-then-not-has-clause-acts g c states tally =
+    let d = g.D.Disk in
+    let old = kept_over d.files states c.args.files.now tally in
+    let files = c.args.files.now in
+    let missing : is_name files.names c.args.file.now ≡ false = search rules in
+    let none = none_at (held_over files.held.before (contents (d.files files.disk))) files.names c.args.file.now missing in
+    acts_refused d.files d.moment d.left_since d.honest old (λ honest image left. g.met.D.Disk.only_now old.disk image honest left) refl old refl c.requires.between.unbroken
+    (show (text_at files.names old.session.files c.args.file.now)) NoSuchFile (ap show none)
+
+pub returns-in_err-load-clause-acts : goal.returns-in_err-load-clause-acts
+returns-in_err-load-clause-acts g c states tally =
+    let d = g.D.Disk in
+    let old = kept_over d.files states c.args.files.now tally in
+    let new = kept_over d.files states c.load.new.self tally in
+    let load = c.load.ensures in
+    let given : c.from_residual.result ≡ Err c.in_err-load.field-0.0 = search rules in
+    acts_read d.files d.moment d.left_since d.honest old (λ honest image left. g.met.D.Disk.only_now old.disk image honest left) refl new
+    (show (text_at c.args.files.now.names old.session.files c.args.file.now)) c.load.result c.in_err-load.field-0.0 c.from_residual.result c.in_err-load.was given c.requires.between.unbroken load.disk.accounts.was_honest
+    (load.reads states tally) load.disk.looks refl (record { accepted = refl; acknowledged = refl; group = refl }) load.disk.works load.disk.breaks
+
+pub returns-in_err-to_vec-in-Some-clause-acts : goal.returns-in_err-to_vec-in-Some-clause-acts
+returns-in_err-to_vec-in-Some-clause-acts g c states tally =
+    let d = g.D.Disk in
+    let old = kept_over d.files states c.args.files.now tally in
+    let new = kept_over d.files states c.load.new.self tally in
+    let load = c.load.ensures in
+    let told = show (text_at c.args.files.now.names old.session.files c.args.file.now) in
+    let given : c.from_residual-in_err-to_vec-in-Some.result ≡ Err OutOfMemory = search rules in
+    let whole : c.load.new.self.broken ≡ false = search rules in
+    subst (λ (a : Result Reply RunFault). Acts d.files d.moment d.left_since d.honest old told a new) (sym given)
+    (acts_quiet d.files d.moment d.left_since d.honest old (λ honest image left. g.met.D.Disk.only_now old.disk image honest left) refl new told (Err OutOfMemory) tt load.disk.accounts.was_honest
+    (λ honest. (c.requires.between.unbroken, c.in_ok-load.ensures.reads states tally honest)) load.disk.looks refl (record { accepted = refl; acknowledged = refl; group = refl })
+    (λ broken. absurd (cc)) (λ fell. absurd (cc), λ broken. absurd (false≢true (sym whole ∙ broken))))
+
+pub returns-clause-acts : goal.returns-clause-acts
+returns-clause-acts g c states tally =
+    let d = g.D.Disk in
+    let old = kept_over d.files states c.args.files.now tally in
+    let new = kept_over d.files states c.load.new.self tally in
+    let load = c.load.ensures in
+    let file = c.args.file.now in
+    let told = show (text_at c.args.files.now.names old.session.files file) in
+    let whole : c.load.new.self.broken ≡ false = search rules in
+    let held = c.in-Some.held.now in
+    let there : is_name c.args.files.now.names file ≡ true = search rules in
+    let named : is_name c.load.new.self.names file ≡ true = ap (λ (ns : List (List ℕ)). is_name ns file) load.disk.names ∙ there in
+    let now : text_of c.load.new.self.held.now file ≡ Some held.text = search rules in
+    let before : text_of c.load.new.self.held.before file ≡ Some held.text = ap (λ (s : TextSet). text_of s file) (sym (load.begun c.requires.between.begun)) ∙ now in
+    let bytes : c.new.result ≡ held.text.bytes = search rules in
+    acts_quiet d.files d.moment d.left_since d.honest old (λ honest image left. g.met.D.Disk.only_now old.disk image honest left) refl new told (Ok (Text c.new.result)) tt load.disk.accounts.was_honest
+    (λ honest.
+    let read : new.session ≡ old.session = c.in_ok-load.ensures.reads states tally honest in
+    let seen : text_at new.session.names new.session.files file ≡ Some held.text.bytes = text_held c.load.new.self.names c.load.new.self.held (contents (d.files c.load.new.self.disk)) file held.text named before in
+    (c.requires.between.unbroken, ap show (subst (λ (s : Session). text_at s.names s.files file ≡ Some held.text.bytes) read seen ∙ ap (λ (b : List ℕ). Some b) (sym bytes)), read))
+    load.disk.looks refl (record { accepted = refl; acknowledged = refl; group = refl })
+    (λ broken. absurd (cc)) (λ fell. absurd (cc), λ broken. absurd (false≢true (sym whole ∙ broken)))

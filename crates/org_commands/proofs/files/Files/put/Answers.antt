@@ -1,0 +1,77 @@
+use Rattle.std.proofs.Common.{◌≡◌, ◌∙◌, ℕ, List, false, true, Ok, Err, sym, ap, subst, rules}
+use Rattle.std.specs.Option.{ForSome, IsSome}
+use Rattle.org_journal.specs.Recovered.{contents}
+use Rattle.org_texts.specs.Plan.{IsPlan}
+use Rattle.org_texts.specs.Texts.{Holding, TextSet, text_of}
+use Rattle.org_commands.specs.declared.command.RunFault.TheVariants.{Refused}
+use Rattle.org_commands.specs.declared.command.Refusal.TheVariants.{TooLarge}
+use Rattle.org_commands.specs.Files.{AreReady, AreSmallToWrite, OpenFiles, PutsPlan, files_of, has_large, new_texts, texts_in}
+use Rattle.org_commands.specs.Quiet.{Forgets}
+use Rattle.org_commands.proofs.Held.{first_held, second_held, small_put, sound_put, sound_undone}
+use Rattle.org_commands.proofs.Quiet.{noted_put, noted_undone}
+use Rattle.org_commands.proofs.files.Files.put.Goals as goal
+
+pub is_large-requires-clause-first : goal.is_large-requires-clause-first
+is_large-requires-clause-first g c =
+    let plan = c.args.plan.now in
+    let is : IsPlan plan c.self.inside.texts.now = rw (← c.self.view_is) at c.requires.is in
+    subst (λ (set : TextSet). IsSome (text_of set plan.first.file)) (sym c.in_ok-apply.ensures.now) (first_held plan c.self.inside.texts.now is)
+
+pub is_large-requires-clause-second : goal.is_large-requires-clause-second
+is_large-requires-clause-second g c =
+    let plan = c.args.plan.now in
+    let is : IsPlan plan c.self.inside.texts.now = rw (← c.self.view_is) at c.requires.is in
+    subst (λ (set : TextSet). ForSome plan.second (λ change. IsSome (text_of set change.file))) (sym c.in_ok-apply.ensures.now) (second_held plan c.self.inside.texts.now is)
+
+pub invariant_of-self-else-is_large : goal.invariant_of-self-else-is_large
+invariant_of-self-else-is_large g c =
+    let inside = c.self.inside in
+    let plan = c.args.plan.now in
+    let is : IsPlan plan inside.texts.now = rw (← c.self.view_is) at c.requires.is in
+    let now = c.in_ok-apply.ensures.now in
+    let before = c.in_ok-apply.ensures.before in
+    let named : c.names.result.now ≡ inside.set.names = search rules in (
+      sound_put plan inside.set.names ((inside.set.broken ≡ false) × g.D.Disk.honest inside.set.disk) (contents (g.D.Disk.files inside.set.disk)) inside.texts c.apply.new.self is now before c.self.invariant.0,
+      noted_put plan inside.set.names inside.quiet.items c.forget_plan.new.quiet.items inside.texts c.apply.new.self now before
+          (subst (λ (ns : List (List ℕ)). Forgets ns (files_of plan) inside.quiet.items c.forget_plan.new.quiet.items) named c.forget_plan.ensures) c.self.invariant.1,
+    )
+
+pub returns-clause-puts : goal.returns-clause-puts
+returns-clause-puts g c =
+    let inside = c.self.inside in
+    let plan = c.args.plan.now in
+    let now = c.in_ok-apply.ensures.now in
+    let ready : AreReady (files_of plan) inside.texts = rw (← c.self.view_is) at c.requires.ready in
+    let test : c.is_large.result ≡ has_large (texts_in c.apply.new.self.now (files_of plan)) = c.is_large.ensures in
+    let small : has_large (new_texts plan inside.texts.now) ≡ false =
+    subst (λ (set : TextSet). has_large (texts_in set (files_of plan)) ≡ false) now (sym test ∙ c.if-is_large.false) in
+    let same : inside.texts ≡ c.args.self.now.held = ap (λ (f : OpenFiles g.row.D.Denot). f.held) c.self.view_is in
+    subst (λ (h : Holding). PutsPlan plan h (Ok tt) c.apply.new.self) same (small, now, subst AreSmallToWrite (sym now) (small_put plan inside.texts ready c.self.invariant.0.small small))
+
+pub returns-then-is_large-clause-puts : goal.returns-then-is_large-clause-puts
+returns-then-is_large-clause-puts g c =
+    let inside = c.self.inside in
+    let plan = c.args.plan.now in
+    let now = c.in_ok-apply.ensures.now in
+    let test : c.is_large.result ≡ has_large (texts_in c.apply.new.self.now (files_of plan)) = c.is_large.ensures in
+    let large : has_large (new_texts plan inside.texts.now) ≡ true =
+    subst (λ (set : TextSet). has_large (texts_in set (files_of plan)) ≡ true) now (sym test ∙ c.if-is_large.true) in
+    let same : inside.texts ≡ c.args.self.now.held = ap (λ (f : OpenFiles g.row.D.Denot). f.held) c.self.view_is in
+    subst (λ (h : Holding). PutsPlan plan h (Err (Refused TooLarge)) c.undo.new.self) same (large, c.undo.ensures.now ∙ c.in_ok-apply.ensures.before)
+
+pub invariant_of-self-then-is_large : goal.invariant_of-self-then-is_large
+invariant_of-self-then-is_large g c =
+    let inside = c.self.inside in
+    let plan = c.args.plan.now in
+    let is : IsPlan plan inside.texts.now = rw (← c.self.view_is) at c.requires.is in
+    let now = c.in_ok-apply.ensures.now in
+    let before = c.in_ok-apply.ensures.before in
+    let live = (inside.set.broken ≡ false) × g.D.Disk.honest inside.set.disk in
+    let files = contents (g.D.Disk.files inside.set.disk) in
+    let named : c.names.result.now ≡ inside.set.names = search rules in (
+      sound_undone inside.set.names live files c.apply.new.self c.undo.new.self c.undo.ensures.now c.undo.ensures.before
+          (sound_put plan inside.set.names live files inside.texts c.apply.new.self is now before c.self.invariant.0),
+      noted_undone inside.set.names c.forget_plan.new.quiet.items c.apply.new.self c.undo.new.self c.undo.ensures.now c.undo.ensures.before
+          (noted_put plan inside.set.names inside.quiet.items c.forget_plan.new.quiet.items inside.texts c.apply.new.self now before
+          (subst (λ (ns : List (List ℕ)). Forgets ns (files_of plan) inside.quiet.items c.forget_plan.new.quiet.items) named c.forget_plan.ensures) c.self.invariant.1),
+    )

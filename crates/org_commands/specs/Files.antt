@@ -1,0 +1,154 @@
+-- What contracts see of a store's files: those of a disk, with what is held of their texts.
+use Rattle.std.specs.Prelude.{◌≡◌, ◌≢◌, ◌≤◌, ◌↔◌, ℕ, Bool, true, false, nat_lt, List, [], ◌∷◌, length, Option, None, Some, IsSome, Result, Ok, Err, OnOk, IsErrOf, IsTrue}
+use Rattle.std.specs.List.{AllByRecursion, list_any}
+use Rattle.std.specs.Map.{lookup}
+use Rattle.std.specs.Option.{option_map}
+use Rattle.std.specs.Str.{bytes_eq}
+use Rattle.org_disk.specs.Names.{journal_name}
+use Rattle.org_splice.specs.Texts.{terminated_text}
+use Rattle.org_disk.specs.Disk.{FileState}
+use Rattle.org_disk.specs.Accounts.{LeavesOver}
+use Rattle.org_journal.specs.Recovered.{Image, IsRecoverable, SameFiles, contents}
+use Rattle.org_fileset.specs.declared.fault.SetFault.{SetFault}
+use Rattle.org_fileset.specs.declared.fault.SetFault.TheVariants.{Broken, Device}
+use Rattle.org_fileset.specs.Names.{limit}
+use Rattle.org_fileset.specs.Replay.{IsAtRest}
+use Rattle.org_fileset.specs.Writes.{LeavesAlone, IsOther}
+use Rattle.org_texts.specs.declared.plan.FileEdits.{FileEdits}
+use Rattle.org_texts.specs.declared.plan.Plan.{Plan}
+use Rattle.org_texts.specs.Files.{StandOver, waits}
+use Rattle.org_texts.specs.Plan.{IsPlan, planned}
+use Rattle.org_texts.specs.Texts.{Holding, TextSet, bytes_or, text_of, text_or_none}
+use Rattle.org_commands.specs.declared.command.RunFault.{RunFault}
+use Rattle.org_commands.specs.declared.command.RunFault.TheVariants.{Refused, OutOfMemory}
+use Rattle.org_commands.specs.declared.command.Refusal.TheVariants.{TooLarge}
+use Rattle.org_commands.specs.InOrder.{HoldsEither, is_name, texts_of, with_texts}
+
+-- Files of a disk: their names in byte order, whether a call of the disk failed, and what is held
+-- of their texts.
+pub record OpenFiles (D : Type 0) : Type 0 where
+  pub disk : D
+  pub names : List (List ℕ)
+  pub broken : Bool
+  pub held : Holding
+
+-- Files that work, between commands: no call of the disk failed, and the texts are as the last
+-- command left them.
+pub record AreBetweenCommands {D : Type 0} (files : OpenFiles D) : Type 0 where
+  pub unbroken : files.broken ≡ false
+  pub begun : files.held.now ≡ files.held.before
+
+-- A call in memory alone, at the texts that are held.
+pub record StaysInMemory {D : Type 0} (old new : OpenFiles D) : Type 0 where
+  pub disk : new.disk ≡ old.disk
+  pub names : new.names ≡ old.names
+  pub broken : new.broken ≡ old.broken
+
+-- Held texts of files of these names, which are the disk's while `live` (it is honest, and no call
+-- of it failed).
+pub record AreTextsOf (names : List (List ℕ)) (live : Type 0) (files : Image) (set : TextSet)
+    : Type 0 where
+  pub named : (name : List ℕ) → IsSome (text_of set name) → is_name names name ≡ true
+  pub waiting : (name : List ℕ) → waits set name ≡ true → IsSome (text_of set name)
+  pub stand : live → StandOver files set
+
+-- no text that waits for a commit is past the limit
+abbrev pub AreSmallToWrite : TextSet → Type 0
+AreSmallToWrite set =
+    (name : List ℕ) → waits set name ≡ true → length (text_or_none (text_of set name)).bytes ≤ limit
+
+-- What always holds: no name is the journal's, the texts are the files', and what waited before the
+-- command that runs can be committed.
+pub record IsSound (names : List (List ℕ)) (live : Type 0) (files : Image) (held : Holding)
+    : Type 0 where
+  pub apart : AllByRecursion (λ name. name ≢ journal_name) names
+  pub now : AreTextsOf names live files held.now
+  pub before : AreTextsOf names live files held.before
+  pub small : AreSmallToWrite held.before
+
+-- The texts are as they were before the command that runs, but those of these names, which are
+-- held, are terminated, with their headings.
+pub record AreReady (names : List (List ℕ)) (holding : Holding) : Type 0 where
+  pub held : (name : List ℕ) → is_name names name ≡ true → IsSome (text_of holding.before name)
+  pub ready : (name : List ℕ) → is_name names name ≡ true → (has : Bool)
+      → lookup (bytes_eq name) holding.ready ≡ Some has → has ≡ true
+  pub shut : (name : List ℕ) → is_name names name ≡ true
+      → text_of holding.now name ≡ option_map terminated_text (text_of holding.before name)
+  pub others : (name : List ℕ) → is_name names name ≡ false
+      → text_of holding.now name ≡ text_of holding.before name
+  pub waiting : (name : List ℕ) → is_name names name ≡ false → waits holding.now name ≡ true
+      → waits holding.before name ≡ true
+
+-- the text of this name is held, with its headings
+pub record IsReady (name : List ℕ) (holding : Holding) : Type 0 where
+  pub held : IsSome (text_of holding.now name)
+  pub ready : (has : Bool) → lookup (bytes_eq name) holding.ready ≡ Some has → has ≡ true
+
+-- the texts that were held before the command that runs are held as they were
+abbrev pub KeepsHeld : Holding → Holding → Type 0
+KeepsHeld old new =
+    (name : List ℕ) → IsSome (text_of old.before name)
+    → text_of new.before name ≡ text_of old.before name
+
+abbrev pub second_file : Option FileEdits → List (List ℕ)
+second_file None = []
+second_file (Some change) = change.file ∷ []
+
+-- the files that a plan changes
+abbrev pub files_of : Plan → List (List ℕ)
+files_of plan = plan.first.file ∷ second_file plan.second
+
+-- A plan for files of these names, whose texts are ready.
+pub record IsPlanFor (names : List (List ℕ)) (held : Holding) (plan : Plan) : Type 0 where
+  pub is : IsPlan plan held.now
+  pub named : AllByRecursion (λ name. is_name names name ≡ true) (files_of plan)
+  pub ready : AreReady (files_of plan) held
+
+-- the texts that a set has of these names
+abbrev pub texts_in : TextSet → List (List ℕ) → List (List ℕ × List ℕ)
+texts_in set [] = []
+texts_in set (name ∷ names) = (name, bytes_or [] (text_of set name)) ∷ texts_in set names
+
+-- the new texts of the files that a plan changes
+abbrev pub new_texts : Plan → TextSet → List (List ℕ × List ℕ)
+new_texts plan set = texts_in (planned plan set) (files_of plan)
+
+-- one of these texts is past the limit
+abbrev pub has_large : List (List ℕ × List ℕ) → Bool
+has_large changes = list_any (λ change. nat_lt limit (length change.1)) changes
+
+-- What putting a plan answers, and what it makes of the texts: those of the plan, or, where one of
+-- them is past the limit or there is no memory, those before the command.
+abbrev pub PutsPlan : Plan → Holding → Result (Unit {0}) RunFault → Holding → Type 0
+PutsPlan plan old (Ok _) new =
+    (has_large (new_texts plan old.now) ≡ false)
+    × (new.now ≡ planned plan old.now)
+    × AreSmallToWrite new.now
+PutsPlan plan old (Err (Refused TooLarge)) new =
+    (has_large (new_texts plan old.now) ≡ true) × (new.now ≡ old.before)
+PutsPlan plan old (Err OutOfMemory) new = new.now ≡ old.before
+PutsPlan plan old (Err fault) new = ⊥
+
+-- What a commit of files that aren't broken makes of them besides: they keep their names, and a
+-- call of the disk that fails breaks them, and nothing else does.
+pub record KeepsFiles {D A : Type 0} (old new : OpenFiles D) (result : Result A SetFault)
+    : Type 0 where
+  pub names : new.names ≡ old.names
+  pub works : IsErrOf result Broken → ⊥
+  pub breaks : IsErrOf result Device ↔ IsTrue new.broken
+
+-- What a commit does that is to give files of these names these texts, where the disk is honest
+-- after it. It writes those that wait, and the journal.
+pub record CommitsTexts {D A E : Type 0} (files : D → List ℕ → FileState) (moment : D → ℕ)
+    (left_since : D → ℕ → Image → Type 0)
+    (names waiting after : List (List ℕ)) (old new : D) (result : Result A E) : Type 0 where
+  pub texts : OnOk result (texts_of (contents (files new)) names ≡ after)
+  pub others : OnOk result
+      (SameFiles (contents (files new)) (with_texts names after (contents (files old))))
+  pub rest : OnOk result (IsAtRest (files old) → IsAtRest (files new))
+  -- where all was on the disk: what a crash at any moment since the call began leaves
+  pub any_moment : IsAtRest (files old)
+      → LeavesOver moment left_since old new (HoldsEither names (contents (files old)) after)
+  -- after a failure too, it may be opened again
+  pub recoverable : IsAtRest (files old) → IsRecoverable (files new)
+  pub alone : LeavesAlone files moment left_since (IsOther waiting) old new

@@ -1,0 +1,137 @@
+-- How a command is planned on the texts of a store's files, and how it is accepted.
+use Rattle.std.specs.Prelude.{◌≡◌, ◌↔◌, ℕ, ◌+◌, List, [], Option, None, Some, Result, Ok, Err, IsErrOf, IsTrue, if◌then◌else◌}
+use Rattle.org_disk.specs.Disk.{FileState}
+use Rattle.org_journal.specs.Recovered.{Image, contents}
+use Rattle.org_fileset.specs.declared.fault.SetFault.{SetFault}
+use Rattle.org_fileset.specs.declared.fault.SetFault.TheVariants as set
+use Rattle.org_outline.specs.declared.paths.PathFault.{PathFault}
+use Rattle.org_texts.specs.declared.plan.Plan.{Plan}
+use Rattle.org_texts.specs.Texts.{Holding}
+use Rattle.org_capture.specs.declared.fault.CaptureFault.{CaptureFault}
+use Rattle.org_capture.specs.declared.fault.CaptureFault.TheVariants as capture
+use Rattle.org_move.specs.declared.fault.MoveFault.{MoveFault}
+use Rattle.org_move.specs.declared.fault.MoveFault.TheVariants as move
+use Rattle.org_state.specs.declared.fault.StateFault.{StateFault}
+use Rattle.org_state.specs.declared.fault.StateFault.TheVariants as state
+use Rattle.org_commands.specs.declared.command.Reply.{Reply}
+use Rattle.org_commands.specs.declared.command.RunFault.{RunFault}
+use Rattle.org_commands.specs.declared.command.RunFault.TheVariants.{Refused, OutOfMemory, Device, Broken}
+use Rattle.org_commands.specs.Files.{new_texts}
+use Rattle.org_commands.specs.Session.{Session, Kept}
+use Rattle.org_commands.specs.Outcome.{Outcome, changed, refusal_of, refusal_of_move, refusal_of_path, refusal_of_state}
+use Rattle.org_commands.specs.Step.{Does, done, failed_in_read, torn_in, fills}
+use Rattle.org_commands.specs.Left.{IsLeft, IsLeftAlone}
+use Rattle.org_commands.specs.Counts.{Counts, SameCounts}
+use Rattle.org_commands.specs.Runs.{LeavesDisk}
+
+-- The store was `old`, a command that is to do this is planned as these edits of what is held, or
+-- isn't, and the store is `new`.
+abbrev pub Plans : Session → Outcome → Result Plan RunFault → Holding → Session → Type 0
+Plans old outcome (Ok plan) held new =
+    (outcome ≡ changed old (new_texts plan held.now)) × (new ≡ old)
+Plans old outcome (Err fault) held new = Does old outcome (Err fault) new
+
+-- the same of a command that may change nothing: then there is no plan
+abbrev pub PlansOrStays : Session → Outcome → Result (Option Plan) RunFault → Holding → Session
+    → Type 0
+PlansOrStays old outcome (Ok (Some plan)) held new = Plans old outcome (Ok plan) held new
+PlansOrStays old outcome (Ok None) held new = (outcome ≡ changed old []) × (new ≡ old)
+PlansOrStays old outcome (Err fault) held new = Plans old outcome (Err fault) held new
+
+-- a call that reads files where they aren't held got this answer
+abbrev pub Reads : {A : Type 0} → Session → Result A RunFault → Session → Type 0
+Reads old (Ok _) new = new ≡ old
+Reads old (Err OutOfMemory) new = new ≡ old
+Reads old (Err Device) new = new ≡ failed_in_read old
+Reads old (Err Broken) new = ⊥
+Reads old (Err (Refused why)) new = ⊥
+
+-- A heading was looked for, and it is there; or it isn't, for this reason; or its file couldn't be
+-- read.
+abbrev pub LooksUp : {A : Type 0} → Session → Result ℕ PathFault → Result A RunFault → Session
+    → Type 0
+LooksUp old found (Ok _) new = ((i : ℕ) × (found ≡ Ok i)) × (new ≡ old)
+LooksUp old found (Err (Refused why)) new =
+    ((fault : PathFault) × (found ≡ Err fault) × (why ≡ refusal_of_path fault)) × (new ≡ old)
+LooksUp old found (Err OutOfMemory) new = new ≡ old
+LooksUp old found (Err Device) new = new ≡ failed_in_read old
+LooksUp old found (Err Broken) new = ⊥
+
+-- What a call does that is to have this outcome: to the session, to the disk, and to the counts
+-- whatever the disk does.
+pub record Acts {D : Type 0} (files : D → List ℕ → FileState) (moment : D → ℕ)
+    (left_since : D → ℕ → Image → Type 0)
+    (honest : D → Type 0) (old : Kept D) (outcome : Outcome) (answer : Result Reply RunFault)
+    (new : Kept D) : Type 0 where
+  pub does : honest new.disk → Does old.session outcome answer new.session
+  pub disk : honest new.disk → LeavesDisk files moment left_since old new
+      (IsLeft old.session (contents (files old.disk)) outcome answer new.session.accepted)
+      (IsLeftAlone old.session old.waiting outcome answer new.session.accepted)
+      (IsErrOf answer Device)
+  pub counts : Counts old.session answer new.session
+  pub works : IsErrOf answer Broken → ⊥
+  pub breaks : IsErrOf answer Device ↔ IsTrue new.session.broken
+
+-- the store was `old`, one more command with these texts after it gets this answer, and the store
+-- is `new`
+abbrev pub Keeps : Session → List (List ℕ) → Result (Unit {0}) RunFault → Session → Type 0
+Keeps old files (Ok _) new = new ≡ done old files
+Keeps old files (Err OutOfMemory) new = new ≡ old
+Keeps old files (Err Device) new =
+    IsTrue (fills old)
+    × ((left : List (List ℕ)) × (now : List (List ℕ)) × (new ≡ torn_in old left now))
+Keeps old files (Err Broken) new = ⊥
+Keeps old files (Err (Refused why)) new = ⊥
+
+-- what becomes of the counts
+abbrev pub KeepsCounts : Session → Result (Unit {0}) RunFault → Session → Type 0
+KeepsCounts old (Ok _) new =
+    (new.accepted ≡ old.accepted + 1)
+    × (new.acknowledged ≡ (if fills old then old.accepted + 1 else old.acknowledged))
+    × (new.group ≡ old.group)
+KeepsCounts old (Err OutOfMemory) new = SameCounts old new
+KeepsCounts old (Err Device) new =
+    (new.accepted ≡ old.accepted + 1)
+    × (new.acknowledged ≡ old.acknowledged)
+    × (new.group ≡ old.group)
+KeepsCounts old (Err Broken) new = ⊥
+KeepsCounts old (Err (Refused why)) new = ⊥
+
+-- the fault of a command that met this fault of the files
+abbrev pub fault_of_set : SetFault → RunFault
+fault_of_set set.OutOfMemory = OutOfMemory
+fault_of_set set.Device = Device
+fault_of_set set.Broken = Broken
+
+-- the fault of a command whose entry isn't put in
+abbrev pub fault_of_capture : CaptureFault → RunFault
+fault_of_capture capture.OutOfMemory = OutOfMemory
+fault_of_capture capture.BadTemplate = Refused (refusal_of capture.BadTemplate)
+fault_of_capture capture.BadEntry = Refused (refusal_of capture.BadEntry)
+fault_of_capture capture.NotFound = Refused (refusal_of capture.NotFound)
+fault_of_capture capture.NotUnique = Refused (refusal_of capture.NotUnique)
+
+-- the fault of a command whose subtree isn't moved
+abbrev pub fault_of_move : MoveFault → RunFault
+fault_of_move move.OutOfMemory = OutOfMemory
+fault_of_move move.NotFound = Refused (refusal_of_move move.NotFound)
+fault_of_move move.NotUnique = Refused (refusal_of_move move.NotUnique)
+fault_of_move move.InsideItself = Refused (refusal_of_move move.InsideItself)
+fault_of_move move.AlreadyArchive = Refused (refusal_of_move move.AlreadyArchive)
+fault_of_move move.BadLocation = Refused (refusal_of_move move.BadLocation)
+fault_of_move move.NoSuchFile = Refused (refusal_of_move move.NoSuchFile)
+
+-- the fault of a command whose heading doesn't get another state
+abbrev pub fault_of_state : StateFault → RunFault
+fault_of_state state.OutOfMemory = OutOfMemory
+fault_of_state state.NotFound = Refused (refusal_of_state state.NotFound)
+fault_of_state state.NotUnique = Refused (refusal_of_state state.NotUnique)
+fault_of_state state.UnknownState = Refused (refusal_of_state state.UnknownState)
+fault_of_state state.OddPlanning = Refused (refusal_of_state state.OddPlanning)
+fault_of_state state.BadRepeat = Refused (refusal_of_state state.BadRepeat)
+fault_of_state state.DateRange = Refused (refusal_of_state state.DateRange)
+fault_of_state state.ClockBackwards = Refused (refusal_of_state state.ClockBackwards)
+
+-- the fault of a command that finds no heading at a path
+abbrev pub fault_of_path : PathFault → RunFault
+fault_of_path fault = Refused (refusal_of_path fault)

@@ -1,0 +1,369 @@
+//! Commands, and what is answered to them.
+ghost use Rattle.std.specs.Prelude.{◌≡◌, codes};
+ghost use Rattle.org_commands.specs.Refusals.{code_of, name_of};
+ghost use Rattle.org_commands.specs.declared.command.RunFault.TheVariants.{OutOfMemory};
+
+use org_capture::{CaptureFault, Target};
+use org_disk::FileName;
+use org_fileset::SetFault;
+use org_move::MoveFault;
+use org_outline::{PathFault, Place, Titles};
+use org_splice::Bytes;
+use org_stamp::Moment;
+use org_state::StateFault;
+use std::alloc::AllocError;
+use std::borrow::CowSlice;
+use std::marker::Model;
+
+/// A text of a command: bytes of the line that it was read from, which aren't copied, or bytes that
+/// were made for it.
+///
+/// A clause sees them as a list.
+#[derive(Drop)]
+pub struct TextOf<'a> {
+    bytes: CowSlice<'a, u8>,
+}
+
+impl<'a> Model for TextOf<'a> {
+    ghost use Rattle.std.specs.Prelude.{List, ℕ};
+    ghost use Rattle.std.specs.Cow.{cow_slice_items};
+
+    ghost Value = { List ℕ };
+
+    ghost view = { λ text. cow_slice_items text.bytes };
+}
+
+impl<'a> TextOf<'a> {
+    /// Bytes that were given. Takes no memory.
+    pub fn given(bytes: &'a [u8]) -> TextOf<'a>
+        ensures { result ≡ bytes.now }
+    {
+        TextOf {
+            bytes: CowSlice::Borrowed(bytes),
+        }
+    }
+
+    /// Bytes that were made.
+    pub fn made(bytes: Vec<u8>) -> TextOf<'a>
+        ensures { result ≡ bytes.items }
+    {
+        TextOf {
+            bytes: CowSlice::Owned(bytes),
+        }
+    }
+
+    /// The bytes as a slice.
+    pub fn as_slice(&self) -> &[u8]
+        ensures { result.now ≡ self.now }
+    {
+        self.bytes.as_slice()
+    }
+}
+
+/// A new entry for a file: the expanded template (Org manual, "Capture templates").
+#[derive(Drop)]
+pub struct Capture<'a> {
+    /// The file that the entry goes into.
+    pub file: FileName,
+    /// What the entry goes below.
+    pub target: Target,
+    /// Where it goes among the headings there.
+    pub place: Place,
+    /// The moment of the capture.
+    pub moment: Moment,
+    /// The template as it was given, not expanded yet.
+    pub template: TextOf<'a>,
+    /// The text that was selected when the capture began.
+    pub initial: TextOf<'a>,
+}
+
+/// A subtree that becomes a child of another heading, of its file or of another one (Org manual,
+/// "Refile and Copy").
+#[derive(Drop)]
+pub struct Refile {
+    /// The file that the subtree leaves.
+    pub file: FileName,
+    /// The path of its heading there.
+    pub path: Titles,
+    /// The file that it goes into.
+    pub to_file: FileName,
+    /// The path of the heading there that it goes below.
+    pub to_path: Titles,
+    /// Where it goes among the children of that heading.
+    pub place: Place,
+}
+
+/// Another TODO state of a heading (Org manual, "Basic TODO functionality", "Closing items",
+/// "Repeated tasks").
+#[derive(Drop)]
+pub struct Todo<'a> {
+    /// The file of the heading.
+    pub file: FileName,
+    /// Its path there.
+    pub path: Titles,
+    /// The state, one of the store's, or no byte for none.
+    pub state: TextOf<'a>,
+    /// The moment of the change.
+    pub moment: Moment,
+}
+
+/// A subtree that moves to its archive (Org manual, "Moving a tree to an archive file").
+#[derive(Drop)]
+pub struct Archive {
+    /// The file that the subtree leaves.
+    pub file: FileName,
+    /// The path of its heading there.
+    pub path: Titles,
+    /// The moment of the archiving.
+    pub moment: Moment,
+}
+
+/// A clock that starts at a heading (Org manual, "Clocking commands").
+#[derive(Drop)]
+pub struct ClockIn {
+    /// The file of the heading.
+    pub file: FileName,
+    /// Its path there.
+    pub path: Titles,
+    /// The moment from which the clock runs.
+    pub moment: Moment,
+}
+
+/// What a store is asked to do.
+#[derive(Drop)]
+pub enum Command<'a> {
+    /// Puts a new entry into a file.
+    Capture(Capture<'a>),
+    /// Makes a subtree a child of another heading. The two paths are looked up before anything
+    /// moves, and the place among the children is that behind the move. A refile changes its files,
+    /// also where it leaves their bytes.
+    Refile(Refile),
+    /// Puts a heading into another TODO state. Where it has that state already, all bytes stay.
+    Todo(Todo<'a>),
+    /// Moves a subtree to its archive: to the location that the nearest nonempty property ARCHIVE
+    /// of it or a heading above it names, else the file's first line `#+ARCHIVE:`, else to the top
+    /// level of the file's archive file. Its root gets properties that tell when it was archived,
+    /// and where it was.
+    Archive(Archive),
+    /// Starts a clock at a heading, and stops the one that runs elsewhere, at the same moment. The
+    /// clock that runs is the first open one of all files, in byte order of their names. Where it
+    /// is the heading's own, all bytes stay, whatever the moment.
+    ClockIn(ClockIn),
+    /// Stops the clock that runs (Org manual, "Clocking commands").
+    ClockOut {
+        /// The moment up to which it ran.
+        moment: Moment,
+    },
+    /// Answers the time clocked at a heading and below it (Org manual, "The clock table").
+    Time {
+        /// The file of the heading.
+        file: FileName,
+        /// Its path there.
+        path: Titles,
+    },
+    /// Answers the text of a file.
+    Show {
+        /// The file whose text is asked for.
+        file: FileName,
+    },
+    /// Puts all accepted commands on the disk.
+    Settle,
+}
+
+/// What a command that did what it says is answered.
+#[derive(Drop)]
+pub enum Reply {
+    /// The command is accepted, as the one of this number: the first is 1.
+    Done(u64),
+    /// This many accepted commands are on the disk.
+    Safe(u64),
+    /// The text of a file, byte for byte.
+    Text(Bytes),
+    /// This many minutes were clocked.
+    Time(u64),
+}
+
+/// Why a command is refused. It then changed nothing.
+#[derive(Clone, Copy, PartialEq, Eq)]
+pub enum Refusal {
+    /// The file is none of the store's, whose archive files count too.
+    NoSuchFile,
+    /// The template can't be expanded.
+    BadTemplate,
+    /// The expanded template isn't one heading with what lies below it, or has bytes before it.
+    BadEntry,
+    /// No heading is at a path, or none can be made with a title.
+    NotFound,
+    /// Several headings have a title.
+    NotUnique,
+    /// The heading that a subtree is to go below lies in the subtree.
+    InsideItself,
+    /// The file is an archive file already, or the entry lies below the heading that it would be
+    /// archived to.
+    AlreadyArchive,
+    /// The state is none of the store's.
+    UnknownState,
+    /// The planning line of the heading isn't well formed.
+    OddPlanning,
+    /// A repeater of hours on a timestamp without a time, or with a range.
+    BadRepeat,
+    /// A repeated date is past the year 9999.
+    DateRange,
+    /// No clock runs.
+    NoClock,
+    /// The moment is before the start of the clock that is to be closed.
+    ClockBackwards,
+    /// The location of an entry's archive can't be read, or its heading can't be made.
+    BadLocation,
+    /// A file would grow past its limit, or the accepted commands are as many as can be counted.
+    TooLarge,
+}
+
+impl Refusal {
+    /// The number of this refusal in a reply.
+    pub fn code(self) -> u8
+        ensures { result ≡ code_of self }
+    {
+        match self {
+            Refusal::NoSuchFile => 1,
+            Refusal::BadTemplate => 2,
+            Refusal::BadEntry => 3,
+            Refusal::NotFound => 4,
+            Refusal::NotUnique => 5,
+            Refusal::InsideItself => 6,
+            Refusal::AlreadyArchive => 7,
+            Refusal::UnknownState => 8,
+            Refusal::OddPlanning => 9,
+            Refusal::BadRepeat => 10,
+            Refusal::DateRange => 11,
+            Refusal::NoClock => 12,
+            Refusal::ClockBackwards => 13,
+            Refusal::BadLocation => 15,
+            Refusal::TooLarge => 14,
+        }
+    }
+
+    /// The name of this refusal in a reply.
+    pub fn name(self) -> &'static str
+        ensures { result.now ≡ name_of self }
+    {
+        match self {
+            Refusal::NoSuchFile => "NoSuchFile",
+            Refusal::BadTemplate => "BadTemplate",
+            Refusal::BadEntry => "BadEntry",
+            Refusal::NotFound => "NotFound",
+            Refusal::NotUnique => "NotUnique",
+            Refusal::InsideItself => "InsideItself",
+            Refusal::AlreadyArchive => "AlreadyArchive",
+            Refusal::UnknownState => "UnknownState",
+            Refusal::OddPlanning => "OddPlanning",
+            Refusal::BadRepeat => "BadRepeat",
+            Refusal::DateRange => "DateRange",
+            Refusal::NoClock => "NoClock",
+            Refusal::ClockBackwards => "ClockBackwards",
+            Refusal::BadLocation => "BadLocation",
+            Refusal::TooLarge => "TooLarge",
+        }
+    }
+}
+
+/// Why a call didn't do what was asked.
+#[derive(Clone, Copy, PartialEq, Eq)]
+pub enum RunFault {
+    /// The command asks for what can't be done. All is as before.
+    Refused(Refusal),
+    /// There was no memory for it. All is as before.
+    OutOfMemory,
+    /// A call of the disk failed. The store is broken from now on.
+    Device,
+    /// A call of the disk failed earlier. Nothing was done: open the folder again.
+    Broken,
+}
+
+impl From<AllocError> for RunFault {
+    ghost from_gives = { λ _ e. e ≡ OutOfMemory };
+
+    fn from(_: AllocError) -> Self {
+        RunFault::OutOfMemory
+    }
+}
+
+impl From<CaptureFault> for RunFault {
+    ghost use Rattle.org_commands.specs.Keeping.{fault_of_capture};
+
+    ghost from_gives = { λ fault e. e ≡ fault_of_capture fault };
+
+    fn from(fault: CaptureFault) -> Self {
+        match fault {
+            CaptureFault::BadTemplate => RunFault::Refused(Refusal::BadTemplate),
+            CaptureFault::BadEntry => RunFault::Refused(Refusal::BadEntry),
+            CaptureFault::NotFound => RunFault::Refused(Refusal::NotFound),
+            CaptureFault::NotUnique => RunFault::Refused(Refusal::NotUnique),
+            CaptureFault::OutOfMemory => RunFault::OutOfMemory,
+        }
+    }
+}
+
+impl From<MoveFault> for RunFault {
+    ghost use Rattle.org_commands.specs.Keeping.{fault_of_move};
+
+    ghost from_gives = { λ fault e. e ≡ fault_of_move fault };
+
+    fn from(fault: MoveFault) -> Self {
+        match fault {
+            MoveFault::NotFound => RunFault::Refused(Refusal::NotFound),
+            MoveFault::NotUnique => RunFault::Refused(Refusal::NotUnique),
+            MoveFault::InsideItself => RunFault::Refused(Refusal::InsideItself),
+            MoveFault::AlreadyArchive => RunFault::Refused(Refusal::AlreadyArchive),
+            MoveFault::BadLocation => RunFault::Refused(Refusal::BadLocation),
+            MoveFault::NoSuchFile => RunFault::Refused(Refusal::NoSuchFile),
+            MoveFault::OutOfMemory => RunFault::OutOfMemory,
+        }
+    }
+}
+
+impl From<StateFault> for RunFault {
+    ghost use Rattle.org_commands.specs.Keeping.{fault_of_state};
+
+    ghost from_gives = { λ fault e. e ≡ fault_of_state fault };
+
+    fn from(fault: StateFault) -> Self {
+        match fault {
+            StateFault::NotFound => RunFault::Refused(Refusal::NotFound),
+            StateFault::NotUnique => RunFault::Refused(Refusal::NotUnique),
+            StateFault::UnknownState => RunFault::Refused(Refusal::UnknownState),
+            StateFault::OddPlanning => RunFault::Refused(Refusal::OddPlanning),
+            StateFault::BadRepeat => RunFault::Refused(Refusal::BadRepeat),
+            StateFault::DateRange => RunFault::Refused(Refusal::DateRange),
+            StateFault::ClockBackwards => RunFault::Refused(Refusal::ClockBackwards),
+            StateFault::OutOfMemory => RunFault::OutOfMemory,
+        }
+    }
+}
+
+impl From<PathFault> for RunFault {
+    ghost use Rattle.org_commands.specs.Keeping.{fault_of_path};
+
+    ghost from_gives = { λ fault e. e ≡ fault_of_path fault };
+
+    fn from(fault: PathFault) -> Self {
+        match fault {
+            PathFault::NotFound => RunFault::Refused(Refusal::NotFound),
+            PathFault::NotUnique => RunFault::Refused(Refusal::NotUnique),
+        }
+    }
+}
+
+impl From<SetFault> for RunFault {
+    ghost use Rattle.org_commands.specs.Keeping.{fault_of_set};
+
+    ghost from_gives = { λ fault e. e ≡ fault_of_set fault };
+
+    fn from(fault: SetFault) -> Self {
+        match fault {
+            SetFault::OutOfMemory => RunFault::OutOfMemory,
+            SetFault::Device => RunFault::Device,
+            SetFault::Broken => RunFault::Broken,
+        }
+    }
+}

@@ -1,0 +1,168 @@
+//! Subtrees moved to their archives.
+ghost use Rattle.std.specs.Prelude.{◌≡◌, [], ◌∷◌, List, ℕ, Some, IfOk, false, true};
+ghost use Rattle.org_outline.specs.Tree.{tree};
+ghost use Rattle.org_texts.specs.Texts.{bytes_or, text_of};
+ghost use Rattle.org_move.specs.Answers.{Gives, GivesPlace};
+ghost use Rattle.org_move.specs.Archive.{archive_across, archive_within};
+ghost use Rattle.org_move.specs.Location.{location};
+ghost use Rattle.org_commands.specs.declared.tally.Tally.{Tally};
+ghost use Rattle.org_commands.specs.Files.{AreBetweenCommands, AreReady, IsPlanFor, IsReady};
+ghost use Rattle.org_commands.specs.InOrder.{is_name, text_at};
+ghost use Rattle.org_commands.specs.Keeping.{Plans};
+ghost use Rattle.org_commands.specs.Outcome.{archive as outcome, archive_to as outcome_to};
+ghost use Rattle.org_commands.specs.Reading.{OnlyReads};
+ghost use Rattle.org_commands.specs.Refile.{MakesDocument, MakesDocuments};
+ghost use Rattle.org_commands.specs.Session.{kept_over};
+
+use crate::command::{Archive, Refusal, RunFault};
+use crate::commands::edits::{plan_of_two, plan_of_two_edits};
+use crate::commands::outline::outline_of;
+use crate::files::Files;
+use org_disk::{Disk, FileName};
+use org_move::{Location, MoveFault, archive, archive_within, location};
+use org_outline::{Outline, States};
+use org_texts::{NameOf, Plan};
+
+/// The outline of one of the files, whose text is ready. Takes no memory.
+fn outline_in<'a, D: Disk>(files: &'a Files<D>, states: &'a States, file: &FileName) -> Outline<'a>
+    requires { IsReady file.now files.now.held }
+    ensures { (result.text ≡ bytes_or [] (text_of files.now.held.now file.now))
+        × (result.states ≡ states.now) }
+{
+    outline_of(files.held(file), states)
+}
+
+/// Where a subtree of one of the files, whose text is ready, goes: see `location`.
+fn find_location<D: Disk>(
+    files: &Files<D>,
+    states: &States,
+    command: &Archive,
+) -> Result<Location, MoveFault>
+    requires { IsReady command.now.file files.now.held }
+    ensures { let seen = bytes_or [] (text_of files.now.held.now command.now.file) in
+        GivesPlace (location states.now command.now.file command.now.path seen) result }
+{
+    let outline = outline_in(files, states, &command.file);
+    location(
+        files.alloc(),
+        &outline,
+        &command.file,
+        command.path.as_slice(),
+    )
+}
+
+/// The edits of one of the files, whose text is ready, that archive a subtree within it.
+fn plan_within<'a, D: Disk>(
+    files: &Files<D>,
+    states: &States,
+    command: &'a Archive,
+    to: &Location,
+) -> Result<Plan<'a>, MoveFault>
+    requires { IsReady command.now.file files.now.held }
+    ensures { let seen = bytes_or [] (text_of files.now.held.now command.now.file) in
+        Gives (archive_within states.now command.now.file command.now.path command.now.moment
+        to.now (tree seen)) (MakesDocument command.now.file seen) result }
+{
+    let alloc = files.alloc();
+    let outline = outline_in(files, states, &command.file);
+    let edits = archive_within(
+        alloc,
+        &outline,
+        &command.file,
+        command.path.as_slice(),
+        command.moment,
+        to,
+    )?;
+    Ok(plan_of_two_edits(alloc, &command.file, edits)?)
+}
+
+/// The edits of two files, whose texts are ready, that archive a subtree of the first in the
+/// second, the location's file.
+fn plan_across<'a, D: Disk>(
+    files: &Files<D>,
+    states: &States,
+    command: &'a Archive,
+    to: &Location,
+) -> Result<Plan<'a>, MoveFault>
+    requires source { IsReady command.now.file files.now.held }
+    requires target { IsReady to.now.file files.now.held }
+    ensures { let seen = bytes_or [] (text_of files.now.held.now command.now.file) in
+        let target = bytes_or [] (text_of files.now.held.now to.now.file) in
+        Gives (archive_across states.now command.now.file command.now.path command.now.moment
+        (tree seen) states.now to.now (tree target))
+        (MakesDocuments command.now.file to.now.file seen target) result }
+{
+    let alloc = files.alloc();
+    let (goes_out, goes_in) = archive(
+        alloc,
+        &outline_in(files, states, &command.file),
+        &outline_in(files, states, to.file()),
+        &command.file,
+        command.path.as_slice(),
+        command.moment,
+        to,
+    )?;
+    let (file, to_file) = (
+        NameOf::given(&command.file),
+        NameOf::made(to.file().clone()?),
+    );
+    Ok(plan_of_two(alloc, file, goes_out, to_file, goes_in))
+}
+
+/// What an archiving to this location is to change, from a file that is ready. It is refused for
+/// the location's file first, then for the heading there.
+fn plan_archive_to<'a, D: Disk>(
+    files: &mut Files<D>,
+    states: &States,
+    command: &'a Archive,
+    to: &Location,
+) -> Result<Plan<'a>, RunFault>
+    requires unbroken { files.old.broken ≡ false }
+    requires name { is_name files.old.names command.now.file ≡ true }
+    requires ready { AreReady (command.now.file ∷ []) files.old.held }
+    ensures plan { IfOk result (λ plan. IsPlanFor files.new.names files.new.held plan) }
+    ensures plans { (tally : Tally) (text : List ℕ) → D.honest files.new.disk
+        → let session = (kept_over D.files states.now files.old tally).session in
+        text_at session.names session.files command.now.file ≡ Some text
+        → Plans session (outcome_to session command.now.file command.now.path command.now.moment
+        text to.now (text_at session.names session.files to.now.file)) result
+        files.new.held (kept_over D.files states.now files.new tally).session }
+    ensures disk { OnlyReads D.steady D.honest D.failures D.files D.moment D.left_since
+        files.old files.new result }
+{
+    let to_file = to.file();
+    if command.file == *to_file {
+        return Ok(plan_within(files, states, command, to)?);
+    }
+    if !files.has(to_file) {
+        return Err(RunFault::Refused(Refusal::NoSuchFile));
+    }
+    files.ready(to_file)?;
+    Ok(plan_across(files, states, command, to)?)
+}
+
+/// What an archiving is to change. It is refused for its file first, then for its path, then where
+/// the file is an archive file, then for its location, then for the location's file and the heading
+/// there.
+pub(crate) fn plan_archive<'a, D: Disk>(
+    files: &mut Files<D>,
+    states: &States,
+    command: &'a Archive,
+) -> Result<Plan<'a>, RunFault>
+    requires between { AreBetweenCommands files.old }
+    ensures plan { IfOk result (λ plan. IsPlanFor files.new.names files.new.held plan) }
+    ensures plans { (tally : Tally) → D.honest files.new.disk
+        → let session = (kept_over D.files states.now files.old tally).session in
+        Plans session (outcome session command.now.file command.now.path command.now.moment
+        (text_at session.names session.files command.now.file)) result
+        files.new.held (kept_over D.files states.now files.new tally).session }
+    ensures disk { OnlyReads D.steady D.honest D.failures D.files D.moment D.left_since
+        files.old files.new result }
+{
+    if !files.has(&command.file) {
+        return Err(RunFault::Refused(Refusal::NoSuchFile));
+    }
+    files.ready(&command.file)?;
+    let to = find_location(files, states, command)?;
+    plan_archive_to(files, states, command, &to)
+}

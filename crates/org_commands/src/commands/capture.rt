@@ -1,0 +1,115 @@
+//! New entries.
+ghost use Rattle.std.specs.Prelude.{◌≡◌, [], Ok, IfOk, true};
+ghost use Rattle.std.specs.Option.{unwrap_or};
+ghost use Rattle.org_outline.specs.Tree.{Node, tree};
+ghost use Rattle.org_capture.specs.Answers.{AnswersEdit};
+ghost use Rattle.org_capture.specs.Capture.{captured};
+ghost use Rattle.org_capture.specs.Entry.{IsEntry};
+ghost use Rattle.org_commands.specs.declared.tally.Tally.{Tally};
+ghost use Rattle.org_commands.specs.Capture.{MakesEntry, new_entry};
+ghost use Rattle.org_commands.specs.Files.{AreBetweenCommands, IsPlanFor};
+ghost use Rattle.org_commands.specs.InOrder.{is_name, text_at};
+ghost use Rattle.org_commands.specs.Keeping.{Plans};
+ghost use Rattle.org_commands.specs.Outcome.{capture as outcome, with_entry};
+ghost use Rattle.org_commands.specs.Reading.{OnlyReads};
+ghost use Rattle.org_commands.specs.Session.{kept_over};
+
+use crate::command::{Capture, Refusal, RunFault};
+use crate::commands::edits::plan_of_one;
+use crate::commands::outline::outline_of;
+use crate::files::Files;
+use org_capture::{CaptureFault, capture, entry, expand};
+use org_disk::Disk;
+use org_outline::States;
+use org_splice::Edit;
+use org_texts::{Held, NameOf, Plan};
+use std::alloc::Global;
+
+/// The entry that the template of a capture stands for.
+fn new_entry(alloc: Global, command: &Capture<'_>) -> Result<Vec<u8>, CaptureFault>
+    ensures { MakesEntry
+        (new_entry command.now.moment command.now.template command.now.initial) result }
+{
+    let template = command.template.as_slice();
+    let text = expand(alloc, template, command.moment, command.initial.as_slice())?;
+    entry(text)
+}
+
+/// The edit of a text, which is ready, that puts an entry in.
+fn insertion(
+    alloc: Global,
+    states: &States,
+    held: &Held,
+    command: &Capture<'_>,
+    entry: Vec<u8>,
+) -> Result<Edit, CaptureFault>
+    requires ready { held.now.ready ≡ true }
+    requires entry { (node : Node) × IsEntry entry.items node }
+    ensures { (node : Node) → IsEntry entry.items node
+        → AnswersEdit (captured states.now command.now.target command.now.place
+        command.now.moment node (tree held.now.text.bytes)) held.now.text.bytes result }
+{
+    let outline = outline_of(held, states);
+    capture(
+        alloc,
+        &outline,
+        &command.target,
+        command.place,
+        command.moment,
+        entry,
+    )
+}
+
+/// What a capture of this entry into one of the files is to change.
+fn plan_entry<'a, D: Disk>(
+    files: &mut Files<D>,
+    states: &States,
+    command: &'a Capture<'_>,
+    entry: Vec<u8>,
+) -> Result<Plan<'a>, RunFault>
+    requires file { is_name files.old.names command.now.file ≡ true }
+    requires between { AreBetweenCommands files.old }
+    requires entry { (node : Node) × IsEntry entry.items node }
+    ensures plan { IfOk result (λ plan. IsPlanFor files.new.names files.new.held plan) }
+    ensures plans { (tally : Tally) (node : Node) → IsEntry entry.items node
+        → D.honest files.new.disk
+        → let session = (kept_over D.files states.now files.old tally).session in
+        let text = unwrap_or (text_at session.names session.files command.now.file) [] in
+        Plans session (with_entry session command.now.file command.now.target
+        command.now.place command.now.moment (Ok node) text) result
+        files.new.held (kept_over D.files states.now files.new tally).session }
+    ensures disk { OnlyReads D.steady D.honest D.failures D.files D.moment D.left_since
+        files.old files.new result }
+{
+    files.ready(&command.file)?;
+    let held = files.held(&command.file);
+    let edit = insertion(files.alloc(), states, held, command, entry)?;
+    Ok(plan_of_one(files.alloc(), NameOf::given(&command.file), edit))
+}
+
+/// What a capture into a file is to change. It is refused for its file first, then for its
+/// template, then for its entry, then for its target.
+pub(crate) fn plan_capture<'a, D: Disk>(
+    files: &mut Files<D>,
+    states: &States,
+    command: &'a Capture<'_>,
+) -> Result<Plan<'a>, RunFault>
+    requires between { AreBetweenCommands files.old }
+    ensures plan { IfOk result (λ plan. IsPlanFor files.new.names files.new.held plan) }
+    ensures plans { (tally : Tally) → D.honest files.new.disk
+        → Plans (kept_over D.files states.now files.old tally).session
+        (outcome (kept_over D.files states.now files.old tally).session command.now.file
+        command.now.target command.now.place command.now.moment command.now.template
+        command.now.initial
+        (text_at (kept_over D.files states.now files.old tally).session.names
+        (kept_over D.files states.now files.old tally).session.files command.now.file)) result
+        files.new.held (kept_over D.files states.now files.new tally).session }
+    ensures disk { OnlyReads D.steady D.honest D.failures D.files D.moment D.left_since
+        files.old files.new result }
+{
+    if !files.has(&command.file) {
+        return Err(RunFault::Refused(Refusal::NoSuchFile));
+    }
+    let entry = new_entry(files.alloc(), command)?;
+    plan_entry(files, states, command, entry)
+}

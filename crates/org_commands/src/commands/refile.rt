@@ -1,0 +1,180 @@
+//! Subtrees moved to other headings.
+ghost use Rattle.std.specs.Prelude.{◌≡◌, ◌≢◌, ◌∷◌, ℕ, List, IfOk, OnOk, false, true};
+ghost use Rattle.org_outline.specs.States.{Keywords};
+ghost use Rattle.org_outline.specs.Tree.{tree};
+ghost use Rattle.org_move.specs.Answers.{Gives};
+ghost use Rattle.org_move.specs.Refile.{refile_across, refile_within};
+ghost use Rattle.org_commands.specs.declared.tally.Tally.{Tally};
+ghost use Rattle.org_commands.specs.Files.{AreBetweenCommands, AreReady, IsPlanFor, KeepsHeld};
+ghost use Rattle.org_commands.specs.InOrder.{is_name, text_at};
+ghost use Rattle.org_commands.specs.Keeping.{Plans, Reads};
+ghost use Rattle.org_commands.specs.Outcome.{refile as outcome};
+ghost use Rattle.org_commands.specs.Reading.{OnlyReads};
+ghost use Rattle.org_commands.specs.Refile.{MakesDocument, MakesDocuments};
+ghost use Rattle.org_commands.specs.Session.{kept_over};
+
+use crate::command::{Refile, Refusal, RunFault};
+use crate::commands::edits::{plan_of_two, plan_of_two_edits};
+use crate::commands::outline::outline_of;
+use crate::files::Files;
+use org_disk::{Disk, FileName};
+use org_move::{MoveFault, refile_across, refile_within};
+use org_outline::States;
+use org_texts::{Held, NameOf, Plan};
+use std::alloc::Global;
+
+/// The edits of a file, whose text is ready, that move a subtree within it.
+fn plan_within<'a>(
+    alloc: Global,
+    states: &States,
+    held: &Held,
+    command: &'a Refile,
+) -> Result<Plan<'a>, MoveFault>
+    requires ready { held.now.ready ≡ true }
+    ensures { Gives (refile_within states.now command.now.path command.now.to_path
+        command.now.place (tree held.now.text.bytes))
+        (MakesDocument command.now.file held.now.text.bytes) result }
+{
+    let outline = outline_of(held, states);
+    let edits = refile_within(
+        alloc,
+        &outline,
+        command.path.as_slice(),
+        command.to_path.as_slice(),
+        command.place,
+    )?;
+    Ok(plan_of_two_edits(alloc, &command.file, edits)?)
+}
+
+/// The edits of two files, whose texts are ready, that move a subtree from the first into the
+/// second.
+fn plan_across<'a>(
+    alloc: Global,
+    states: &States,
+    source: &Held,
+    target: &Held,
+    command: &'a Refile,
+) -> Result<Plan<'a>, MoveFault>
+    requires source { source.now.ready ≡ true }
+    requires target { target.now.ready ≡ true }
+    ensures { Gives (refile_across states.now command.now.path (tree source.now.text.bytes)
+        states.now command.now.to_path (tree target.now.text.bytes) command.now.place)
+        (MakesDocuments command.now.file command.now.to_file source.now.text.bytes
+        target.now.text.bytes) result }
+{
+    let (goes_out, goes_in) = refile_across(
+        alloc,
+        &outline_of(source, states),
+        &outline_of(target, states),
+        command.path.as_slice(),
+        command.to_path.as_slice(),
+        command.place,
+    )?;
+    let (file, to_file) = (
+        NameOf::given(&command.file),
+        NameOf::given(&command.to_file),
+    );
+    Ok(plan_of_two(alloc, file, goes_out, to_file, goes_in))
+}
+
+/// Makes two files ready: see `Files::ready`.
+pub(crate) fn both_ready<D: Disk>(
+    files: &mut Files<D>,
+    file: &FileName,
+    to_file: &FileName,
+) -> Result<(), RunFault>
+    requires file { is_name files.old.names file.now ≡ true }
+    requires to_file { is_name files.old.names to_file.now ≡ true }
+    requires unbroken { files.old.broken ≡ false }
+    ensures ready { OnOk result ((names : List (List ℕ)) → AreReady names files.old.held
+        → AreReady (to_file.now ∷ file.now ∷ names) files.new.held) }
+    ensures keeps { KeepsHeld files.old.held files.new.held }
+    ensures reads { (states : Keywords) (tally : Tally) → D.honest files.new.disk
+        → Reads (kept_over D.files states files.old tally).session result
+        (kept_over D.files states files.new tally).session }
+    ensures disk { OnlyReads D.steady D.honest D.failures D.files D.moment D.left_since
+        files.old files.new result }
+{
+    files.ready(file)?;
+    files.ready(to_file)
+}
+
+/// What a refile within one of the files is to change.
+fn refile_in_one<'a, D: Disk>(
+    files: &mut Files<D>,
+    states: &States,
+    command: &'a Refile,
+) -> Result<Plan<'a>, RunFault>
+    requires file { is_name files.old.names command.now.file ≡ true }
+    requires between { AreBetweenCommands files.old }
+    ensures plan { IfOk result (λ plan. IsPlanFor files.new.names files.new.held plan) }
+    ensures plans { (tally : Tally) → D.honest files.new.disk
+        → let session = (kept_over D.files states.now files.old tally).session in
+        let text = text_at session.names session.files command.now.file in
+        Plans session (outcome session command.now.file command.now.path command.now.file
+        command.now.to_path command.now.place text text) result
+        files.new.held (kept_over D.files states.now files.new tally).session }
+    ensures disk { OnlyReads D.steady D.honest D.failures D.files D.moment D.left_since
+        files.old files.new result }
+{
+    files.ready(&command.file)?;
+    let held = files.held(&command.file);
+    Ok(plan_within(files.alloc(), states, held, command)?)
+}
+
+/// What a refile from one of the files into another one is to change.
+fn refile_in_two<'a, D: Disk>(
+    files: &mut Files<D>,
+    states: &States,
+    command: &'a Refile,
+) -> Result<Plan<'a>, RunFault>
+    requires file { is_name files.old.names command.now.file ≡ true }
+    requires to_file { is_name files.old.names command.now.to_file ≡ true }
+    requires apart { command.now.file ≢ command.now.to_file }
+    requires between { AreBetweenCommands files.old }
+    ensures plan { IfOk result (λ plan. IsPlanFor files.new.names files.new.held plan) }
+    ensures plans { (tally : Tally) → D.honest files.new.disk
+        → let session = (kept_over D.files states.now files.old tally).session in
+        Plans session (outcome session command.now.file command.now.path command.now.to_file
+        command.now.to_path command.now.place
+        (text_at session.names session.files command.now.file)
+        (text_at session.names session.files command.now.to_file)) result
+        files.new.held (kept_over D.files states.now files.new tally).session }
+    ensures disk { OnlyReads D.steady D.honest D.failures D.files D.moment D.left_since
+        files.old files.new result }
+{
+    both_ready(files, &command.file, &command.to_file)?;
+    let source = files.held(&command.file);
+    let target = files.held(&command.to_file);
+    Ok(plan_across(files.alloc(), states, source, target, command)?)
+}
+
+/// What a refile is to change. It is refused for the name of its source first, then for that of its
+/// target, then for the path in the source, then for the one in the target, then where the target
+/// lies in what is moved.
+pub(crate) fn plan_refile<'a, D: Disk>(
+    files: &mut Files<D>,
+    states: &States,
+    command: &'a Refile,
+) -> Result<Plan<'a>, RunFault>
+    requires between { AreBetweenCommands files.old }
+    ensures plan { IfOk result (λ plan. IsPlanFor files.new.names files.new.held plan) }
+    ensures plans { (tally : Tally) → D.honest files.new.disk
+        → let session = (kept_over D.files states.now files.old tally).session in
+        Plans session (outcome session command.now.file command.now.path command.now.to_file
+        command.now.to_path command.now.place
+        (text_at session.names session.files command.now.file)
+        (text_at session.names session.files command.now.to_file)) result
+        files.new.held (kept_over D.files states.now files.new tally).session }
+    ensures disk { OnlyReads D.steady D.honest D.failures D.files D.moment D.left_since
+        files.old files.new result }
+{
+    if !files.has(&command.file) || !files.has(&command.to_file) {
+        return Err(RunFault::Refused(Refusal::NoSuchFile));
+    }
+    if command.file == command.to_file {
+        refile_in_one(files, states, command)
+    } else {
+        refile_in_two(files, states, command)
+    }
+}

@@ -1,0 +1,83 @@
+//! The clock that runs over all files.
+ghost use Rattle.std.specs.Prelude.{◌≡◌, IfOk, OnOk, true};
+ghost use Rattle.std.specs.Option.{ForSome, option_map};
+ghost use Rattle.org_commands.specs.declared.tally.Tally.{Tally};
+ghost use Rattle.org_commands.specs.Clocks.{RunsHeld, RunsIn, running_over};
+ghost use Rattle.org_commands.specs.Files.{AreBetweenCommands, KeepsHeld};
+ghost use Rattle.org_commands.specs.InOrder.{is_name};
+ghost use Rattle.org_commands.specs.Keeping.{Reads};
+ghost use Rattle.org_commands.specs.Reading.{OnlyReads};
+ghost use Rattle.org_commands.specs.Session.{kept_over};
+
+use crate::command::RunFault;
+use crate::commands::outline::outline_of;
+use crate::files::Files;
+use org_disk::{Disk, FileName};
+use org_outline::States;
+use org_state::{Running, running};
+
+/// The clock that runs, and the file that it runs in.
+#[derive(Drop)]
+pub(crate) struct Clock {
+    pub(crate) file: FileName,
+    pub(crate) running: Running,
+}
+
+/// The clock that runs in one of the files. Its text stays as it is.
+fn running_in_file<D: Disk>(
+    files: &mut Files<D>,
+    states: &States,
+    file: &FileName,
+) -> Result<Option<Running>, RunFault>
+    requires name { is_name files.old.names file.now ≡ true }
+    requires between { AreBetweenCommands files.old }
+    ensures runs { IfOk result (λ found. RunsIn files.new.held.before file.now found) }
+    ensures reads { (tally : Tally) → D.honest files.new.disk
+        → Reads (kept_over D.files states.now files.old tally).session result
+        (kept_over D.files states.now files.new tally).session }
+    ensures begun { OnOk result (files.new.held.now ≡ files.new.held.before) }
+    ensures keeps { KeepsHeld files.old.held files.new.held }
+    ensures disk { OnlyReads D.steady D.honest D.failures D.files D.moment D.left_since
+        files.old files.new result }
+{
+    files.ready(file)?;
+    let found = running(&outline_of(files.held(file), states));
+    files.undo();
+    Ok(found)
+}
+
+/// The clock that runs: the first over the files in byte order of their names. Each file is read
+/// where it isn't held, up to the one where a clock runs; all texts stay as they are. A file that
+/// was searched isn't searched again until it changes.
+pub(crate) fn running_clock<D: Disk>(
+    files: &mut Files<D>,
+    states: &States,
+) -> Result<Option<Clock>, RunFault>
+    requires between { AreBetweenCommands files.old }
+    ensures clock { (tally : Tally) → D.honest files.new.disk
+        → let session = (kept_over D.files states.now files.old tally).session in
+        IfOk result (λ found. option_map (λ clock. (clock.file, clock.running)) found
+        ≡ running_over session.names session.files) }
+    ensures reads { (tally : Tally) → D.honest files.new.disk
+        → Reads (kept_over D.files states.now files.old tally).session result
+        (kept_over D.files states.now files.new tally).session }
+    ensures found { IfOk result (λ found. ForSome found
+        (λ clock. RunsHeld files.new.held clock.file clock.running
+        × (is_name files.new.names clock.file ≡ true))) }
+    ensures begun { OnOk result (files.new.held.now ≡ files.new.held.before) }
+    ensures keeps { KeepsHeld files.old.held files.new.held }
+    ensures disk { OnlyReads D.steady D.honest D.failures D.files D.moment D.left_since
+        files.old files.new result }
+{
+    for index in 0..files.count() {
+        if files.is_quiet(index) {
+            continue;
+        }
+        let file = files.name(index)?;
+        if let Some(running) = running_in_file(files, states, &file)? {
+            return Ok(Some(Clock { file, running }));
+        }
+        files.note_quiet(index);
+    }
+    Ok(None)
+}

@@ -1,0 +1,74 @@
+//! The time clocked at a heading.
+ghost use Rattle.std.specs.Prelude.{◌≡◌, IsErrOf, true};
+ghost use Rattle.std.specs.Result.{result_map_both};
+ghost use Rattle.org_disk.specs.Accounts.{Accounts};
+ghost use Rattle.org_commands.specs.declared.tally.Tally.{Tally};
+ghost use Rattle.org_commands.specs.Files.{AreBetweenCommands};
+ghost use Rattle.org_commands.specs.InOrder.{is_name, text_at};
+ghost use Rattle.org_commands.specs.Keeping.{Acts};
+ghost use Rattle.org_commands.specs.Outcome.{time};
+ghost use Rattle.org_commands.specs.Reading.{OnlyReads};
+ghost use Rattle.org_commands.specs.Session.{kept_over};
+ghost use Rattle.org_commands.specs.Step.{Does};
+ghost use Rattle.org_commands.specs.Waiting.{Waits};
+
+use crate::command::{Refusal, Reply, RunFault};
+use crate::commands::outline::outline_of;
+use crate::files::Files;
+use org_disk::{Disk, FileName};
+use org_outline::{States, Titles};
+use org_state::clocked;
+
+/// The minutes clocked at a heading, and below it, of one of the files. What was done to its text
+/// is to be taken back.
+fn clocked_in_file<D: Disk>(
+    files: &mut Files<D>,
+    states: &States,
+    file: &FileName,
+    path: &Titles,
+) -> Result<u64, RunFault>
+    requires name { is_name files.old.names file.now ≡ true }
+    requires between { AreBetweenCommands files.old }
+    ensures does { (tally : Tally) → D.honest files.new.disk
+        → let session = (kept_over D.files states.now files.old tally).session in
+        Does session (time session path.now (text_at session.names session.files file.now))
+        (result_map_both Reply.Time (λ fault. fault) result)
+        (kept_over D.files states.now files.new tally).session }
+    ensures disk { OnlyReads D.steady D.honest D.failures D.files D.moment D.left_since
+        files.old files.new result }
+{
+    files.ready(file)?;
+    let held = files.held(file);
+    Ok(clocked(&outline_of(held, states), path.as_slice())?)
+}
+
+/// Answers the time clocked at a heading and below it. `NoSuchFile` where the file is none of the
+/// store's; then `NotFound` or `NotUnique` of the path. All texts stay as they are.
+pub(crate) fn time<D: Disk>(
+    files: &mut Files<D>,
+    states: &States,
+    file: &FileName,
+    path: &Titles,
+) -> Result<Reply, RunFault>
+    requires between { AreBetweenCommands files.old }
+    ensures acts { (tally : Tally)
+        → let old = kept_over D.files states.now files.old tally in
+        Acts D.files D.moment D.left_since D.honest old
+        (time old.session path.now (text_at old.session.names old.session.files file.now)) result
+        (kept_over D.files states.now files.new tally) }
+    ensures waits { (tally : Tally)
+        → let old = kept_over D.files states.now files.old tally in
+        Waits old
+        (time old.session path.now (text_at old.session.names old.session.files file.now)) result
+        (kept_over D.files states.now files.new tally) }
+    ensures begun { files.new.held.now ≡ files.new.held.before }
+    ensures accounts { Accounts D.steady D.honest D.failures files.old.disk files.new.disk
+        (IsErrOf result RunFault.Device) }
+{
+    if !files.has(file) {
+        return Err(RunFault::Refused(Refusal::NoSuchFile));
+    }
+    let minutes = clocked_in_file(files, states, file, path);
+    files.undo();
+    Ok(Reply::Time(minutes?))
+}

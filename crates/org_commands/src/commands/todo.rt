@@ -1,0 +1,73 @@
+//! Headings put into other TODO states.
+ghost use Rattle.std.specs.Prelude.{◌≡◌, IfOk, true};
+ghost use Rattle.std.specs.Option.{ForSome};
+ghost use Rattle.org_outline.specs.Tree.{tree};
+ghost use Rattle.org_state.specs.Todo.{todo};
+ghost use Rattle.org_commands.specs.declared.tally.Tally.{Tally};
+ghost use Rattle.org_commands.specs.Files.{AreBetweenCommands, IsPlanFor};
+ghost use Rattle.org_commands.specs.InOrder.{text_at};
+ghost use Rattle.org_commands.specs.Keeping.{PlansOrStays};
+ghost use Rattle.org_commands.specs.Outcome.{todo as outcome};
+ghost use Rattle.org_commands.specs.Reading.{OnlyReads};
+ghost use Rattle.org_commands.specs.Session.{kept_over};
+ghost use Rattle.org_commands.specs.Todo.{PlansState};
+
+use crate::command::{Refusal, RunFault, Todo};
+use crate::commands::edits::plan_of;
+use crate::commands::outline::outline_of;
+use crate::files::Files;
+use org_disk::Disk;
+use org_outline::States;
+use org_state::{StateFault, todo};
+use org_texts::{Held, Plan};
+use std::alloc::Global;
+
+/// The edits of a file, whose text is ready, that put one of its headings into another state; none
+/// where nothing changes.
+fn plan_state<'a>(
+    alloc: Global,
+    states: &States,
+    held: &Held,
+    command: &'a Todo<'_>,
+) -> Result<Option<Plan<'a>>, StateFault>
+    requires ready { held.now.ready ≡ true }
+    ensures { PlansState command.now.file held.now.text.bytes
+        (todo states.now command.now.path command.now.state command.now.moment
+        (tree held.now.text.bytes)) result }
+{
+    let edits = todo(
+        alloc,
+        &outline_of(held, states),
+        command.path.as_slice(),
+        command.state.as_slice(),
+        command.moment,
+    )?;
+    Ok(plan_of(&command.file, edits))
+}
+
+/// What a change of a state is to change; no plan where nothing changes. It is refused for its file
+/// first, then for its path, then for its state, then for the heading's planning.
+pub(crate) fn plan_todo<'a, D: Disk>(
+    files: &mut Files<D>,
+    states: &States,
+    command: &'a Todo<'_>,
+) -> Result<Option<Plan<'a>>, RunFault>
+    requires between { AreBetweenCommands files.old }
+    ensures plan { IfOk result (λ plan. ForSome plan
+        (λ plan. IsPlanFor files.new.names files.new.held plan)) }
+    ensures plans { (tally : Tally) → D.honest files.new.disk
+        → let session = (kept_over D.files states.now files.old tally).session in
+        PlansOrStays session (outcome session command.now.file command.now.path
+        command.now.state command.now.moment
+        (text_at session.names session.files command.now.file)) result
+        files.new.held (kept_over D.files states.now files.new tally).session }
+    ensures disk { OnlyReads D.steady D.honest D.failures D.files D.moment D.left_since
+        files.old files.new result }
+{
+    if !files.has(&command.file) {
+        return Err(RunFault::Refused(Refusal::NoSuchFile));
+    }
+    files.ready(&command.file)?;
+    let held = files.held(&command.file);
+    Ok(plan_state(files.alloc(), states, held, command)?)
+}

@@ -1,0 +1,368 @@
+//! The files of a store, with what is held of their texts.
+ghost use Rattle.std.specs.Prelude.{◌≡◌, ◌⊎◌, ◌↔◌, ◌<◌, ◌∷◌, [], List, ℕ, None, Some, nat_lt, length, slice_get, true, false, IfOk, IfErr, MatchResult, OnOk, OnErr, IsErrOf, IsSome, IsTrue};
+ghost use Rattle.std.specs.List.{All};
+ghost use Rattle.std.specs.Map.{lookup};
+ghost use Rattle.std.specs.Option.{ForSome, option_map};
+ghost use Rattle.std.specs.Str.{bytes_eq};
+ghost use Rattle.org_disk.specs.Accounts.{Accounts};
+ghost use Rattle.org_disk.specs.Names.{IsOrgFile};
+ghost use Rattle.org_journal.specs.Recovered.{contents};
+ghost use Rattle.org_fileset.specs.Opening.{IsDeviceRefusal, IsOpenedFor, IsRefusedFor, disk_in};
+ghost use Rattle.org_fileset.specs.Recovery.{Reopens};
+ghost use Rattle.org_fileset.specs.Names.{limit};
+ghost use Rattle.org_outline.specs.States.{Keywords};
+ghost use Rattle.org_texts.specs.Texts.{bytes_or, held_over, nothing_held, text_of};
+ghost use Rattle.org_commands.specs.declared.tally.Tally.{Tally};
+ghost use Rattle.org_commands.specs.Clocks.{RunsIn};
+ghost use Rattle.org_commands.specs.Files.{AreReady, AreSmallToWrite, CommitsTexts, IsPlanFor, IsReady, KeepsFiles, KeepsHeld, PutsPlan, StaysInMemory, files_of, has_large, texts_in};
+ghost use Rattle.org_commands.specs.InOrder.{is_name, texts_of};
+ghost use Rattle.org_commands.specs.Keeping.{Reads};
+ghost use Rattle.org_commands.specs.Quiet.{Forgets};
+ghost use Rattle.org_commands.specs.Reading.{OnlyReads};
+ghost use Rattle.org_commands.specs.Session.{kept_over};
+
+use crate::command::{Refusal, RunFault};
+use org_disk::{Disk, FileName};
+use org_fileset::{FileSet, LIMIT, OpenRefused, SetFault};
+use org_texts::{Held, Plan, Texts};
+use std::alloc::{AllocError, Global};
+use std::marker::Model;
+
+/// Files of a disk that are changed in memory: each is read once, and edited there until a commit
+/// puts all changed texts on the disk as one.
+///
+/// A clause sees its disk, its names, and what is held: the texts as they are, and as they were
+/// before the command that runs (specs/Files.antt).
+#[derive(Drop)]
+pub struct Files<D: Disk> {
+    alloc: Global,
+    set: FileSet<D>,
+    texts: Texts,
+    // Which files are held and known to have no clock that runs, by the numbers of their names; it
+    // may end early.
+    quiet: Vec<bool>,
+}
+
+impl<D: Disk> Model for Files<D> {
+    ghost use Rattle.std.specs.Prelude.{◌≡◌, false};
+    ghost use Rattle.org_journal.specs.Recovered.{contents};
+    ghost use Rattle.org_commands.specs.Files.{OpenFiles, IsSound};
+    ghost use Rattle.org_commands.specs.Quiet.{IsNoted};
+
+    ghost Value = { OpenFiles D };
+
+    ghost view = { λ f. record {
+      disk = f.set.disk;
+      names = f.set.names;
+      broken = f.set.broken;
+      held = f.texts;
+    } };
+
+    ghost invariant = { λ f. IsSound f.set.names ((f.set.broken ≡ false) × D.honest f.set.disk)
+        (contents (D.files f.set.disk)) f.texts × IsNoted f.set.names f.quiet.items f.texts };
+}
+
+impl<D: Disk> Files<D> {
+    /// The files of the given names and of their archive files, with nothing held. No name is an
+    /// archive file's or the journal's; a repeated one counts once. What a crash cut short is
+    /// brought to an end first: see `FileSet::open`, whose faults it answers.
+    pub fn open(alloc: Global, disk: D, names: Vec<FileName>) -> Result<Files<D>, OpenRefused<D>>
+        requires { All IsOrgFile names.items }
+        ensures opened { IfOk result (λ files. (files.broken ≡ false)
+            × (files.held.now ≡ nothing_held) × (files.held.before ≡ nothing_held)
+            × IsOpenedFor names.items files.names (D.honest files.disk)
+            (contents (D.files files.disk))) }
+        ensures reopens { let now = disk_in result (λ files. files.disk) in D.honest now
+            → Reopens D.files D.moment D.left_since disk now result }
+        ensures refused { IfErr result (λ refused.
+            IsRefusedFor D.honest D.files names.items disk refused.disk refused.fault) }
+        ensures accounts { Accounts D.steady D.honest D.failures disk
+            (disk_in result (λ files. files.disk)) (IsDeviceRefusal result) }
+    {
+        match FileSet::open(alloc, disk, names) {
+            Ok(set) => Ok(Files {
+                alloc,
+                set,
+                texts: Texts::new(alloc),
+                quiet: Vec::new(alloc),
+            }),
+            Err(refused) => Err(refused),
+        }
+    }
+
+    /// Whether it is the name of one of the files: of those that were given, or of their archive
+    /// files.
+    pub fn has(&self, name: &FileName) -> bool
+        ensures { result ≡ is_name self.now.names name.now }
+    {
+        // Mostly it is one that is held, and there may be hundreds of names.
+        self.texts.get(name).is_some() || self.set.names().contains(name)
+    }
+
+    /// How many files there are: those of the given names, and their archive files.
+    pub fn count(&self) -> usize
+        ensures { result ≡ length self.now.names }
+    {
+        self.set.names().len()
+    }
+
+    /// The name of the file of this number, in byte order of the names.
+    pub fn name(&self, index: usize) -> Result<FileName, AllocError>
+        requires { index < length self.now.names }
+        ensures { IfOk result (λ name. slice_get self.now.names index ≡ Some name) }
+    {
+        self.set.names()[index].clone()
+    }
+
+    /// Whether a call of the disk has failed since the files were opened.
+    pub fn is_broken(&self) -> bool
+        ensures { result ≡ self.now.broken }
+    {
+        self.set.is_broken()
+    }
+
+    /// The disk as it is. What was changed and not committed is given up.
+    pub fn into_disk(self) -> D
+        ensures { result ≡ self.disk }
+    {
+        let Files { set, .. } = self;
+        set.into_disk()
+    }
+
+    /// What is held of this name. Takes no memory.
+    pub fn get(&self, name: &FileName) -> Option<&Held>
+        ensures text { option_map (λ held. held.now.text) result
+            ≡ text_of self.now.held.now name.now }
+        ensures before { option_map (λ held. held.now.before) result
+            ≡ text_of self.now.held.before name.now }
+        ensures ready { option_map (λ held. held.now.ready) result
+            ≡ lookup (bytes_eq name.now) self.now.held.ready }
+    {
+        self.texts.get(name)
+    }
+
+    /// What is held of one of the files, whose text is ready. Takes no memory.
+    pub fn held(&self, name: &FileName) -> &Held
+        requires { IsReady name.now self.now.held }
+        ensures text { text_of self.now.held.now name.now ≡ Some result.now.text }
+        ensures ready { result.now.ready ≡ true }
+    {
+        match self.texts.get(name) {
+            Some(held) => held,
+            None => unreachable!(),
+        }
+    }
+
+    /// The allocator that the texts were made with.
+    pub(crate) fn alloc(&self) -> Global {
+        self.alloc
+    }
+
+    /// Reads one of the files, where it isn't held. No text changes by it. `Device` breaks the
+    /// files; after `OutOfMemory` the file can be read again.
+    pub fn load(&mut self, name: &FileName) -> Result<(), RunFault>
+        requires name { is_name self.old.names name.now ≡ true }
+        requires unbroken { self.old.broken ≡ false }
+        ensures held { OnOk result (IsSome (text_of self.new.held.now name.now)) }
+        ensures reads { (states : Keywords) (tally : Tally) → D.honest self.new.disk
+            → Reads (kept_over D.files states self.old tally).session result
+            (kept_over D.files states self.new tally).session }
+        ensures begun { self.old.held.now ≡ self.old.held.before
+            → self.new.held.now ≡ self.new.held.before }
+        ensures ready { (names : List (List ℕ)) → AreReady names self.old.held
+            → AreReady names self.new.held }
+        ensures keeps { KeepsHeld self.old.held self.new.held }
+        ensures disk { OnlyReads D.steady D.honest D.failures D.files D.moment D.left_since
+            self.old self.new result }
+    {
+        if self.texts.get(name).is_some() {
+            return Ok(());
+        }
+        let bytes = self.set.read(name)?;
+        self.texts.hold(name.clone()?, bytes)?;
+        Ok(())
+    }
+
+    // Makes the text of one of the files, which is held, ready for a command. Where there is no
+    // memory, all edits of the command are taken back.
+    fn make_ready(&mut self, name: &FileName) -> Result<(), AllocError>
+        requires { IsSome (text_of self.old.held.now name.now) }
+        ensures memory { StaysInMemory self.old self.new }
+        ensures ready { OnOk result ((names : List (List ℕ)) → AreReady names self.old.held
+            → AreReady (name.now ∷ names) self.new.held) }
+        ensures before { self.new.held.before ≡ self.old.held.before }
+    {
+        self.texts.make_ready(name)
+    }
+
+    /// Makes one of the files ready for a command: it is read where it isn't held, a last line
+    /// without a newline gets one, and its headings are read where they aren't held. The faults are
+    /// those of `load`; the command's edits are to be taken back behind them.
+    pub fn ready(&mut self, name: &FileName) -> Result<(), RunFault>
+        requires name { is_name self.old.names name.now ≡ true }
+        requires unbroken { self.old.broken ≡ false }
+        ensures ready { OnOk result ((names : List (List ℕ)) → AreReady names self.old.held
+            → AreReady (name.now ∷ names) self.new.held) }
+        ensures keeps { KeepsHeld self.old.held self.new.held }
+        ensures reads { (states : Keywords) (tally : Tally) → D.honest self.new.disk
+            → Reads (kept_over D.files states self.old tally).session result
+            (kept_over D.files states self.new tally).session }
+        ensures disk { OnlyReads D.steady D.honest D.failures D.files D.moment D.left_since
+            self.old self.new result }
+    {
+        self.load(name)?;
+        self.make_ready(name)?;
+        Ok(())
+    }
+
+    /// Whether the file of this number is known to have no clock that runs.
+    pub fn is_quiet(&self, index: usize) -> bool
+        ensures { IsTrue result → (name : List ℕ) → slice_get self.now.names index ≡ Some name
+            → RunsIn self.now.held.before name None }
+    {
+        is_noted(&self.quiet, index)
+    }
+
+    /// Notes that no clock runs in the file of this number, until an edit of it is put. Nothing
+    /// else changes.
+    pub fn note_quiet(&mut self, index: usize)
+        requires begun { self.old.held.now ≡ self.old.held.before }
+        requires quiet { (name : List ℕ) → slice_get self.old.names index ≡ Some name
+            → RunsIn self.old.held.before name None }
+        ensures { self.new ≡ self.old }
+    {
+        note(&mut self.quiet, index);
+    }
+
+    /// Makes the edits of a plan, in memory. `TooLarge` where one of the texts would be past the
+    /// limit; then, and where there is no memory, all edits of the command are taken back.
+    pub fn put(&mut self, plan: &Plan<'_>) -> Result<(), RunFault>
+        requires { IsPlanFor self.old.names self.old.held plan.now }
+        ensures memory { StaysInMemory self.old self.new }
+        ensures before { self.new.held.before ≡ self.old.held.before }
+        ensures puts { PutsPlan plan.now self.old.held result self.new.held }
+    {
+        forget_plan(&mut self.quiet, self.set.names(), plan);
+        self.texts.apply(plan)?;
+        if is_large(&self.texts, plan) {
+            self.texts.undo();
+            return Err(RunFault::Refused(Refusal::TooLarge));
+        }
+        Ok(())
+    }
+
+    /// Takes all edits of the command back. Takes no memory, and can't fail.
+    pub fn undo(&mut self)
+        ensures memory { StaysInMemory self.old self.new }
+        ensures now { self.new.held.now ≡ self.old.held.before }
+        ensures before { self.new.held.before ≡ self.old.held.before }
+        ensures small { AreSmallToWrite self.new.held.now }
+    {
+        self.texts.undo();
+    }
+
+    /// Keeps all edits of the command, in memory. Takes none, and can't fail.
+    pub fn keep(&mut self)
+        requires { AreSmallToWrite self.old.held.now }
+        ensures memory { StaysInMemory self.old self.new }
+        ensures now { self.new.held.now ≡ self.old.held.now }
+        ensures before { self.new.held.before ≡ self.old.held.now }
+    {
+        self.texts.keep();
+    }
+
+    /// Commits the texts as they are, of which those that wait are within the limit, as they always
+    /// are between commands: see `FileSet::commit`. `OutOfMemory` leaves all as it was. Where no
+    /// text waits, no call of the disk is made.
+    pub fn commit(&mut self) -> Result<(), SetFault>
+        requires unbroken { self.old.broken ≡ false }
+        requires small { (self.old.held.now ≡ self.old.held.before)
+            ⊎ AreSmallToWrite self.old.held.now }
+        ensures commits { D.honest self.new.disk → CommitsTexts D.files D.moment D.left_since
+            self.old.names self.old.held.now.waiting (texts_of (held_over self.old.held.now
+            (contents (D.files self.old.disk))) self.old.names) self.old.disk self.new.disk result }
+        ensures texts { OnOk result (D.honest self.new.disk
+            → texts_of (held_over self.new.held.before (contents (D.files self.new.disk)))
+            self.old.names ≡ texts_of (held_over self.old.held.now
+            (contents (D.files self.old.disk))) self.old.names) }
+        ensures held { MatchResult result (λ _. (self.new.held.now ≡ self.new.held.before)
+            × (self.new.held.now.waiting ≡ [])) (λ _. self.new.held ≡ self.old.held) }
+        ensures idle { (IsErrOf result SetFault.OutOfMemory → self.new ≡ self.old)
+            × (self.old.held.now.waiting ≡ [] → self.new.disk ≡ self.old.disk) }
+        ensures set { KeepsFiles self.old self.new result }
+        ensures accounts { Accounts D.steady D.honest D.failures self.old.disk self.new.disk
+            (IsErrOf result SetFault.Device) }
+    {
+        self.set.commit(&self.texts)?;
+        self.texts.settle();
+        Ok(())
+    }
+}
+
+/// Whether the text of this name, which is held, is past the limit.
+fn is_large_text(texts: &Texts, name: &FileName) -> bool
+    requires { IsSome (text_of texts.now.now name.now) }
+    ensures { result ≡ nat_lt limit (length (bytes_or [] (text_of texts.now.now name.now))) }
+{
+    match texts.get(name) {
+        Some(held) => held.bytes().len() > LIMIT,
+        None => unreachable!(),
+    }
+}
+
+/// Whether a text that a plan changed is past the limit.
+fn is_large(texts: &Texts, plan: &Plan<'_>) -> bool
+    requires first { IsSome (text_of texts.now.now plan.now.first.file) }
+    requires second { ForSome plan.now.second
+        (λ change. IsSome (text_of texts.now.now change.file)) }
+    ensures { result ≡ has_large (texts_in texts.now.now (files_of plan.now)) }
+{
+    if is_large_text(texts, plan.first.file.name()) {
+        return true;
+    }
+    match &plan.second {
+        Some(change) => is_large_text(texts, change.file.name()),
+        None => false,
+    }
+}
+
+/// Whether the file of this number is noted.
+fn is_noted(quiet: &[bool], index: usize) -> bool
+    ensures { IsTrue result → slice_get quiet.now index ≡ Some true }
+{
+    matches!(quiet.get(index), Some(true))
+}
+
+/// Notes the file of this number, where it is noted already or is the next one. Without memory it
+/// isn't noted.
+fn note(quiet: &mut Vec<bool>, index: usize)
+    ensures { (i : ℕ) → slice_get quiet.new.items i ≡ Some true
+        → (i ≡ index) ⊎ (slice_get quiet.old.items i ≡ Some true) }
+{
+    if index < quiet.len() {
+        quiet[index] = true;
+    } else if index == quiet.len() {
+        let _ = quiet.push(true);
+    }
+}
+
+/// Forgets what was noted of the file of this name.
+fn forget(quiet: &mut Vec<bool>, names: &[FileName], file: &FileName)
+    ensures { Forgets names.now (file.now ∷ []) quiet.old.items quiet.new.items }
+{
+    for (index, name) in names.iter().enumerate() {
+        if index < quiet.len() && file == name {
+            quiet[index] = false;
+        }
+    }
+}
+
+/// Forgets what was noted of the files that a plan changes.
+fn forget_plan(quiet: &mut Vec<bool>, names: &[FileName], plan: &Plan<'_>)
+    ensures { Forgets names.now (files_of plan.now) quiet.old.items quiet.new.items }
+{
+    forget(quiet, names, plan.first.file.name());
+    if let Some(change) = &plan.second {
+        forget(quiet, names, change.file.name());
+    }
+}

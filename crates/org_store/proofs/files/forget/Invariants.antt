@@ -1,5 +1,0 @@
-use Rattle.org_store.proofs.Quiet.{ForgetsBelow}
-use Rattle.org_store.proofs.files.forget.Given as goal
-
-abbrev pub invariant-loop-index : goal.invariant-loop-index
-invariant-loop-index l = ForgetsBelow l.names l.file l.index l.fn.quiet.items l.quiet.items
