@@ -16,7 +16,13 @@ use crate::tally::Tally;
 use org_disk::Disk;
 use org_outline::States;
 
-/// Runs any command but a settling.
+/// Runs any command but a settling over files that aren't broken, of which nothing is edited that
+/// isn't kept. Where it is accepted it is counted: where it fills its group all that waits is
+/// committed, else its texts are kept in memory.
+///
+/// `Refused` and `OutOfMemory` leave texts and counts as they were; where a commit finds no memory,
+/// this command is undone. `Device` comes only where the disk counted a failure in this call, and
+/// leaves the files broken.
 pub fn act<D: Disk>(
     files: &mut Files<D>,
     states: &States,

@@ -106,7 +106,8 @@ impl<D: Disk> Files<D> {
         self.set.names().len()
     }
 
-    /// The name of the file of this number, in byte order of the names.
+    /// A copy of the name of the file of this number, in byte order of the names. `AllocError`
+    /// comes where memory ran out.
     pub fn name(&self, index: usize) -> Result<FileName, AllocError>
         requires { index < length self.now.names }
         ensures { IfOk result (λ name. slice_get self.now.names index ≡ Some name) }
