@@ -118,25 +118,25 @@ fn count<D: Disk>(files: &mut Files<D>, tally: &mut Tally) -> Result<Reply, RunF
 fn accept<D: Disk>(
     files: &mut Files<D>,
     tally: &mut Tally,
-    plan: &Plan<'_>,
+    plan: Plan<'_>,
 ) -> Result<Reply, RunFault>
     requires unbroken { files.old.broken ≡ false }
     requires counted { tally.old.acknowledged ≤ tally.old.accepted }
-    requires plan { IsPlanFor files.old.names files.old.held plan.now }
+    requires plan { IsPlanFor files.old.names files.old.held plan }
     ensures acts { (states : Keywords)
         → Acts D.files D.moment D.left_since D.honest (kept_over D.files states files.old tally.old)
         (changed (kept_over D.files states files.old tally.old).session
-        (new_texts plan.now files.old.held.now)) result
+        (new_texts plan.entry files.old.held.now)) result
         (kept_over D.files states files.new tally.new) }
     ensures waits { (states : Keywords)
         → WaitsAccepted (fills (kept_over D.files states files.old tally.old).session)
-        (files_of plan.now) files.old.held result files.new.held }
+        (files_of plan.entry) files.old.held result files.new.held }
     ensures begun { files.new.held.now ≡ files.new.held.before }
     ensures counted { tally.new.acknowledged ≤ tally.new.accepted }
     ensures accounts { Accounts D.steady D.honest D.failures files.old.disk files.new.disk
         (IsErrOf result RunFault.Device) }
 {
-    files.put(plan)?;
+    files.put(&plan)?;
     count(files, tally)
 }
 
@@ -191,7 +191,12 @@ fn plan<'a, D: Disk>(
 }
 
 /// Runs a command that changes files.
-pub(crate) fn change<D: Disk>(
+///
+/// Where it is accepted it is counted: where it fills its group all that waits is committed, else
+/// its texts are kept in memory. `Refused` and `OutOfMemory` leave texts and counts as they were;
+/// where a commit finds no memory, this command is undone. `Device` comes only where the disk
+/// counted a failure in this call, and leaves the files broken.
+pub fn change<D: Disk>(
     files: &mut Files<D>,
     states: &States,
     tally: &mut Tally,
@@ -214,7 +219,7 @@ pub(crate) fn change<D: Disk>(
         (IsErrOf result RunFault.Device) }
 {
     match plan(files, states, command) {
-        Ok(Some(plan)) => accept(files, tally, &plan),
+        Ok(Some(plan)) => accept(files, tally, plan),
         Ok(None) => accept_unchanged(files, tally),
         Err(fault) => {
             files.undo();

@@ -92,7 +92,7 @@ impl<D: Disk> Files<D> {
 
     /// Whether it is the name of one of the files: of those that were given, or of their archive
     /// files.
-    pub fn has(&self, name: &FileName) -> bool
+    pub(crate) fn has(&self, name: &FileName) -> bool
         ensures { result ≡ is_name self.now.names name.now }
     {
         // Mostly it is one that is held, and there may be hundreds of names.
@@ -100,7 +100,7 @@ impl<D: Disk> Files<D> {
     }
 
     /// How many files there are: those of the given names, and their archive files.
-    pub fn count(&self) -> usize
+    pub(crate) fn count(&self) -> usize
         ensures { result ≡ length self.now.names }
     {
         self.set.names().len()
@@ -108,7 +108,7 @@ impl<D: Disk> Files<D> {
 
     /// A copy of the name of the file of this number, in byte order of the names. `AllocError`
     /// comes where memory ran out.
-    pub fn name(&self, index: usize) -> Result<FileName, AllocError>
+    pub(crate) fn name(&self, index: usize) -> Result<FileName, AllocError>
         requires { index < length self.now.names }
         ensures { IfOk result (λ name. slice_get self.now.names index ≡ Some name) }
     {
@@ -131,7 +131,7 @@ impl<D: Disk> Files<D> {
     }
 
     /// What is held of this name. Takes no memory.
-    pub fn get(&self, name: &FileName) -> Option<&Held>
+    pub(crate) fn get(&self, name: &FileName) -> Option<&Held>
         ensures text { option_map (λ held. held.now.text) result
             ≡ text_of self.now.held.now name.now }
         ensures before { option_map (λ held. held.now.before) result
@@ -143,7 +143,7 @@ impl<D: Disk> Files<D> {
     }
 
     /// What is held of one of the files, whose text is ready. Takes no memory.
-    pub fn held(&self, name: &FileName) -> &Held
+    pub(crate) fn held(&self, name: &FileName) -> &Held
         requires { IsReady name.now self.now.held }
         ensures text { text_of self.now.held.now name.now ≡ Some result.now.text }
         ensures ready { result.now.ready ≡ true }
@@ -161,7 +161,7 @@ impl<D: Disk> Files<D> {
 
     /// Reads one of the files, where it isn't held. No text changes by it. `Device` breaks the
     /// files; after `OutOfMemory` the file can be read again.
-    pub fn load(&mut self, name: &FileName) -> Result<(), RunFault>
+    pub(crate) fn load(&mut self, name: &FileName) -> Result<(), RunFault>
         requires name { is_name self.old.names name.now ≡ true }
         requires unbroken { self.old.broken ≡ false }
         ensures held { OnOk result (IsSome (text_of self.new.held.now name.now)) }
@@ -199,7 +199,7 @@ impl<D: Disk> Files<D> {
     /// Makes one of the files ready for a command: it is read where it isn't held, a last line
     /// without a newline gets one, and its headings are read where they aren't held. The faults are
     /// those of `load`; the command's edits are to be taken back behind them.
-    pub fn ready(&mut self, name: &FileName) -> Result<(), RunFault>
+    pub(crate) fn ready(&mut self, name: &FileName) -> Result<(), RunFault>
         requires name { is_name self.old.names name.now ≡ true }
         requires unbroken { self.old.broken ≡ false }
         ensures ready { OnOk result ((names : List (List ℕ)) → AreReady names self.old.held
@@ -217,7 +217,7 @@ impl<D: Disk> Files<D> {
     }
 
     /// Whether the file of this number is known to have no clock that runs.
-    pub fn is_quiet(&self, index: usize) -> bool
+    pub(crate) fn is_quiet(&self, index: usize) -> bool
         ensures { IsTrue result → (name : List ℕ) → slice_get self.now.names index ≡ Some name
             → RunsIn self.now.held.before name None }
     {
@@ -226,7 +226,7 @@ impl<D: Disk> Files<D> {
 
     /// Notes that no clock runs in the file of this number, until an edit of it is put. Nothing
     /// else changes.
-    pub fn note_quiet(&mut self, index: usize)
+    pub(crate) fn note_quiet(&mut self, index: usize)
         requires begun { self.old.held.now ≡ self.old.held.before }
         requires quiet { (name : List ℕ) → slice_get self.old.names index ≡ Some name
             → RunsIn self.old.held.before name None }
@@ -237,7 +237,7 @@ impl<D: Disk> Files<D> {
 
     /// Makes the edits of a plan, in memory. `TooLarge` where one of the texts would be past the
     /// limit; then, and where there is no memory, all edits of the command are taken back.
-    pub fn put(&mut self, plan: &Plan<'_>) -> Result<(), RunFault>
+    pub(crate) fn put(&mut self, plan: &Plan<'_>) -> Result<(), RunFault>
         requires { IsPlanFor self.old.names self.old.held plan.now }
         ensures memory { StaysInMemory self.old self.new }
         ensures before { self.new.held.before ≡ self.old.held.before }
@@ -253,7 +253,7 @@ impl<D: Disk> Files<D> {
     }
 
     /// Takes all edits of the command back. Takes no memory, and can't fail.
-    pub fn undo(&mut self)
+    pub(crate) fn undo(&mut self)
         ensures memory { StaysInMemory self.old self.new }
         ensures now { self.new.held.now ≡ self.old.held.before }
         ensures before { self.new.held.before ≡ self.old.held.before }
@@ -263,7 +263,7 @@ impl<D: Disk> Files<D> {
     }
 
     /// Keeps all edits of the command, in memory. Takes none, and can't fail.
-    pub fn keep(&mut self)
+    pub(crate) fn keep(&mut self)
         requires { AreSmallToWrite self.old.held.now }
         ensures memory { StaysInMemory self.old self.new }
         ensures now { self.new.held.now ≡ self.old.held.now }

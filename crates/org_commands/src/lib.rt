@@ -2,9 +2,10 @@
 //! put on the disk.
 //!
 //! What a store has done is told as a `Session` (specs/Session.antt): the texts of all its files,
-//! and how many commands were accepted and acknowledged. `act` runs one command over `Files`, which
-//! are changed in memory and put on the disk as one, and counts it in a `Tally`; one relation says
-//! what that does to the session (`Step`, specs/Step.antt).
+//! and how many commands were accepted and acknowledged. `change` runs one command over `Files`,
+//! which are changed in memory and put on the disk as one, and counts it in a `Tally`; `show` and
+//! `time` answer what a file holds. One relation says what each of them does to the session (`Step`,
+//! specs/Step.antt).
 //!
 //! A command reads the files that it names, is planned on their held texts, and is accepted or
 //! refused as a whole (`changing`); the planner of each command stands under `commands`.
@@ -13,13 +14,14 @@
 mod changing;
 mod command;
 mod commands;
-mod dispatch;
 mod files;
 mod tally;
 
+pub use changing::change;
 pub use command::{
     Archive, Capture, ClockIn, Command, Refile, Refusal, Reply, RunFault, TextOf, Todo,
 };
-pub use dispatch::act;
+pub use commands::show::show;
+pub use commands::time::time;
 pub use files::Files;
 pub use tally::Tally;

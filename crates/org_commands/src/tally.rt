@@ -15,7 +15,7 @@ pub struct Tally {
 
 impl Tally {
     /// Whether one more accepted command fills the group.
-    pub fn fills(&self) -> bool
+    pub(crate) fn fills(&self) -> bool
         requires counted { self.now.acknowledged ≤ self.now.accepted }
         requires countable { self.now.accepted + 1 < 2 ^ 64 }
         ensures { result ≡ nat_le self.now.group (self.now.accepted + 1 - self.now.acknowledged) }

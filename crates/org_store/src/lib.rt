@@ -5,6 +5,7 @@
 //! for `run` and `Settles` for `settle`. What one call after another does is told by `laws`.
 #![tactic(auto)]
 
+mod dispatch;
 pub mod laws;
 mod store;
 

@@ -10,7 +10,8 @@ ghost use Rattle.org_store.specs.Opening.{IsOpened, IsRefused};
 ghost use Rattle.org_commands.specs.Runs.{IsBrokenBy, IsIdle, RunsOver, SettlesOver};
 ghost use Rattle.org_commands.specs.Counts.{Counts, SettledCounts};
 
-use org_commands::{Command, Files, Reply, RunFault, Tally, act};
+use crate::dispatch::act;
+use org_commands::{Command, Files, Reply, RunFault, Tally};
 use org_disk::{Disk, FileName};
 use org_fileset::OpenRefused;
 use org_outline::States;

@@ -15,8 +15,10 @@ use crate::files::Files;
 use org_disk::{Disk, FileName};
 use org_splice::Bytes;
 
-/// Answers the text of a file, as it is. `NoSuchFile` where it is none of the store's.
-pub(crate) fn show<D: Disk>(files: &mut Files<D>, file: &FileName) -> Result<Reply, RunFault>
+/// Answers the text of a file, as it is. `NoSuchFile` where it is none of the store's. `Device`,
+/// which leaves the files broken, comes only where reading it failed, and `OutOfMemory` where memory
+/// ran out.
+pub fn show<D: Disk>(files: &mut Files<D>, file: &FileName) -> Result<Reply, RunFault>
     requires between { AreBetweenCommands files.old }
     ensures acts { (states : Keywords) → (tally : Tally)
         → Acts D.files D.moment D.left_since D.honest (kept_over D.files states files.old tally)

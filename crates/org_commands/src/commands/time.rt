@@ -43,8 +43,10 @@ fn clocked_in_file<D: Disk>(
 }
 
 /// Answers the time clocked at a heading and below it. `NoSuchFile` where the file is none of the
-/// store's; then `NotFound` or `NotUnique` of the path. All texts stay as they are.
-pub(crate) fn time<D: Disk>(
+/// store's; then `NotFound` or `NotUnique` of the path. `Device`, which leaves the files broken,
+/// comes only where reading the file failed, and `OutOfMemory` where memory ran out. All texts stay
+/// as they are.
+pub fn time<D: Disk>(
     files: &mut Files<D>,
     states: &States,
     file: &FileName,

@@ -24,7 +24,7 @@ returns-in_err-put-clause-acts g c states =
     let given : c.from_residual.result ≡ Err c.in_err-put.field-0.0 = search rules in
     acts_put d.files d.moment d.left_since d.honest old (λ honest image left. g.met.D.Disk.only_now old.disk image honest left) refl new
     (kept_same d.files states c.args.files.now c.put.new.self c.args.tally.now put.memory put.before)
-    c.args.plan.now c.args.files.now.held c.put.new.self.held c.requires.unbroken c.put.result c.in_err-put.field-0.0 c.from_residual.result c.in_err-put.was given put.puts
+    c.args.plan c.args.files.now.held c.put.new.self.held c.requires.unbroken c.put.result c.in_err-put.field-0.0 c.from_residual.result c.in_err-put.was given put.puts
 
 pub returns-clause-acts : goal.returns-clause-acts
 returns-clause-acts g c states =
@@ -38,22 +38,22 @@ returns-clause-acts g c states =
     let new = kept_over d.files states c.count.new.files c.count.new.tally in
     let texts = texts_of (held_over edited.held.now (contents (d.files edited.disk))) edited.names in
     let puts = c.in_ok-put.ensures.puts in
-    let told = counted_texts (λ disk. contents (d.files disk)) states files edited tally c.args.plan.now put.memory.disk put.memory.names puts.1 c.requires.plan puts.0 in
+    let told = counted_texts (λ disk. contents (d.files disk)) states files edited tally c.args.plan put.memory.disk put.memory.names puts.1 c.requires.plan puts.0 in
     let same : mid ≡ old = kept_same d.files states files edited tally put.memory put.before in
-    let joins : Joins edited.held.before.waiting (files_of c.args.plan.now) edited.held.now.waiting =
-    rw (puts.1, put.before) (joins_planned c.args.plan.now files.held c.requires.plan.ready) in
+    let joins : Joins edited.held.before.waiting (files_of c.args.plan) edited.held.now.waiting =
+    rw (puts.1, put.before) (joins_planned c.args.plan files.held c.requires.plan.ready) in
     subst (λ (o : Outcome). Acts d.files d.moment d.left_since d.honest old o c.count.result new) (sym told)
-    (subst (λ (k : Kept g.row.D.Denot). Acts d.files d.moment d.left_since d.honest k (counted k.session (files_of c.args.plan.now) texts) c.count.result new) same (c.count.ensures.acts states (files_of c.args.plan.now) joins))
+    (subst (λ (k : Kept g.row.D.Denot). Acts d.files d.moment d.left_since d.honest k (counted k.session (files_of c.args.plan) texts) c.count.result new) same (c.count.ensures.acts states (files_of c.args.plan) joins))
 
 pub returns-in_err-put-clause-waits : goal.returns-in_err-put-clause-waits
 returns-in_err-put-clause-waits g c states =
     let old = kept_over g.D.Disk.files states c.args.files.now c.args.tally.now in
     let given : c.from_residual.result ≡ Err c.in_err-put.field-0.0 = search rules in
-    subst (λ (r : Result Reply RunFault). WaitsAccepted (fills old.session) (files_of c.args.plan.now) c.args.files.now.held r c.put.new.self.held) (sym given)
+    subst (λ (r : Result Reply RunFault). WaitsAccepted (fills old.session) (files_of c.args.plan) c.args.files.now.held r c.put.new.self.held) (sym given)
     (ap (λ (s : TextSet). s.waiting) c.put.ensures.before)
 
 pub returns-clause-waits : goal.returns-clause-waits
 returns-clause-waits g c states =
     let files = c.args.files.now in
     let old = kept_over g.D.Disk.files states files c.args.tally.now in
-    waits_put (fills old.session) c.args.plan.now files.held c.put.new.self.held c.count.new.files.held c.count.result c.requires.plan.ready c.in_ok-put.ensures.puts.1 c.put.ensures.before (c.count.ensures.waits states)
+    waits_put (fills old.session) c.args.plan files.held c.put.new.self.held c.count.new.files.held c.count.result c.requires.plan.ready c.in_ok-put.ensures.puts.1 c.put.ensures.before (c.count.ensures.waits states)

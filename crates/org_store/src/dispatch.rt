@@ -7,12 +7,7 @@ ghost use Rattle.org_commands.specs.Outcome.{outcome};
 ghost use Rattle.org_commands.specs.Session.{kept_over};
 ghost use Rattle.org_commands.specs.Waiting.{Waits};
 
-use crate::changing::change;
-use crate::command::{Command, Reply, RunFault};
-use crate::commands::show::show;
-use crate::commands::time::time;
-use crate::files::Files;
-use crate::tally::Tally;
+use org_commands::{Command, Files, Reply, RunFault, Tally, change, show, time};
 use org_disk::Disk;
 use org_outline::States;
 
@@ -23,7 +18,7 @@ use org_outline::States;
 /// `Refused` and `OutOfMemory` leave texts and counts as they were; where a commit finds no memory,
 /// this command is undone. `Device` comes only where the disk counted a failure in this call, and
 /// leaves the files broken.
-pub fn act<D: Disk>(
+pub(crate) fn act<D: Disk>(
     files: &mut Files<D>,
     states: &States,
     tally: &mut Tally,

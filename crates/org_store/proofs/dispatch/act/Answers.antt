@@ -5,7 +5,7 @@ use Rattle.org_commands.specs.Keeping.{Acts}
 use Rattle.org_commands.specs.Outcome.{outcome}
 use Rattle.org_commands.specs.Session.{kept_over}
 use Rattle.org_commands.specs.Waiting.{Waits}
-use Rattle.org_commands.proofs.dispatch.act.Goals as goal
+use Rattle.org_store.proofs.dispatch.act.Goals as goal
 
 pub returns-in-Time-clause-acts : goal.returns-in-Time-clause-acts
 returns-in-Time-clause-acts g c =
