@@ -402,6 +402,7 @@ const TAGS: &[Row] = &[
     // The title and the level of a heading without an outline.
     ("", 0, Fact::Titled(" TODO a :x:", "a")),
     ("", 0, Fact::Level("** a", Some(2))),
+    ("*\tA\n", 0, Fact::Level("*\tA", None)),
 ];
 
 /// Asserts that a row is right.

@@ -46,7 +46,7 @@ pub returns-in-Err-make_ready-clause-opened : goal.returns-in-Err-make_ready-cla
 returns-in-Err-make_ready-clause-opened g c = tt
 
 pub returns-in-Ok-make_ready-clause-opened : goal.returns-in-Ok-make_ready-clause-opened
-returns-in-Ok-make_ready-clause-opened g c = (refl, record { few = c.in-Ok.ensures.names.0; sorted = search rules; sizes = search rules })
+returns-in-Ok-make_ready-clause-opened g c = (refl, record { few = c.in-Ok.ensures.names.0; sorted = c.in-Ok.ensures.names.1; sizes = rw (← c.deref.ensures.value) c.in-Ok-make_ready.ensures.answer })
 
 pub returns-in-Ok-make_ready-clause-refused : goal.returns-in-Ok-make_ready-clause-refused
 returns-in-Ok-make_ready-clause-refused g c = tt
@@ -67,3 +67,12 @@ returns-in-Err-make_ready-clause-accounts g c = accounts_fault c.in-Err-make_rea
 
 pub returns-in-Ok-make_ready-clause-accounts : goal.returns-in-Ok-make_ready-clause-accounts
 returns-in-Ok-make_ready-clause-accounts g c = accounts_fine ok_apart c.in-Ok-make_ready.ensures.accounts
+
+pub invariant_of-result : goal.invariant_of-result
+invariant_of-result g c =
+    record {
+      journal_is = c.in-Ok.ensures.journal;
+      each = c.in-Ok.ensures.names.2.each;
+      few = c.in-Ok.ensures.names.2.few;
+      gate = λ unbroken honest. (c.in-Ok-make_ready.ensures.reopens honest).done.gate;
+    }

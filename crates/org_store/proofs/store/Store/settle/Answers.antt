@@ -1,4 +1,4 @@
-use Rattle.std.proofs.Common.{◌≡◌, [], ap, inl, false, Ok, Err, refl, subst, rules}
+use Rattle.std.proofs.Common.{◌≡◌, [], ap, inl, false, Ok, Err, refl, sym, subst, rules}
 use Rattle.org_journal.specs.Recovered.{contents}
 use Rattle.org_commands.specs.declared.command.RunFault.TheVariants.{Broken}
 use Rattle.org_disk.specs.Accounts.{LeavesOver}
@@ -38,7 +38,7 @@ returns-then-self-clause-did g c = λ honest.
     let files = contents (d.files old.disk) in
     let own : s.settled ≡ texts_of files s.names = rw (← c.self.view_is) refl in
     let unbroken : inside.files.broken ≡ false = search rules in
-    let done : inside.tally.acknowledged ≡ inside.tally.accepted = search rules in
+    let done : inside.tally.acknowledged ≡ inside.tally.accepted = c.if-self.true in
     let step : d.honest old.disk → Settles s (Ok (tt {0})) s =
     rw (← c.self.view_is) (λ honest. (unbroken, rw ((c.self.invariant.2 honest).0 unbroken done, done) refl)) in
     let waits : d.honest old.disk → old.waiting ≡ [] = rw (← c.self.view_is) (λ honest. (c.self.invariant.2 honest).1 done) in
@@ -74,3 +74,19 @@ returns-in_err-commit-clause-did g c =
 
 pub returns-clause-counts : goal.returns-clause-counts
 returns-clause-counts g c = rw (← c.self.view_is) (record { accepted = refl; acknowledged = refl; group = refl })
+
+pub returns-then-self-clause-counts : goal.returns-then-self-clause-counts
+returns-then-self-clause-counts g c = rw (← c.self.view_is) (record { accepted = refl; acknowledged = c.if-self.true; group = refl })
+
+pub returns-in_err-commit-clause-counts : goal.returns-in_err-commit-clause-counts
+returns-in_err-commit-clause-counts g c =
+    let given : c.from_residual.result ≡ Err (fault_of_set c.in_err-commit.field-0.0) = search rules in
+    rw (← c.self.view_is, given) (record { accepted = refl; acknowledged = refl; group = refl })
+
+-- where the commit failed, commands still wait
+pub invariant_of-self : goal.invariant_of-self
+invariant_of-self g c = (
+  c.self.invariant.0,
+  subst (λ (held : Holding). held.now ≡ held.before) (sym c.in_err-commit.ensures.held) c.self.invariant.1,
+  λ honest. (λ unbroken done. absurd (c.if-self.false done), λ done. absurd (c.if-self.false done)),
+)
