@@ -5,6 +5,7 @@ pub mod Held
 pub mod Waiting
 pub mod Quiet
 pub mod Commits
+pub mod Handing
 pub mod Keeping
 pub mod Reading
 pub mod Leaving

@@ -1,4 +1,4 @@
-use Rattle.std.proofs.Common.{◌≡◌, Result, Err, refl, sym, ap, subst, rules}
+use Rattle.std.proofs.Common.{◌≡◌, Result, Err, refl, sym, ap, subst}
 use Rattle.org_journal.specs.Recovered.{contents}
 use Rattle.org_texts.specs.Texts.{TextSet, held_over}
 use Rattle.org_commands.specs.declared.command.Reply.{Reply}
@@ -13,6 +13,7 @@ use Rattle.org_commands.proofs.Planned.{counted_texts}
 use Rattle.org_commands.specs.Step.{fills}
 use Rattle.org_commands.specs.Waiting.{Joins, WaitsAccepted}
 use Rattle.org_commands.proofs.Waiting.{joins_planned, waits_put}
+use Rattle.org_commands.proofs.Handing.{handed_on}
 use Rattle.org_commands.proofs.changing.accept.Goals as goal
 
 pub returns-in_err-put-clause-acts : goal.returns-in_err-put-clause-acts
@@ -21,7 +22,7 @@ returns-in_err-put-clause-acts g c states =
     let put = c.put.ensures in
     let old = kept_over d.files states c.args.files.now c.args.tally.now in
     let new = kept_over d.files states c.put.new.self c.args.tally.now in
-    let given : c.from_residual.result ≡ Err c.in_err-put.field-0.0 = search rules in
+    let given : c.from_residual.result ≡ Err c.in_err-put.field-0.0 = handed_on c.from_residual.result _ c.from_residual.ensures.1 in
     acts_put d.files d.moment d.left_since d.honest old (λ honest image left. g.met.D.Disk.only_now old.disk image honest left) refl new
     (kept_same d.files states c.args.files.now c.put.new.self c.args.tally.now put.memory put.before)
     c.args.plan c.args.files.now.held c.put.new.self.held c.requires.unbroken c.put.result c.in_err-put.field-0.0 c.from_residual.result c.in_err-put.was given put.puts
@@ -48,7 +49,7 @@ returns-clause-acts g c states =
 pub returns-in_err-put-clause-waits : goal.returns-in_err-put-clause-waits
 returns-in_err-put-clause-waits g c states =
     let old = kept_over g.D.Disk.files states c.args.files.now c.args.tally.now in
-    let given : c.from_residual.result ≡ Err c.in_err-put.field-0.0 = search rules in
+    let given : c.from_residual.result ≡ Err c.in_err-put.field-0.0 = handed_on c.from_residual.result _ c.from_residual.ensures.1 in
     subst (λ (r : Result Reply RunFault). WaitsAccepted (fills old.session) (files_of c.args.plan) c.args.files.now.held r c.put.new.self.held) (sym given)
     (ap (λ (s : TextSet). s.waiting) c.put.ensures.before)
 

@@ -11,6 +11,7 @@ use Rattle.org_commands.specs.Session.{kept_over}
 use Rattle.org_commands.specs.Step.{fills}
 use Rattle.org_commands.specs.Waiting.{WaitsCounted}
 use Rattle.org_commands.proofs.Acting.{acts_done, acts_fault, acts_refused, kept_same}
+use Rattle.org_commands.proofs.Handing.{handed_on}
 use Rattle.org_commands.proofs.changing.count.Goals as goal
 
 pub returns-then-tally-clause-acts : goal.returns-then-tally-clause-acts
@@ -36,7 +37,7 @@ returns-in_err-keep_or_settle-clause-acts g c states names joins =
     let texts = texts_of (held_over files.held.now (contents (d.files files.disk))) files.names in
     let fault = c.in_err-keep_or_settle.field-0.0 in
     let countable : (c.args.tally.now.accepted == 2 ^ 64 - 1) ≡ false = search rules in
-    let given : c.from_residual.result ≡ Err fault = search rules in
+    let given : c.from_residual.result ≡ Err fault = handed_on c.from_residual.result _ c.from_residual.ensures.1 in
     subst (λ (r : Result Reply RunFault). Acts d.files d.moment d.left_since d.honest old (counted old.session names texts) r new) (sym given)
     (acts_fault d.files d.moment d.left_since d.honest old (λ honest image left. g.met.D.Disk.only_now old.disk image honest left) refl new (counted old.session names texts)
     names files.held.now.waiting texts c.keep_or_settle.result joins (ap (λ t. if t then Refuses TooLarge else Accepts names texts) countable) c.requires.unbroken
@@ -60,6 +61,6 @@ returns-in_err-keep_or_settle-clause-waits g c states =
     let held = c.args.files.now.held in
     let next = c.keep_or_settle.new.files.held in
     let full = fills (kept_over g.D.Disk.files states c.args.files.now c.args.tally.now).session in
-    let given : c.from_residual.result ≡ Err c.in_err-keep_or_settle.field-0.0 = search rules in
+    let given : c.from_residual.result ≡ Err c.in_err-keep_or_settle.field-0.0 = handed_on c.from_residual.result _ c.from_residual.ensures.1 in
     subst (λ (r : Result Reply RunFault). WaitsCounted full held r next) (sym given)
     (subst (λ (r : Result (Unit {0}) RunFault). WaitsCounted full held r next) c.in_err-keep_or_settle.was (c.keep_or_settle.ensures.waits states))

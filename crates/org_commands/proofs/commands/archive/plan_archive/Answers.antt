@@ -1,4 +1,4 @@
-use Rattle.std.proofs.Common.{◌≡◌, ◌∙◌, ◌∷◌, [], false, true, Some, Result, Err, List, ℕ, refl, sym, ap, subst, rules}
+use Rattle.std.proofs.Common.{◌≡◌, ◌∙◌, ◌∷◌, [], false, true, Some, Result, Err, List, ℕ, refl, sym, ap, subst}
 use Rattle.org_journal.specs.Recovered.{Image, contents}
 use Rattle.org_texts.specs.declared.plan.Plan.{Plan}
 use Rattle.org_texts.specs.Texts.{held_over}
@@ -15,6 +15,7 @@ use Rattle.org_commands.proofs.InOrder.{none_at}
 use Rattle.org_commands.proofs.Plans.{is_ready, one_name}
 use Rattle.org_commands.proofs.Reading.{only_reads_none, only_reads_then}
 use Rattle.org_commands.proofs.Sessions.{does_read}
+use Rattle.org_commands.proofs.Handing.{handed_on}
 use Rattle.org_commands.proofs.commands.archive.plan_archive.Goals as goal
 
 pub returns-then-not-has-clause-plans : goal.returns-then-not-has-clause-plans
@@ -22,7 +23,7 @@ returns-then-not-has-clause-plans g c tally honest =
     let a = c.args in
     let files = a.files.now in
     let s = session_over (λ disk. contents (g.D.Disk.files disk)) a.states.now files tally in
-    let missing : is_name files.names a.command.now.file ≡ false = search rules in
+    let missing : is_name files.names a.command.now.file ≡ false = sym c.if-not-has.ensures in
     let none = none_at (held_over files.held.before (contents (g.D.Disk.files files.disk))) files.names a.command.now.file missing in
     (c.requires.between.unbroken, ap (archive s a.command.now.file a.command.now.path a.command.now.moment) none, refl)
 
@@ -34,7 +35,7 @@ returns-in_err-ready-clause-plans g c tally honest =
     let new = session_over texts a.states.now c.ready.new.self tally in
     let fault = c.in_err-ready.field-0.0 in
     let told = archive s a.command.now.file a.command.now.path a.command.now.moment (text_at s.names s.files a.command.now.file) in
-    let given : c.from_residual.result ≡ Err fault = search rules in
+    let given : c.from_residual.result ≡ Err fault = handed_on c.from_residual.result _ c.from_residual.ensures.1 in
     let reads = subst (λ (r : Result (Unit {0}) RunFault). Reads s r new) c.in_err-ready.was (c.ready.ensures.reads a.states.now tally honest) in
     subst (λ (r : Result Plan RunFault). Plans s told r c.ready.new.self.held new) (sym given) (does_read (Unit {0}) s new told fault c.requires.between.unbroken reads)
 
@@ -55,10 +56,10 @@ returns-in_err-to-clause-plans g c tally honest =
     let file = a.command.now.file in
     let told = archive s file a.command.now.path a.command.now.moment (text_at s.names s.files file) in
     let why = c.in_err-to.field-0.0 in
-    let given : c.from_residual-in_err-to.result ≡ Err (fault_of_move why) = search rules in
+    let given : c.from_residual-in_err-to.result ≡ Err (fault_of_move why) = handed_on c.from_residual-in_err-to.result _ c.from_residual-in_err-to.ensures.1 in
     let read : new ≡ s = c.in_ok-ready.ensures.reads a.states.now tally honest in
     let ready : AreReady (file ∷ []) files.held = c.in_ok-ready.ensures.ready [] (none_ready a.files.now.held c.requires.between.begun) in
-    let there : is_name a.files.now.names file ≡ true = search rules in
+    let there : is_name a.files.now.names file ≡ true = sym c.if-not-has.ensures in
     let named : is_name files.names file ≡ true = ap (λ (ns : List (List ℕ)). is_name ns file) c.ready.ensures.disk.names ∙ there in
     let own = store_text texts a.states.now files tally s (file ∷ []) file read ready (one_name file) named in
     let seen = held_bytes files.held file in
@@ -84,7 +85,7 @@ returns-clause-plans g c tally honest =
     let told = archive s file a.command.now.path a.command.now.moment (text_at s.names s.files file) in
     let read : one ≡ s = c.in_ok-ready.ensures.reads a.states.now tally (c.plan_archive_to.ensures.disk.accounts.was_honest honest) in
     let ready : AreReady (file ∷ []) files.held = c.in_ok-ready.ensures.ready [] (none_ready a.files.now.held c.requires.between.begun) in
-    let there : is_name a.files.now.names file ≡ true = search rules in
+    let there : is_name a.files.now.names file ≡ true = sym c.if-not-has.ensures in
     let named : is_name files.names file ≡ true = ap (λ (ns : List (List ℕ)). is_name ns file) c.ready.ensures.disk.names ∙ there in
     let own = store_text texts a.states.now files tally s (file ∷ []) file read ready (one_name file) named in
     let seen = held_bytes files.held file in

@@ -16,6 +16,7 @@ use Rattle.org_commands.proofs.Plans.{first_name, is_ready, one_name, second_nam
 use Rattle.org_commands.proofs.Reading.{only_reads_fault, only_reads_fine, only_reads_none}
 use Rattle.org_commands.proofs.Refiles.{move_planned, move_refused}
 use Rattle.org_commands.proofs.Sessions.{does_read}
+use Rattle.org_commands.proofs.Handing.{handed_on}
 use Rattle.org_commands.proofs.commands.archive.plan_archive_to.Goals as goal
 
 pub plan_within-requires : goal.plan_within-requires
@@ -31,7 +32,7 @@ returns-in_err-plan_within-clause-plans g c tally text honest at =
     let to = a.to.now in
     let told = archive_to s file a.command.now.path a.command.now.moment text to (text_at s.names s.files to.file) in
     let why = c.in_err-plan_within.field-0.0 in
-    let given : c.from_residual.result ≡ Err (fault_of_move why) = search rules in
+    let given : c.from_residual.result ≡ Err (fault_of_move why) = handed_on c.from_residual.result _ c.from_residual.ensures.1 in
     let same : file ≡ to.file = search rules in
     let own = store_text texts a.states.now files tally s (file ∷ []) file refl c.requires.ready (one_name file) c.requires.name in
     let seen = held_bytes files.held file in
@@ -78,7 +79,7 @@ returns-then-not-has-clause-plans g c tally text honest at =
     let s = session_over texts a.states.now files tally in
     let file = a.command.now.file in
     let to = a.to.now in
-    let missing : is_name files.names to.file ≡ false = search rules in
+    let missing : is_name files.names to.file ≡ false = ap (is_name files.names) (sym c.file-to_file.ensures) ∙ sym c.if-not-has.ensures in
     (c.requires.unbroken, no_place s file a.command.now.path a.command.now.moment text to (no_text texts a.states.now files tally s to.file refl missing), refl)
 
 pub returns-in_err-ready-clause-plans : goal.returns-in_err-ready-clause-plans
@@ -93,13 +94,13 @@ returns-in_err-ready-clause-plans g c tally text honest at =
     let later = c.ready.new.self in
     let new = session_over texts a.states.now later tally in
     let fault = c.in_err-ready.field-0.0 in
-    let given : c.from_residual-in_err-ready.result ≡ Err fault = search rules in
+    let given : c.from_residual-in_err-ready.result ≡ Err fault = handed_on c.from_residual-in_err-ready.result _ c.from_residual-in_err-ready.ensures.1 in
     let failed = subst (λ (r : Result (Unit {0}) RunFault). Reads s r new) c.in_err-ready.was (c.ready.ensures.reads a.states.now tally honest) in
     subst (λ (r : Result Plan RunFault). Plans s told r later.held new) (sym given) (does_read (Unit {0}) s new told fault c.requires.unbroken failed)
 
 pub returns-in_err-ready-clause-disk : goal.returns-in_err-ready-clause-disk
 returns-in_err-ready-clause-disk g c =
-    let given : c.from_residual-in_err-ready.result ≡ Err c.in_err-ready.field-0.0 = search rules in
+    let given : c.from_residual-in_err-ready.result ≡ Err c.in_err-ready.field-0.0 = handed_on c.from_residual-in_err-ready.result _ c.from_residual-in_err-ready.ensures.1 in
     only_reads_fault given c.in_err-ready.ensures.disk
 
 pub plan_across-requires-clause-source : goal.plan_across-requires-clause-source
@@ -130,7 +131,7 @@ returns-in_err-plan_across-clause-plans g c tally text honest at =
     let later = c.ready.new.self in
     let new = session_over texts a.states.now later tally in
     let why = c.in_err-plan_across.field-0.0 in
-    let given : c.from_residual-in_err-plan_across.result ≡ Err (fault_of_move why) = search rules in
+    let given : c.from_residual-in_err-plan_across.result ≡ Err (fault_of_move why) = handed_on c.from_residual-in_err-plan_across.result _ c.from_residual-in_err-plan_across.ensures.1 in
     let read : new ≡ s = c.in_ok-ready.ensures.reads a.states.now tally honest in
     let both : AreReady (to.file ∷ file ∷ []) later.held = subst (λ (n : List ℕ). AreReady (n ∷ file ∷ []) later.held) c.file-to_file.ensures (c.in_ok-ready.ensures.ready (file ∷ []) c.requires.ready) in
     let still : is_name later.names file ≡ true = ap (λ (ns : List (List ℕ)). is_name ns file) c.ready.ensures.disk.names ∙ c.requires.name in

@@ -1,4 +1,4 @@
-use Rattle.std.proofs.Common.{◌≡◌, ◌∙◌, ◌∷◌, [], true, Option, Some, Result, Ok, Err, List, ℕ, sym, ap, subst, rules}
+use Rattle.std.proofs.Common.{◌≡◌, ◌∙◌, ◌∷◌, [], true, Option, Some, Result, Ok, Err, List, ℕ, sym, ap, subst}
 use Rattle.std.specs.Option.{unwrap_or}
 use Rattle.org_journal.specs.Recovered.{Image, contents}
 use Rattle.org_splice.specs.declared.edit.Edit.{Edit}
@@ -17,6 +17,7 @@ use Rattle.org_commands.proofs.Captures.{target_planned, target_refused}
 use Rattle.org_commands.proofs.Held.{none_ready}
 use Rattle.org_commands.proofs.Plans.{is_ready, one_name, one_text, plan_of_one, ready_text, text_held}
 use Rattle.org_commands.proofs.Sessions.{does_read}
+use Rattle.org_commands.proofs.Handing.{handed_on}
 use Rattle.org_commands.proofs.commands.capture.plan_entry.Goals as goal
 
 pub returns-in_err-ready-clause-plans : goal.returns-in_err-ready-clause-plans
@@ -27,7 +28,7 @@ returns-in_err-ready-clause-plans g c tally node entry honest =
     let new = session_over texts a.states.now c.ready.new.self tally in
     let fault = c.in_err-ready.field-0.0 in
     let told = with_entry s a.command.now.file a.command.now.target a.command.now.place a.command.now.moment (Ok node) (unwrap_or (text_at s.names s.files a.command.now.file) []) in
-    let given : c.from_residual.result ≡ Err fault = search rules in
+    let given : c.from_residual.result ≡ Err fault = handed_on c.from_residual.result _ c.from_residual.ensures.1 in
     let reads = subst (λ (r : Result (Unit {0}) RunFault). Reads s r new) c.in_err-ready.was (c.ready.ensures.reads a.states.now tally honest) in
     subst (λ (r : Result Plan RunFault). Plans s told r c.ready.new.self.held new) (sym given) (does_read (Unit {0}) s new told fault c.requires.between.unbroken reads)
 
@@ -49,11 +50,11 @@ returns-in_err-edit-clause-plans g c tally node entry honest =
     let text = c.held-held.result.now.text in
     let said = λ (o : Option (List ℕ)). with_entry s file a.command.now.target a.command.now.place a.command.now.moment (Ok node) (unwrap_or o []) in
     let why = c.in_err-edit.field-0.0 in
-    let given : c.from_residual-in_err-edit.result ≡ Err (fault_of_capture why) = search rules in
+    let given : c.from_residual-in_err-edit.result ≡ Err (fault_of_capture why) = handed_on c.from_residual-in_err-edit.result _ c.from_residual-in_err-edit.ensures.1 in
     let read : new ≡ s = c.in_ok-ready.ensures.reads a.states.now tally honest in
     let ready : AreReady (file ∷ []) held = c.in_ok-ready.ensures.ready [] (none_ready a.files.now.held c.requires.between.begun) in
     let named : is_name c.ready.new.self.names file ≡ true = ap (λ (ns : List (List ℕ)). is_name ns file) c.ready.ensures.disk.names ∙ c.requires.file in
-    let at : text_of held.now file ≡ Some text = search rules in
+    let at : text_of held.now file ≡ Some text = c.held-held.ensures.text in
     let old = ready_text (file ∷ []) held file text ready (one_name file) at in
     let seen : text_at new.names new.files file ≡ Some old.0.bytes = text_held c.ready.new.self.names held (texts c.ready.new.self.disk) file old.0 named old.1 in
     let found : text_at s.names s.files file ≡ Some old.0.bytes = subst (λ (t : Session). text_at t.names t.files file ≡ Some old.0.bytes) read seen in
@@ -69,7 +70,7 @@ returns-clause-plan g c =
     let file = a.command.now.file in
     let ready : AreReady (file ∷ []) held = c.in_ok-ready.ensures.ready [] (none_ready a.files.now.held c.requires.between.begun) in
     let named : is_name c.ready.new.self.names file ≡ true = ap (λ (ns : List (List ℕ)). is_name ns file) c.ready.ensures.disk.names ∙ c.requires.file in
-    let at : text_of held.now file ≡ Some c.held-held.result.now.text = search rules in
+    let at : text_of held.now file ≡ Some c.held-held.result.now.text = c.held-held.ensures.text in
     let text = c.held-held.result.now.text in
     let made = c.plan_of_one.ensures in
     let answers = c.in_ok-edit.ensures c.requires.entry.0 c.requires.entry.1 in
@@ -90,7 +91,7 @@ returns-clause-plans g c tally node entry honest =
     let read : new ≡ s = c.in_ok-ready.ensures.reads a.states.now tally honest in
     let ready : AreReady (file ∷ []) held = c.in_ok-ready.ensures.ready [] (none_ready a.files.now.held c.requires.between.begun) in
     let named : is_name c.ready.new.self.names file ≡ true = ap (λ (ns : List (List ℕ)). is_name ns file) c.ready.ensures.disk.names ∙ c.requires.file in
-    let at : text_of held.now file ≡ Some text = search rules in
+    let at : text_of held.now file ≡ Some text = c.held-held.ensures.text in
     let old = ready_text (file ∷ []) held file text ready (one_name file) at in
     let seen : text_at new.names new.files file ≡ Some old.0.bytes = text_held c.ready.new.self.names held (texts c.ready.new.self.disk) file old.0 named old.1 in
     let found : text_at s.names s.files file ≡ Some old.0.bytes = subst (λ (t : Session). text_at t.names t.files file ≡ Some old.0.bytes) read seen in

@@ -17,6 +17,7 @@ use Rattle.org_commands.proofs.Clocks.{beside_other, beside_same, clock_in_is, l
 use Rattle.org_commands.proofs.InOrder.{none_at, text_there}
 use Rattle.org_commands.proofs.Reading.{only_reads_fault, only_reads_none, only_reads_then}
 use Rattle.org_commands.proofs.Sessions.{does_read}
+use Rattle.org_commands.proofs.Handing.{handed_on}
 use Rattle.org_commands.proofs.commands.clock.plan_clock_in.Goals as goal
 
 pub returns-then-not-has-clause-plans : goal.returns-then-not-has-clause-plans
@@ -24,7 +25,7 @@ returns-then-not-has-clause-plans g c tally honest =
     let a = c.args in
     let files = a.files.now in
     let s = session_over (λ disk. contents (g.D.Disk.files disk)) a.states.now files tally in
-    let missing : is_name files.names a.command.now.file ≡ false = search rules in
+    let missing : is_name files.names a.command.now.file ≡ false = sym c.if-not-has.ensures in
     let none = none_at (held_over files.held.before (contents (g.D.Disk.files files.disk))) files.names a.command.now.file missing in
     (c.requires.between.unbroken, ap (clock_in s a.command.now.file a.command.now.path a.command.now.moment) none, refl)
 
@@ -40,8 +41,8 @@ returns-in_err-look_up_in-clause-plans g c tally honest =
     let d = tree (unwrap_or text []) in
     let found = find_path a.states.now d a.command.now.path in
     let told = clock_in s a.command.now.file a.command.now.path a.command.now.moment text in
-    let given : c.from_residual.result ≡ Err fault = search rules in
-    let there : is_name files.names a.command.now.file ≡ true = search rules in
+    let given : c.from_residual.result ≡ Err fault = handed_on c.from_residual.result _ c.from_residual.ensures.1 in
+    let there : is_name files.names a.command.now.file ≡ true = sym c.if-not-has.ensures in
     let some : is_some text ≡ true = sym (text_there (held_over files.held.before (texts files.disk)) files.names a.command.now.file) ∙ there in
     let looks = subst (λ (r : Result (Unit {0}) RunFault). LooksUp s found r new) c.in_err-look_up_in.was (c.look_up_in.ensures.finds tally honest) in
     let does = look_up_fails s new found told fault c.requires.between.unbroken
@@ -57,7 +58,7 @@ returns-in_err-clock-clause-plans g c tally honest =
     let new = session_over texts a.states.now c.running_clock.new.files tally in
     let fault = c.in_err-clock.field-0.0 in
     let told = clock_in s a.command.now.file a.command.now.path a.command.now.moment (text_at s.names s.files a.command.now.file) in
-    let given : c.from_residual-in_err-clock.result ≡ Err fault = search rules in
+    let given : c.from_residual-in_err-clock.result ≡ Err fault = handed_on c.from_residual-in_err-clock.result _ c.from_residual-in_err-clock.ensures.1 in
     let same : mid ≡ s = (c.in_ok-look_up_in.ensures.finds tally (c.running_clock.ensures.disk.accounts.was_honest honest)).1 in
     let reads = subst (λ (r : Result (Option Clock) RunFault). Reads mid r new) c.in_err-clock.was (c.running_clock.ensures.reads tally honest) in
     subst (λ (r : Result (Option Plan) RunFault). PlansOrStays s told r c.running_clock.new.files.held new) (sym given)
@@ -78,7 +79,7 @@ returns-in_default-clause-plans g c tally honest =
     let ran = c.start_in_one.ensures.disk.accounts.was_honest honest in
     let same : mid ≡ s = (c.in_ok-look_up_in.ensures.finds tally (c.running_clock.ensures.disk.accounts.was_honest ran)).1 in
     let read : after ≡ s = c.in_ok-clock.ensures.reads tally ran ∙ same in
-    let there : is_name files.names file ≡ true = search rules in
+    let there : is_name files.names file ≡ true = sym c.if-not-has.ensures in
     let some : is_some text ≡ true = sym (text_there (held_over files.held.before (texts files.disk)) files.names file) ∙ there in
     let none : c.in_ok-clock.field-0 ≡ None = none_left c.in_ok-clock.field-0 c.in_default.not-Some in
     let runs : running_over mid.names mid.files ≡ None = sym (c.in_ok-clock.ensures.clock tally ran) ∙ ap (option_map (λ (k : Clock). (k.file, k.running))) none in
@@ -106,7 +107,7 @@ returns-then-eq-clause-plans g c tally honest =
     let ran = c.start_in_one-then-eq.ensures.disk.accounts.was_honest honest in
     let same : mid ≡ s = (c.in_ok-look_up_in.ensures.finds tally (c.running_clock.ensures.disk.accounts.was_honest ran)).1 in
     let read : after ≡ s = c.in_ok-clock.ensures.reads tally ran ∙ same in
-    let there : is_name files.names file ≡ true = search rules in
+    let there : is_name files.names file ≡ true = sym c.if-not-has.ensures in
     let some : is_some text ≡ true = sym (text_there (held_over files.held.before (texts files.disk)) files.names file) ∙ there in
     let own : clock.file ≡ file = search rules in
     let runs : running_over mid.names mid.files ≡ Some (clock.file, clock.running) = sym (c.in_ok-clock.ensures.clock tally ran) ∙ ap (option_map (λ (k : Clock). (k.file, k.running))) c.in-Some.is in
@@ -138,7 +139,7 @@ returns-clause-plans g c tally honest =
     let ran = c.start_beside.ensures.disk.accounts.was_honest honest in
     let same : mid ≡ s = (c.in_ok-look_up_in.ensures.finds tally (c.running_clock.ensures.disk.accounts.was_honest ran)).1 in
     let read : after ≡ s = c.in_ok-clock.ensures.reads tally ran ∙ same in
-    let there : is_name files.names file ≡ true = search rules in
+    let there : is_name files.names file ≡ true = sym c.if-not-has.ensures in
     let some : is_some text ≡ true = sym (text_there (held_over files.held.before (texts files.disk)) files.names file) ∙ there in
     let apart : clock.file ≢ file = search rules in
     let runs : running_over mid.names mid.files ≡ Some (clock.file, clock.running) = sym (c.in_ok-clock.ensures.clock tally ran) ∙ ap (option_map (λ (k : Clock). (k.file, k.running))) c.in-Some.is in
@@ -155,12 +156,12 @@ returns-clause-disk g c = only_reads_then c.in_ok-look_up_in.ensures.disk (only_
 
 pub returns-in_err-look_up_in-clause-disk : goal.returns-in_err-look_up_in-clause-disk
 returns-in_err-look_up_in-clause-disk g c =
-    let given : c.from_residual.result ≡ Err c.in_err-look_up_in.field-0.0 = search rules in
+    let given : c.from_residual.result ≡ Err c.in_err-look_up_in.field-0.0 = handed_on c.from_residual.result _ c.from_residual.ensures.1 in
     only_reads_fault given c.in_err-look_up_in.ensures.disk
 
 pub returns-in_err-clock-clause-disk : goal.returns-in_err-clock-clause-disk
 returns-in_err-clock-clause-disk g c =
-    let given : c.from_residual-in_err-clock.result ≡ Err c.in_err-clock.field-0.0 = search rules in
+    let given : c.from_residual-in_err-clock.result ≡ Err c.in_err-clock.field-0.0 = handed_on c.from_residual-in_err-clock.result _ c.from_residual-in_err-clock.ensures.1 in
     only_reads_then c.in_ok-look_up_in.ensures.disk (only_reads_fault given c.in_err-clock.ensures.disk)
 
 pub returns-in_default-clause-disk : goal.returns-in_default-clause-disk

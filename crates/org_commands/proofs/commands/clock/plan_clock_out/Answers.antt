@@ -1,4 +1,4 @@
-use Rattle.std.proofs.Common.{◌≡◌, ◌∙◌, [], Option, None, Some, Result, Err, sym, ap, subst, rules}
+use Rattle.std.proofs.Common.{◌≡◌, ◌∙◌, [], Option, None, Some, Result, Err, sym, ap, subst}
 use Rattle.std.specs.Option.{option_map, unwrap_or}
 use Rattle.org_journal.specs.Recovered.{Image, contents}
 use Rattle.org_outline.specs.Tree.{tree}
@@ -14,6 +14,7 @@ use Rattle.org_commands.specs.Session.{Session, session_over}
 use Rattle.org_commands.proofs.Clocks.{none_left}
 use Rattle.org_commands.proofs.Reading.{only_reads_then}
 use Rattle.org_commands.proofs.Sessions.{does_read}
+use Rattle.org_commands.proofs.Handing.{handed_on}
 use Rattle.org_commands.proofs.commands.clock.plan_clock_out.Goals as goal
 
 pub returns-in_err-clock-clause-plans : goal.returns-in_err-clock-clause-plans
@@ -24,7 +25,7 @@ returns-in_err-clock-clause-plans g c tally honest =
     let new = session_over texts a.states.now c.running_clock.new.files tally in
     let fault = c.in_err-clock.field-0.0 in
     let told = clock_out s a.moment (running_over s.names s.files) in
-    let given : c.from_residual.result ≡ Err fault = search rules in
+    let given : c.from_residual.result ≡ Err fault = handed_on c.from_residual.result _ c.from_residual.ensures.1 in
     let reads = subst (λ (r : Result (Option Clock) RunFault). Reads s r new) c.in_err-clock.was (c.running_clock.ensures.reads tally honest) in
     subst (λ (r : Result (Option Plan) RunFault). PlansOrStays s told r c.running_clock.new.files.held new) (sym given) (does_read (Option Clock) s new told fault c.requires.between.unbroken reads)
 

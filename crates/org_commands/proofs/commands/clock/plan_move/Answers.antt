@@ -1,10 +1,11 @@
-use Rattle.std.proofs.Common.{◌≡◌, ◌∙◌, Ok, Err, List, ℕ, [], ◌∷◌, subst, rules}
+use Rattle.std.proofs.Common.{◌≡◌, ◌∙◌, Ok, Err, List, ℕ, [], ◌∷◌, subst}
 use Rattle.std.specs.Prelude.{IsSomeAnd}
 use Rattle.org_outline.specs.Paths.{find_path, titles_of}
 use Rattle.org_outline.specs.Tree.{tree}
 use Rattle.org_commands.specs.Clocking.{clock_moved}
 use Rattle.org_commands.proofs.Clocks.{move_made, move_not_started, move_not_stopped, not_moved, opening_told}
 use Rattle.org_commands.proofs.Refiles.{two_made}
+use Rattle.org_commands.proofs.Handing.{handed_on}
 use Rattle.org_commands.proofs.commands.clock.plan_move.Goals as goal
 
 pub returns-in_err-start : goal.returns-in_err-start
@@ -14,7 +15,7 @@ returns-in_err-start c =
     let other = a.other.now.text.bytes in
     let text = a.held.now.text.bytes in
     let why = c.in_err-start.field-0.0 in
-    let given : c.from_residual.result ≡ Err why = search rules in
+    let given : c.from_residual.result ≡ Err why = handed_on c.from_residual.result _ c.from_residual.ensures.1 in
     let answers = opening_told a.states.now c.outline_of.result.states a.command.now.path (titles_of c.as_slice.result.now) a.command.now.moment text c.outline_of.result.text (Err why)
     c.outline_of.ensures.1 c.as_slice.ensures c.outline_of.ensures.0 c.in_err-start.ensures in
     not_moved clock.file a.command.now.file other text (clock_moved a.command.now.moment clock.running (tree other) (tree text) (find_path a.states.now (tree text) a.command.now.path)) c.from_residual.result why given
@@ -28,7 +29,7 @@ returns-in_err-stop c =
     let text = a.held.now.text.bytes in
     let start = c.in_ok-start.start in
     let why = c.in_err-stop.field-0.0 in
-    let given : c.from_residual-in_err-stop.result ≡ Err why = search rules in
+    let given : c.from_residual-in_err-stop.result ≡ Err why = handed_on c.from_residual-in_err-stop.result _ c.from_residual-in_err-stop.ensures.1 in
     let answers = opening_told a.states.now c.outline_of.result.states a.command.now.path (titles_of c.as_slice.result.now) a.command.now.moment text c.outline_of.result.text (Ok start)
     c.outline_of.ensures.1 c.as_slice.ensures c.outline_of.ensures.0 c.in_ok-start.ensures in
     not_moved clock.file a.command.now.file other text (clock_moved a.command.now.moment clock.running (tree other) (tree text) (find_path a.states.now (tree text) a.command.now.path)) c.from_residual-in_err-stop.result why given

@@ -1,4 +1,4 @@
-use Rattle.std.proofs.Common.{◌≡◌, ◌∙◌, ◌∷◌, [], true, Option, Some, Result, Err, List, ℕ, sym, ap, subst, rules}
+use Rattle.std.proofs.Common.{◌≡◌, ◌∙◌, ◌∷◌, [], true, Option, Some, Result, Err, List, ℕ, sym, ap, subst}
 use Rattle.std.specs.Option.{unwrap_or}
 use Rattle.org_journal.specs.Recovered.{Image, contents}
 use Rattle.org_splice.specs.Edits.{AreEdits}
@@ -20,6 +20,7 @@ use Rattle.org_commands.proofs.Clocks.{move_not_made, ready_document, still_runs
 use Rattle.org_commands.proofs.Held.{none_ready}
 use Rattle.org_commands.proofs.Plans.{first_name, is_ready, plan_of_two, second_name, two_texts}
 use Rattle.org_commands.proofs.Sessions.{does_read}
+use Rattle.org_commands.proofs.Handing.{handed_on}
 use Rattle.org_commands.proofs.commands.clock.start_beside.Goals as goal
 
 pub returns-in_err-both_ready-clause-plans : goal.returns-in_err-both_ready-clause-plans
@@ -33,7 +34,7 @@ returns-in_err-both_ready-clause-plans g c tally honest =
     let d = tree (unwrap_or (text_at s.names s.files a.command.now.file) []) in
     let other = tree (unwrap_or (text_at s.names s.files clock.file) []) in
     let told = with_clock_moved s clock.file a.command.now.file (clock_moved a.command.now.moment clock.running other d (find_path a.states.now d a.command.now.path)) in
-    let given : c.from_residual.result ≡ Err fault = search rules in
+    let given : c.from_residual.result ≡ Err fault = handed_on c.from_residual.result _ c.from_residual.ensures.1 in
     let reads = subst (λ (r : Result (Unit {0}) RunFault). Reads s r new) c.in_err-both_ready.was (c.both_ready.ensures.reads a.states.now tally honest) in
     subst (λ (r : Result (Option Plan) RunFault). PlansOrStays s told r c.both_ready.new.files.held new) (sym given) (does_read (Unit {0}) s new told fault c.requires.between.unbroken reads)
 
@@ -60,7 +61,7 @@ plan_move-requires-clause-runs g c =
     let two = c.args.command.now.file ∷ clock.file ∷ [] in
     let seen = c.held-other.result.now.text in
     let ready : AreReady two held = c.in_ok-both_ready.ensures.ready [] (none_ready c.args.files.now.held c.requires.between.begun) in
-    let at : text_of held.now clock.file ≡ Some seen = search rules in
+    let at : text_of held.now clock.file ≡ Some seen = c.held-other.ensures.text in
     still_runs c.args.files.now.held held two clock.file clock.running seen c.requires.runs c.both_ready.ensures.keeps ready (second_name c.args.command.now.file clock.file) at
 
 pub returns-in_err-plan-clause-plans : goal.returns-in_err-plan-clause-plans
@@ -81,14 +82,14 @@ returns-in_err-plan-clause-plans g c tally honest =
     let second = tree (unwrap_or (text_at s.names s.files to_file) []) in
     let told = with_clock_moved s file to_file (said first second) in
     let why = c.in_err-plan.field-0.0 in
-    let given : c.from_residual-in_err-plan.result ≡ Err (fault_of_state why) = search rules in
+    let given : c.from_residual-in_err-plan.result ≡ Err (fault_of_state why) = handed_on c.from_residual-in_err-plan.result _ c.from_residual-in_err-plan.ensures.1 in
     let read : new ≡ s = c.in_ok-both_ready.ensures.reads a.states.now tally honest in
     let ready : AreReady two held = c.in_ok-both_ready.ensures.ready [] (none_ready a.files.now.held c.requires.between.begun) in
     let names = c.both_ready.new.files.names in
     let named : is_name names file ≡ true = ap (λ (ns : List (List ℕ)). is_name ns file) c.both_ready.ensures.disk.names ∙ c.requires.other in
     let also : is_name names to_file ≡ true = ap (λ (ns : List (List ℕ)). is_name ns to_file) c.both_ready.ensures.disk.names ∙ c.requires.file in
-    let at : text_of held.now file ≡ Some seen = search rules in
-    let there : text_of held.now to_file ≡ Some found = search rules in
+    let at : text_of held.now file ≡ Some seen = c.held-other.ensures.text in
+    let there : text_of held.now to_file ≡ Some found = c.held-held.ensures.text in
     let is = ap (λ (d : Document). with_clock_moved s file to_file (said d second)) (ready_document texts a.states.now c.both_ready.new.files tally s two file seen read ready (second_name to_file file) named at)
     ∙ ap (λ (d : Document). with_clock_moved s file to_file (said (tree seen.bytes) d)) (ready_document texts a.states.now c.both_ready.new.files tally s two to_file found read ready (first_name to_file (file ∷ [])) also there) in
     let refused = move_not_made s file to_file seen.bytes found.bytes told (said (tree seen.bytes) (tree found.bytes)) c.plan_move.result why c.requires.between.unbroken is c.in_err-plan.was c.plan_move.ensures in
@@ -109,8 +110,8 @@ returns-clause-plan g c = λ given is.
     let names = c.both_ready.new.files.names in
     let named : is_name names file ≡ true = ap (λ (ns : List (List ℕ)). is_name ns file) c.both_ready.ensures.disk.names ∙ c.requires.other in
     let also : is_name names to_file ≡ true = ap (λ (ns : List (List ℕ)). is_name ns to_file) c.both_ready.ensures.disk.names ∙ c.requires.file in
-    let at : text_of held.now file ≡ Some seen = search rules in
-    let there : text_of held.now to_file ≡ Some found = search rules in
+    let at : text_of held.now file ≡ Some seen = c.held-other.ensures.text in
+    let there : text_of held.now to_file ≡ Some found = c.held-held.ensures.text in
     let made = c.in_ok-plan.ensures in
     let more = the_value (λ (second : FileEdits). (second.file ≡ to_file) × AreEdits second.edits.items found.bytes (print made.0.target)) plan.second made.2.2 in
     let same : plan ≡ given = cc in
@@ -139,8 +140,8 @@ returns-clause-plans g c tally honest =
     let names = c.both_ready.new.files.names in
     let named : is_name names file ≡ true = ap (λ (ns : List (List ℕ)). is_name ns file) c.both_ready.ensures.disk.names ∙ c.requires.other in
     let also : is_name names to_file ≡ true = ap (λ (ns : List (List ℕ)). is_name ns to_file) c.both_ready.ensures.disk.names ∙ c.requires.file in
-    let at : text_of held.now file ≡ Some seen = search rules in
-    let there : text_of held.now to_file ≡ Some found = search rules in
+    let at : text_of held.now file ≡ Some seen = c.held-other.ensures.text in
+    let there : text_of held.now to_file ≡ Some found = c.held-held.ensures.text in
     let is = ap (λ (d : Document). with_clock_moved s file to_file (said d second)) (ready_document texts a.states.now c.both_ready.new.files tally s two file seen read ready (second_name to_file file) named at)
     ∙ ap (λ (d : Document). with_clock_moved s file to_file (said (tree seen.bytes) d)) (ready_document texts a.states.now c.both_ready.new.files tally s two to_file found read ready (first_name to_file (file ∷ [])) also there) in
     let made = c.in_ok-plan.ensures in

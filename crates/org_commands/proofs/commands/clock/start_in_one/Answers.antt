@@ -1,4 +1,4 @@
-use Rattle.std.proofs.Common.{◌≡◌, ◌∙◌, ◌∷◌, [], true, Option, Some, Result, Err, List, ℕ, sym, ap, subst, rules}
+use Rattle.std.proofs.Common.{◌≡◌, ◌∙◌, ◌∷◌, [], true, Option, Some, Result, Err, List, ℕ, sym, ap, subst}
 use Rattle.std.specs.Option.{unwrap_or}
 use Rattle.org_journal.specs.Recovered.{Image, contents}
 use Rattle.org_outline.specs.Paths.{find_path}
@@ -18,6 +18,7 @@ use Rattle.org_commands.proofs.Held.{none_ready}
 use Rattle.org_commands.proofs.Plans.{is_ready, one_name}
 use Rattle.org_commands.proofs.Sessions.{does_read}
 use Rattle.org_commands.proofs.Todos.{state_fits, state_not_made, state_planned}
+use Rattle.org_commands.proofs.Handing.{handed_on}
 use Rattle.org_commands.proofs.commands.clock.start_in_one.Goals as goal
 
 pub returns-in_err-ready-clause-plans : goal.returns-in_err-ready-clause-plans
@@ -29,7 +30,7 @@ returns-in_err-ready-clause-plans g c tally honest =
     let fault = c.in_err-ready.field-0.0 in
     let d = tree (unwrap_or (text_at s.names s.files a.command.now.file) []) in
     let told = with_state s a.command.now.file (clocked_in a.command.now.moment a.running d (find_path a.states.now d a.command.now.path)) in
-    let given : c.from_residual.result ≡ Err fault = search rules in
+    let given : c.from_residual.result ≡ Err fault = handed_on c.from_residual.result _ c.from_residual.ensures.1 in
     let reads = subst (λ (r : Result (Unit {0}) RunFault). Reads s r new) c.in_err-ready.was (c.ready.ensures.reads a.states.now tally honest) in
     subst (λ (r : Result (Option Plan) RunFault). PlansOrStays s told r c.ready.new.self.held new) (sym given) (does_read (Unit {0}) s new told fault c.requires.between.unbroken reads)
 
@@ -46,7 +47,7 @@ plan_in_text-requires-clause-runs g c running is =
     let file = c.args.command.now.file in
     let seen = c.held-held.result.now.text in
     let ready : AreReady (file ∷ []) held = c.in_ok-ready.ensures.ready [] (none_ready c.args.files.now.held c.requires.between.begun) in
-    let at : text_of held.now file ≡ Some seen = search rules in
+    let at : text_of held.now file ≡ Some seen = c.held-held.ensures.text in
     still_runs c.args.files.now.held held (file ∷ []) file running seen (c.requires.runs running is) c.ready.ensures.keeps ready (one_name file) at
 
 pub returns-in_err-plan_in_text-clause-plans : goal.returns-in_err-plan_in_text-clause-plans
@@ -61,11 +62,11 @@ returns-in_err-plan_in_text-clause-plans g c tally honest =
     let said = λ (d : Document). clocked_in a.command.now.moment a.running d (find_path a.states.now d a.command.now.path) in
     let told = with_state s file (said (tree (unwrap_or (text_at s.names s.files file) []))) in
     let why = c.in_err-plan_in_text.field-0.0 in
-    let given : c.from_residual-in_err-plan_in_text.result ≡ Err (fault_of_state why) = search rules in
+    let given : c.from_residual-in_err-plan_in_text.result ≡ Err (fault_of_state why) = handed_on c.from_residual-in_err-plan_in_text.result _ c.from_residual-in_err-plan_in_text.ensures.1 in
     let read : new ≡ s = c.in_ok-ready.ensures.reads a.states.now tally honest in
     let ready : AreReady (file ∷ []) held = c.in_ok-ready.ensures.ready [] (none_ready a.files.now.held c.requires.between.begun) in
     let named : is_name c.ready.new.self.names file ≡ true = ap (λ (ns : List (List ℕ)). is_name ns file) c.ready.ensures.disk.names ∙ c.requires.file in
-    let at : text_of held.now file ≡ Some seen = search rules in
+    let at : text_of held.now file ≡ Some seen = c.held-held.ensures.text in
     let is = ap (λ (d : Document). with_state s file (said d)) (ready_document texts a.states.now c.ready.new.self tally s (file ∷ []) file seen read ready (one_name file) named at) in
     let refused = state_not_made s file seen.bytes told (said (tree seen.bytes)) c.plan_in_text.result why c.requires.between.unbroken is c.in_err-plan_in_text.was c.plan_in_text.ensures in
     subst (λ (r : Result (Option Plan) RunFault). PlansOrStays s told r held new) (sym given)
@@ -79,7 +80,7 @@ returns-clause-plan g c =
     let seen = c.held-held.result.now.text in
     let ready : AreReady (file ∷ []) held = c.in_ok-ready.ensures.ready [] (none_ready a.files.now.held c.requires.between.begun) in
     let named : is_name c.ready.new.self.names file ≡ true = ap (λ (ns : List (List ℕ)). is_name ns file) c.ready.ensures.disk.names ∙ c.requires.file in
-    let at : text_of held.now file ≡ Some seen = search rules in
+    let at : text_of held.now file ≡ Some seen = c.held-held.ensures.text in
     state_fits c.ready.new.self.names held file seen (clocked_in a.command.now.moment a.running (tree seen.bytes) (find_path a.states.now (tree seen.bytes) a.command.now.path)) c.in_ok-plan_in_text.field-0 c.in_ok-plan_in_text.ensures at named ready
 
 pub returns-clause-plans : goal.returns-clause-plans
@@ -96,6 +97,6 @@ returns-clause-plans g c tally honest =
     let read : new ≡ s = c.in_ok-ready.ensures.reads a.states.now tally honest in
     let ready : AreReady (file ∷ []) held = c.in_ok-ready.ensures.ready [] (none_ready a.files.now.held c.requires.between.begun) in
     let named : is_name c.ready.new.self.names file ≡ true = ap (λ (ns : List (List ℕ)). is_name ns file) c.ready.ensures.disk.names ∙ c.requires.file in
-    let at : text_of held.now file ≡ Some seen = search rules in
+    let at : text_of held.now file ≡ Some seen = c.held-held.ensures.text in
     let is = ap (λ (d : Document). with_state s file (said d)) (ready_document texts a.states.now c.ready.new.self tally s (file ∷ []) file seen read ready (one_name file) named at) in
     state_planned s new held file seen (said (tree seen.bytes)) told c.in_ok-plan_in_text.field-0 is c.in_ok-plan_in_text.ensures at read

@@ -1,4 +1,4 @@
-use Rattle.std.proofs.Common.{◌≡◌, ◌∙◌, ◌∷◌, [], true, Some, Result, Err, List, ℕ, sym, ap, subst, rules}
+use Rattle.std.proofs.Common.{◌≡◌, ◌∙◌, ◌∷◌, [], true, Some, Result, Err, List, ℕ, sym, ap, subst}
 use Rattle.org_journal.specs.Recovered.{Image, contents}
 use Rattle.org_splice.specs.Edits.{AreEdits}
 use Rattle.org_outline.specs.Tree.{print, tree}
@@ -19,6 +19,7 @@ use Rattle.org_commands.proofs.Held.{none_ready}
 use Rattle.org_commands.proofs.Plans.{first_name, is_ready, plan_of_two, ready_text, second_name, text_held, two_texts}
 use Rattle.org_commands.proofs.Refiles.{across_is, move_planned, move_refused}
 use Rattle.org_commands.proofs.Sessions.{does_read}
+use Rattle.org_commands.proofs.Handing.{handed_on}
 use Rattle.org_commands.proofs.commands.refile.refile_in_two.Goals as goal
 
 pub returns-in_err-both_ready-clause-plans : goal.returns-in_err-both_ready-clause-plans
@@ -29,7 +30,7 @@ returns-in_err-both_ready-clause-plans g c tally honest =
     let new = session_over texts a.states.now c.both_ready.new.files tally in
     let fault = c.in_err-both_ready.field-0.0 in
     let told = refile s a.command.now.file a.command.now.path a.command.now.to_file a.command.now.to_path a.command.now.place (text_at s.names s.files a.command.now.file) (text_at s.names s.files a.command.now.to_file) in
-    let given : c.from_residual.result ≡ Err fault = search rules in
+    let given : c.from_residual.result ≡ Err fault = handed_on c.from_residual.result _ c.from_residual.ensures.1 in
     let reads = subst (λ (r : Result (Unit {0}) RunFault). Reads s r new) c.in_err-both_ready.was (c.both_ready.ensures.reads a.states.now tally honest) in
     subst (λ (r : Result Plan RunFault). Plans s told r c.both_ready.new.files.held new) (sym given) (does_read (Unit {0}) s new told fault c.requires.between.unbroken reads)
 
@@ -65,14 +66,14 @@ returns-in_err-plan_across-clause-plans g c tally honest =
     let target = text_at s.names s.files to_file in
     let told = refile s file a.command.now.path to_file a.command.now.to_path a.command.now.place text target in
     let why = c.in_err-plan_across.field-0.0 in
-    let given : c.from_residual-in_err-plan_across.result ≡ Err (fault_of_move why) = search rules in
+    let given : c.from_residual-in_err-plan_across.result ≡ Err (fault_of_move why) = handed_on c.from_residual-in_err-plan_across.result _ c.from_residual-in_err-plan_across.ensures.1 in
     let read : new ≡ s = c.in_ok-both_ready.ensures.reads a.states.now tally honest in
     let ready : AreReady two held = c.in_ok-both_ready.ensures.ready [] (none_ready a.files.now.held c.requires.between.begun) in
     let names = c.both_ready.new.files.names in
     let named : is_name names file ≡ true = ap (λ (ns : List (List ℕ)). is_name ns file) c.both_ready.ensures.disk.names ∙ c.requires.file in
     let also : is_name names to_file ≡ true = ap (λ (ns : List (List ℕ)). is_name ns to_file) c.both_ready.ensures.disk.names ∙ c.requires.to_file in
-    let at : text_of held.now file ≡ Some seen = search rules in
-    let there : text_of held.now to_file ≡ Some found = search rules in
+    let at : text_of held.now file ≡ Some seen = c.held-source.ensures.text in
+    let there : text_of held.now to_file ≡ Some found = c.held-target.ensures.text in
     let old = ready_text two held file seen ready (second_name to_file file) at in
     let other = ready_text two held to_file found ready (first_name to_file (file ∷ [])) there in
     let first : text ≡ Some old.0.bytes = subst (λ (t : Session). text_at t.names t.files file ≡ Some old.0.bytes) read (text_held names held (texts c.both_ready.new.files.disk) file old.0 named old.1) in
@@ -98,8 +99,8 @@ returns-clause-plan g c =
     let names = c.both_ready.new.files.names in
     let named : is_name names file ≡ true = ap (λ (ns : List (List ℕ)). is_name ns file) c.both_ready.ensures.disk.names ∙ c.requires.file in
     let also : is_name names to_file ≡ true = ap (λ (ns : List (List ℕ)). is_name ns to_file) c.both_ready.ensures.disk.names ∙ c.requires.to_file in
-    let at : text_of held.now file ≡ Some seen = search rules in
-    let there : text_of held.now to_file ≡ Some found = search rules in
+    let at : text_of held.now file ≡ Some seen = c.held-source.ensures.text in
+    let there : text_of held.now to_file ≡ Some found = c.held-target.ensures.text in
     let made = c.in_ok-plan_across.ensures in
     let more = the_value (λ (second : FileEdits). (second.file ≡ to_file) × AreEdits second.edits.items found.bytes (print made.0.target)) plan.second made.2.2 in
     plan_of_two plan more.0 names held file to_file seen found (print made.0.source) (print made.0.target) c.requires.apart made.2.0 more.1 more.2.0 at there made.2.1 more.2.1 named also ready
@@ -125,8 +126,8 @@ returns-clause-plans g c tally honest =
     let names = c.both_ready.new.files.names in
     let named : is_name names file ≡ true = ap (λ (ns : List (List ℕ)). is_name ns file) c.both_ready.ensures.disk.names ∙ c.requires.file in
     let also : is_name names to_file ≡ true = ap (λ (ns : List (List ℕ)). is_name ns to_file) c.both_ready.ensures.disk.names ∙ c.requires.to_file in
-    let at : text_of held.now file ≡ Some seen = search rules in
-    let there : text_of held.now to_file ≡ Some found = search rules in
+    let at : text_of held.now file ≡ Some seen = c.held-source.ensures.text in
+    let there : text_of held.now to_file ≡ Some found = c.held-target.ensures.text in
     let old = ready_text two held file seen ready (second_name to_file file) at in
     let other = ready_text two held to_file found ready (first_name to_file (file ∷ [])) there in
     let first : text ≡ Some old.0.bytes = subst (λ (t : Session). text_at t.names t.files file ≡ Some old.0.bytes) read (text_held names held (texts c.both_ready.new.files.disk) file old.0 named old.1) in

@@ -13,11 +13,12 @@ use Rattle.org_commands.proofs.Held.{keeps_then}
 use Rattle.org_commands.proofs.Reading.{only_reads_fault, only_reads_fine, only_reads_then}
 use Rattle.org_commands.proofs.Running.{named_at, runs_here, runs_later, runs_over}
 use Rattle.org_commands.proofs.Sessions.{reads_fault}
+use Rattle.org_commands.proofs.Handing.{handed_on}
 use Rattle.org_commands.proofs.commands.running.running_clock.Goals as goal
 
 pub returns-in_err-file-clause-reads : goal.returns-in_err-file-clause-reads
 returns-in_err-file-clause-reads g c tally honest =
-    let given : c.from_residual.result ≡ Err OutOfMemory = search rules in
+    let given : c.from_residual.result ≡ Err OutOfMemory = handed_on c.from_residual.result _ c.from_residual.ensures.1 in
     let texts : g.row.D.Denot → Image = λ disk. contents (g.D.Disk.files disk) in
     let states = c.args.states.now in
     subst (λ r. Reads (session_over texts states c.args.files.now tally) r (session_over texts states c.loop-index.files tally)) (sym given) (c.loop-index.invariant.same tally honest)
@@ -33,7 +34,7 @@ returns-in_err-running-clause-reads g c tally honest =
     let looked = c.running_in_file.ensures in
     let old = session_over texts states c.args.files.now tally in
     let new = session_over texts states c.running_in_file.new.files tally in
-    let given : c.from_residual-in_err-running.result ≡ Err fault = search rules in
+    let given : c.from_residual-in_err-running.result ≡ Err fault = handed_on c.from_residual-in_err-running.result _ c.from_residual-in_err-running.ensures.1 in
     let before : session_over texts states c.loop-index.files tally ≡ old = c.loop-index.invariant.same tally (looked.disk.accounts.was_honest honest) in
     reads_fault old new c.running_in_file.result c.from_residual-in_err-running.result fault c.in_err-running.was given
     (subst (λ (s : Session). Reads s c.running_in_file.result new) before (looked.reads tally honest))
@@ -142,5 +143,5 @@ returns-in_err-file-clause-disk g c = only_reads_fine (search rules) (search rul
 
 pub returns-in_err-running-clause-disk : goal.returns-in_err-running-clause-disk
 returns-in_err-running-clause-disk g c =
-    let given : c.from_residual-in_err-running.result ≡ Err c.in_err-running.field-0.0 = search rules in
+    let given : c.from_residual-in_err-running.result ≡ Err c.in_err-running.field-0.0 = handed_on c.from_residual-in_err-running.result _ c.from_residual-in_err-running.ensures.1 in
     only_reads_then c.loop-index.invariant.reads (only_reads_fault given c.in_err-running.ensures.disk)

@@ -11,11 +11,12 @@ use Rattle.org_commands.proofs.Held.{keeps_same, none_ready}
 use Rattle.org_commands.proofs.Plans.{is_ready, one_name}
 use Rattle.org_commands.proofs.Running.{runs_ready}
 use Rattle.org_commands.proofs.Sessions.{reads_fault}
+use Rattle.org_commands.proofs.Handing.{handed_on}
 use Rattle.org_commands.proofs.commands.running.running_in_file.Goals as goal
 
 pub returns-in_err-ready-clause-reads : goal.returns-in_err-ready-clause-reads
 returns-in_err-ready-clause-reads g c tally honest =
-    let given : c.from_residual.result ≡ Err c.in_err-ready.field-0.0 = search rules in
+    let given : c.from_residual.result ≡ Err c.in_err-ready.field-0.0 = handed_on c.from_residual.result _ c.from_residual.ensures.1 in
     let texts : g.row.D.Denot → Image = λ disk. contents (g.D.Disk.files disk) in
     let states = c.args.states.now in
     reads_fault (session_over texts states c.args.files.now tally) (session_over texts states c.ready.new.self tally) c.ready.result c.from_residual.result c.in_err-ready.field-0.0 c.in_err-ready.was given
@@ -34,7 +35,7 @@ returns-clause-runs g c =
     let file = c.args.file.now in
     let seen = c.held.result.now.text in
     let ready : AreReady (file ∷ []) held = c.in_ok-ready.ensures.ready [] (none_ready c.args.files.now.held c.requires.between.begun) in
-    let at : text_of held.now file ≡ Some seen = search rules in
+    let at : text_of held.now file ≡ Some seen = c.held.ensures.text in
     let found : running_in (tree seen.bytes) ≡ c.running-found.result = search rules in
     subst (RunsIn c.undo.new.self.held.before file) found (runs_ready held c.undo.new.self.held.before file seen ready at c.undo.ensures.before)
 

@@ -14,6 +14,7 @@ use Rattle.org_commands.specs.Session.{Session, kept_over}
 use Rattle.org_commands.proofs.Acting.{acts_quiet, acts_read, acts_refused}
 use Rattle.org_commands.proofs.InOrder.{none_at}
 use Rattle.org_commands.proofs.Plans.{text_held}
+use Rattle.org_commands.proofs.Handing.{handed_on}
 use Rattle.org_commands.proofs.commands.show.show.Goals as goal
 
 pub returns-then-not-has-clause-acts : goal.returns-then-not-has-clause-acts
@@ -21,7 +22,7 @@ returns-then-not-has-clause-acts g c states tally =
     let d = g.D.Disk in
     let old = kept_over d.files states c.args.files.now tally in
     let files = c.args.files.now in
-    let missing : is_name files.names c.args.file.now ≡ false = search rules in
+    let missing : is_name files.names c.args.file.now ≡ false = sym c.if-not-has.ensures in
     let none = none_at (held_over files.held.before (contents (d.files files.disk))) files.names c.args.file.now missing in
     acts_refused d.files d.moment d.left_since d.honest old (λ honest image left. g.met.D.Disk.only_now old.disk image honest left) refl old refl c.requires.between.unbroken
     (show (text_at files.names old.session.files c.args.file.now)) NoSuchFile (ap show none)
@@ -32,7 +33,7 @@ returns-in_err-load-clause-acts g c states tally =
     let old = kept_over d.files states c.args.files.now tally in
     let new = kept_over d.files states c.load.new.self tally in
     let load = c.load.ensures in
-    let given : c.from_residual.result ≡ Err c.in_err-load.field-0.0 = search rules in
+    let given : c.from_residual.result ≡ Err c.in_err-load.field-0.0 = handed_on c.from_residual.result _ c.from_residual.ensures.1 in
     acts_read d.files d.moment d.left_since d.honest old (λ honest image left. g.met.D.Disk.only_now old.disk image honest left) refl new
     (show (text_at c.args.files.now.names old.session.files c.args.file.now)) c.load.result c.in_err-load.field-0.0 c.from_residual.result c.in_err-load.was given c.requires.between.unbroken load.disk.accounts.was_honest
     (load.reads states tally) load.disk.looks refl (record { accepted = refl; acknowledged = refl; group = refl }) load.disk.works load.disk.breaks
@@ -44,7 +45,7 @@ returns-in_err-to_vec-in-Some-clause-acts g c states tally =
     let new = kept_over d.files states c.load.new.self tally in
     let load = c.load.ensures in
     let told = show (text_at c.args.files.now.names old.session.files c.args.file.now) in
-    let given : c.from_residual-in_err-to_vec-in-Some.result ≡ Err OutOfMemory = search rules in
+    let given : c.from_residual-in_err-to_vec-in-Some.result ≡ Err OutOfMemory = handed_on c.from_residual-in_err-to_vec-in-Some.result _ c.from_residual-in_err-to_vec-in-Some.ensures.1 in
     let whole : c.load.new.self.broken ≡ false = search rules in
     subst (λ (a : Result Reply RunFault). Acts d.files d.moment d.left_since d.honest old told a new) (sym given)
     (acts_quiet d.files d.moment d.left_since d.honest old (λ honest image left. g.met.D.Disk.only_now old.disk image honest left) refl new told (Err OutOfMemory) tt load.disk.accounts.was_honest
@@ -61,7 +62,7 @@ returns-clause-acts g c states tally =
     let told = show (text_at c.args.files.now.names old.session.files file) in
     let whole : c.load.new.self.broken ≡ false = search rules in
     let held = c.in-Some.held.now in
-    let there : is_name c.args.files.now.names file ≡ true = search rules in
+    let there : is_name c.args.files.now.names file ≡ true = sym c.if-not-has.ensures in
     let named : is_name c.load.new.self.names file ≡ true = ap (λ (ns : List (List ℕ)). is_name ns file) load.disk.names ∙ there in
     let now : text_of c.load.new.self.held.now file ≡ Some held.text = search rules in
     let before : text_of c.load.new.self.held.before file ≡ Some held.text = ap (λ (s : TextSet). text_of s file) (sym (load.begun c.requires.between.begun)) ∙ now in

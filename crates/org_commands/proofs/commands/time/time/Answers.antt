@@ -14,6 +14,7 @@ use Rattle.org_commands.specs.Session.{Kept, kept_over}
 use Rattle.org_commands.specs.Step.{Does}
 use Rattle.org_commands.proofs.Acting.{acts_quiet, acts_refused, kept_same}
 use Rattle.org_commands.proofs.InOrder.{none_at}
+use Rattle.org_commands.proofs.Handing.{handed_on}
 use Rattle.org_commands.proofs.commands.time.time.Goals as goal
 
 pub returns-then-not-has-clause-acts : goal.returns-then-not-has-clause-acts
@@ -21,7 +22,7 @@ returns-then-not-has-clause-acts g c tally =
     let d = g.D.Disk in
     let files = c.args.files.now in
     let old = kept_over d.files c.args.states.now files tally in
-    let missing : is_name files.names c.args.file.now ≡ false = search rules in
+    let missing : is_name files.names c.args.file.now ≡ false = sym c.if-not-has.ensures in
     let none = none_at (held_over files.held.before (contents (d.files files.disk))) files.names c.args.file.now missing in
     acts_refused d.files d.moment d.left_since d.honest old (λ honest image left. g.met.D.Disk.only_now old.disk image honest left) refl old refl c.requires.between.unbroken
     (time old.session c.args.path.now (text_at files.names old.session.files c.args.file.now)) NoSuchFile (ap (time old.session c.args.path.now) none)
@@ -39,7 +40,7 @@ returns-in_err-minutes-clause-acts g c tally =
     let same : new ≡ mid = kept_same d.files states looked c.undo.new.self tally undone.memory undone.before in
     let told = time old.session c.args.path.now (text_at files.names old.session.files c.args.file.now) in
     let fault = c.in_err-minutes.field-0.0 in
-    let given : c.from_residual.result ≡ Err fault = search rules in
+    let given : c.from_residual.result ≡ Err fault = handed_on c.from_residual.result _ c.from_residual.ensures.1 in
     let acts = acts_quiet d.files d.moment d.left_since d.honest old (λ honest image left. g.met.D.Disk.only_now old.disk image honest left) refl new told (Err fault) tt
     (λ honest. c.in_err-minutes.ensures.disk.accounts.was_honest (subst d.honest undone.memory.disk honest))
     (λ honest. subst (λ (k : Kept g.row.D.Denot). Does old.session told (Err fault) k.session) (sym same) (c.in_err-minutes.ensures.does tally (subst d.honest undone.memory.disk honest)))

@@ -1,4 +1,4 @@
-use Rattle.std.proofs.Common.{◌≡◌, Ok, Err, List, ℕ, Result, Vec, subst, rules}
+use Rattle.std.proofs.Common.{◌≡◌, Ok, Err, List, ℕ, Result, Vec, subst}
 use Rattle.std.specs.Global.{Global}
 use Rattle.org_splice.specs.declared.edit.Edit.{Edit}
 use Rattle.org_outline.specs.States.{Keywords}
@@ -9,6 +9,7 @@ use Rattle.org_state.specs.declared.fault.StateFault.{StateFault}
 use Rattle.org_state.specs.Answers.{AnswersTodo}
 use Rattle.org_state.specs.Todo.{todo}
 use Rattle.org_commands.proofs.Todos.{plan_made, state_made, state_refused, state_stays}
+use Rattle.org_commands.proofs.Handing.{handed_on}
 use Rattle.org_commands.proofs.commands.todo.plan_state.Goals as goal
 
 -- an answer, told of what the outline and the slices are
@@ -24,7 +25,7 @@ pub returns-in_err-edits : goal.returns-in_err-edits
 returns-in_err-edits c =
     let a = c.args in
     let why = c.in_err-edits.field-0.0 in
-    let given : c.from_residual.result ≡ Err why = search rules in
+    let given : c.from_residual.result ≡ Err why = handed_on c.from_residual.result _ c.from_residual.ensures.1 in
     let answers = told a.states.now c.outline_of.result.states a.command.now.path (titles_of c.as_slice.result.now) a.command.now.state c.as_slice-2.result.now a.command.now.moment a.held.now.text.bytes c.outline_of.result.text (Err why)
     c.outline_of.ensures.1 c.as_slice.ensures c.as_slice-2.ensures c.outline_of.ensures.0 c.in_err-edits.ensures in
     state_refused a.states.now a.command.now.path a.command.now.state a.command.now.moment a.held.now.text.bytes a.command.now.file c.from_residual.result why given answers

@@ -1,4 +1,4 @@
-use Rattle.std.proofs.Common.{◌≡◌, ◌∙◌, ◌∷◌, [], false, true, Option, Some, Result, Err, List, ℕ, refl, sym, ap, subst, rules}
+use Rattle.std.proofs.Common.{◌≡◌, ◌∙◌, ◌∷◌, [], false, true, Option, Some, Result, Err, List, ℕ, refl, sym, ap, subst}
 use Rattle.org_journal.specs.Recovered.{Image, contents}
 use Rattle.org_outline.specs.Tree.{tree}
 use Rattle.org_texts.specs.declared.plan.Plan.{Plan}
@@ -17,6 +17,7 @@ use Rattle.org_commands.proofs.Plans.{is_ready, one_name, ready_text, text_held}
 use Rattle.org_commands.proofs.Reading.{only_reads_none}
 use Rattle.org_commands.proofs.Sessions.{does_read}
 use Rattle.org_commands.proofs.Todos.{state_fits, state_planned, todo_is, todo_refused}
+use Rattle.org_commands.proofs.Handing.{handed_on}
 use Rattle.org_commands.proofs.commands.todo.plan_todo.Goals as goal
 
 pub returns-then-not-has-clause-plans : goal.returns-then-not-has-clause-plans
@@ -24,7 +25,7 @@ returns-then-not-has-clause-plans g c tally honest =
     let a = c.args in
     let files = a.files.now in
     let s = session_over (λ disk. contents (g.D.Disk.files disk)) a.states.now files tally in
-    let missing : is_name files.names a.command.now.file ≡ false = search rules in
+    let missing : is_name files.names a.command.now.file ≡ false = sym c.if-not-has.ensures in
     let none = none_at (held_over files.held.before (contents (g.D.Disk.files files.disk))) files.names a.command.now.file missing in
     (c.requires.between.unbroken, ap (todo s a.command.now.file a.command.now.path a.command.now.state a.command.now.moment) none, refl)
 
@@ -36,7 +37,7 @@ returns-in_err-ready-clause-plans g c tally honest =
     let new = session_over texts a.states.now c.ready.new.self tally in
     let fault = c.in_err-ready.field-0.0 in
     let told = todo s a.command.now.file a.command.now.path a.command.now.state a.command.now.moment (text_at s.names s.files a.command.now.file) in
-    let given : c.from_residual.result ≡ Err fault = search rules in
+    let given : c.from_residual.result ≡ Err fault = handed_on c.from_residual.result _ c.from_residual.ensures.1 in
     let reads = subst (λ (r : Result (Unit {0}) RunFault). Reads s r new) c.in_err-ready.was (c.ready.ensures.reads a.states.now tally honest) in
     subst (λ (r : Result (Option Plan) RunFault). PlansOrStays s told r c.ready.new.self.held new) (sym given) (does_read (Unit {0}) s new told fault c.requires.between.unbroken reads)
 
@@ -59,12 +60,12 @@ returns-in_err-plan_state-clause-plans g c tally honest =
     let text = text_at s.names s.files file in
     let told = todo s file a.command.now.path a.command.now.state a.command.now.moment text in
     let why = c.in_err-plan_state.field-0.0 in
-    let given : c.from_residual-in_err-plan_state.result ≡ Err (fault_of_state why) = search rules in
+    let given : c.from_residual-in_err-plan_state.result ≡ Err (fault_of_state why) = handed_on c.from_residual-in_err-plan_state.result _ c.from_residual-in_err-plan_state.ensures.1 in
     let read : new ≡ s = c.in_ok-ready.ensures.reads a.states.now tally honest in
     let ready : AreReady (file ∷ []) held = c.in_ok-ready.ensures.ready [] (none_ready a.files.now.held c.requires.between.begun) in
-    let there : is_name a.files.now.names file ≡ true = search rules in
+    let there : is_name a.files.now.names file ≡ true = sym c.if-not-has.ensures in
     let named : is_name c.ready.new.self.names file ≡ true = ap (λ (ns : List (List ℕ)). is_name ns file) c.ready.ensures.disk.names ∙ there in
-    let at : text_of held.now file ≡ Some seen = search rules in
+    let at : text_of held.now file ≡ Some seen = c.held-held.ensures.text in
     let old = ready_text (file ∷ []) held file seen ready (one_name file) at in
     let before : text_at new.names new.files file ≡ Some old.0.bytes = text_held c.ready.new.self.names held (texts c.ready.new.self.disk) file old.0 named old.1 in
     let found : text ≡ Some old.0.bytes = subst (λ (t : Session). text_at t.names t.files file ≡ Some old.0.bytes) read before in
@@ -80,9 +81,9 @@ returns-clause-plan g c =
     let file = a.command.now.file in
     let seen = c.held-held.result.now.text in
     let ready : AreReady (file ∷ []) held = c.in_ok-ready.ensures.ready [] (none_ready a.files.now.held c.requires.between.begun) in
-    let there : is_name a.files.now.names file ≡ true = search rules in
+    let there : is_name a.files.now.names file ≡ true = sym c.if-not-has.ensures in
     let named : is_name c.ready.new.self.names file ≡ true = ap (λ (ns : List (List ℕ)). is_name ns file) c.ready.ensures.disk.names ∙ there in
-    let at : text_of held.now file ≡ Some seen = search rules in
+    let at : text_of held.now file ≡ Some seen = c.held-held.ensures.text in
     state_fits c.ready.new.self.names held file seen (in_state a.states.now a.command.now.path a.command.now.state a.command.now.moment (tree seen.bytes)) c.in_ok-plan_state.field-0 c.in_ok-plan_state.ensures at named ready
 
 pub returns-clause-plans : goal.returns-clause-plans
@@ -98,9 +99,9 @@ returns-clause-plans g c tally honest =
     let told = todo s file a.command.now.path a.command.now.state a.command.now.moment text in
     let read : new ≡ s = c.in_ok-ready.ensures.reads a.states.now tally honest in
     let ready : AreReady (file ∷ []) held = c.in_ok-ready.ensures.ready [] (none_ready a.files.now.held c.requires.between.begun) in
-    let there : is_name a.files.now.names file ≡ true = search rules in
+    let there : is_name a.files.now.names file ≡ true = sym c.if-not-has.ensures in
     let named : is_name c.ready.new.self.names file ≡ true = ap (λ (ns : List (List ℕ)). is_name ns file) c.ready.ensures.disk.names ∙ there in
-    let at : text_of held.now file ≡ Some seen = search rules in
+    let at : text_of held.now file ≡ Some seen = c.held-held.ensures.text in
     let old = ready_text (file ∷ []) held file seen ready (one_name file) at in
     let before : text_at new.names new.files file ≡ Some old.0.bytes = text_held c.ready.new.self.names held (texts c.ready.new.self.disk) file old.0 named old.1 in
     let found : text ≡ Some old.0.bytes = subst (λ (t : Session). text_at t.names t.files file ≡ Some old.0.bytes) read before in

@@ -1,4 +1,4 @@
-use Rattle.std.proofs.Common.{◌≡◌, ◌⊎◌, ⊎_elim, ◌∙◌, false, Err, refl, sym, ap, subst, rules}
+use Rattle.std.proofs.Common.{◌≡◌, ◌⊎◌, ⊎_elim, ◌∙◌, false, Err, refl, sym, ap, subst}
 use Rattle.org_journal.specs.Recovered.{contents}
 use Rattle.org_texts.specs.Texts.{TextSet, held_over}
 use Rattle.org_commands.specs.Files.{AreSmallToWrite, CommitsTexts}
@@ -6,6 +6,7 @@ use Rattle.org_commands.specs.InOrder.{texts_of}
 use Rattle.org_commands.proofs.Commits.{commit_done, commit_failed, made_held, pairs_edits, pairs_named, pairs_small, sound_settled, starved, texts_settled_are}
 use Rattle.org_commands.proofs.Held.{sound_still}
 use Rattle.org_commands.proofs.Quiet.{noted_settled, noted_still}
+use Rattle.org_commands.proofs.Handing.{handed_on}
 use Rattle.org_commands.proofs.files.Files.commit.Goals as goal
 
 pub commit-requires-clause-named : goal.commit-requires-clause-named
@@ -44,7 +45,7 @@ returns-in_err-commit-clause-commits g c =
     let inside = c.self.inside in
     let fault = c.in_err-commit.field-0.0 in
     let unbroken : inside.set.broken ≡ false = rw (← c.self.view_is) at c.requires.unbroken in
-    let given : c.from_residual.result ≡ Err fault = search rules in
+    let given : c.from_residual.result ≡ Err fault = handed_on c.from_residual.result _ c.from_residual.ensures.1 in
     rw (← c.self.view_is) (λ honest.
     subst (λ r. CommitsTexts d.files d.moment d.left_since inside.set.names inside.texts.now.waiting (texts_of (held_over inside.texts.now (contents (d.files inside.set.disk))) inside.set.names) inside.set.disk c.commit.new.self.disk r) (sym given)
     (commit_failed d.files d.moment d.left_since inside.set.names ((inside.set.broken ≡ false) × d.honest inside.set.disk) inside.set.disk c.commit.new.self.disk inside.texts.now c.self.invariant.0.apart c.self.invariant.0.now

@@ -10,6 +10,7 @@ use Rattle.org_commands.proofs.Held.{held_this, keeps_held, none_found, over_hel
 use Rattle.org_commands.proofs.Quiet.{noted_held, noted_still}
 use Rattle.org_commands.proofs.Reading.{only_reads_none, only_reads_set, set_back, set_on, set_works}
 use Rattle.org_commands.proofs.Sessions.{session_still}
+use Rattle.org_commands.proofs.Handing.{handed_on}
 use Rattle.org_commands.proofs.files.Files.load.Goals as goal
 
 pub invariant_of-self-2 : goal.invariant_of-self-2
@@ -21,13 +22,13 @@ invariant_of-self-2 g c =
     let now = (c.read.new.self.broken ≡ false) × g.D.Disk.honest c.read.new.self.disk in
     let files = contents (g.D.Disk.files inside.set.disk) in
     let left = contents (g.D.Disk.files c.read.new.self.disk) in
-    let cloned : copy ≡ own = search rules in
+    let cloned : copy ≡ own = c.in_ok-clone.ensures.cases in
     let there : is_name inside.set.names own ≡ true = rw (← c.self.view_is) at c.requires.name in
     let named : is_name c.read.new.self.names copy ≡ true = ap (λ (ns : List (List ℕ)). is_name ns copy) c.read.ensures.set.same_names ∙ ap (is_name inside.set.names) cloned ∙ there in
     let unbroken : inside.set.broken ≡ false = rw (← c.self.view_is) at c.requires.unbroken in
     let still = sound_still inside.set.names c.read.new.self.names live now files left inside.texts c.self.invariant.0 c.read.ensures.set.same_names
     (λ n. ((unbroken, c.read.ensures.accounts.was_honest n.1), ap contents (c.read.ensures.looks n.1).same)) in
-    let missing : is_some c.get.result ≡ false = search rules in
+    let missing : is_some c.get.result ≡ false = sym c.if-is_some.ensures in
     let none : text_of inside.texts.now copy ≡ None = ap (text_of inside.texts.now) cloned ∙ none_found (λ held. held.now.text) c.get.result (text_of inside.texts.now own) missing c.get.ensures.text in
     let none_before : text_of inside.texts.before copy ≡ None = ap (text_of inside.texts.before) cloned ∙ none_found (λ held. held.now.before) c.get.result (text_of inside.texts.before own) missing c.get.ensures.before in (
       sound_held copy c.in_ok-bytes.bytes.items c.read.new.self.names now left inside.texts c.hold.new.self none none_before named
@@ -42,8 +43,8 @@ returns-clause-held g c =
     let inside = c.self.inside in
     let own = c.args.name.now in
     let copy = c.in_ok-clone.field-0 in
-    let cloned : copy ≡ own = search rules in
-    let missing : is_some c.get.result ≡ false = search rules in
+    let cloned : copy ≡ own = c.in_ok-clone.ensures.cases in
+    let missing : is_some c.get.result ≡ false = sym c.if-is_some.ensures in
     let none : text_of inside.texts.now copy ≡ None = ap (text_of inside.texts.now) cloned ∙ none_found (λ held. held.now.text) c.get.result (text_of inside.texts.now own) missing c.get.ensures.text in
     subst (λ (n : List ℕ). IsSome (text_of c.hold.new.self.now n)) cloned
     (subst (λ (s : TextSet). IsSome (text_of s copy)) (sym c.in_ok-hold.ensures.now) (ap is_some (held_this copy c.in_ok-bytes.bytes.items inside.texts.now none)))
@@ -53,7 +54,7 @@ returns-clause-reads g c states tally honest =
     let inside = c.self.inside in
     let own = c.args.name.now in
     let copy = c.in_ok-clone.field-0 in
-    let cloned : copy ≡ own = search rules in
+    let cloned : copy ≡ own = c.in_ok-clone.ensures.cases in
     let files = contents (g.D.Disk.files inside.set.disk) in
     let left = contents (g.D.Disk.files c.read.new.self.disk) in
     let same : left ≡ files = ap contents (c.read.ensures.looks honest).same in
@@ -71,8 +72,8 @@ returns-clause-ready g c names =
     let inside = c.self.inside in
     let own = c.args.name.now in
     let copy = c.in_ok-clone.field-0 in
-    let cloned : copy ≡ own = search rules in
-    let missing : is_some c.get.result ≡ false = search rules in
+    let cloned : copy ≡ own = c.in_ok-clone.ensures.cases in
+    let missing : is_some c.get.result ≡ false = sym c.if-is_some.ensures in
     let none : text_of inside.texts.now copy ≡ None = ap (text_of inside.texts.now) cloned ∙ none_found (λ held. held.now.text) c.get.result (text_of inside.texts.now own) missing c.get.ensures.text in
     let none_before : text_of inside.texts.before copy ≡ None = ap (text_of inside.texts.before) cloned ∙ none_found (λ held. held.now.before) c.get.result (text_of inside.texts.before own) missing c.get.ensures.before in
     rw (← c.self.view_is) (ready_held copy c.in_ok-bytes.bytes.items names inside.texts c.hold.new.self none none_before c.in_ok-hold.ensures.now c.in_ok-hold.ensures.before c.in_ok-hold.ensures.ready)
@@ -82,8 +83,8 @@ returns-clause-keeps g c =
     let inside = c.self.inside in
     let own = c.args.name.now in
     let copy = c.in_ok-clone.field-0 in
-    let cloned : copy ≡ own = search rules in
-    let missing : is_some c.get.result ≡ false = search rules in
+    let cloned : copy ≡ own = c.in_ok-clone.ensures.cases in
+    let missing : is_some c.get.result ≡ false = sym c.if-is_some.ensures in
     let none_before : text_of inside.texts.before copy ≡ None = ap (text_of inside.texts.before) cloned ∙ none_found (λ held. held.now.before) c.get.result (text_of inside.texts.before own) missing c.get.ensures.before in
     rw (← c.self.view_is) (keeps_held copy c.in_ok-bytes.bytes.items inside.texts c.hold.new.self none_before c.in_ok-hold.ensures.before)
 
@@ -96,7 +97,7 @@ returns-in_err-bytes-clause-disk g c =
     let made = c.read.ensures in
     let fault = c.in_err-bytes.field-0.0 in
     let was = c.in_err-bytes.was in
-    let given : c.from_residual.result ≡ Err (fault_of_set fault) = search rules in
+    let given : c.from_residual.result ≡ Err (fault_of_set fault) = handed_on c.from_residual.result _ c.from_residual.ensures.1 in
     let unbroken : inside.set.broken ≡ false = rw (← c.self.view_is) at c.requires.unbroken in
     let works = set_works c.read.result c.from_residual.result fault was given (λ no. false≢true (sym unbroken ∙ made.set.refuses.0 no)) in
     rw (← c.self.view_is) (only_reads_set c.read.result works (set_back c.read.result c.from_residual.result fault was given) (set_on c.read.result c.from_residual.result fault was given)
@@ -106,8 +107,8 @@ pub returns-in_err-clone-clause-disk : goal.returns-in_err-clone-clause-disk
 returns-in_err-clone-clause-disk g c =
     let inside = c.self.inside in
     let made = c.read.ensures in
-    let given : c.from_residual-in_err-clone.result ≡ Err OutOfMemory = search rules in
-    let fine : c.read.result ≡ Ok c.in_ok-bytes.bytes = search rules in
+    let given : c.from_residual-in_err-clone.result ≡ Err OutOfMemory = handed_on c.from_residual-in_err-clone.result _ c.from_residual-in_err-clone.ensures.1 in
+    let fine : c.read.result ≡ Ok c.in_ok-bytes.bytes = c.in_ok-bytes.was in
     let unbroken : inside.set.broken ≡ false = rw (← c.self.view_is) at c.requires.unbroken in
     rw (← c.self.view_is) (only_reads_set c.read.result (λ no. cc) (λ no. absurd (cc)) (λ no. absurd (cc)) unbroken made.set.same_names refl made.looks made.set.breaks made.accounts)
 
@@ -115,6 +116,8 @@ pub returns-clause-disk : goal.returns-clause-disk
 returns-clause-disk g c =
     let inside = c.self.inside in
     let made = c.read.ensures in
-    let fine : c.read.result ≡ Ok c.in_ok-bytes.bytes = search rules in
+    let fine : c.read.result ≡ Ok c.in_ok-bytes.bytes = c.in_ok-bytes.was in
     let unbroken : inside.set.broken ≡ false = rw (← c.self.view_is) at c.requires.unbroken in
     rw (← c.self.view_is) (only_reads_set c.read.result (λ no. cc) (λ no. absurd (cc)) (λ no. absurd (cc)) unbroken made.set.same_names (ap (λ (s : TextSet). s.waiting) c.in_ok-hold.ensures.before) made.looks made.set.breaks made.accounts)
+
+-- x

@@ -1,4 +1,4 @@
-use Rattle.std.proofs.Common.{◌≡◌, ◌∙◌, Err, sym, ap, subst, rules}
+use Rattle.std.proofs.Common.{◌≡◌, ◌∙◌, Err, sym, ap, subst}
 use Rattle.org_journal.specs.Recovered.{Image, contents}
 use Rattle.org_texts.specs.Texts.{TextSet, held_over}
 use Rattle.org_commands.specs.declared.command.RunFault.TheVariants.{OutOfMemory}
@@ -6,18 +6,19 @@ use Rattle.org_commands.specs.Keeping.{Reads}
 use Rattle.org_commands.specs.Session.{session_over}
 use Rattle.org_commands.proofs.Held.{keeps_same}
 use Rattle.org_commands.proofs.Sessions.{reads_fault, session_still}
+use Rattle.org_commands.proofs.Handing.{handed_on}
 use Rattle.org_commands.proofs.files.Files.ready.Goals as goal
 
 pub returns-in_err-load-clause-reads : goal.returns-in_err-load-clause-reads
 returns-in_err-load-clause-reads g c states tally honest =
-    let given : c.from_residual.result ≡ Err c.in_err-load.field-0.0 = search rules in
+    let given : c.from_residual.result ≡ Err c.in_err-load.field-0.0 = handed_on c.from_residual.result _ c.from_residual.ensures.1 in
     let texts : g.row.D.Denot → Image = λ disk. contents (g.D.Disk.files disk) in
     reads_fault (session_over texts states c.args.self.now tally) (session_over texts states c.load.new.self tally) c.load.result c.from_residual.result c.in_err-load.field-0.0 c.in_err-load.was given
     (c.load.ensures.reads states tally honest)
 
 pub returns-in_err-make_ready-clause-reads : goal.returns-in_err-make_ready-clause-reads
 returns-in_err-make_ready-clause-reads g c states tally honest =
-    let given : c.from_residual-in_err-make_ready.result ≡ Err OutOfMemory = search rules in
+    let given : c.from_residual-in_err-make_ready.result ≡ Err OutOfMemory = handed_on c.from_residual-in_err-make_ready.result _ c.from_residual-in_err-make_ready.ensures.1 in
     let texts : g.row.D.Denot → Image = λ disk. contents (g.D.Disk.files disk) in
     let made = c.make_ready.ensures in
     let was = subst g.D.Disk.honest made.memory.disk honest in
