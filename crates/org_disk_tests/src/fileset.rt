@@ -6,7 +6,7 @@ mod openings;
 use crate::disk::{are_texts, must};
 use org_disk::MemoryDisk;
 use org_fileset::{FileSet, OpenFault, OpenRefused};
-use org_fixtures::{NEW, bytes_of, disk_with as disk_of, file_name, org_names};
+use org_fixtures::{NEW, disk_with as disk_of, file_name, org_names};
 use std::alloc::Global;
 use std::process::Abort;
 
@@ -73,20 +73,8 @@ fn reads(
     set.read(&name).expect(rt, "not read").as_slice() == text
 }
 
-// Whether the set reads these texts of a file, or of the journal, and of inbox.org.
-fn reads_both(
-    rt: &impl Abort,
-    alloc: Global,
-    set: &mut FileSet<MemoryDisk>,
-    name: &str,
-    text: &[u8],
-    inbox: &[u8],
-) -> bool {
-    reads(rt, alloc, set, name, text) && reads(rt, alloc, set, "inbox.org", inbox)
-}
-
 // The disk of a set that is opened over this one, and whether the set has its names in order and
-// reads both texts.
+// reads these texts of a file, or of the journal, and of inbox.org.
 fn read_once(
     rt: &impl Abort,
     alloc: Global,
@@ -97,7 +85,8 @@ fn read_once(
 ) -> (MemoryDisk, bool) {
     let mut set = open(rt, alloc, disk, FILES);
     let is_read = are_texts(set.names(), IN_ORDER)
-        && reads_both(rt, alloc, &mut set, name, text, inbox);
+        && reads(rt, alloc, &mut set, name, text)
+        && reads(rt, alloc, &mut set, "inbox.org", inbox);
     (set.into_disk(), is_read)
 }
 
@@ -115,14 +104,9 @@ fn opens_with(
     is_read
 }
 
-// What a file of the disk holds, or the journal.
-fn bytes_in(rt: &impl Abort, alloc: Global, disk: &mut MemoryDisk, name: &str) -> Vec<u8> {
-    must(rt, bytes_of(alloc, disk, &must(rt, file_name(alloc, name))))
-}
-
-// Whether a file of the disk holds these bytes.
+// Whether a file of the disk, or the journal, holds these bytes.
 fn holds(rt: &impl Abort, alloc: Global, disk: &mut MemoryDisk, name: &str, bytes: &[u8]) -> bool {
-    bytes_in(rt, alloc, disk, name).as_slice() == bytes
+    crate::disk::holds(rt, alloc, disk, &must(rt, file_name(alloc, name)), bytes)
 }
 
 // The disk that an opening leaves, and why it is refused, if it is.

@@ -15,8 +15,6 @@ use std::os::unix::fs::{FileExt, PermissionsExt, symlink};
 use std::process::Abort;
 use std::{fs, io};
 
-type Folder = FolderDisk<HostRuntime, Unknown>;
-
 // What a program other than the disk makes at a path.
 #[derive(Drop)]
 enum Entry {
@@ -101,6 +99,8 @@ enum Call {
     Read,
     // cuts all
     Cut,
+    // every kind of call, one after another
+    Each,
     // writes, and cuts what it wrote; in between the file has this length
     WriteAndCut(u64),
     // writes, and reads what another program cuts meanwhile, at this path
@@ -134,6 +134,17 @@ fn is_written_and_cut(disk: &mut impl Disk, name: &FileName, length: u64) -> boo
         && bytes == *b"* C"
 }
 
+// Whether every kind of call on a file is made.
+fn makes_each(disk: &mut impl Disk, name: &FileName) -> bool {
+    disk.write_at(name, 0, b"* A\n* B\n").is_ok()
+        && disk.sync(name).is_ok()
+        && disk.cut(name, 6).is_ok()
+        && disk.write_at(name, 6, b"C\n").is_ok()
+        && disk.sync(name).is_ok()
+        && disk.read_at(name, 0, &mut [0; 8]).is_ok()
+        && disk.length(name).is_ok()
+}
+
 fn append(disk: &mut impl Disk, name: &FileName, bytes: &[u8]) -> Result<(), DiskFault> {
     if disk.length(name)? != 4 {
         return Err(DiskFault);
@@ -155,6 +166,11 @@ fn write_and_read(
     disk.read_at(name, 4, &mut [0; 3])
 }
 
+// What calls answer together, where each of them has to be made.
+fn answered(are_made: bool) -> Result<(), DiskFault> {
+    if are_made { Ok(()) } else { Err(DiskFault) }
+}
+
 fn answer(
     system: &HostRuntime,
     disk: &mut impl Disk,
@@ -163,18 +179,13 @@ fn answer(
 ) -> Result<u64, DiskFault> {
     let made = match call {
         Call::Length => return disk.length(name),
-        Call::WriteAndCut(length) => {
-            if is_written_and_cut(disk, name, *length) {
-                Ok(())
-            } else {
-                Err(DiskFault)
-            }
-        }
+        Call::WriteAndCut(length) => answered(is_written_and_cut(disk, name, *length)),
         Call::Write(bytes) => disk.write_at(name, 0, bytes),
         Call::Append(bytes) => append(disk, name, bytes),
         Call::Sync => disk.sync(name),
         Call::Read => disk.read_at(name, 0, &mut []),
         Call::Cut => disk.cut(name, 0),
+        Call::Each => answered(makes_each(disk, name)),
         Call::WriteAndRead(path) => write_and_read(system, disk, name, path),
     };
     made.and(Ok(0))
@@ -217,28 +228,48 @@ where
     }
 }
 
-// The steps on a disk, which is that of a folder.
-fn go_each<C: Calls + Drop>(
+// The first step, counted from 0, that doesn't go as it says, if any.
+fn first_wrong_on<C: Calls + Drop>(
     rt: &impl Abort,
-    system: &HostRuntime,
-    disk: &mut CallsDisk<C>,
-    folder: &str,
+    host: &HostRuntime,
+    mut disk: CallsDisk<C>,
     steps: &[Step],
-)
+) -> Option<usize>
 where
     C::File: Drop,
 {
+    let mut wrong = None;
     for (i, step) in steps.iter().enumerate() {
-        assert!(rt; goes(rt, system, disk, step), "{folder}, step {i}");
+        if !goes(rt, host, &mut disk, step) {
+            wrong = Some(i);
+            break;
+        }
     }
+    drop(disk);
+    wrong
+}
+
+// The same of the disk of a folder over the calls of this system.
+fn first_wrong<R: Files + AllocGlobal + Drop>(
+    rt: &impl Abort,
+    host: &HostRuntime,
+    folder: &str,
+    system: R,
+    steps: &[Step],
+) -> Option<usize>
+where
+    R::File: FileExt,
+{
+    let disk: FolderDisk<R, Unknown> = disk(rt, host, folder, system);
+    first_wrong_on(rt, host, disk, steps)
 }
 
 // The steps on the disk of a folder.
-fn go_on(rt: &impl Abort, system: &HostRuntime, folder: &str, steps: &[Step]) {
-    let own = system.clone().expect(rt, "memory");
-    let mut disk: Folder = disk(rt, system, folder, own);
-    go_each(rt, system, &mut disk, folder, steps);
-    drop(disk);
+fn go_on(rt: &impl Abort, host: &HostRuntime, folder: &str, steps: &[Step]) {
+    let own = host.clone().expect(rt, "memory");
+    if let Some(step) = first_wrong(rt, host, folder, own, steps) {
+        panic!(rt; "{folder}, step {step}");
+    }
 }
 
 // A folder with these in it, and the steps on its disk.

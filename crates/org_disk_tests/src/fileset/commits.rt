@@ -8,13 +8,13 @@ ghost use Rattle.org_fileset.specs.Set.{AreCommittable};
 
 use super::edited::Edited;
 use super::{
-    FILES, bytes_in, calls_of, disk_with, image_of, open, opened, opened_disk, opens_with,
-    read_once, with_gate,
+    FILES, calls_of, disk_with, image_of, open, opened, opened_disk, opens_with, read_once,
+    with_gate,
 };
-use crate::disk::{hold, hold_row};
+use crate::disk::{hold, hold_row, must};
 use org_disk::{FileName, MemoryDisk, Outcome};
 use org_fileset::{FileSet, LIMIT, SetFault};
-use org_fixtures::{OLD, OUTCOMES, TEXT};
+use org_fixtures::{OLD, OUTCOMES, TEXT, bytes_of};
 use org_splice::Editing;
 use std::alloc::Global;
 use std::process::Abort;
@@ -179,7 +179,8 @@ fn end_old(rt: &impl Abort, alloc: Global, disk: MemoryDisk) -> MemoryDisk {
 
 // Whether the journal has a closed gate and a record of version 2.
 fn is_closed_and_new(rt: &impl Abort, alloc: Global, disk: &mut MemoryDisk) -> bool {
-    let bytes = bytes_in(rt, alloc, disk, "orgstore.journal");
+    let journal = FileName::journal_name(alloc).expect(rt, "memory");
+    let bytes = must(rt, bytes_of(alloc, disk, &journal));
     matches!(bytes.as_slice(), [0, _, _, _, _, 2, ..])
 }
 

@@ -1,8 +1,7 @@
 //! Calls of the system of which one fails.
-use super::{disk, holds, make_folder, remove};
-use crate::disk::{hold_row, name_of};
-use org_disk::{Disk, FileName};
-use org_folder::{Calls, CallsDisk, FolderDisk, Unknown};
+use super::{Call, Step, first_wrong, holds, make_folder, remove};
+use crate::disk::hold_row;
+use org_disk::DiskFault;
 use std::alloc::{Alloc, Allocator, Global};
 use std::cell::Cell;
 use std::fs::{File, FileTimes, Files, Metadata, OpenFile, OpenOptions, Permissions};
@@ -159,31 +158,12 @@ impl Seek for FailingFile {
     }
 }
 
-// Whether every kind of call on a file is made. Made again, they leave the same, wherever they were
-// broken off.
-fn works<D: Disk>(disk: &mut D, name: &FileName) -> bool {
-    let mut bytes = [0; 8];
-    disk.write_at(name, 0, b"* A\n* B\n").is_ok()
-        && disk.sync(name).is_ok()
-        && disk.cut(name, 6).is_ok()
-        && disk.write_at(name, 6, b"C\n").is_ok()
-        && disk.sync(name).is_ok()
-        && disk.read_at(name, 0, &mut bytes).is_ok()
-        && disk.length(name).is_ok()
-}
-
-// Whether the disk counts one failure over the work, in which a call of the system fails, and over
-// the work once more.
-fn fails_once<C: Calls + Drop>(disk: &mut CallsDisk<C>, a: &FileName) -> bool
-where
-    C::File: Drop,
-{
-    let mut is_so = true;
-    for is_done in &[false, true] {
-        is_so &= works(disk, a) == *is_done && disk.failures() == 1;
-    }
-    is_so
-}
+// Of the calls on a file, in which a call of the system fails, one fails and is counted, and then
+// they are all made.
+const ONE_FAILS: &[Step] = &[
+    Step::Call("a.org", Call::Each, Err(DiskFault), 1),
+    Step::Call("a.org", Call::Each, Ok(0), 1),
+];
 
 // The file system, of which the call with this number fails.
 fn failing_system(rt: &impl Abort, host: &HostRuntime, fails_in: u64) -> Failing {
@@ -193,21 +173,18 @@ fn failing_system(rt: &impl Abort, host: &HostRuntime, fails_in: u64) -> Failing
     }
 }
 
-// The same of a new folder's disk at which the call of the system with this number fails; then the
-// file holds what the work leaves.
+// Whether it goes so on a new folder's disk at which the call of the system with this number fails;
+// then the file holds what the calls leave, wherever they were broken off at first.
 fn fails_at(rt: &impl Abort, host: &HostRuntime, fails_in: u64) -> bool {
     make_folder(rt, host, "one_fails", &[]);
-    let a = name_of(rt, host.alloc(), "a.org");
     let system = failing_system(rt, host, fails_in);
-    let mut disk: FolderDisk<Failing, Unknown> = disk(rt, host, "one_fails", system);
-    let fails_once = fails_once(&mut disk, &a);
-    drop(disk);
-    fails_once && holds(rt, host, "one_fails/a.org", b"* A\n* C\n")
+    first_wrong(rt, host, "one_fails", system, ONE_FAILS).is_none()
+        && holds(rt, host, "one_fails/a.org", b"* A\n* C\n")
 }
 
-// The work makes 12 calls of the system: the file is made, seen to be empty and written; its folder
-// is looked for, opened and synced, and the file synced; it is cut, written, synced, read and
-// measured.
+// The calls on a file make 12 calls of the system: the file is made, seen to be empty and written;
+// its folder is looked for, opened and synced, and the file synced; it is cut, written, synced,
+// read and measured.
 #[test]
 fn each_call_of_the_system_fails_once(rt: HostRuntime) {
     for fails_in in 1..13usize {
