@@ -119,5 +119,3 @@ returns-clause-disk g c =
     let fine : c.read.result ≡ Ok c.in_ok-bytes.bytes = c.in_ok-bytes.was in
     let unbroken : inside.set.broken ≡ false = rw (← c.self.view_is) at c.requires.unbroken in
     rw (← c.self.view_is) (only_reads_set c.read.result (λ no. cc) (λ no. absurd (cc)) (λ no. absurd (cc)) unbroken made.set.same_names (ap (λ (s : TextSet). s.waiting) c.in_ok-hold.ensures.before) made.looks made.set.breaks made.accounts)
-
--- x
