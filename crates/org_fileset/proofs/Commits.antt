@@ -1,16 +1,22 @@
 -- The stages of a commit, and what is left in each.
-use Rattle.std.proofs.Common.{◌≡◌, ◌≢◌, inl, inr, ℕ, ◌+◌, ◌≤◌, ◌++◌, List, [], ◌∷◌, length, drop, true, false, Some, refl, sym, ◌∙◌, ap, subst, arith, length-append}
+use Rattle.std.proofs.Common.{◌≡◌, ◌≢◌, inl, inr, ℕ, ◌+◌, ◌≤◌, ◌++◌, List, [], ◌∷◌, length, drop, true, false, Some, Result, Ok, OnOk, refl, sym, ◌∙◌, ap, subst, arith, length-append}
 use Rattle.std.specs.Prelude.{nat_le, slice_index, ◌==◌}
 use Rattle.std.proofs.lemmas.Bool.{cases_Bool, and_right, and_from, le-leb, ne_eqb}
 use Rattle.org_splice.specs.Overwritten.{overwritten}
 use Rattle.org_disk.specs.Disk.{FileState, IsImage, IsStable, AreImages}
 use Rattle.org_disk.specs.Names.{journal_name}
+use Rattle.org_disk.specs.Accounts.{PassesOver}
+use Rattle.org_disk.specs.declared.disk.DiskFault.{DiskFault}
 use Rattle.org_disk.proofs.Images.{only_image}
+use Rattle.org_disk.proofs.Moments.{passes_as, passes_then}
 use Rattle.org_journal.specs.declared.record.Entry.{Entry}
-use Rattle.org_journal.specs.Gate.{is_open, HasClosedGate, LeavesClosed, LeavesBody}
+use Rattle.org_journal.specs.Gate.{is_open, HasClosedGate, LeavesClosed, LeavesBody, Puts}
 use Rattle.org_journal.specs.Reading.{journal_at}
 use Rattle.org_journal.specs.Recovered.{Image, SameFiles, RecoversTo, all_fit, replayed, contents}
-use Rattle.org_fileset.specs.Replay.{TakesTo, AreApplicable, EachTakes, IsOpenOver, IsAtRest, IsBeforeOrAfter}
+use Rattle.org_fileset.specs.Replay.{TakesTo, AreApplicable, EachTakes, IsOpenOver, IsAtRest, IsBeforeOrAfter, WritesRecord}
+use Rattle.org_fileset.specs.Writes.{LeavesAlone, IsUnwritten}
+use Rattle.org_fileset.proofs.Armed.{on_ok_both}
+use Rattle.org_fileset.proofs.Writes.{alone_journal, alone_then}
 use Rattle.org_fileset.proofs.Recovers.{recovers_open, recovers_closed, takes-replayed, replayed-takes, all_fit-takes}
 
 pub shut : (journal : List ℕ) → slice_index journal 0 ≢ 1 → is_open journal ≡ false
@@ -27,8 +33,7 @@ at_rest_recovers files rest image left =
     let same : (name : List ℕ) → image name ≡ contents files name = λ name. only_image (rest.stable name) (image name) (left name) in
     recovers_closed (contents files) image (ap is_open (same journal_name) ∙ shut (contents files journal_name) rest.gate.closed) (λ name not. same name)
 
-module _ (entries : List Entry) (files : List ℕ → FileState) (applicable : AreApplicable entries) (gate : HasClosedGate (files journal_name)) (fit : all_fit entries (contents files) ≡ true)
-    (body : List ℕ) (reads : (more : List ℕ) → journal_at (body ++ more) ≡ Some entries) (enough : 15 ≤ length body) where
+module _ (entries : List Entry) (files : List ℕ → FileState) (applicable : AreApplicable entries) (fit : all_fit entries (contents files) ≡ true) where
   abbrev after : Image
   after = replayed entries (contents files)
 
@@ -42,8 +47,21 @@ module _ (entries : List Entry) (files : List ℕ → FileState) (applicable : A
   pub while_arming : IsAtRest files → (image : Image) → LeavesClosed journal_name files image → Stands image
   while_arming rest image left = inl (recovers_closed (contents files) image left.closed (λ name not. only_image (rest.stable name) (image name) (left.others name not)))
 
+  -- every file but the journal is as it was: the record fits the files as it did, and makes of them what it made
+  module _ (last : List ℕ → FileState) (others : (other : List ℕ) → other ≢ journal_name → last other ≡ files other) where
+    pub still_fits : all_fit entries (contents last) ≡ true
+    still_fits = all_fit-takes entries (contents last) after applicable (λ name not. takes name (contents last name) (ap (λ (f : FileState). f.content) (others name not)))
+
+    pub still_made : SameFiles (replayed entries (contents last)) after
+    still_made name not = replayed-takes entries (contents last) name (after name) (takes name (contents last name) (ap (λ (f : FileState). f.content) (others name not)))
+
+    pub still_takes : IsAtRest files → EachTakes entries after last
+    still_takes rest = record {
+      each = λ name not text image. takes name text (only_image (rest.stable name) text (subst (λ f. IsImage f text) (others name not) image));
+    }
+
   -- the body stands behind the gate
-  module _ (mid : List ℕ → FileState) (armed : (mid journal_name).content ≡ overwritten 1 body (contents files journal_name))
+  module _ (gate : HasClosedGate (files journal_name)) (body : List ℕ) (reads : (more : List ℕ) → journal_at (body ++ more) ≡ Some entries) (enough : 15 ≤ length body) (mid : List ℕ → FileState) (armed : (mid journal_name).content ≡ overwritten 1 body (contents files journal_name))
       (same : (other : List ℕ) → other ≢ journal_name → mid other ≡ files other) where
     behind : drop 1 (mid journal_name).content ≡ body ++ drop (1 + length body) (contents files journal_name)
     behind = ap (λ (l : List ℕ). drop 1 l) armed ∙ drop-overwritten body (contents files journal_name) gate.nonempty
@@ -64,15 +82,6 @@ module _ (entries : List Entry) (files : List ℕ → FileState) (applicable : A
           found = ap (λ (l : List ℕ). journal_at (drop 1 l)) is ∙ told (1 ∷ drop 1 (mid journal_name).content) refl;
         }
 
-    -- the record fits the files as it did
-    pub opened_fits : (last : List ℕ → FileState) → ((other : List ℕ) → other ≢ journal_name → last other ≡ mid other) → all_fit entries (contents last) ≡ true
-    opened_fits last others = all_fit-takes entries (contents last) after applicable (λ name not. takes name (contents last name) (ap (λ (f : FileState). f.content) (others name not ∙ same name not)))
-
-    -- and makes of them what it made
-    pub opened_made : (last : List ℕ → FileState) → ((other : List ℕ) → other ≢ journal_name → last other ≡ mid other) → SameFiles (replayed entries (contents last)) after
-    opened_made last others name not =
-        replayed-takes entries (contents last) name (after name) (takes name (contents last name) (ap (λ (f : FileState). f.content) (others name not ∙ same name not)))
-
     -- where all files were on the disk
     module _ (rest : IsAtRest files) where
       own : (other : List ℕ) (text : List ℕ) → IsImage (files other) text → text ≡ contents files other
@@ -87,7 +96,39 @@ module _ (entries : List Entry) (files : List ℕ → FileState) (applicable : A
             | inr closed ↦ inl (recovers_closed (contents files) image closed other_is)
           ]
 
-      pub opened_takes : (last : List ℕ → FileState) → ((other : List ℕ) → other ≢ journal_name → last other ≡ mid other) → EachTakes entries after last
-      opened_takes last others = record {
-        each = λ name not text image. takes name text (own name text (subst (λ f. IsImage f text) (others name not ∙ same name not) image));
+-- What a call did that wrote a record behind the closed gate, or failed there; and what one that opened the gate then.
+module _ {D : Type 0} (files : D → List ℕ → FileState) (moment : D → ℕ) (left_since : D → ℕ → Image → Type 0) (old : D) (journal : List ℕ) (name_is : journal ≡ journal_name) (entries : List Entry)
+    (applicable : AreApplicable entries) (fit : all_fit entries (contents (files old)) ≡ true) where
+  arming : (new : D) → PassesOver moment left_since old new (LeavesClosed journal (files old)) → IsAtRest (files old)
+      → PassesOver moment left_since old new (IsBeforeOrAfter (contents (files old)) (replayed entries (contents (files old))))
+  arming new time rest = passes_as time (λ image left. while_arming entries (files old) applicable fit rest image (subst (λ (n : List ℕ). LeavesClosed n (files old) image) name_is left))
+
+  arming_alone : (new : D) (r : Result (Unit {0}) DiskFault) {content : List ℕ} → PassesOver moment left_since old new (LeavesClosed journal (files old)) → Puts journal content (files old) (files new) r
+      → LeavesAlone files moment left_since (IsUnwritten entries) old new
+  arming_alone new r time puts =
+      alone_journal files moment left_since journal (IsUnwritten entries) (LeavesClosed journal (files old)) old new name_is (λ name is. is.apart) puts.others time (λ image left. left.others)
+
+  pub armed_writes : (new : D) (r told : Result (Unit {0}) DiskFault) → PassesOver moment left_since old new (LeavesClosed journal (files old)) → {content : List ℕ} → Puts journal content (files old) (files new) r
+      → OnOk told (IsOpenOver entries (files new)) → WritesRecord files moment left_since entries old new told
+  armed_writes new r told time puts opened = record {
+    opened = opened;
+    any_moment = arming new time;
+    others = subst (λ (n : List ℕ). (other : List ℕ) → other ≢ n → files new other ≡ files old other) name_is puts.others;
+    alone = arming_alone new r time puts;
+  }
+
+  pub opened_writes : HasClosedGate (files old journal_name) → (body : List ℕ) → ((more : List ℕ) → journal_at (body ++ more) ≡ Some entries) → 15 ≤ length body → (mid new : D) (r : Result (Unit {0}) DiskFault)
+      → PassesOver moment left_since old mid (LeavesClosed journal (files old)) → Puts journal (overwritten 1 body (files old journal).content) (files old) (files mid) (Ok tt)
+      → PassesOver moment left_since mid new (LeavesBody journal (files mid)) → Puts journal (1 ∷ drop 1 (files mid journal).content) (files mid) (files new) r
+      → WritesRecord files moment left_since entries old new r
+  opened_writes gate body reads enough mid new r arm_time arms opening opens =
+      let armed = subst (λ (n : List ℕ). Puts n (overwritten 1 body (files old n).content) (files old) (files mid) (Ok tt)) name_is arms in
+      let opened = subst (λ (n : List ℕ). Puts n (1 ∷ drop 1 (files mid n).content) (files mid) (files new) r) name_is opens in
+      record {
+        opened = on_ok_both r opened.stable opened.is (opened_over entries (files old) applicable fit gate body reads enough (files mid) armed.is armed.others (files new));
+        any_moment = λ rest. passes_then (arming mid arm_time rest) opening (λ image left.
+            while_opening entries (files old) applicable fit gate body reads enough (files mid) armed.is armed.others rest image (subst (λ (n : List ℕ). LeavesBody n (files mid) image) name_is left));
+        others = λ name not. opened.others name not ∙ armed.others name not;
+        alone = alone_then files moment left_since (IsUnwritten entries) old mid new (arming_alone mid (Ok tt) arm_time arms)
+            (alone_journal files moment left_since journal (IsUnwritten entries) (LeavesBody journal (files mid)) mid new name_is (λ name is. is.apart) opens.others opening (λ image left. left.others));
       }

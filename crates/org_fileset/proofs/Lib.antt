@@ -16,6 +16,7 @@ mod Changes
 pub mod Lookups
 mod Recorded
 pub mod Recovering
+mod Reopening
 mod Committing
 mod Kept
 pub mod Crashed

@@ -9,8 +9,6 @@ use Rattle.org_disk.specs.Disk.{FileState, IsOutside, IsImage, IsStable, AreImag
 use Rattle.org_disk.specs.Names.{journal_name}
 use Rattle.org_disk.specs.declared.disk.DiskFault.{DiskFault}
 use Rattle.org_disk.proofs.Images.{only_image, stable_is}
-use Rattle.org_disk.specs.Accounts.{Looks, PassesOver}
-use Rattle.org_disk.proofs.Moments.{passes_as, passes_then}
 use Rattle.org_disk.proofs.Names.{name_cases}
 use Rattle.org_journal.specs.declared.record.Entry.{Entry}
 use Rattle.org_journal.specs.declared.finding.Found.{Found}
@@ -22,8 +20,6 @@ use Rattle.org_journal.specs.declared.record.Version.TheVariants.{Two}
 use Rattle.org_journal.specs.Record.{is_named, IsEntry, IsWellFormed}
 use Rattle.org_journal.specs.Recovered.{Image, SameFiles, RecoversTo, IsArmed, IsRecoverable, OthersStable, recovered, all_fit, replayed, contents}
 use Rattle.org_fileset.specs.Recovery.{EachRecovers, RecoversAsBefore, is_closed, closed_journal}
-use Rattle.org_fileset.specs.Writes.{LeavesAlone, IsUnconcerned, IsUnwritten}
-use Rattle.org_fileset.proofs.Writes.{alone_fewer, alone_journal, alone_looks, alone_then}
 use Rattle.org_fileset.specs.Replay.{TakesTo, IsApplicable, AreApplicable, EachTakes, IsOpenOver, IsReplayable, IsAtRest}
 use Rattle.org_fileset.proofs.Recovers.{recovers_open, recovers_closed, open_recovers, takes-replayed}
 
@@ -232,48 +228,21 @@ as_before files each image left =
     let recovered_then : RecoversTo found.0 image = subst (λ (o : Option Image). IsSomeAnd o (λ (f : Image). SameFiles f found.0)) (sym found.1) (λ name not. refl) in
     record { start = image; left = left; texts = found.0; recovered_then = recovered_then; recovers_now = recovered_then }
 
--- after a sync of the journal
-pub record IsSynced (old now : List ℕ → FileState) : Type 0 where
-  pub images : (image : Image) → AreImages now image → AreImages old image
-  pub stable : IsStable (now journal_name)
-  pub same : contents now ≡ contents old
-  pub recoverable : IsRecoverable old → IsRecoverable now
-
-pub synced : (old mid now : List ℕ → FileState) → IsImage (old journal_name) (old journal_name).content → ((name : List ℕ) → IsImage (mid name) (mid name).content)
-    → Changes sync journal_name old mid (Ok tt) → now ≡ mid → IsSynced old now
-synced old mid now own images changes is = subst (λ (f : List ℕ → FileState). IsSynced old f) (sym is) (record {
-  images = λ image left name. sync_after journal_name old mid (Ok tt) own changes name (image name) (left name);
-  stable = subst IsStable (sym changes.ok) (stable_is (old journal_name).content);
-  same = λ i name. same_content name i;
-  recoverable = sync_recoverable old mid (Ok tt) own images changes;
-})
-  where
-    same_content : (name : List ℕ) → contents mid name ≡ contents old name
-    same_content name = elim (name_cases name journal_name) [
-      | inl same ↦ ap (λ (n : List ℕ). contents mid n) same.0 ∙ ap (λ (f : FileState). f.content) changes.ok ∙ ap (λ (n : List ℕ). contents old n) (sym same.0)
-      | inr apart ↦ ap (λ (f : FileState). f.content) (changes.others name apart.0)
-    ]
-
 -- an open gate: what recovers to the files that the record makes
-pub armed_before : (old now : List ℕ → FileState) (entries : List Entry) → IsSynced old now → ((name : List ℕ) → IsImage (now name) (now name).content) → AreApplicable entries → IsOpenOver entries now
-    → all_fit entries (contents now) ≡ true → (can : IsReplayable entries now) → (image : Image) → RecoversTo can.texts image → RecoversAsBefore old image
-armed_before old now entries is own applicable over fit can image stand = record {
-  start = contents now;
-  left = is.images (contents now) own;
-  texts = can.texts;
-  recovered_then = contents_recover now own entries applicable over fit can;
-  recovers_now = stand;
-}
+pub armed_before : (files : List ℕ → FileState) (entries : List Entry) → ((name : List ℕ) → IsImage (files name) (files name).content) → AreApplicable entries → IsOpenOver entries files
+    → all_fit entries (contents files) ≡ true → (can : IsReplayable entries files) → (image : Image) → RecoversTo can.texts image → RecoversAsBefore files image
+armed_before files entries own applicable over fit can image stand =
+    record { start = contents files; left = own; texts = can.texts; recovered_then = contents_recover files own entries applicable over fit can; recovers_now = stand }
 
 -- a closed one: what recovers to the files themselves
-pub closed_before : (old now : List ℕ → FileState) → IsSynced old now → ((name : List ℕ) → IsImage (now name) (now name).content) → is_open (contents now journal_name) ≡ false → OthersStable now
-    → (image : Image) → LeavesClosed journal_name now image → RecoversAsBefore old image
-closed_before old now is own shut stable image left = record {
-  start = contents now;
-  left = is.images (contents now) own;
-  texts = contents now;
-  recovered_then = recovers_closed (contents now) (contents now) shut (λ name not. refl);
-  recovers_now = recovers_closed (contents now) image left.closed (λ name not. only_image (stable name not) (image name) (left.others name not));
+pub closed_before : (files : List ℕ → FileState) → ((name : List ℕ) → IsImage (files name) (files name).content) → is_open (contents files journal_name) ≡ false → OthersStable files
+    → (image : Image) → LeavesClosed journal_name files image → RecoversAsBefore files image
+closed_before files own shut stable image left = record {
+  start = contents files;
+  left = own;
+  texts = contents files;
+  recovered_then = recovers_closed (contents files) (contents files) shut (λ name not. refl);
+  recovers_now = recovers_closed (contents files) image left.closed (λ name not. only_image (stable name not) (image name) (left.others name not));
 }
 
 -- what a record that was found is
@@ -339,53 +308,3 @@ found_good files (Armed entries) found none =
     let fits = found.2 in
     let good : IsSomeAnd (recovered files) (λ f. Unit {0}) = rw (opened, told, fits) tt in
     subst (λ (o : Option Image). IsSomeAnd o (λ f. Unit {0})) none good
-
--- The journal was synced and looked at, and nothing else was done.
-pub record IsLookedAt {D : Type 0} (files : D → List ℕ → FileState) (moment : D → ℕ) (left_since : D → ℕ → Image → Type 0) (old now : D) : Type 0 where
-  pub is : IsSynced (files old) (files now)
-  pub time : PassesOver moment left_since old now (AreImages (files old))
-  pub since : EachRecovers (files old) → PassesOver moment left_since old now (RecoversAsBefore (files old))
-  pub alone : LeavesAlone files moment left_since (IsUnconcerned (contents (files old) journal_name)) old now
-
-pub looked_at : {D : Type 0} (files : D → List ℕ → FileState) (moment : D → ℕ) (left_since : D → ℕ → Image → Type 0) (old mid now : D) (journal : List ℕ) → journal ≡ journal_name
-    → IsImage (files old journal_name) (files old journal_name).content → ((name : List ℕ) → IsImage (files mid name) (files mid name).content)
-    → Changes sync journal (files old) (files mid) (Ok tt) → PassesOver moment left_since old mid (AreLeftBy sync journal (files old))
-    → Looks files moment left_since mid now → IsLookedAt files moment left_since old now
-looked_at files moment left_since old mid now journal name_is own owns changes time looks = record {
-  is = is;
-  time = images;
-  since = λ each. passes_as images (as_before (files old) each);
-  alone = alone_then files moment left_since (IsUnconcerned (contents (files old) journal_name)) old mid now
-      (alone_journal files moment left_since journal (IsUnconcerned (contents (files old) journal_name)) (AreLeftBy sync journal (files old)) old mid name_is (λ name is. is.apart) changes.others time (λ image left. left.others))
-      (alone_looks files moment left_since (IsUnconcerned (contents (files old) journal_name)) mid now looks);
-}
-  where
-    is : IsSynced (files old) (files now)
-    is = synced (files old) (files mid) (files now) own owns (subst (λ (n : List ℕ). Changes sync n (files old) (files mid) (Ok tt)) name_is changes) looks.same
-
-    images : PassesOver moment left_since old now (AreImages (files old))
-    images = passes_then
-        (passes_as time (λ image left. sync_left journal_name (files old) image own (subst (λ (n : List ℕ). AreLeftBy sync n (files old) image) name_is left)))
-        looks.time (λ image left. is.images image (subst (λ (f : List ℕ → FileState). AreImages f image) (sym looks.same) left))
-
--- a record that was found is applied to its files alone
-pub alone_replayed : {D : Type 0} (files : D → List ℕ → FileState) (moment : D → ℕ) (left_since : D → ℕ → Image → Type 0) (entries : List Entry) (old now new : D) → IsLookedAt files moment left_since old now
-    → IsOpenOver entries (files now) → LeavesAlone files moment left_since (IsUnwritten entries) now new → LeavesAlone files moment left_since (IsUnconcerned (contents (files old) journal_name)) old new
-alone_replayed files moment left_since entries old now new look over replays =
-    let same : contents (files now) journal_name ≡ contents (files old) journal_name = ap (λ (f : Image). f journal_name) look.is.same in
-    let opened : is_open (contents (files old) journal_name) ≡ true = ap is_open (sym same) ∙ over.opened in
-    let found : journal_at (drop 1 (contents (files old) journal_name)) ≡ Some entries = ap (λ (l : List ℕ). journal_at (drop 1 l)) (sym same) ∙ over.found in
-    alone_then files moment left_since (IsUnconcerned (contents (files old) journal_name)) old now new look.alone
-    (alone_fewer files moment left_since (IsUnconcerned (contents (files old) journal_name)) (IsUnwritten entries) now new replays
-    (λ name is. record { apart = is.apart; unnamed = is.unnamed opened entries found }))
-
--- a closed gate that was looked at, and looked at once more
-pub images_looked : {D : Type 0} (files : D → List ℕ → FileState) (moment : D → ℕ) (left_since : D → ℕ → Image → Type 0) (old now last : D) → IsLookedAt files moment left_since old now → Looks files moment left_since now last
-    → PassesOver moment left_since old last (AreImages (files old))
-images_looked files moment left_since old now last look looks = passes_then look.time looks.time look.is.images
-
-pub alone_looked : {D : Type 0} (files : D → List ℕ → FileState) (moment : D → ℕ) (left_since : D → ℕ → Image → Type 0) (old now last : D) → IsLookedAt files moment left_since old now → Looks files moment left_since now last
-    → LeavesAlone files moment left_since (IsUnconcerned (contents (files old) journal_name)) old last
-alone_looked files moment left_since old now last look looks =
-    alone_then files moment left_since (IsUnconcerned (contents (files old) journal_name)) old now last look.alone
-    (alone_looks files moment left_since (IsUnconcerned (contents (files old) journal_name)) now last looks)

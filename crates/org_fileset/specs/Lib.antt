@@ -5,4 +5,5 @@ pub mod Recovery
 pub mod Names
 pub mod Opening
 pub mod Writes
+pub mod Looking
 pub mod Laws

@@ -117,6 +117,18 @@ pub record ReplaysOver {D : Type 0} (files : D → List ℕ → FileState) (mome
   pub recoverable : IsReplayable entries (files old) → IsRecoverable (files new)
   pub alone : LeavesAlone files moment left_since (IsUnwritten entries) old new
 
+-- What a call does that writes a record behind a closed gate and opens the gate over it, where the
+-- disk is honest after it. The journal alone is written; where all was on the disk, a crash leaves
+-- what recovers to the files before, or to those that the record makes of them.
+pub record WritesRecord {D : Type 0} (files : D → List ℕ → FileState) (moment : D → ℕ)
+    (left_since : D → ℕ → Image → Type 0) (entries : List Entry) (old new : D)
+    (result : Result (Unit {0}) DiskFault) : Type 0 where
+  pub opened : OnOk result (IsOpenOver entries (files new))
+  pub any_moment : IsAtRest (files old) → PassesOver moment left_since old new
+      (IsBeforeOrAfter (contents (files old)) (replayed entries (contents (files old))))
+  pub others : (name : List ℕ) → name ≢ journal_name → files new name ≡ files old name
+  pub alone : LeavesAlone files moment left_since (IsUnwritten entries) old new
+
 -- The files are these now; what was at rest is at rest.
 pub record IsCommitted (after : Image) (old new : List ℕ → FileState) : Type 0 where
   pub made : SameFiles (contents new) after

@@ -5,7 +5,8 @@ ghost use Rattle.org_disk.specs.Names.{journal_name};
 ghost use Rattle.org_journal.specs.Gate.{HasClosedGate};
 ghost use Rattle.org_journal.specs.Reading.{journal_at};
 ghost use Rattle.org_journal.specs.Recovered.{all_fit, replayed, contents};
-ghost use Rattle.org_fileset.specs.Replay.{AreApplicable, Commits, IsOpenOver, ReplaysOver};
+ghost use Rattle.org_journal.specs.declared.record.Entry.{Entry};
+ghost use Rattle.org_fileset.specs.Replay.{AreApplicable, Commits, IsOpenOver, ReplaysOver, WritesRecord};
 ghost use Rattle.org_fileset.specs.Writes.{IsUnwritten};
 
 use crate::apply::{apply_all, sync_all};
@@ -27,6 +28,23 @@ pub fn replay<D: Disk>(disk: &mut D, journal: &FileName, entries: &[Entry]) -> R
     apply_all(disk, entries)?;
     sync_all(disk, entries)?;
     close_gate(disk, journal)
+}
+
+/// Writes a record behind the closed gate, and opens the gate over it. The body is the record, from
+/// the journal's second byte on.
+fn write_record<D: Disk>(disk: &mut D, journal: &FileName, body: &[u8]) -> Result<(), DiskFault>
+    requires journal { journal.now ≡ journal_name }
+    requires long { 15 ≤ length body.now }
+    requires gate { D.honest disk.old → HasClosedGate (D.files disk.old journal_name) }
+    ensures writes { (entries : List Entry)
+        → ((more : List ℕ) → journal_at (body.now ++ more) ≡ Some entries)
+        → AreApplicable entries → D.honest disk.new
+        → IsTrue (all_fit entries (contents (D.files disk.old)))
+        → WritesRecord D.files D.moment D.left_since entries disk.old disk.new result }
+    ensures accounts { Accounts D.steady D.honest D.failures disk.old disk.new (IsErr result) }
+{
+    arm(disk, journal, body)?;
+    open_gate(disk, journal)
 }
 
 /// Commits entries that fit their files. The body is their record, from the journal's second byte
@@ -53,7 +71,6 @@ pub fn commit_entries<D: Disk>(
     ensures gate { D.honest disk.new → OnOk result (HasClosedGate (D.files disk.new journal_name)) }
     ensures accounts { Accounts D.steady D.honest D.failures disk.old disk.new (IsErr result) }
 {
-    arm(disk, journal, body)?;
-    open_gate(disk, journal)?;
+    write_record(disk, journal, body)?;
     replay(disk, journal, entries)
 }

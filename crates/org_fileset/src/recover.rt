@@ -1,14 +1,69 @@
 //! What an opening does first: it brings to an end what a crash cut short.
-ghost use Rattle.std.specs.Prelude.{◌≡◌, None, IsErrOf};
+ghost use Rattle.std.specs.Prelude.{◌≡◌, None, Ok, IfOk, IsErr, IsErrOf, IsFalse};
 ghost use Rattle.org_disk.specs.Accounts.{Accounts};
+ghost use Rattle.org_disk.specs.Disk.{IsStable};
 ghost use Rattle.org_disk.specs.Names.{journal_name};
+ghost use Rattle.org_journal.specs.Finding.{Finds, IsWritable};
 ghost use Rattle.org_journal.specs.Recovered.{recovered, contents};
+ghost use Rattle.org_journal.specs.Gate.{is_open};
+ghost use Rattle.org_fileset.specs.Looking.{IsLookedAt, IsFoundIn};
 ghost use Rattle.org_fileset.specs.Recovery.{Reopens};
 
 use crate::commit::replay;
-use org_disk::{Disk, FileName};
+use org_disk::{Disk, DiskFault, FileName};
 use org_journal::{FRONT, FindFault, Found, find, prepare};
 use std::alloc::Global;
+
+/// Syncs the journal and looks at it. Nothing else is done.
+fn look<D: Disk>(alloc: Global, disk: &mut D, journal: &FileName) -> Result<Found, FindFault>
+    requires { journal.now ≡ journal_name }
+    ensures looked { D.honest disk.new
+        → IsLookedAt D.files D.moment D.left_since disk.old disk.new }
+    ensures found { IfOk result (λ found. D.honest disk.new
+        → IsFoundIn (D.files disk.old) (D.files disk.new) found) }
+    ensures writable { IfOk result (λ found. IsWritable found) }
+    ensures bad { IsErrOf result FindFault.BadJournal → D.honest disk.new
+        → (recovered (contents (D.files disk.old)) ≡ None)
+        × (contents (D.files disk.new) ≡ contents (D.files disk.old)) }
+    ensures accounts { Accounts D.steady D.honest D.failures disk.old disk.new
+        (IsErrOf result FindFault.Device) }
+{
+    disk.sync(journal)?;
+    find(alloc, disk, journal)
+}
+
+/// Gives a journal without a gate one that is closed. A whole journal whose gate is closed stays as
+/// it is.
+fn give_gate<D: Disk>(disk: &mut D, journal: &FileName) -> Result<(), DiskFault>
+    requires journal { journal.now ≡ journal_name }
+    requires stable { D.honest disk.old → IsStable (D.files disk.old journal_name) }
+    requires closed { D.honest disk.old
+        → IsFalse (is_open (contents (D.files disk.old) journal_name)) }
+    ensures reopens { D.honest disk.new → Reopens D.files D.moment D.left_since disk.old disk.new
+        result }
+    ensures accounts { Accounts D.steady D.honest D.failures disk.old disk.new (IsErr result) }
+{
+    if disk.length(journal)? < FRONT {
+        return prepare(disk, journal);
+    }
+    Ok(())
+}
+
+/// Brings to an end what was found in the journal, which is on the device.
+fn finish<D: Disk>(disk: &mut D, journal: &FileName, found: &Found) -> Result<(), DiskFault>
+    requires journal { journal.now ≡ journal_name }
+    requires stable { D.honest disk.old → IsStable (D.files disk.old journal_name) }
+    requires found { D.honest disk.old → Finds (contents (D.files disk.old)) (Ok found.now) }
+    requires writable { IsWritable found.now }
+    ensures reopens { D.honest disk.new → Reopens D.files D.moment D.left_since disk.old disk.new
+        result }
+    ensures accounts { Accounts D.steady D.honest D.failures disk.old disk.new (IsErr result) }
+{
+    match found {
+        Found::Armed(record) => replay(disk, journal, record.entries()),
+        Found::Closed => give_gate(disk, journal),
+    }
+}
 
 /// Brings the journal's record to an end where its gate is open, and gives a journal without a gate
 /// one that is closed. Nothing else is written.
@@ -28,14 +83,7 @@ pub fn recover<D: Disk>(alloc: Global, disk: &mut D, journal: &FileName) -> Resu
     ensures accounts { Accounts D.steady D.honest D.failures disk.old disk.new
         (IsErrOf result FindFault.Device) }
 {
-    disk.sync(journal)?;
-    match find(alloc, disk, journal)? {
-        Found::Armed(record) => replay(disk, journal, record.entries())?,
-        Found::Closed => {
-            if disk.length(journal)? < FRONT {
-                prepare(disk, journal)?;
-            }
-        }
-    }
+    let found = look(alloc, disk, journal)?;
+    finish(disk, journal, &found)?;
     Ok(())
 }
