@@ -3,8 +3,7 @@ use Rattle.std.proofs.Common.{◌≡◌, ℕ, zero, suc, ◌+◌, ◌-◌, ◌<�
 use Rattle.std.specs.Borrow.{Bor}
 use Rattle.std.proofs.lemmas.List.{append-nil, map-append, reverse-append}
 use Rattle.std.specs.Option.{ForSome, IfSome, option_or}
-use Rattle.std.proofs.lemmas.Bool.{cases_Bool}
-use Rattle.std.proofs.lemmas.Bool.Decides.{nat_tests}
+use Rattle.std.proofs.lemmas.Bool.{cases_Bool, ltb-false, ltb-true}
 use Rattle.org_outline.specs.Tree.{Forest, Empty, Tree, Document, node_count, parent_of, total}
 use Rattle.org_outline.specs.Numbers.{ancestors_of, way_to}
 use Rattle.org_outline.proofs.ByNumber.{count-is, parent-is, up_of}
@@ -25,8 +24,8 @@ has_parent u k i Empty lt none = absurd (omega arith)
 has_parent u k zero (Tree n r s kids later) lt none = absurd cc
 has_parent u k (suc i) (Tree n r s kids later) lt none =
     elim (cases_Bool (ltb i (total kids))) [
-      | inl e ↦ let inside : i < total kids = grind (arith, nat_tests) in has_parent k (suc k) i kids inside (rw e at none)
-      | inr e ↦ let past : total kids ≤ i = grind (arith, nat_tests) in has_parent u (suc k + total kids) (i - total kids) later (omega (arith, lt, past)) (rw e at none)
+      | inl e ↦ let inside : i < total kids = ltb-true _ _ e in has_parent k (suc k) i kids inside (rw e at none)
+      | inr e ↦ let past : total kids ≤ i = ltb-false _ _ e in has_parent u (suc k + total kids) (i - total kids) later (omega (arith, lt, past)) (rw e at none)
     ]
 
 root_way : (k i : ℕ) (f : Forest) → i < total f → up_of None k i f ≡ None → way_to i k f ≡ []
@@ -34,9 +33,9 @@ root_way k i Empty lt none = refl
 root_way k zero (Tree n r s kids later) lt none = refl
 root_way k (suc i) (Tree n r s kids later) lt none =
     elim (cases_Bool (ltb i (total kids))) [
-      | inl e ↦ let inside : i < total kids = grind (arith, nat_tests) in absurd (has_parent k (suc k) i kids inside (rw e at none))
+      | inl e ↦ let inside : i < total kids = ltb-true _ _ e in absurd (has_parent k (suc k) i kids inside (rw e at none))
       | inr e ↦
-          let past : total kids ≤ i = grind (arith, nat_tests) in
+          let past : total kids ≤ i = ltb-false _ _ e in
           rw e (root_way (suc k + total kids) (i - total kids) later (omega (arith, lt, past)) (rw e at none))
     ]
 
