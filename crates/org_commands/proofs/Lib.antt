@@ -6,6 +6,7 @@ pub mod Waiting
 pub mod Quiet
 pub mod Commits
 pub mod Handing
+pub mod Faults
 pub mod Keeping
 pub mod Reading
 pub mod Leaving

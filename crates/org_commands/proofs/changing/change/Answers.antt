@@ -4,12 +4,14 @@ use Rattle.org_texts.specs.declared.plan.Plan.{Plan}
 use Rattle.org_texts.specs.Plan.{planned}
 use Rattle.org_texts.specs.Texts.{TextSet}
 use Rattle.org_commands.specs.declared.command.RunFault.{RunFault}
+use Rattle.org_commands.specs.declared.command.RunFault.TheVariants.{Broken}
 use Rattle.org_commands.specs.Files.{files_of, new_texts}
 use Rattle.org_commands.specs.Keeping.{PlansOrStays}
 use Rattle.org_commands.specs.Outcome.{changed, outcome}
 use Rattle.org_commands.specs.Session.{Kept, kept_over}
 use Rattle.org_commands.specs.Step.{Does}
 use Rattle.org_commands.proofs.Acting.{acts_after, acts_quiet, kept_same}
+use Rattle.org_commands.proofs.Faults.{accounts_behind, accounts_handed, breaks_handed, fault_of_first, whole_behind}
 use Rattle.org_commands.proofs.Waiting.{names_in, waits_changed}
 use Rattle.org_commands.proofs.changing.change.Goals as goal
 
@@ -55,7 +57,8 @@ returns-in-Err-clause-acts g c =
     (λ honest. subst (λ (k : Kept g.row.D.Denot). Does old.session told (Err c.in-Err.fault) k.session) (sym same) (c.in-Err.ensures.plans c.args.tally.now (subst d.honest undone.memory.disk honest)))
     (λ honest. subst (λ disk. Looks d.files d.moment d.left_since old.disk disk) (sym undone.memory.disk) (c.plan.ensures.disk.looks (subst d.honest undone.memory.disk honest)))
     refl (record { accepted = refl; acknowledged = refl; group = refl })
-    (λ broken. c.plan.ensures.disk.works (search rules)) (search rules)
+    (λ broken. c.plan.ensures.disk.works (fault_of_first c.plan.result (Err c.in-Err.fault) c.in-Err.fault Broken is refl broken))
+    (breaks_handed c.plan.result (Err c.in-Err.fault) c.in-Err.fault c.plan.new.files.broken c.undo.new.self.broken is refl undone.memory.broken c.plan.ensures.disk.breaks)
 
 pub returns-in-Ok-Some-clause-waits : goal.returns-in-Ok-Some-clause-waits
 returns-in-Ok-Some-clause-waits g c honest =
@@ -81,3 +84,48 @@ returns-in-Ok-None-clause-waits g c honest =
 
 pub returns-in-Err-clause-waits : goal.returns-in-Err-clause-waits
 returns-in-Err-clause-waits g c honest = ap (λ (s : TextSet). s.waiting) c.undo.ensures.before ∙ c.plan.ensures.disk.waits
+
+pub plan-requires-clause-change : goal.plan-requires-clause-change
+plan-requires-clause-change g c = c.requires.change
+
+pub plan-requires-clause-between : goal.plan-requires-clause-between
+plan-requires-clause-between g c = c.requires.between
+
+pub accept-requires-clause-unbroken : goal.accept-requires-clause-unbroken
+accept-requires-clause-unbroken g c = whole_behind c.plan.result c.in-Ok-Some.field-0 c.plan.new.files.broken c.in-Ok-Some.is c.plan.ensures.disk.breaks
+
+pub accept-requires-clause-counted : goal.accept-requires-clause-counted
+accept-requires-clause-counted g c = c.requires.counted
+
+pub accept_unchanged-requires-clause-unbroken : goal.accept_unchanged-requires-clause-unbroken
+accept_unchanged-requires-clause-unbroken g c = whole_behind c.plan.result c.in-Ok-None.field-0 c.plan.new.files.broken c.in-Ok-None.is c.plan.ensures.disk.breaks
+
+pub accept_unchanged-requires-clause-counted : goal.accept_unchanged-requires-clause-counted
+accept_unchanged-requires-clause-counted g c = c.requires.counted
+
+pub returns-in-Ok-Some-clause-begun : goal.returns-in-Ok-Some-clause-begun
+returns-in-Ok-Some-clause-begun g c = c.accept.ensures.begun
+
+pub returns-in-Ok-Some-clause-counted : goal.returns-in-Ok-Some-clause-counted
+returns-in-Ok-Some-clause-counted g c = c.accept.ensures.counted
+
+pub returns-in-Ok-Some-clause-accounts : goal.returns-in-Ok-Some-clause-accounts
+returns-in-Ok-Some-clause-accounts g c = accounts_behind c.plan.result c.in-Ok-Some.field-0 c.in-Ok-Some.is c.plan.ensures.disk.accounts c.accept.ensures.accounts
+
+pub returns-in-Ok-None-clause-begun : goal.returns-in-Ok-None-clause-begun
+returns-in-Ok-None-clause-begun g c = c.accept_unchanged.ensures.begun
+
+pub returns-in-Ok-None-clause-counted : goal.returns-in-Ok-None-clause-counted
+returns-in-Ok-None-clause-counted g c = c.accept_unchanged.ensures.counted
+
+pub returns-in-Ok-None-clause-accounts : goal.returns-in-Ok-None-clause-accounts
+returns-in-Ok-None-clause-accounts g c = accounts_behind c.plan.result c.in-Ok-None.field-0 c.in-Ok-None.is c.plan.ensures.disk.accounts c.accept_unchanged.ensures.accounts
+
+pub returns-in-Err-clause-begun : goal.returns-in-Err-clause-begun
+returns-in-Err-clause-begun g c = c.undo.ensures.now ∙ sym c.undo.ensures.before
+
+pub returns-in-Err-clause-counted : goal.returns-in-Err-clause-counted
+returns-in-Err-clause-counted g c = c.requires.counted
+
+pub returns-in-Err-clause-accounts : goal.returns-in-Err-clause-accounts
+returns-in-Err-clause-accounts g c = accounts_handed c.plan.result (Err c.in-Err.fault) c.in-Err.fault c.in-Err.is refl c.undo.ensures.memory.disk c.plan.ensures.disk.accounts

@@ -1,0 +1,47 @@
+-- Answers of calls, and what their faults say of the files and of the accounts.
+use Rattle.std.proofs.Common.{◌≡◌, ◌∙◌, ℕ, Bool, false, true, Result, Ok, Err, refl, sym, subst}
+use Rattle.std.specs.Prelude.{◌↔◌, IsErrOf, IsTrue}
+use Rattle.org_disk.specs.Accounts.{Accounts}
+use Rattle.org_disk.proofs.Accounting.{accounts_fine, accounts_then}
+use Rattle.org_commands.specs.declared.command.RunFault.{RunFault}
+use Rattle.org_commands.specs.declared.command.RunFault.TheVariants.{Device}
+
+-- one fault, in answers of two types
+pub same_fault : {A B : Type 0} (fault other : RunFault) → ◌≡◌ {A = Result A RunFault} (Err fault) (Err other) → ◌≡◌ {A = Result B RunFault} (Err fault) (Err other)
+same_fault fault other is = let one : fault ≡ other = cc in cc
+
+-- the fault of an answer, where another answer handed it on
+pub fault_of_first : {A B : Type 0} (first : Result A RunFault) (second : Result B RunFault) (fault other : RunFault) → first ≡ Err fault → second ≡ Err fault → IsErrOf second other → IsErrOf first other
+fault_of_first first second fault other was given fell = was ∙ same_fault fault other (sym given ∙ fell)
+
+-- an answer that is Ok is no fault
+pub fine_is_no_fault : {A E : Type 0} (answer : Result A E) (x : A) (fault : E) → answer ≡ Ok x → IsErrOf answer fault → ⊥
+fine_is_no_fault {A = A} {E = E} answer x fault is fell = let no : ◌≡◌ {A = Result A E} (Ok x) (Err fault) = sym is ∙ fell in cc
+
+-- behind an answer that is Ok nothing is broken
+pub whole_behind : {A : Type 0} (answer : Result A RunFault) (x : A) (broken : Bool) → answer ≡ Ok x → IsErrOf answer Device ↔ IsTrue broken → broken ≡ false
+whole_behind answer x true is breaks = absurd (fine_is_no_fault answer x Device is (breaks.1 refl))
+whole_behind answer x false is breaks = refl
+
+-- what is broken, where a fault is handed on
+pub breaks_handed : {A B : Type 0} (first : Result A RunFault) (second : Result B RunFault) (fault : RunFault) (mid new : Bool) → first ≡ Err fault → second ≡ Err fault → new ≡ mid → IsErrOf first Device ↔ IsTrue mid
+    → IsErrOf second Device ↔ IsTrue new
+breaks_handed first second fault mid new was given same breaks =
+    (λ fell. same ∙ breaks.0 (fault_of_first first second fault Device was given fell), λ broken. fault_of_first second first fault Device given was (breaks.1 (sym same ∙ broken)))
+
+module _ {D : Type 0} {steady : Type 0} {honest : D → Type 0} {failures : D → ℕ} {old mid new : D} where
+  -- the accounts of a call behind one whose answer is Ok
+  pub accounts_behind : {A Failed : Type 0} (answer : Result A RunFault) (x : A) → answer ≡ Ok x → Accounts steady honest failures old mid (IsErrOf answer Device) → Accounts steady honest failures mid new Failed
+      → Accounts steady honest failures old new Failed
+  accounts_behind answer x is first second = accounts_then (accounts_fine (λ fell. fine_is_no_fault answer x Device is fell) first) second
+
+  -- the accounts of a call whose fault is handed on, behind which the disk stays
+  pub accounts_handed : {A B : Type 0} (first : Result A RunFault) (second : Result B RunFault) (fault : RunFault) → first ≡ Err fault → second ≡ Err fault → new ≡ mid
+      → Accounts steady honest failures old mid (IsErrOf first Device) → Accounts steady honest failures old new (IsErrOf second Device)
+  accounts_handed first second fault was given same call = subst (λ disk. Accounts steady honest failures old disk (IsErrOf second Device)) (sym same) (record {
+    was_honest = call.was_honest;
+    stays_honest = call.stays_honest;
+    no_less = call.no_less;
+    risen = λ fails. call.risen (fault_of_first first second fault Device was given fails);
+    equal = λ fine. call.equal (λ fell. fine (fault_of_first second first fault Device given was fell));
+  })
