@@ -2,7 +2,7 @@
 use Rattle.std.proofs.Common.{◌≡◌, ◌∙◌, ℕ, Bool, false, true, Result, Ok, Err, refl, sym, subst}
 use Rattle.std.specs.Prelude.{◌↔◌, IsErrOf, IsTrue}
 use Rattle.org_disk.specs.Accounts.{Accounts}
-use Rattle.org_disk.proofs.Accounting.{accounts_fine, accounts_then}
+use Rattle.org_disk.proofs.Accounting.{accounts_fine, accounts_none, accounts_then}
 use Rattle.org_commands.specs.declared.command.RunFault.{RunFault}
 use Rattle.org_commands.specs.declared.command.RunFault.TheVariants.{Device}
 
@@ -19,9 +19,9 @@ pub fine_is_no_fault : {A E : Type 0} (answer : Result A E) (x : A) (fault : E) 
 fine_is_no_fault {A = A} {E = E} answer x fault is fell = let no : ◌≡◌ {A = Result A E} (Ok x) (Err fault) = sym is ∙ fell in cc
 
 -- behind an answer that is Ok nothing is broken
-pub whole_behind : {A : Type 0} (answer : Result A RunFault) (x : A) (broken : Bool) → answer ≡ Ok x → IsErrOf answer Device ↔ IsTrue broken → broken ≡ false
-whole_behind answer x true is breaks = absurd (fine_is_no_fault answer x Device is (breaks.1 refl))
-whole_behind answer x false is breaks = refl
+pub whole_behind : {A E : Type 0} (answer : Result A E) (x : A) (device : E) (broken : Bool) → answer ≡ Ok x → IsErrOf answer device ↔ IsTrue broken → broken ≡ false
+whole_behind answer x device true is breaks = absurd (fine_is_no_fault answer x device is (breaks.1 refl))
+whole_behind answer x device false is breaks = refl
 
 -- what is broken, where a fault is handed on
 pub breaks_handed : {A B : Type 0} (first : Result A RunFault) (second : Result B RunFault) (fault : RunFault) (mid new : Bool) → first ≡ Err fault → second ≡ Err fault → new ≡ mid → IsErrOf first Device ↔ IsTrue mid
@@ -35,13 +35,21 @@ module _ {D : Type 0} {steady : Type 0} {honest : D → Type 0} {failures : D �
       → Accounts steady honest failures old new Failed
   accounts_behind answer x is first second = accounts_then (accounts_fine (λ fell. fine_is_no_fault answer x Device is fell) first) second
 
-  -- the accounts of a call whose fault is handed on, behind which the disk stays
-  pub accounts_handed : {A B : Type 0} (first : Result A RunFault) (second : Result B RunFault) (fault : RunFault) → first ≡ Err fault → second ≡ Err fault → new ≡ mid
-      → Accounts steady honest failures old mid (IsErrOf first Device) → Accounts steady honest failures old new (IsErrOf second Device)
-  accounts_handed first second fault was given same call = subst (λ disk. Accounts steady honest failures old disk (IsErrOf second Device)) (sym same) (record {
+  -- the accounts of a call, where another answer fails just where its own does, and the disk stays behind it
+  pub accounts_as : {Failed Fails : Type 0} → new ≡ mid → (Fails → Failed) → (Failed → Fails) → Accounts steady honest failures old mid Failed → Accounts steady honest failures old new Fails
+  accounts_as {Fails = Fails} same back on call = subst (λ disk. Accounts steady honest failures old disk Fails) (sym same) (record {
     was_honest = call.was_honest;
     stays_honest = call.stays_honest;
     no_less = call.no_less;
-    risen = λ fails. call.risen (fault_of_first first second fault Device was given fails);
-    equal = λ fine. call.equal (λ fell. fine (fault_of_first second first fault Device given was fell));
+    risen = λ fails. call.risen (back fails);
+    equal = λ fine. call.equal (λ failed. fine (on failed));
   })
+
+  -- the accounts of a call whose fault is handed on, behind which the disk stays
+  pub accounts_handed : {A B : Type 0} (first : Result A RunFault) (second : Result B RunFault) (fault : RunFault) → first ≡ Err fault → second ≡ Err fault → new ≡ mid
+      → Accounts steady honest failures old mid (IsErrOf first Device) → Accounts steady honest failures old new (IsErrOf second Device)
+  accounts_handed first second fault was given same call = accounts_as same (fault_of_first first second fault Device was given) (fault_of_first second first fault Device given was) call
+
+-- the accounts of a call in memory
+pub accounts_memory : {D Fails : Type 0} {steady : Type 0} {honest : D → Type 0} {failures : D → ℕ} {old new : D} → new ≡ old → (Fails → ⊥) → Accounts steady honest failures old new Fails
+accounts_memory {steady = steady} {honest = honest} {failures = failures} {old = old} same fine = accounts_as same (λ fails. absurd (fine fails)) (λ no. absurd no) (accounts_none steady honest failures old)

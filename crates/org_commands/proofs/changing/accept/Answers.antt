@@ -1,9 +1,11 @@
-use Rattle.std.proofs.Common.{◌≡◌, Result, Err, refl, sym, ap, subst}
+use Rattle.std.proofs.Common.{◌≡◌, ◌∙◌, Result, Err, refl, sym, ap, subst}
 use Rattle.org_journal.specs.Recovered.{contents}
 use Rattle.org_texts.specs.Texts.{TextSet, held_over}
 use Rattle.org_commands.specs.declared.command.Reply.{Reply}
 use Rattle.org_commands.specs.declared.command.RunFault.{RunFault}
-use Rattle.org_commands.specs.Files.{files_of}
+use Rattle.org_commands.specs.declared.command.RunFault.TheVariants.{Device}
+use Rattle.org_disk.specs.Accounts.{Accounts}
+use Rattle.org_commands.specs.Files.{PutsPlan, files_of}
 use Rattle.org_commands.specs.InOrder.{texts_of}
 use Rattle.org_commands.specs.Keeping.{Acts}
 use Rattle.org_commands.specs.Outcome.{Outcome, counted}
@@ -13,6 +15,8 @@ use Rattle.org_commands.proofs.Planned.{counted_texts}
 use Rattle.org_commands.specs.Step.{fills}
 use Rattle.org_commands.specs.Waiting.{Joins, WaitsAccepted}
 use Rattle.org_commands.proofs.Waiting.{joins_planned, waits_put}
+use Rattle.std.specs.Prelude.{IsErrOf}
+use Rattle.org_commands.proofs.Faults.{accounts_memory, fault_of_first}
 use Rattle.org_commands.proofs.Handing.{handed_on}
 use Rattle.org_commands.proofs.changing.accept.Goals as goal
 
@@ -58,3 +62,35 @@ returns-clause-waits g c states =
     let files = c.args.files.now in
     let old = kept_over g.D.Disk.files states files c.args.tally.now in
     waits_put (fills old.session) c.args.plan files.held c.put.new.self.held c.count.new.files.held c.count.result c.requires.plan.ready c.in_ok-put.ensures.puts.1 c.put.ensures.before (c.count.ensures.waits states)
+
+pub put-requires : goal.put-requires
+put-requires g c = c.requires.plan
+
+pub count-requires-clause-unbroken : goal.count-requires-clause-unbroken
+count-requires-clause-unbroken g c = c.put.ensures.memory.broken ∙ c.requires.unbroken
+
+pub count-requires-clause-small : goal.count-requires-clause-small
+count-requires-clause-small g c = c.in_ok-put.ensures.puts.2
+
+pub count-requires-clause-counted : goal.count-requires-clause-counted
+count-requires-clause-counted g c = c.requires.counted
+
+pub returns-clause-begun : goal.returns-clause-begun
+returns-clause-begun g c = c.count.ensures.begun
+
+pub returns-clause-counted : goal.returns-clause-counted
+returns-clause-counted g c = c.count.ensures.counted
+
+pub returns-clause-accounts : goal.returns-clause-accounts
+returns-clause-accounts g c =
+    subst (λ disk. Accounts g.D.Disk.steady g.D.Disk.honest g.D.Disk.failures disk c.count.new.files.disk (IsErrOf c.count.result Device)) c.put.ensures.memory.disk c.count.ensures.accounts
+
+pub returns-in_err-put-clause-counted : goal.returns-in_err-put-clause-counted
+returns-in_err-put-clause-counted g c = c.requires.counted
+
+pub returns-in_err-put-clause-accounts : goal.returns-in_err-put-clause-accounts
+returns-in_err-put-clause-accounts g c =
+    let fault = c.in_err-put.field-0.0 in
+    let given : c.from_residual.result ≡ Err fault = handed_on c.from_residual.result _ c.from_residual.ensures.1 in
+    accounts_memory c.put.ensures.memory.disk
+    (λ fell. subst (λ r. PutsPlan c.args.plan c.args.files.now.held r c.put.new.self.held) (fault_of_first c.put.result c.from_residual.result fault Device c.in_err-put.was given fell) c.put.ensures.puts)

@@ -1,10 +1,10 @@
-use Rattle.std.proofs.Common.{◌≡◌, ◌∙◌, [], Option, Result, Ok, Err, refl, sym, ap, subst, rules}
+use Rattle.std.proofs.Common.{◌≡◌, ◌∙◌, [], Option, Result, Ok, Err, refl, sym, ap, subst}
 use Rattle.org_disk.specs.Accounts.{Looks}
 use Rattle.org_texts.specs.declared.plan.Plan.{Plan}
 use Rattle.org_texts.specs.Plan.{planned}
 use Rattle.org_texts.specs.Texts.{TextSet}
 use Rattle.org_commands.specs.declared.command.RunFault.{RunFault}
-use Rattle.org_commands.specs.declared.command.RunFault.TheVariants.{Broken}
+use Rattle.org_commands.specs.declared.command.RunFault.TheVariants.{Broken, Device}
 use Rattle.org_commands.specs.Files.{files_of, new_texts}
 use Rattle.org_commands.specs.Keeping.{PlansOrStays}
 use Rattle.org_commands.specs.Outcome.{changed, outcome}
@@ -92,13 +92,13 @@ pub plan-requires-clause-between : goal.plan-requires-clause-between
 plan-requires-clause-between g c = c.requires.between
 
 pub accept-requires-clause-unbroken : goal.accept-requires-clause-unbroken
-accept-requires-clause-unbroken g c = whole_behind c.plan.result c.in-Ok-Some.field-0 c.plan.new.files.broken c.in-Ok-Some.is c.plan.ensures.disk.breaks
+accept-requires-clause-unbroken g c = whole_behind c.plan.result c.in-Ok-Some.field-0 Device c.plan.new.files.broken c.in-Ok-Some.is c.plan.ensures.disk.breaks
 
 pub accept-requires-clause-counted : goal.accept-requires-clause-counted
 accept-requires-clause-counted g c = c.requires.counted
 
 pub accept_unchanged-requires-clause-unbroken : goal.accept_unchanged-requires-clause-unbroken
-accept_unchanged-requires-clause-unbroken g c = whole_behind c.plan.result c.in-Ok-None.field-0 c.plan.new.files.broken c.in-Ok-None.is c.plan.ensures.disk.breaks
+accept_unchanged-requires-clause-unbroken g c = whole_behind c.plan.result c.in-Ok-None.field-0 Device c.plan.new.files.broken c.in-Ok-None.is c.plan.ensures.disk.breaks
 
 pub accept_unchanged-requires-clause-counted : goal.accept_unchanged-requires-clause-counted
 accept_unchanged-requires-clause-counted g c = c.requires.counted

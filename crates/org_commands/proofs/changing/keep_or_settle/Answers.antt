@@ -1,18 +1,36 @@
-use Rattle.std.proofs.Common.{◌≡◌, ◌∙◌, inl, ◌+◌, [], true, false, Ok, Err, refl, sym, ap, subst, rules}
+use Rattle.std.proofs.Common.{◌≡◌, ◌∙◌, ◌≤◌, inl, inr, ℕ, ◌+◌, [], Bool, true, false, Result, Ok, Err, refl, sym, ap, subst, arith}
+use Rattle.std.specs.Prelude.{◌↔◌, IsErrOf, IsTrue}
+use Rattle.std.proofs.lemmas.Bool.{false≢true}
 use Rattle.org_journal.specs.Recovered.{contents}
 use Rattle.org_fileset.specs.declared.fault.SetFault.{SetFault}
-use Rattle.org_texts.specs.Texts.{held_over}
+use Rattle.org_fileset.specs.declared.fault.SetFault.TheVariants as set
+use Rattle.org_texts.specs.Texts.{Holding, TextSet, held_over}
 use Rattle.org_commands.specs.declared.tally.Tally.{Tally}
-use Rattle.org_commands.specs.declared.command.RunFault.TheVariants.{OutOfMemory}
+use Rattle.org_commands.specs.declared.command.RunFault.{RunFault}
+use Rattle.org_commands.specs.declared.command.RunFault.TheVariants.{OutOfMemory, Device}
 use Rattle.org_commands.specs.Files.{CommitsTexts, OpenFiles}
 use Rattle.org_commands.specs.InOrder.{texts_of}
 use Rattle.org_commands.specs.Left.{IsLeft, IsLeftAlone}
 use Rattle.org_commands.specs.Outcome.{Accepts}
 use Rattle.org_commands.specs.Session.{kept_over}
 use Rattle.org_commands.specs.Step.{fills}
+use Rattle.org_commands.proofs.Faults.{accounts_as, accounts_memory, fine_is_no_fault, whole_behind}
 use Rattle.org_commands.proofs.Leaving.{leaves_unwritten}
 use Rattle.org_commands.proofs.Sessions.{leaves_filled, leaves_torn}
 use Rattle.org_commands.proofs.changing.keep_or_settle.Goals as goal
+
+one_more : (n m : ℕ) → n ≤ m → n ≤ m + 1
+one_more n m less = omega arith
+
+as_many : (n : ℕ) → n ≤ n
+as_many n = omega arith
+
+-- what is whole is broken by no call that isn't the device's fault
+stays_whole : (answer : Result (Unit {0}) RunFault) (broken : Bool) → broken ≡ false → (IsErrOf answer Device → ⊥) → IsErrOf answer Device ↔ IsTrue broken
+stays_whole answer broken whole fine = (λ fell. absurd (fine fell), λ fell. absurd (false≢true (sym whole ∙ fell)))
+
+memory_is_not_device : ◌≡◌ {A = Result (Unit {0}) RunFault} (Err OutOfMemory) (Err Device) → ⊥
+memory_is_not_device fell = cc
 
 pub returns-then-not-fills-clause-did : goal.returns-then-not-fills-clause-did
 returns-then-not-fills-clause-did g c states honest =
@@ -21,7 +39,7 @@ returns-then-not-fills-clause-did g c states honest =
     let old = kept_over d.files states c.args.files.now c.args.tally.now in
     let files = contents (d.files c.args.files.now.disk) in
     let texts = texts_of (held_over c.args.files.now.held.now files) c.args.files.now.names in
-    let room : fills old.session ≡ false = search rules in
+    let room : fills old.session ≡ false = sym c.fills.ensures ∙ c.if-not-fills.true in
     let was = subst d.honest c.keep.ensures.memory.disk honest in (
       rw (kept.memory.disk, kept.memory.names, kept.memory.broken, kept.before, room) refl,
       leaves_unwritten d.files d.moment d.left_since old (IsLeft old.session files (Accepts c.args.files.now.held.now.waiting texts) (Ok (tt {0})) (c.args.tally.now.accepted + 1))
@@ -32,8 +50,8 @@ returns-then-not-fills-clause-did g c states honest =
 pub returns-in-Ok-clause-did : goal.returns-in-Ok-clause-did
 returns-in-Ok-clause-did g c states honest =
     let old = kept_over g.D.Disk.files states c.args.files.now c.args.tally.now in
-    let full : fills old.session ≡ true = search rules in
-    let whole : c.commit.new.self.broken ≡ c.args.files.now.broken = search rules in
+    let full : fills old.session ≡ true = sym c.fills.ensures ∙ c.if-not-fills.false in
+    let whole : c.commit.new.self.broken ≡ c.args.files.now.broken = whole_behind c.commit.result c.in-Ok.field-0 set.Device c.commit.new.self.broken c.in-Ok.is c.commit.ensures.set.breaks ∙ sym c.requires.unbroken in
     let d = g.D.Disk in
     let files = c.args.files.now in
     let was = c.args.tally.now in
@@ -47,8 +65,8 @@ pub returns-in-Err-Device-clause-did : goal.returns-in-Err-Device-clause-did
 returns-in-Err-Device-clause-did g c states honest =
     let d = g.D.Disk in
     let old = kept_over d.files states c.args.files.now c.args.tally.now in
-    let full : fills old.session ≡ true = search rules in
-    let fell : c.commit.new.self.broken ≡ true = search rules in
+    let full : fills old.session ≡ true = sym c.fills.ensures ∙ c.if-not-fills.false in
+    let fell : c.commit.new.self.broken ≡ true = c.commit.ensures.set.breaks.0 (c.in-Err-Device.is ∙ ap (λ (f : SetFault). Err f) c.in-Err-Device.field-0-is) in
     let new = c.undo.new.self in
     let taken = c.undo.ensures in
     let files = c.args.files.now in
@@ -70,7 +88,7 @@ returns-in-Err-Device-clause-did g c states honest =
 
 pub returns-in-Err-OutOfMemory-clause-did : goal.returns-in-Err-OutOfMemory-clause-did
 returns-in-Err-OutOfMemory-clause-did g c states honest =
-    let unwritten : c.commit.new.self ≡ c.args.files.now = search rules in
+    let unwritten : c.commit.new.self ≡ c.args.files.now = c.commit.ensures.idle.0 (c.in-Err-OutOfMemory.is ∙ ap (λ (f : SetFault). Err f) c.in-Err-OutOfMemory.field-0-is) in
     let taken = c.undo-in-Err-OutOfMemory.ensures in
     let d = g.D.Disk in
     let old = kept_over d.files states c.args.files.now c.args.tally.now in
@@ -83,3 +101,94 @@ returns-in-Err-OutOfMemory-clause-did g c states honest =
           (IsLeftAlone {A = Unit {0}} old.session [] (Accepts c.args.files.now.held.now.waiting texts) (Err OutOfMemory) c.args.tally.now.accepted) _
           (λ image left. g.met.D.Disk.only_now c.args.files.now.disk image was left) refl (λ image holds. inl holds) _ same refl,
     )
+
+pub fills-requires-clause-counted : goal.fills-requires-clause-counted
+fills-requires-clause-counted g c = c.requires.counted
+
+pub fills-requires-clause-countable : goal.fills-requires-clause-countable
+fills-requires-clause-countable g c = c.requires.countable
+
+pub keep-requires : goal.keep-requires
+keep-requires g c = c.requires.small
+
+pub commit-requires-clause-unbroken : goal.commit-requires-clause-unbroken
+commit-requires-clause-unbroken g c = c.requires.unbroken
+
+pub commit-requires-clause-small : goal.commit-requires-clause-small
+commit-requires-clause-small g c = inr c.requires.small
+
+pub returns-then-not-fills-clause-counts : goal.returns-then-not-fills-clause-counts
+returns-then-not-fills-clause-counts g c states =
+    let old = kept_over g.D.Disk.files states c.args.files.now c.args.tally.now in
+    let room : fills old.session ≡ false = sym c.fills.ensures ∙ c.if-not-fills.true in
+    (refl, rw room refl, refl)
+
+pub returns-then-not-fills-clause-waits : goal.returns-then-not-fills-clause-waits
+returns-then-not-fills-clause-waits g c states =
+    let old = kept_over g.D.Disk.files states c.args.files.now c.args.tally.now in
+    let room : fills old.session ≡ false = sym c.fills.ensures ∙ c.if-not-fills.true in
+    rw room (ap (λ (s : TextSet). s.waiting) c.keep.ensures.before)
+
+pub returns-then-not-fills-clause-kept : goal.returns-then-not-fills-clause-kept
+returns-then-not-fills-clause-kept g c = (c.keep.ensures.now ∙ sym c.keep.ensures.before, one_more _ _ c.requires.counted)
+
+pub returns-then-not-fills-clause-breaks : goal.returns-then-not-fills-clause-breaks
+returns-then-not-fills-clause-breaks g c = stays_whole (Ok tt) c.keep.new.self.broken (c.keep.ensures.memory.broken ∙ c.requires.unbroken) (fine_is_no_fault (Ok tt) tt Device refl)
+
+pub returns-then-not-fills-clause-accounts : goal.returns-then-not-fills-clause-accounts
+returns-then-not-fills-clause-accounts g c = accounts_memory c.keep.ensures.memory.disk (fine_is_no_fault (Ok tt) tt Device refl)
+
+pub returns-in-Ok-clause-counts : goal.returns-in-Ok-clause-counts
+returns-in-Ok-clause-counts g c states =
+    let old = kept_over g.D.Disk.files states c.args.files.now c.args.tally.now in
+    let full : fills old.session ≡ true = sym c.fills.ensures ∙ c.if-not-fills.false in
+    (refl, rw full refl, refl)
+
+pub returns-in-Ok-clause-waits : goal.returns-in-Ok-clause-waits
+returns-in-Ok-clause-waits g c states =
+    let old = kept_over g.D.Disk.files states c.args.files.now c.args.tally.now in
+    let full : fills old.session ≡ true = sym c.fills.ensures ∙ c.if-not-fills.false in
+    rw full (ap (λ (s : TextSet). s.waiting) (sym c.in-Ok.ensures.held.0) ∙ c.in-Ok.ensures.held.1)
+
+pub returns-in-Ok-clause-kept : goal.returns-in-Ok-clause-kept
+returns-in-Ok-clause-kept g c = (c.in-Ok.ensures.held.0, as_many _)
+
+pub returns-in-Ok-clause-breaks : goal.returns-in-Ok-clause-breaks
+returns-in-Ok-clause-breaks g c = stays_whole (Ok tt) c.commit.new.self.broken (whole_behind c.commit.result c.in-Ok.field-0 set.Device c.commit.new.self.broken c.in-Ok.is c.commit.ensures.set.breaks) (fine_is_no_fault (Ok tt) tt Device refl)
+
+pub returns-in-Ok-clause-accounts : goal.returns-in-Ok-clause-accounts
+returns-in-Ok-clause-accounts g c = accounts_as refl (λ fell. absurd (fine_is_no_fault (Ok tt) tt Device refl fell)) (λ fell. absurd (fine_is_no_fault c.commit.result c.in-Ok.field-0 set.Device c.in-Ok.is fell)) c.commit.ensures.accounts
+
+pub returns-in-Err-Device-clause-counts : goal.returns-in-Err-Device-clause-counts
+returns-in-Err-Device-clause-counts g c states = (refl, refl, refl)
+
+pub returns-in-Err-Device-clause-waits : goal.returns-in-Err-Device-clause-waits
+returns-in-Err-Device-clause-waits g c states = ap (λ (s : TextSet). s.waiting) c.undo.ensures.before ∙ ap (λ (h : Holding). h.before.waiting) c.in-Err-Device.ensures.held
+
+pub returns-in-Err-Device-clause-kept : goal.returns-in-Err-Device-clause-kept
+returns-in-Err-Device-clause-kept g c = (c.undo.ensures.now ∙ sym c.undo.ensures.before, one_more _ _ c.requires.counted)
+
+pub returns-in-Err-Device-clause-breaks : goal.returns-in-Err-Device-clause-breaks
+returns-in-Err-Device-clause-breaks g c = (λ fell. c.undo.ensures.memory.broken ∙ c.commit.ensures.set.breaks.0 (c.in-Err-Device.is ∙ ap (λ (f : SetFault). Err f) c.in-Err-Device.field-0-is), λ fell. refl)
+
+pub returns-in-Err-Device-clause-accounts : goal.returns-in-Err-Device-clause-accounts
+returns-in-Err-Device-clause-accounts g c = accounts_as c.undo.ensures.memory.disk (λ fell. c.in-Err-Device.is ∙ ap (λ (f : SetFault). Err f) c.in-Err-Device.field-0-is) (λ fell. refl) c.commit.ensures.accounts
+
+pub returns-in-Err-OutOfMemory-clause-counts : goal.returns-in-Err-OutOfMemory-clause-counts
+returns-in-Err-OutOfMemory-clause-counts g c states = record { accepted = refl; acknowledged = refl; group = refl }
+
+pub returns-in-Err-OutOfMemory-clause-waits : goal.returns-in-Err-OutOfMemory-clause-waits
+returns-in-Err-OutOfMemory-clause-waits g c states = ap (λ (s : TextSet). s.waiting) c.undo-in-Err-OutOfMemory.ensures.before ∙ ap (λ (h : Holding). h.before.waiting) c.in-Err-OutOfMemory.ensures.held
+
+pub returns-in-Err-OutOfMemory-clause-kept : goal.returns-in-Err-OutOfMemory-clause-kept
+returns-in-Err-OutOfMemory-clause-kept g c = (c.undo-in-Err-OutOfMemory.ensures.now ∙ sym c.undo-in-Err-OutOfMemory.ensures.before, c.requires.counted)
+
+pub returns-in-Err-OutOfMemory-clause-breaks : goal.returns-in-Err-OutOfMemory-clause-breaks
+returns-in-Err-OutOfMemory-clause-breaks g c =
+    let unwritten : c.commit.new.self ≡ c.args.files.now = c.commit.ensures.idle.0 (c.in-Err-OutOfMemory.is ∙ ap (λ (f : SetFault). Err f) c.in-Err-OutOfMemory.field-0-is) in
+    stays_whole (Err OutOfMemory) c.undo-in-Err-OutOfMemory.new.self.broken (c.undo-in-Err-OutOfMemory.ensures.memory.broken ∙ ap (λ (f : OpenFiles g.row.D.Denot). f.broken) unwritten ∙ c.requires.unbroken) memory_is_not_device
+
+pub returns-in-Err-OutOfMemory-clause-accounts : goal.returns-in-Err-OutOfMemory-clause-accounts
+returns-in-Err-OutOfMemory-clause-accounts g c =
+    let unwritten : c.commit.new.self ≡ c.args.files.now = c.commit.ensures.idle.0 (c.in-Err-OutOfMemory.is ∙ ap (λ (f : SetFault). Err f) c.in-Err-OutOfMemory.field-0-is) in
+    accounts_memory (c.undo-in-Err-OutOfMemory.ensures.memory.disk ∙ ap (λ (f : OpenFiles g.row.D.Denot). f.disk) unwritten) memory_is_not_device

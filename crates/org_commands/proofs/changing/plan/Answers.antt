@@ -1,11 +1,35 @@
-use Rattle.std.proofs.Common.{sym, subst}
+use Rattle.std.proofs.Common.{◌≡◌, ◌∙◌, ℕ, List, Option, Some, Result, Ok, Err, refl, sym, subst}
+use Rattle.std.specs.Prelude.{IfOk, IsOkAnd, MatchResult}
+use Rattle.std.specs.Option.{ForSome}
+use Rattle.org_disk.specs.Disk.{FileState}
 use Rattle.org_journal.specs.Recovered.{Image, contents}
 use Rattle.org_commands.specs.declared.command.Command.{Command}
+use Rattle.org_commands.specs.declared.command.RunFault.{RunFault}
+use Rattle.org_commands.specs.declared.command.RunFault.TheVariants.{Device, Broken}
+use Rattle.org_texts.specs.declared.plan.Plan.{Plan}
+use Rattle.org_commands.specs.Files.{OpenFiles}
+use Rattle.org_commands.specs.Reading.{OnlyReads}
 use Rattle.org_commands.specs.Keeping.{PlansOrStays}
 use Rattle.org_commands.specs.Outcome.{outcome}
 use Rattle.org_commands.specs.Session.{session_over}
+use Rattle.org_commands.proofs.Faults.{fine_is_no_fault}
+use Rattle.org_commands.proofs.Reading.{only_reads_fault, only_reads_fine}
 use Rattle.org_commands.proofs.Sessions.{some_planned}
 use Rattle.org_commands.proofs.changing.plan.Goals as goal
+
+-- a planner that always has a plan, as one of those that may have none: the plan fits ..
+some_fits : (P : Plan → Type 0) (first : Result Plan RunFault) (answer : Result (Option Plan) RunFault) → MatchResult first (λ plan. IsOkAnd answer (λ given. given ≡ Some plan)) (λ fault. answer ≡ Err fault)
+    → IfOk first P → IfOk answer (λ given. ForSome given P)
+some_fits P (Ok plan) (Ok given) is fits = λ x has. let same : plan ≡ x = (let both : ◌≡◌ {A = Option Plan} (Some plan) (Some x) = sym is ∙ has in cc) in subst P same fits
+some_fits P (Ok plan) (Err fault) is fits = absurd is
+some_fits P (Err fault) answer is fits = subst (λ (r : Result (Option Plan) RunFault). IfOk r (λ given. ForSome given P)) (sym is) tt
+
+-- .. and it only reads
+some_reads : {D : Type 0} {steady : Type 0} {honest : D → Type 0} {failures : D → ℕ} {files : D → List ℕ → FileState} {moment : D → ℕ} {left_since : D → ℕ → Image → Type 0} {old new : OpenFiles D} (first : Result Plan RunFault) (answer : Result (Option Plan) RunFault)
+    → MatchResult first (λ plan. IsOkAnd answer (λ given. given ≡ Some plan)) (λ fault. answer ≡ Err fault) → OnlyReads steady honest failures files moment left_since old new first → OnlyReads steady honest failures files moment left_since old new answer
+some_reads (Ok plan) (Ok given) is call = only_reads_fine (fine_is_no_fault (Ok given) given Broken refl) (fine_is_no_fault (Ok given) given Device refl) call
+some_reads (Ok plan) (Err fault) is call = absurd is
+some_reads (Err fault) answer is call = only_reads_fault is call
 
 pub returns-in-Capture-clause-plans : goal.returns-in-Capture-clause-plans
 returns-in-Capture-clause-plans g c tally honest =
@@ -51,3 +75,57 @@ returns-in-ClockOut-clause-plans g c tally honest =
     let s = session_over texts c.args.states.now c.args.files.now tally in
     let new = session_over texts c.args.states.now c.plan_clock_out.new.files tally in
     subst (λ (command : Command). PlansOrStays s (outcome s command) c.plan_clock_out.result c.plan_clock_out.new.files.held new) (sym c.in-ClockOut.is) (c.plan_clock_out.ensures.plans tally honest)
+
+pub returns-in-Todo-clause-plan : goal.returns-in-Todo-clause-plan
+returns-in-Todo-clause-plan g c = c.plan_todo.ensures.plan
+
+pub returns-in-Todo-clause-disk : goal.returns-in-Todo-clause-disk
+returns-in-Todo-clause-disk g c = c.plan_todo.ensures.disk
+
+pub returns-in-ClockIn-clause-plan : goal.returns-in-ClockIn-clause-plan
+returns-in-ClockIn-clause-plan g c = c.plan_clock_in.ensures.plan
+
+pub returns-in-ClockIn-clause-disk : goal.returns-in-ClockIn-clause-disk
+returns-in-ClockIn-clause-disk g c = c.plan_clock_in.ensures.disk
+
+pub returns-in-ClockOut-clause-plan : goal.returns-in-ClockOut-clause-plan
+returns-in-ClockOut-clause-plan g c = c.plan_clock_out.ensures.plan
+
+pub returns-in-ClockOut-clause-disk : goal.returns-in-ClockOut-clause-disk
+returns-in-ClockOut-clause-disk g c = c.plan_clock_out.ensures.disk
+
+pub plan_archive-requires : goal.plan_archive-requires
+plan_archive-requires g c = record { between = c.requires.between }
+
+pub plan_capture-requires : goal.plan_capture-requires
+plan_capture-requires g c = record { between = c.requires.between }
+
+pub plan_clock_in-requires : goal.plan_clock_in-requires
+plan_clock_in-requires g c = record { between = c.requires.between }
+
+pub plan_clock_out-requires : goal.plan_clock_out-requires
+plan_clock_out-requires g c = record { between = c.requires.between }
+
+pub plan_refile-requires : goal.plan_refile-requires
+plan_refile-requires g c = record { between = c.requires.between }
+
+pub plan_todo-requires : goal.plan_todo-requires
+plan_todo-requires g c = record { between = c.requires.between }
+
+pub returns-in-Capture-clause-plan : goal.returns-in-Capture-clause-plan
+returns-in-Capture-clause-plan g c = some_fits _ c.plan_capture.result c.map.result c.map.ensures.cases c.plan_capture.ensures.plan
+
+pub returns-in-Capture-clause-disk : goal.returns-in-Capture-clause-disk
+returns-in-Capture-clause-disk g c = some_reads c.plan_capture.result c.map.result c.map.ensures.cases c.plan_capture.ensures.disk
+
+pub returns-in-Refile-clause-plan : goal.returns-in-Refile-clause-plan
+returns-in-Refile-clause-plan g c = some_fits _ c.plan_refile.result c.map-in-Refile.result c.map-in-Refile.ensures.cases c.plan_refile.ensures.plan
+
+pub returns-in-Refile-clause-disk : goal.returns-in-Refile-clause-disk
+returns-in-Refile-clause-disk g c = some_reads c.plan_refile.result c.map-in-Refile.result c.map-in-Refile.ensures.cases c.plan_refile.ensures.disk
+
+pub returns-in-Archive-clause-plan : goal.returns-in-Archive-clause-plan
+returns-in-Archive-clause-plan g c = some_fits _ c.plan_archive.result c.map-in-Archive.result c.map-in-Archive.ensures.cases c.plan_archive.ensures.plan
+
+pub returns-in-Archive-clause-disk : goal.returns-in-Archive-clause-disk
+returns-in-Archive-clause-disk g c = some_reads c.plan_archive.result c.map-in-Archive.result c.map-in-Archive.ensures.cases c.plan_archive.ensures.disk
