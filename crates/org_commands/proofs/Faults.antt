@@ -1,6 +1,6 @@
 -- Answers of calls, and what their faults say of the files and of the accounts.
 use Rattle.std.proofs.Common.{◌≡◌, ◌∙◌, ℕ, Bool, false, true, Result, Ok, Err, refl, sym, subst}
-use Rattle.std.specs.Prelude.{◌↔◌, IsErrOf, IsTrue}
+use Rattle.std.specs.Prelude.{◌↔◌, IfOk, IsErrOf, IsTrue}
 use Rattle.org_disk.specs.Accounts.{Accounts}
 use Rattle.org_disk.proofs.Accounting.{accounts_fine, accounts_none, accounts_then}
 use Rattle.org_commands.specs.declared.command.RunFault.{RunFault}
@@ -17,6 +17,14 @@ fault_of_first first second fault other was given fell = was ∙ same_fault faul
 -- an answer that is Ok is no fault
 pub fine_is_no_fault : {A E : Type 0} (answer : Result A E) (x : A) (fault : E) → answer ≡ Ok x → IsErrOf answer fault → ⊥
 fine_is_no_fault {A = A} {E = E} answer x fault is fell = let no : ◌≡◌ {A = Result A E} (Ok x) (Err fault) = sym is ∙ fell in cc
+
+-- an answer that is one fault is no other
+pub other_fault : {A : Type 0} (answer : Result A RunFault) (fault other : RunFault) → answer ≡ Err fault → (fault ≡ other → ⊥) → IsErrOf answer other → ⊥
+other_fault {A = A} answer fault other given apart fell = let both : ◌≡◌ {A = Result A RunFault} (Err fault) (Err other) = sym given ∙ fell in let one : fault ≡ other = cc in apart one
+
+-- of the value of an answer that is a fault nothing is said
+pub no_value : {A : Type 0} (P : A → Type 0) (answer : Result A RunFault) (fault : RunFault) → answer ≡ Err fault → IfOk answer P
+no_value {A = A} P answer fault given = subst (λ (r : Result A RunFault). IfOk r P) (sym given) tt
 
 -- behind an answer that is Ok nothing is broken
 pub whole_behind : {A E : Type 0} (answer : Result A E) (x : A) (device : E) (broken : Bool) → answer ≡ Ok x → IsErrOf answer device ↔ IsTrue broken → broken ≡ false
