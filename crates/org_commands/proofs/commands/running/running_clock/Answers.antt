@@ -1,8 +1,8 @@
-use Rattle.std.proofs.Common.{◌≡◌, ◌∙◌, ◌<◌, ℕ, List, [], length, slice_get, get_or, true, false, Some, None, Err, sym, ap, subst, rules, arith}
+use Rattle.std.proofs.Common.{◌≡◌, ◌∙◌, ◌<◌, ℕ, List, [], length, slice_get, get_or, true, false, Some, None, Ok, Err, refl, sym, ap, subst, rules, arith}
 use Rattle.std.proofs.lemmas.Option.{slice_get-get_or}
 use Rattle.org_journal.specs.Recovered.{Image, contents}
 use Rattle.org_texts.specs.Texts.{held_over}
-use Rattle.org_commands.specs.declared.command.RunFault.TheVariants.{OutOfMemory}
+use Rattle.org_commands.specs.declared.command.RunFault.TheVariants.{OutOfMemory, Device, Broken}
 use Rattle.org_commands.specs.declared.commands.running.Clock.{Clock}
 use Rattle.org_commands.specs.declared.tally.Tally.{Tally}
 use Rattle.org_commands.specs.Clocks.{RunsHeld, RunsIn}
@@ -13,8 +13,12 @@ use Rattle.org_commands.proofs.Held.{keeps_then}
 use Rattle.org_commands.proofs.Reading.{only_reads_fault, only_reads_fine, only_reads_then}
 use Rattle.org_commands.proofs.Running.{named_at, runs_here, runs_later, runs_over}
 use Rattle.org_commands.proofs.Sessions.{reads_fault}
+use Rattle.org_commands.proofs.Faults.{fine_is_no_fault, no_value, other_fault, whole_behind}
 use Rattle.org_commands.proofs.Handing.{handed_on}
 use Rattle.org_commands.proofs.commands.running.running_clock.Goals as goal
+
+memory_apart : (OutOfMemory ≡ Broken → ⊥) × (OutOfMemory ≡ Device → ⊥)
+memory_apart = (λ no. cc, λ no. cc)
 
 pub returns-in_err-file-clause-reads : goal.returns-in_err-file-clause-reads
 returns-in_err-file-clause-reads g c tally honest =
@@ -59,7 +63,7 @@ returns-in-Some-clause-clock g c tally honest =
     ∙ sofar.passed was
 
 pub returns-in-Some-clause-disk : goal.returns-in-Some-clause-disk
-returns-in-Some-clause-disk g c = only_reads_then c.loop-index.invariant.reads (only_reads_fine (λ no. cc) (λ no. cc) c.in_ok-running.ensures.disk)
+returns-in-Some-clause-disk g c = only_reads_then c.loop-index.invariant.reads (only_reads_fine (fine_is_no_fault _ _ Broken refl) (fine_is_no_fault _ _ Device refl) c.in_ok-running.ensures.disk)
 
 pub returns-in-Some-clause-reads : goal.returns-in-Some-clause-reads
 returns-in-Some-clause-reads g c tally honest =
@@ -86,12 +90,12 @@ loop-index-preserved g c =
     let new = c.running_in_file.new.files in
     let file = c.in_ok-file.file in
     let back = looked.disk.accounts.was_honest in
-    let whole : new.broken ≡ false = search rules in
+    let whole : new.broken ≡ false = whole_behind c.running_in_file.result _ Device new.broken c.in_ok-running.was c.running_in_file.ensures.disk.breaks in
     rw c.note_quiet.ensures (record {
       unbroken = whole;
       begun = looked.begun;
       keeps = keeps_then old.held c.loop-index.files.held new.held sofar.keeps looked.keeps;
-      reads = only_reads_then sofar.reads (only_reads_fine (λ no. cc) (λ no. cc) looked.disk);
+      reads = only_reads_then sofar.reads (only_reads_fine (fine_is_no_fault (Ok tt) tt Broken refl) (fine_is_no_fault (Ok tt) tt Device refl) looked.disk);
       same = λ tally h. looked.reads tally h ∙ sofar.same tally (back h);
       passed = λ h.
           let tally : Tally = record { accepted = 0; acknowledged = 0; group = 1 } in
@@ -139,9 +143,53 @@ pub returns-in-Some-clause-keeps : goal.returns-in-Some-clause-keeps
 returns-in-Some-clause-keeps g c = keeps_then c.args.files.now.held c.loop-index.files.held c.running_in_file.new.files.held c.loop-index.invariant.keeps c.running_in_file.ensures.keeps
 
 pub returns-in_err-file-clause-disk : goal.returns-in_err-file-clause-disk
-returns-in_err-file-clause-disk g c = only_reads_fine (search rules) (search rules) c.loop-index.invariant.reads
+returns-in_err-file-clause-disk g c =
+    let given : c.from_residual.result ≡ Err OutOfMemory = handed_on c.from_residual.result _ c.from_residual.ensures.1 in
+    only_reads_fine (other_fault c.from_residual.result OutOfMemory Broken given memory_apart.0) (other_fault c.from_residual.result OutOfMemory Device given memory_apart.1) c.loop-index.invariant.reads
 
 pub returns-in_err-running-clause-disk : goal.returns-in_err-running-clause-disk
 returns-in_err-running-clause-disk g c =
     let given : c.from_residual-in_err-running.result ≡ Err c.in_err-running.field-0.0 = handed_on c.from_residual-in_err-running.result _ c.from_residual-in_err-running.ensures.1 in
     only_reads_then c.loop-index.invariant.reads (only_reads_fault given c.in_err-running.ensures.disk)
+
+pub running_in_file-requires-clause-between : goal.running_in_file-requires-clause-between
+running_in_file-requires-clause-between g c = record { unbroken = c.loop-index.invariant.unbroken; begun = c.loop-index.invariant.begun }
+
+pub note_quiet-requires-clause-begun : goal.note_quiet-requires-clause-begun
+note_quiet-requires-clause-begun g c = c.in_ok-running.ensures.begun
+
+pub returns-clause-begun : goal.returns-clause-begun
+returns-clause-begun g c = c.loop-index.invariant.begun
+
+pub returns-clause-keeps : goal.returns-clause-keeps
+returns-clause-keeps g c = c.loop-index.invariant.keeps
+
+pub returns-clause-reads : goal.returns-clause-reads
+returns-clause-reads g c tally honest = c.loop-index.invariant.same tally honest
+
+pub returns-clause-disk : goal.returns-clause-disk
+returns-clause-disk g c = only_reads_fine (fine_is_no_fault _ _ Broken refl) (fine_is_no_fault _ _ Device refl) c.loop-index.invariant.reads
+
+pub returns-in-Some-clause-begun : goal.returns-in-Some-clause-begun
+returns-in-Some-clause-begun g c = c.in_ok-running.ensures.begun
+
+pub returns-in_err-file-clause-keeps : goal.returns-in_err-file-clause-keeps
+returns-in_err-file-clause-keeps g c = c.loop-index.invariant.keeps
+
+pub returns-in_err-file-clause-begun : goal.returns-in_err-file-clause-begun
+returns-in_err-file-clause-begun g c = no_value _ c.from_residual.result _ (handed_on c.from_residual.result _ c.from_residual.ensures.1)
+
+pub returns-in_err-file-clause-clock : goal.returns-in_err-file-clause-clock
+returns-in_err-file-clause-clock g c tally honest = no_value _ c.from_residual.result _ (handed_on c.from_residual.result _ c.from_residual.ensures.1)
+
+pub returns-in_err-file-clause-found : goal.returns-in_err-file-clause-found
+returns-in_err-file-clause-found g c = no_value _ c.from_residual.result _ (handed_on c.from_residual.result _ c.from_residual.ensures.1)
+
+pub returns-in_err-running-clause-begun : goal.returns-in_err-running-clause-begun
+returns-in_err-running-clause-begun g c = no_value _ c.from_residual-in_err-running.result _ (handed_on c.from_residual-in_err-running.result _ c.from_residual-in_err-running.ensures.1)
+
+pub returns-in_err-running-clause-clock : goal.returns-in_err-running-clause-clock
+returns-in_err-running-clause-clock g c tally honest = no_value _ c.from_residual-in_err-running.result _ (handed_on c.from_residual-in_err-running.result _ c.from_residual-in_err-running.ensures.1)
+
+pub returns-in_err-running-clause-found : goal.returns-in_err-running-clause-found
+returns-in_err-running-clause-found g c = no_value _ c.from_residual-in_err-running.result _ (handed_on c.from_residual-in_err-running.result _ c.from_residual-in_err-running.ensures.1)

@@ -1,13 +1,15 @@
-use Rattle.std.proofs.Common.{◌≡◌, ◌∙◌, ℕ, List, false, true, Ok, Err, sym, ap, subst, rules}
+use Rattle.std.proofs.Common.{◌≡◌, ◌∙◌, ℕ, List, false, true, Result, Ok, Err, refl, sym, ap, subst}
 use Rattle.std.specs.Option.{ForSome, IsSome}
 use Rattle.org_journal.specs.Recovered.{contents}
 use Rattle.org_texts.specs.Plan.{IsPlan}
 use Rattle.org_texts.specs.Texts.{Holding, TextSet, text_of}
-use Rattle.org_commands.specs.declared.command.RunFault.TheVariants.{Refused}
+use Rattle.org_commands.specs.declared.command.RunFault.{RunFault}
+use Rattle.org_commands.specs.declared.command.RunFault.TheVariants.{Refused, OutOfMemory}
 use Rattle.org_commands.specs.declared.command.Refusal.TheVariants.{TooLarge}
 use Rattle.org_commands.specs.Files.{AreReady, AreSmallToWrite, OpenFiles, PutsPlan, files_of, has_large, new_texts, texts_in}
 use Rattle.org_commands.specs.Quiet.{Forgets}
 use Rattle.org_commands.proofs.Held.{first_held, second_held, small_put, sound_put, sound_undone}
+use Rattle.org_commands.proofs.Handing.{handed_on}
 use Rattle.org_commands.proofs.Quiet.{noted_put, noted_undone}
 use Rattle.org_commands.proofs.files.Files.put.Goals as goal
 
@@ -30,7 +32,7 @@ invariant_of-self-else-is_large g c =
     let is : IsPlan plan inside.texts.now = rw (← c.self.view_is) at c.requires.is in
     let now = c.in_ok-apply.ensures.now in
     let before = c.in_ok-apply.ensures.before in
-    let named : c.names.result.now ≡ inside.set.names = search rules in (
+    let named : c.names.result.now ≡ inside.set.names = c.names.ensures in (
       sound_put plan inside.set.names ((inside.set.broken ≡ false) × g.D.Disk.honest inside.set.disk) (contents (g.D.Disk.files inside.set.disk)) inside.texts c.apply.new.self is now before c.self.invariant.0,
       noted_put plan inside.set.names inside.quiet.items c.forget_plan.new.quiet.items inside.texts c.apply.new.self now before
           (subst (λ (ns : List (List ℕ)). Forgets ns (files_of plan) inside.quiet.items c.forget_plan.new.quiet.items) named c.forget_plan.ensures) c.self.invariant.1,
@@ -68,10 +70,36 @@ invariant_of-self-then-is_large g c =
     let before = c.in_ok-apply.ensures.before in
     let live = (inside.set.broken ≡ false) × g.D.Disk.honest inside.set.disk in
     let files = contents (g.D.Disk.files inside.set.disk) in
-    let named : c.names.result.now ≡ inside.set.names = search rules in (
+    let named : c.names.result.now ≡ inside.set.names = c.names.ensures in (
       sound_undone inside.set.names live files c.apply.new.self c.undo.new.self c.undo.ensures.now c.undo.ensures.before
           (sound_put plan inside.set.names live files inside.texts c.apply.new.self is now before c.self.invariant.0),
       noted_undone inside.set.names c.forget_plan.new.quiet.items c.apply.new.self c.undo.new.self c.undo.ensures.now c.undo.ensures.before
           (noted_put plan inside.set.names inside.quiet.items c.forget_plan.new.quiet.items inside.texts c.apply.new.self now before
           (subst (λ (ns : List (List ℕ)). Forgets ns (files_of plan) inside.quiet.items c.forget_plan.new.quiet.items) named c.forget_plan.ensures) c.self.invariant.1),
     )
+
+pub apply-requires : goal.apply-requires
+apply-requires g c = let is : IsPlan c.args.plan.now c.self.inside.texts.now = rw (← c.self.view_is) at c.requires.is in is
+
+pub returns-clause-memory : goal.returns-clause-memory
+returns-clause-memory g c = rw (← c.self.view_is) (record { disk = refl; names = refl; broken = refl })
+
+pub returns-then-is_large-clause-memory : goal.returns-then-is_large-clause-memory
+returns-then-is_large-clause-memory g c = rw (← c.self.view_is) (record { disk = refl; names = refl; broken = refl })
+
+pub returns-in_err-apply-clause-memory : goal.returns-in_err-apply-clause-memory
+returns-in_err-apply-clause-memory g c = rw (← c.self.view_is) (record { disk = refl; names = refl; broken = refl })
+
+pub returns-clause-before : goal.returns-clause-before
+returns-clause-before g c = rw (← c.self.view_is) c.in_ok-apply.ensures.before
+
+pub returns-then-is_large-clause-before : goal.returns-then-is_large-clause-before
+returns-then-is_large-clause-before g c = rw (← c.self.view_is) (c.undo.ensures.before ∙ c.in_ok-apply.ensures.before)
+
+pub returns-in_err-apply-clause-before : goal.returns-in_err-apply-clause-before
+returns-in_err-apply-clause-before g c = rw (← c.self.view_is) c.apply.ensures.before
+
+pub returns-in_err-apply-clause-puts : goal.returns-in_err-apply-clause-puts
+returns-in_err-apply-clause-puts g c =
+    let given : c.from_residual.result ≡ Err OutOfMemory = handed_on c.from_residual.result _ c.from_residual.ensures.1 in
+    rw (← c.self.view_is) (subst (λ (r : Result (Unit {0}) RunFault). PutsPlan c.args.plan.now c.self.inside.texts r c.apply.new.self) (sym given) c.in_err-apply.ensures.err)
