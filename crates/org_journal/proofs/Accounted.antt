@@ -2,7 +2,7 @@
 use Rattle.std.proofs.Common.{◌≡◌, ℕ, true, false, true≢false, refl, sym}
 use Rattle.std.specs.Prelude.{Result, Ok, Err, IsErrOf, IsErrAnd}
 use Rattle.std.proofs.lemmas.Result.{err_from_is_err_and}
-use Rattle.org_journal.specs.declared.fault.FindFault.TheVariants.{BadJournal, Device}
+use Rattle.org_journal.specs.declared.fault.FindFault.TheVariants.{BadJournal, Device, OutOfMemory}
 use Rattle.org_disk.specs.Accounts.{Accounts}
 use Rattle.org_disk.proofs.Accounting.{accounts_fine, accounts_then}
 
@@ -57,3 +57,14 @@ accounts_told {answer = answer} is call =
 pub accounts_after : {D : Type 0} {T E : Type 0} {x : T} {e : E} {steady : Type 0} {honest : D → Type 0} {failures : D → ℕ} {old mid new : D} {Failed : Type 0}
     → Accounts steady honest failures old mid (IsErrOf (Ok x) e) → Accounts steady honest failures mid new Failed → Accounts steady honest failures old new Failed
 accounts_after first second = accounts_then (accounts_fine (λ failed. cc failed) first) second
+
+-- what a fault isn't
+
+pub ok_is_no_fault : {T E : Type 0} {x : T} {e : E} → ¬ (IsErrOf (Ok x) e)
+ok_is_no_fault failed = cc failed
+
+pub bad_is_no_call : {T : Type 0} → ¬ (IsErrOf {T = T} (Err BadJournal) Device)
+bad_is_no_call failed = cc failed
+
+pub memory_is_no_call : {T : Type 0} → ¬ (IsErrOf {T = T} (Err OutOfMemory) Device)
+memory_is_no_call failed = cc failed

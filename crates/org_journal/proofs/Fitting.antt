@@ -20,7 +20,7 @@ use Rattle.org_journal.specs.declared.fault.FindFault.{FindFault}
 use Rattle.org_journal.specs.declared.fault.FindFault.TheVariants.{BadJournal, Device, OutOfMemory}
 use Rattle.org_journal.specs.Gate.{front_size, is_open}
 use Rattle.org_journal.specs.Recovered.{Image, begins_within, contents, fits, all_fit, recovered}
-use Rattle.org_journal.specs.Finding.{Finds, FindsSize, HaveWellFormedPatches, HoldsRecord, record_size}
+use Rattle.org_journal.specs.Finding.{Finds, FindsRecord, FindsSize, HaveWellFormedPatches, HoldsRecord, record_size}
 
 -- the test of the patches that are left, from this place on, is that of all
 pub record FitSoFar (left : List Patch) (place final size : ℕ) (all : List Patch) : Type 0 where
@@ -185,6 +185,25 @@ pub bad_size : (image : Image) (e : FindFault) → FindsSize (image journal_name
 bad_size image BadJournal found = (found.0, no_record image found.0 (size_passes (image journal_name) found.1))
 bad_size image Device found = tt
 bad_size image OutOfMemory found = absurd found
+
+-- what the header told of an armed journal holds of it later, the files being the same
+module _ (files mid : List ℕ → FileState) (journal : List ℕ) (size : ℕ) (sized : FindsSize (files journal).content (Ok (Some size))) (still : mid ≡ files) where
+  pub size_told : size ≡ record_size (mid journal).content
+  size_told = subst (λ (f : List ℕ → FileState). size ≡ record_size (f journal).content) (sym still) sized.1
+
+  pub record_held : HoldsRecord (mid journal).content
+  record_held = subst (λ (f : List ℕ → FileState). HoldsRecord (f journal).content) (sym still) sized.2
+
+  -- the record behind it is bad
+  pub bad_record : (e : FindFault) → journal ≡ journal_name → FindsRecord (mid journal).content (Err e) → Finds (contents files) (Err e)
+  bad_record e named found =
+      let sized' : FindsSize (files journal_name).content (Ok (Some size)) = subst (λ (name : List ℕ). FindsSize (files name).content (Ok (Some size))) named sized in
+      by_fault e sized' (subst (λ (name : List ℕ). FindsRecord (files name).content (Err e)) named (subst (λ (f : List ℕ → FileState). FindsRecord (f journal).content (Err e)) still found))
+    where
+      by_fault : (e : FindFault) → FindsSize (files journal_name).content (Ok (Some size)) → FindsRecord (files journal_name).content (Err e) → Finds (contents files) (Err e)
+      by_fault BadJournal sized found = (sized.0, no_record (contents files) sized.0 found)
+      by_fault Device sized found = tt
+      by_fault OutOfMemory sized found = (sized.0, sized.2)
 
 -- what the calls of a look at an armed journal answered, one after another, the files being the
 -- same at each

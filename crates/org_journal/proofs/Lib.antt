@@ -1,5 +1,7 @@
 pub mod Gates
 pub mod Texts
+pub mod Sized
+pub mod Read
 pub mod Loops
 pub mod Names
 pub mod Numbers

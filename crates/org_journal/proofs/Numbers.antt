@@ -1,9 +1,9 @@
 -- A field that is read is the field that was written, and what was written is read again.
-use Rattle.std.proofs.Common.{◌≡◌, ℕ, ◌+◌, ◌^◌, ◌<◌, ◌≤◌, Bool, true, false, cond, ltb, List, ◌++◌, length, get_or, take, drop, Option, Some, None, refl, sym, ap, subst, ◌∙◌, append_assoc, arith, inl, inr}
+use Rattle.std.proofs.Common.{◌≡◌, ℕ, ◌+◌, ◌-◌, ◌^◌, ◌<◌, ◌≤◌, Bool, true, false, cond, ltb, List, ◌++◌, length, get_or, take, drop, Option, Some, None, refl, sym, ap, subst, ◌∙◌, append_assoc, arith, inl, inr}
 use Rattle.std.specs.Prelude.{IsTrue, IsUtf8, ◌&&◌}
 use Rattle.std.specs.Str.{is_utf8}
-use Rattle.std.proofs.lemmas.Bool.{false≢true, cases_lt, ltb-false, le-ltb}
-use Rattle.std.proofs.lemmas.List.{take_at, drop_at, take-append-drop, length-append, length-take, get_or-drop, get_or-take, get_or_past}
+use Rattle.std.proofs.lemmas.Bool.{false≢true, cases_lt, ltb-false, le-ltb, lt-ltb}
+use Rattle.std.proofs.lemmas.List.{take_at, drop_at, take-append-drop, length-append, length-drop, length-take, take_all, get_or-drop, get_or-take, get_or_past}
 use Rattle.std.proofs.lemmas.Nat.{be_bytes_2, be_bytes_4, be_bytes_8}
 use Rattle.std.proofs.lemmas.Option.{none-some, same_Some, some_pair_parts}
 use Rattle.std.proofs.lemmas.Str.{IsUtf8-from_is_utf8, is_utf8-from_IsUtf8}
@@ -25,6 +25,10 @@ IsBytes-take n bytes h i =
       | inl lt ↦ rw (get_or-take n bytes i 0 lt) (h i)
       | inr le ↦ rw (get_or_past (take n bytes) i 0 (omega (arith, length-take n bytes))) (omega arith)
     ]
+
+-- the number of patches has 4 bytes
+pub patches_fit : (n : ℕ) → n ≤ 1_000 → n < 4_294_967_296
+patches_fit n few = omega arith
 
 -- what was read by a step, and by the steps after it
 pub bind_some : {A B : Type 0} (r : Option A) (f : A → Option B) (y : B) → (r >>= f) ≡ Some y → (x : A) × (r ≡ Some x) × (f x ≡ Some y)
@@ -81,6 +85,14 @@ number_again n x rest lt =
     let len = length-bytes_high_first n x in
     let long : ltb (length (big_bytes n x ++ rest)) n ≡ false = le-ltb _ _ (omega (arith, len, length-append (big_bytes n x) rest)) in
     rw (long, drop_at (big_bytes n x) rest n len, big_number-reads_back n x rest lt) refl
+
+-- what is read of the bytes in front, and the rest
+
+pub number_is : (n : ℕ) (bytes : List ℕ) (x : ℕ) → n ≤ length bytes → x ≡ big_number n bytes → number_at n bytes ≡ Some (x, take (length bytes - n) (drop n bytes))
+number_is n bytes x long told = rw (le-ltb _ _ long, told, take_all (length bytes - n) (drop n bytes) (omega (arith, length-drop n bytes))) refl
+
+pub number_isnt : (n : ℕ) (bytes : List ℕ) → length bytes < n → number_at n bytes ≡ None
+number_isnt n bytes short = rw (lt-ltb _ _ short) refl
 
 -- ---- bytes behind their count
 

@@ -5,6 +5,8 @@ use Rattle.byteorder.specs.Endian.{big_bytes}
 use Rattle.org_splice.specs.declared.patch.Patch.{Patch}
 use Rattle.org_journal.specs.Record.{patch_bytes}
 use Rattle.org_journal.proofs.Journal.{appended5}
+use Rattle.org_journal.proofs.Numbers.{patches_fit}
+use Rattle.org_journal.proofs.Spelled.{name_fits}
 use Rattle.org_splice.proofs.Failing.{not_ok}
 use Rattle.org_journal.proofs.encoding.put_entry.Goals as goal
 
@@ -35,3 +37,11 @@ returns-in_err-put_u64 c = not_ok _ _ c.from_residual-in_err-put_u64.ensures.0
 
 pub returns-in_err-put_u32 : goal.returns-in_err-put_u32
 returns-in_err-put_u32 c = not_ok _ _ c.from_residual-in_err-put_u32.ensures.0
+
+pub overflow_cast-name : goal.overflow_cast-name
+overflow_cast-name c =
+    let name = c.args.entry.now.name in
+    rw c.as_str-name.ensures.value (record { fits = name_fits name c.requires.name })
+
+pub overflow_cast-patches : goal.overflow_cast-patches
+overflow_cast-patches c = rw c.as_slice-patches.ensures (record { fits = patches_fit (length c.args.entry.now.patches) c.requires.few })

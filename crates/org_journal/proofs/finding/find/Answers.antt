@@ -1,11 +1,12 @@
 use Rattle.std.proofs.Common.{subst, List, ℕ}
-use Rattle.std.specs.Prelude.{Err}
+use Rattle.std.specs.Prelude.{None, Ok, Err}
 use Rattle.std.proofs.lemmas.Result.{err_from_is_err_and}
 use Rattle.org_journal.specs.Recovered.{contents}
 use Rattle.org_journal.specs.Finding.{FindsSize}
 use Rattle.org_disk.proofs.Accounting.{accounts_none, accounts_ok, looks_then}
 use Rattle.org_journal.proofs.Accounted.{accounts_after, accounts_passed, accounts_answered, accounts_bad, accounts_told}
-use Rattle.org_journal.proofs.Fitting.{bad_size, found_armed, found_bad}
+use Rattle.org_journal.proofs.Fitting.{bad_record, bad_size, found_armed, found_bad, record_held, size_told}
+use Rattle.org_splice.proofs.Failing.{no_value}
 use Rattle.org_journal.proofs.finding.find.Goals as goal
 
 pub returns-in_err-size-clause-found : goal.returns-in_err-size-clause-found
@@ -73,3 +74,54 @@ returns-clause-found g c ended =
     found_armed files (g.D.Disk.files c.size_of.new.disk) (g.D.Disk.files c.record_of.new.disk) c.args.journal.now c.in-Some.size c.in_ok-record.record c.requires
     (rw c.in-Some.is at (c.in_ok-size.ensures.found start)) (c.size_of.ensures.looks start).same (c.record_of.ensures.looks before).same (c.in_ok-record.ensures.found before)
     c.in_ok-all_fit.field-0 (rw c.entries.ensures at (c.in_ok-all_fit.ensures.fit ended)) c.if-not-branch.false
+
+pub returns-in_err-size-clause-writable : goal.returns-in_err-size-clause-writable
+returns-in_err-size-clause-writable g c = no_value _ _ c.from_residual.ensures.0
+
+pub returns-in_err-size-clause-looks : goal.returns-in_err-size-clause-looks
+returns-in_err-size-clause-looks g c = c.size_of.ensures.looks
+
+pub returns-in_default-clause-writable : goal.returns-in_default-clause-writable
+returns-in_default-clause-writable g c = tt
+
+pub returns-in_default-clause-looks : goal.returns-in_default-clause-looks
+returns-in_default-clause-looks g c = c.size_of.ensures.looks
+
+pub returns-in_err-record-clause-writable : goal.returns-in_err-record-clause-writable
+returns-in_err-record-clause-writable g c = no_value _ _ c.from_residual-in_err-record.ensures.0
+
+pub returns-in_err-all_fit-clause-writable : goal.returns-in_err-all_fit-clause-writable
+returns-in_err-all_fit-clause-writable g c = no_value _ _ c.from_residual-in_err-all_fit.ensures.0
+
+pub returns-clause-writable : goal.returns-clause-writable
+returns-clause-writable g c = c.in_ok-record.ensures.writable
+
+pub returns-in_default-clause-found : goal.returns-in_default-clause-found
+returns-in_default-clause-found g c ended =
+    subst (λ (name : List ℕ). FindsSize (g.D.Disk.files c.args.disk.now name).content (Ok None)) c.requires (rw c.in_default.is at (c.in_ok-size.ensures.found ended))
+
+pub record_of-requires-clause-small : goal.record_of-requires-clause-small
+record_of-requires-clause-small g c = rw c.in-Some.is at c.in_ok-size.ensures.small
+
+pub record_of-requires-clause-size : goal.record_of-requires-clause-size
+record_of-requires-clause-size g c start =
+    size_told (g.D.Disk.files c.args.disk.now) (g.D.Disk.files c.size_of.new.disk) c.args.journal.now c.in-Some.size (rw c.in-Some.is at (c.in_ok-size.ensures.found start)) (c.size_of.ensures.looks start).same
+
+pub record_of-requires-clause-within : goal.record_of-requires-clause-within
+record_of-requires-clause-within g c start =
+    record_held (g.D.Disk.files c.args.disk.now) (g.D.Disk.files c.size_of.new.disk) c.args.journal.now c.in-Some.size (rw c.in-Some.is at (c.in_ok-size.ensures.found start)) (c.size_of.ensures.looks start).same
+
+pub all_fit-requires : goal.all_fit-requires
+all_fit-requires g c = rw c.entries.ensures c.in_ok-record.ensures.patches
+
+pub returns-in_err-record-clause-found : goal.returns-in_err-record-clause-found
+returns-in_err-record-clause-found g c ended =
+    let start = c.record_of.ensures.accounts.was_honest ended in
+    let p = err_from_is_err_and c.from_residual-in_err-record.result c.from_residual-in_err-record.ensures.1 in
+    rw (p.1, p.2) (bad_record (g.D.Disk.files c.args.disk.now) (g.D.Disk.files c.size_of.new.disk) c.args.journal.now c.in-Some.size (rw c.in-Some.is at (c.in_ok-size.ensures.found start)) (c.size_of.ensures.looks start).same
+    c.in_err-record.field-0.0 c.requires (c.in_err-record.ensures.found ended))
+
+pub returns-in_err-all_fit-clause-found : goal.returns-in_err-all_fit-clause-found
+returns-in_err-all_fit-clause-found g c ended =
+    let p = err_from_is_err_and c.from_residual-in_err-all_fit.result c.from_residual-in_err-all_fit.ensures.1 in
+    rw (p.1, p.2) tt
