@@ -4,7 +4,7 @@ ghost use Rattle.std.specs.Prelude.{◌≡◌, ◌≢◌, ◌⊎◌, List, ℕ, 
 ghost use Rattle.std.specs.Str.{bytes_eq};
 ghost use Rattle.indexmap.specs.IndexMap.{get};
 ghost use Rattle.org_splice.specs.Overwritten.{overwritten};
-ghost use Rattle.org_disk.specs.Disk.{FileState, IsCounted, IsImage};
+ghost use Rattle.org_disk.specs.Disk.{FileState, IsCounted, IsImage, write};
 ghost use Rattle.org_disk.specs.Record.{effect_of, files_after, content_in, is_call, Keeps, KeepsCutImage, KeepsImage};
 
 use crate::{Disk, DiskFault, FileName};
@@ -457,56 +457,62 @@ fn leave(
     ensures { OnOk result (KeepsImage call.now.effect content.now left.old.items left.new.items) }
 {
     match &call.effect {
-        Effect::Set(bytes) => *left = bytes.to_vec(alloc)?,
+        Effect::Set(bytes) => replace(alloc, left, bytes),
         Effect::Write(from, bytes) => {
-            if let Some(piece) = piece_of(alloc, outcome, call.crashed, bytes)? {
-                overwrite(left, *from as usize, &piece)?;
-            }
+            leave_write(alloc, outcome, call.crashed, left, *from as usize, bytes)
         }
-        Effect::Cut(n) => leave_cut(outcome, call.crashed, left, *n as usize)?,
-        Effect::Sync => *left = content.to_vec(alloc)?,
-        Effect::Nothing => {}
+        Effect::Cut(n) => {
+            leave_cut(outcome, call.crashed, left, *n as usize);
+            Ok(())
+        }
+        Effect::Sync => replace(alloc, left, content),
+        Effect::Nothing => Ok(()),
     }
-    Ok(())
 }
 
-// What went out of a write, if any of it did.
-fn piece_of(
+// Makes of what a crash leaves of a file before a write what it leaves after it.
+fn leave_write(
     alloc: Global,
     outcome: Outcome,
     crashed: bool,
+    left: &mut Vec<u8>,
+    from: usize,
     bytes: &[u8],
-) -> Result<Option<Vec<u8>>, AllocError>
-    ensures { IfOk result (λ piece. IfSome piece (λ p. length p.items ≤ length bytes.now)) }
+) -> Result<(), AllocError>
+    ensures { OnOk result ((file : FileState) → IsImage file file.content →
+        IsImage file left.old.items → IsImage (write from bytes.now file) left.new.items) }
+{
+    if let Outcome::Fill(byte) = outcome {
+        let filled = vec![in alloc; byte; bytes.len()]?;
+        return overwrite(left, from, &filled);
+    }
+    overwrite(left, from, front_of(outcome, crashed, bytes))
+}
+
+// Which of a write's bytes went out.
+fn front_of(outcome: Outcome, crashed: bool, bytes: &[u8]) -> &[u8]
+    ensures { length result.now ≤ length bytes.now }
 {
     match outcome {
-        Outcome::Front(n) if crashed => Ok(Some(bytes[..n.min(bytes.len())].to_vec(alloc)?)),
-        Outcome::All | Outcome::Front(_) => Ok(Some(bytes.to_vec(alloc)?)),
-        Outcome::None => Ok(None),
-        Outcome::Fill(byte) => Ok(Some(vec![in alloc; byte; bytes.len()]?)),
+        Outcome::None => &[],
+        Outcome::Front(n) if crashed => &bytes[..n.min(bytes.len())],
+        Outcome::All | Outcome::Front(_) | Outcome::Fill(_) => bytes,
     }
 }
 
 // Makes of what a crash leaves of a file before a cut what it leaves after it.
-fn leave_cut(
-    outcome: Outcome,
-    crashed: bool,
-    left: &mut Vec<u8>,
-    n: usize,
-) -> Result<(), AllocError>
-    ensures { OnOk result (KeepsCutImage n left.old.items left.new.items) }
+fn leave_cut(outcome: Outcome, crashed: bool, left: &mut Vec<u8>, n: usize)
+    ensures { KeepsCutImage n left.old.items left.new.items }
 {
     match outcome {
         Outcome::Front(_) if crashed => {}
         Outcome::All | Outcome::Front(_) => left.truncate(n),
         Outcome::None => {}
         Outcome::Fill(byte) => {
-            let length = left.len();
-            left.truncate(n);
-            left.resize(length, byte)?;
+            let kept = n.min(left.len());
+            left[kept..].fill(byte);
         }
     }
-    Ok(())
 }
 
 // What a file holds, nothing where it isn't kept.
@@ -545,11 +551,22 @@ fn act(alloc: Global, content: &mut Vec<u8>, effect: &Effect) -> Result<(), Allo
     ensures err { OnErr result (content.new.items ≡ content.old.items) }
 {
     match effect {
-        Effect::Set(bytes) => *content = bytes.to_vec(alloc)?,
-        Effect::Write(from, bytes) => overwrite(content, *from as usize, bytes)?,
-        Effect::Cut(n) => content.truncate(*n as usize),
-        Effect::Sync | Effect::Nothing => {}
+        Effect::Set(bytes) => replace(alloc, content, bytes),
+        Effect::Write(from, bytes) => overwrite(content, *from as usize, bytes),
+        Effect::Cut(n) => {
+            content.truncate(*n as usize);
+            Ok(())
+        }
+        Effect::Sync | Effect::Nothing => Ok(()),
     }
+}
+
+// Gives a content these bytes; where memory is refused, nothing changes.
+fn replace(alloc: Global, content: &mut Vec<u8>, bytes: &[u8]) -> Result<(), AllocError>
+    ensures ok { OnOk result (content.new.items ≡ bytes.now) }
+    ensures err { OnErr result (content.new.items ≡ content.old.items) }
+{
+    *content = bytes.to_vec(alloc)?;
     Ok(())
 }
 
