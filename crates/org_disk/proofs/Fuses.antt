@@ -1,6 +1,6 @@
 -- The accounts of a fuse, of those of its disk.
-use Rattle.std.proofs.Common.{◌≡◌, ℕ, ◌+◌, ◌-◌, ◌^◌, min, true≢false, sym, ap, ◌∙◌, subst, inl, inr, ⊎_elim, arith}
-use Rattle.std.specs.Prelude.{Result, Ok, Err, IsErr}
+use Rattle.std.proofs.Common.{◌≡◌, ℕ, ◌+◌, ◌-◌, ◌^◌, min, sym, ap, ◌∙◌, subst, inl, inr, ⊎_elim, arith}
+use Rattle.std.specs.Prelude.{Result, Ok, Err}
 use Rattle.std.proofs.lemmas.Bool.{cases_lt}
 use Rattle.org_disk.specs.Accounts.{AccountsOfCall}
 use Rattle.org_disk.specs.Disk.{IsCounted}
@@ -24,10 +24,9 @@ counted_disk own own' disk disk' same (inl more) = counted_most (own + disk) (ow
 counted_disk own own' disk disk' same (inr full) = counted_most (own + disk) (own' + disk') (inr (omega (arith, full.0), omega (arith, full.1, same)))
 
 -- a call that the fuse failed
-pub accounts_blown : {D A : Type 0} {steady : Type 0} (honest : D → Type 0) (failures : D → ℕ) (old new : Fuse D) (result : Result A DiskFault) → IsErr result → new.disk ≡ old.disk → IsCounted old.failures new.failures
-    → AccountsOfCall steady (λ (fuse : Fuse D). honest fuse.disk) (λ (fuse : Fuse D). fuse_failures fuse.failures (failures fuse.disk)) old new result
-accounts_blown honest failures old new (Ok x) failed same counted = absurd (true≢false (sym failed))
-accounts_blown honest failures old new (Err fault) failed same counted = record {
+pub accounts_blown : {D A : Type 0} {steady : Type 0} (honest : D → Type 0) (failures : D → ℕ) (old new : Fuse D) (fault : DiskFault) → new.disk ≡ old.disk → IsCounted old.failures new.failures
+    → AccountsOfCall {A = A} steady (λ (fuse : Fuse D). honest fuse.disk) (λ (fuse : Fuse D). fuse_failures fuse.failures (failures fuse.disk)) old new (Err fault)
+accounts_blown honest failures old new fault same counted = record {
   was_honest = λ h. subst honest same h;
   stays_honest = λ steady h. subst honest (sym same) h;
   kept = tt;

@@ -1,5 +1,5 @@
 //! A disk whose calls fail from some call on.
-ghost use Rattle.std.specs.Prelude.{◌≡◌, ◌+◌, ◌-◌, ◌^◌, ◌↔◌, IsErr, OnOk, OnErr};
+ghost use Rattle.std.specs.Prelude.{◌≡◌, ◌+◌, ◌-◌, ◌^◌, ◌↔◌, IsTrue, IsFalse, OnOk};
 ghost use Rattle.org_disk.specs.Disk.{IsCounted};
 
 use crate::{Disk, DiskFault, FileName};
@@ -37,19 +37,19 @@ impl<D: Disk> Fuse<D> {
     }
 
     // Whether the call that begins passes; a call that doesn't is counted.
-    fn burn(&mut self) -> Result<(), DiskFault>
+    fn burn(&mut self) -> bool
         ensures disk { self.new.disk ≡ self.old.disk }
-        ensures ok { OnOk result (self.new.failures ≡ self.old.failures) }
-        ensures err { OnErr result (IsCounted self.old.failures self.new.failures) }
-        ensures blown { IsErr result ↔ (self.old.passes ≡ 0) }
+        ensures passed { IsTrue result → self.new.failures ≡ self.old.failures }
+        ensures failed { IsFalse result → IsCounted self.old.failures self.new.failures }
+        ensures blown { IsFalse result ↔ (self.old.passes ≡ 0) }
         ensures spent { self.new.passes ≡ self.old.passes - 1 }
     {
         if self.passes == 0 {
             self.failures = self.failures.saturating_add(1);
-            return Err(DiskFault);
+            return false;
         }
         self.passes -= 1;
-        Ok(())
+        true
     }
 }
 
@@ -87,7 +87,9 @@ impl<D: Disk> Disk for Fuse<D> {
             (λ fuse. fuse_failures fuse.failures (D.failures fuse.disk)) self.old self.new result }
         ensures burns { Burns self.old self.new result }
     {
-        self.burn()?;
+        if !self.burn() {
+            return Err(DiskFault);
+        }
         self.disk.length(name)
     }
 
@@ -102,7 +104,9 @@ impl<D: Disk> Disk for Fuse<D> {
             (λ fuse. fuse_failures fuse.failures (D.failures fuse.disk)) self.old self.new result }
         ensures burns { Burns self.old self.new result }
     {
-        self.burn()?;
+        if !self.burn() {
+            return Err(DiskFault);
+        }
         self.disk.read_at(name, from, into)
     }
 
@@ -120,7 +124,9 @@ impl<D: Disk> Disk for Fuse<D> {
             (λ fuse. fuse_failures fuse.failures (D.failures fuse.disk)) self.old self.new result }
         ensures burns { Burns self.old self.new result }
     {
-        self.burn()?;
+        if !self.burn() {
+            return Err(DiskFault);
+        }
         self.disk.write_at(name, from, bytes)
     }
 
@@ -135,7 +141,9 @@ impl<D: Disk> Disk for Fuse<D> {
             (λ fuse. fuse_failures fuse.failures (D.failures fuse.disk)) self.old self.new result }
         ensures burns { Burns self.old self.new result }
     {
-        self.burn()?;
+        if !self.burn() {
+            return Err(DiskFault);
+        }
         self.disk.cut(name, to)
     }
 
@@ -149,7 +157,9 @@ impl<D: Disk> Disk for Fuse<D> {
             (λ fuse. fuse_failures fuse.failures (D.failures fuse.disk)) self.old self.new result }
         ensures burns { Burns self.old self.new result }
     {
-        self.burn()?;
+        if !self.burn() {
+            return Err(DiskFault);
+        }
         self.disk.sync(name)
     }
 }

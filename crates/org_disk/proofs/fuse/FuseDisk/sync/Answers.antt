@@ -2,8 +2,8 @@ use Rattle.std.proofs.Common.{refl}
 use Rattle.org_disk.proofs.Fuses.{accounts_blown, accounts_passed}
 use Rattle.org_disk.proofs.fuse.FuseDisk.sync.Goals as goal
 
-pub returns-in_err-burn-clause-accounts : goal.returns-in_err-burn-clause-accounts
-returns-in_err-burn-clause-accounts g c = accounts_blown g.D.Disk.honest g.D.Disk.failures c.args.self.now c.burn.new.self c.from_residual.result c.from_residual.ensures.0 c.burn.ensures.disk c.in_err-burn.ensures.err
+pub returns-then-not-burn-clause-accounts : goal.returns-then-not-burn-clause-accounts
+returns-then-not-burn-clause-accounts g c = accounts_blown g.D.Disk.honest g.D.Disk.failures c.args.self.now c.burn.new.self _ c.burn.ensures.disk (c.burn.ensures.failed c.if-not-burn.true)
 
 pub returns-clause-accounts : goal.returns-clause-accounts
-returns-clause-accounts g c = accounts_passed c.args.self.now c.burn.new.self (record c.burn.new.self { disk = c.sync.new.self }) c.sync.result c.burn.ensures.disk c.in_ok-burn.ensures.ok refl c.sync.ensures.accounts
+returns-clause-accounts g c = accounts_passed c.args.self.now c.burn.new.self (record c.burn.new.self { disk = c.sync.new.self }) c.sync.result c.burn.ensures.disk (c.burn.ensures.passed c.if-not-burn.false) refl c.sync.ensures.accounts
