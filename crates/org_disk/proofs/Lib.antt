@@ -6,6 +6,7 @@ pub mod Ranges
 mod Calls
 mod ImageSoFar
 mod Outcomes
+mod Overwriting
 mod Fuses
 mod NameRows
 pub mod Accounting
