@@ -177,7 +177,13 @@ impl MemoryDisk {
     pub fn calls(&self) -> u64
         ensures { result ≡ count_by is_call self.now.calls.items }
     {
-        self.calls.iter().filter(|call| is_call(call)).count() as u64
+        let mut count = 0;
+        for call in &self.calls {
+            if is_call(call) {
+                count += 1;
+            }
+        }
+        count
     }
 }
 
