@@ -1,10 +1,10 @@
 -- The accounts of a fuse, of those of its disk.
-use Rattle.std.proofs.Common.{◌≡◌, ℕ, ◌+◌, ◌-◌, ◌^◌, min, sym, ap, ◌∙◌, subst, inl, inr, ⊎_elim, arith}
+use Rattle.std.proofs.Common.{◌≡◌, ℕ, ◌+◌, ◌-◌, ◌^◌, min, List, refl, sym, ap, ◌∙◌, subst, inl, inr, ⊎_elim, arith}
 use Rattle.std.specs.Prelude.{Result, Ok, Err}
 use Rattle.std.proofs.lemmas.Bool.{cases_lt}
-use Rattle.org_disk.specs.Accounts.{AccountsOfCall}
-use Rattle.org_disk.specs.Disk.{IsCounted}
-use Rattle.org_disk.specs.Fuse.{fuse_failures}
+use Rattle.org_disk.specs.Accounts.{AccountsOfCall, Looks, PassesOver}
+use Rattle.org_disk.specs.Disk.{FileState, IsImage, AreImages, Changes, IsCounted}
+use Rattle.org_disk.specs.Fuse.{fuse_failures, Burns}
 use Rattle.org_disk.specs.declared.disk.DiskFault.{DiskFault}
 use Rattle.org_disk.specs.declared.fuse.Fuse.{Fuse}
 
@@ -49,3 +49,29 @@ accounts_passed {honest = honest} {failures = failures} old mid new (Err fault) 
   kept = tt;
   counted = counted_disk old.failures new.failures (failures old.disk) (failures new.disk) (own ∙ kept) (subst (λ d. IsCounted (failures d) (failures new.disk)) same call.counted);
 }
+
+-- what such a call is told of its turn
+pub burns_blown : {D A : Type 0} (old new : Fuse D) (fault : DiskFault) → new.passes ≡ old.passes - 1 → old.passes ≡ 0 → new.disk ≡ old.disk → Burns {A = A} old new (Err fault)
+burns_blown old new fault spent none same = record { spent = spent; blown = λ none. (refl, same); passed = λ some. absurd (omega (arith, some, none)) }
+
+pub burns_passed : {D A : Type 0} (old new : Fuse D) (result : Result A DiskFault) → new.passes ≡ old.passes - 1 → (old.passes ≡ 0 → ⊥) → new.failures ≡ old.failures → Burns old new result
+burns_passed old new result spent some kept = record { spent = spent; blown = λ none. absurd (some none); passed = λ some. kept }
+
+-- The disk, where a call failed at the fuse.
+module _ {D : Type 0} (files : D → List ℕ → FileState) (moment : D → ℕ) (left_since : D → ℕ → (List ℕ → List ℕ) → Type 0) (old new : D) (same : new ≡ old) where
+  pub passes_blown : (P : (List ℕ → List ℕ) → Type 0) → PassesOver moment left_since old new P
+  passes_blown P = subst (λ (d : D). PassesOver moment left_since old d P) (sym same)
+      (record { later = omega arith; nothing_else = λ t image le left. inl left; keeps = λ t image le left. left })
+
+  pub looks_blown : Looks files moment left_since old new
+  looks_blown = record { same = ap files same; time = passes_blown (AreImages (files old)) }
+
+  pub changes_blown : (effect : FileState → FileState) (name : List ℕ) (fault : DiskFault) → IsImage (files new name) (files new name).content → Changes effect name (files old) (files new) (Err fault)
+  changes_blown effect name fault image = record {
+    ok = tt;
+    err = record {
+      content = inl (subst (λ (d : D). IsImage (files d name) (files new name).content) same image);
+      images = λ bytes left. inl (subst (λ (d : D). IsImage (files d name) bytes) same left);
+    };
+    others = λ other apart. ap (λ (d : D). files d other) same;
+  }
