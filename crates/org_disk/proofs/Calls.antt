@@ -1,8 +1,8 @@
 -- What a call in the record of a disk in memory did to its files and its past.
-use Rattle.std.proofs.Common.{◌≡◌, ◌≢◌, ◌⊎◌, ℕ, ◌+◌, ◌≤◌, List, [], ◌∷◌, ◌++◌, length, take, Bool, true, false, Result, Ok, Err, OnOk, OnErr, IsNone, Option, None, Some, Vec, refl, sym, ◌∙◌, ap, subst, inl, inr, ⊎_elim, arith, length-append, count_by, cond}
+use Rattle.std.proofs.Common.{◌≡◌, ◌≢◌, ◌⊎◌, ℕ, ◌+◌, ◌<◌, ◌≤◌, get_or, List, [], ◌∷◌, ◌++◌, length, take, Bool, true, false, Result, Ok, Err, OnOk, OnErr, IsNone, Option, None, Some, Vec, refl, sym, ◌∙◌, ap, subst, inl, inr, ⊎_elim, arith, length-append, count_by, cond}
 use Rattle.std.proofs.lemmas.List.Sums.{sum_by_push}
 use Rattle.std.proofs.lemmas.Bool.{cases_Bool, cond-true, cond-false, cases_lt, false≢true, true≢false}
-use Rattle.std.proofs.lemmas.List.{take_all, take-append-le}
+use Rattle.std.proofs.lemmas.List.{take_all, take_more, take-append-le}
 use Rattle.std.proofs.lemmas.Slice.Eq.{bytes_eq-Decides}
 use Rattle.std.specs.Option.{option_map_or}
 use Rattle.std.specs.Str.{bytes_eq}
@@ -269,3 +269,15 @@ pub count_set : (name : List ℕ) (bytes : Vec ℕ Global) (calls later : List C
 count_set name bytes calls later (Ok u) made kept =
     let more = ap (count_by is_call) made ∙ sum_by_push (λ call. cond (is_call call) 1 0) calls (call_of name (Set bytes) false) in omega (arith, more)
 count_set name bytes calls later (Err e) made kept = ap (count_by is_call) kept
+
+-- The calls that are counted, one entry further on.
+module _ (entries calls : List Call) (same : entries ≡ calls) (i : ℕ) (call : Call) (within : i < length entries) (at : call ≡ get_or entries i call) where
+  one_more : count_by is_call (take (i + 1) calls) ≡ count_by is_call (take i calls) + cond (is_call call) 1 0
+  one_more = subst (λ (cs : List Call). count_by is_call (take (i + 1) cs) ≡ count_by is_call (take i cs) + cond (is_call call) 1 0) same
+      (ap (count_by is_call) (take_more entries i call within ∙ ap (λ (c : Call). take i entries ++ c ∷ []) (sym at)) ∙ sum_by_push (λ call. cond (is_call call) 1 0) (take i entries) call)
+
+  pub counts_call : is_call call ≡ true → count_by is_call (take (i + 1) calls) ≡ count_by is_call (take i calls) + 1
+  counts_call is = one_more ∙ ap (λ b. count_by is_call (take i calls) + cond b 1 0) is
+
+  pub counts_none : is_call call ≡ false → count_by is_call (take (i + 1) calls) ≡ count_by is_call (take i calls)
+  counts_none is = omega (arith, one_more ∙ ap (λ b. count_by is_call (take i calls) + cond b 1 0) is)

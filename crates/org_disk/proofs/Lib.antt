@@ -5,6 +5,7 @@ pub mod Back
 pub mod Ranges
 mod Calls
 mod ImageSoFar
+mod Keeping
 mod Outcomes
 mod Overwriting
 mod Fuses
