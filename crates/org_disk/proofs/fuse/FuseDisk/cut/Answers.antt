@@ -1,4 +1,4 @@
-use Rattle.std.proofs.Common.{refl, sym, ◌∙◌, subst, true≢false}
+use Rattle.std.proofs.Common.{refl, sym, ◌∙◌, subst, true≢false, length, ◌≤◌}
 use Rattle.org_disk.specs.Accounts.{PassesOver}
 use Rattle.org_disk.specs.Disk.{AreLeftBy, Changes, cut}
 use Rattle.org_disk.proofs.Fuses.{accounts_blown, accounts_passed, burns_blown, burns_passed, changes_blown, passes_blown}
@@ -31,3 +31,6 @@ pub returns-clause-burns : goal.returns-clause-burns
 returns-clause-burns g c =
     burns_passed c.args.self.now (record c.burn.new.self { disk = c.cut.new.self }) c.cut.result c.burn.ensures.spent
     (λ none. true≢false (sym c.if-not-burn.false ∙ c.burn.ensures.blown.1 none)) (c.burn.ensures.passed c.if-not-burn.false)
+
+pub cut-requires : goal.cut-requires
+cut-requires g c = subst (λ d. g.D.Disk.honest d → c.args.to ≤ length (g.D.Disk.files d c.args.name.now).content) (sym c.burn.ensures.disk) c.requires

@@ -1,4 +1,4 @@
-use Rattle.std.proofs.Common.{refl, sym, ◌∙◌, subst, true≢false}
+use Rattle.std.proofs.Common.{◌≡◌, IfOk, length, refl, sym, ◌∙◌, subst, true≢false}
 use Rattle.org_disk.specs.Accounts.{Looks}
 use Rattle.org_disk.proofs.Fuses.{accounts_blown, accounts_passed, burns_blown, burns_passed, looks_blown}
 use Rattle.org_disk.proofs.fuse.FuseDisk.length.Goals as goal
@@ -23,3 +23,7 @@ pub returns-clause-burns : goal.returns-clause-burns
 returns-clause-burns g c =
     burns_passed c.args.self.now (record c.burn.new.self { disk = c.length.new.self }) c.length.result c.burn.ensures.spent
     (λ none. true≢false (sym c.if-not-burn.false ∙ c.burn.ensures.blown.1 none)) (c.burn.ensures.passed c.if-not-burn.false)
+
+pub returns-clause-value : goal.returns-clause-value
+returns-clause-value g c =
+    subst (λ d. IfOk c.length.result (λ n. g.D.Disk.honest c.length.new.self → n ≡ length (g.D.Disk.files d c.args.name.now).content)) c.burn.ensures.disk c.length.ensures.value

@@ -1,4 +1,4 @@
-use Rattle.std.proofs.Common.{refl, sym, ◌∙◌, subst, true≢false}
+use Rattle.std.proofs.Common.{refl, sym, ◌∙◌, subst, true≢false, ◌≡◌, OnOk, length, take, drop, ◌≤◌, ◌+◌}
 use Rattle.org_disk.specs.Accounts.{Looks}
 use Rattle.org_disk.proofs.Fuses.{accounts_blown, accounts_passed, burns_blown, burns_passed, looks_blown}
 use Rattle.org_disk.proofs.fuse.FuseDisk.read_at.Goals as goal
@@ -23,3 +23,10 @@ pub returns-clause-burns : goal.returns-clause-burns
 returns-clause-burns g c =
     burns_passed c.args.self.now (record c.burn.new.self { disk = c.read_at.new.self }) c.read_at.result c.burn.ensures.spent
     (λ none. true≢false (sym c.if-not-burn.false ∙ c.burn.ensures.blown.1 none)) (c.burn.ensures.passed c.if-not-burn.false)
+
+pub read_at-requires : goal.read_at-requires
+read_at-requires g c = subst (λ d. g.D.Disk.honest d → c.args.from + length c.args.into.now ≤ length (g.D.Disk.files d c.args.name.now).content) (sym c.burn.ensures.disk) c.requires
+
+pub returns-clause-bytes : goal.returns-clause-bytes
+returns-clause-bytes g c =
+    subst (λ d. OnOk c.read_at.result (g.D.Disk.honest c.read_at.new.self → c.read_at.new.into ≡ take (length c.args.into.now) (drop c.args.from (g.D.Disk.files d c.args.name.now).content))) c.burn.ensures.disk c.read_at.ensures.bytes

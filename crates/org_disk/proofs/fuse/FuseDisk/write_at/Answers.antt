@@ -1,4 +1,4 @@
-use Rattle.std.proofs.Common.{refl, sym, ◌∙◌, subst, true≢false}
+use Rattle.std.proofs.Common.{refl, sym, ◌∙◌, subst, true≢false, length, ◌≤◌, ◌<◌, ◌+◌, ◌^◌}
 use Rattle.org_disk.specs.Accounts.{PassesOver}
 use Rattle.org_disk.specs.Disk.{AreLeftBy, Changes, write}
 use Rattle.org_disk.proofs.Fuses.{accounts_blown, accounts_passed, burns_blown, burns_passed, changes_blown, passes_blown}
@@ -31,3 +31,9 @@ pub returns-clause-burns : goal.returns-clause-burns
 returns-clause-burns g c =
     burns_passed c.args.self.now (record c.burn.new.self { disk = c.write_at.new.self }) c.write_at.result c.burn.ensures.spent
     (λ none. true≢false (sym c.if-not-burn.false ∙ c.burn.ensures.blown.1 none)) (c.burn.ensures.passed c.if-not-burn.false)
+
+pub write_at-requires-clause-within : goal.write_at-requires-clause-within
+write_at-requires-clause-within g c = subst (λ d. g.D.Disk.honest d → c.args.from ≤ length (g.D.Disk.files d c.args.name.now).content) (sym c.burn.ensures.disk) c.requires.within
+
+pub write_at-requires-clause-fits : goal.write_at-requires-clause-fits
+write_at-requires-clause-fits g c = subst (λ d. g.D.Disk.honest d → c.args.from + length c.args.bytes.now < 2 ^ 64) (sym c.burn.ensures.disk) c.requires.fits
