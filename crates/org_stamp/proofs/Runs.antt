@@ -1,11 +1,14 @@
 -- Bytes cut at their blanks.
-use Rattle.std.proofs.Common.{◌≡◌, ℕ, ◌+◌, ◌-◌, ◌<◌, ◌≤◌, Bool, true, false, not, ◌&&◌, IsTrue, Option, None, Some, List, [], ◌∷◌, ◌++◌, length, get_or, take, drop, refl, sym, ap, ◌∙◌, arith}
+use Rattle.std.proofs.Common.{◌≡◌, ℕ, ◌+◌, ◌-◌, ◌<◌, ◌≤◌, Bool, true, false, not, ◌&&◌, IsTrue, if◌then◌else◌, Option, None, Some, List, [], ◌∷◌, ◌++◌, length, get_or, take, drop, refl, sym, ap, ◌∙◌, arith}
 use Rattle.std.specs.List.{slice_split, onto_first, list_all}
+use Rattle.std.specs.Option.{option_map}
+use Rattle.std.specs.Bool.{then_some}
 use Rattle.std.proofs.lemmas.List.{take-append-drop, drop-drop, drop_more, take_rest, length-drop, get_or-drop}
 use Rattle.std.proofs.lemmas.List.Splits.{slice_split-cons_yes, slice_split-cons_no}
 use Rattle.std.proofs.lemmas.List.Folds.{list_all_more}
 use Rattle.org_stamp.specs.Parts.{◌>>=◌, is_blank}
-use Rattle.org_stamp.specs.Reading.{Gathered, piece_with, pieces_with}
+use Rattle.org_stamp.specs.declared.inside.Found.{Found}
+use Rattle.org_stamp.specs.Reading.{Gathered, gathered, piece_with, pieces_with}
 
 abbrev pub is_plain : ℕ → Bool
 is_plain b = not (is_blank b)
@@ -58,6 +61,21 @@ cut_none tail start at e h =
 -- one piece more is found
 pub pieces_next : (g h : Gathered) (pieces : List (List ℕ)) (run : List ℕ) (rest : List (List ℕ)) → pieces ≡ run ∷ rest → Some h ≡ piece_with g run → pieces_with h rest ≡ pieces_with g pieces
 pieces_next g h pieces run rest e found = rw (e, ← found) refl
+
+-- the first piece is no part, or one of its kind was found before
+pub pieces_stop : (g : Gathered) (pieces : List (List ℕ)) (run : List ℕ) (rest : List (List ℕ)) → pieces ≡ run ∷ rest → None ≡ piece_with g run → None ≡ pieces_with g pieces
+pieces_stop g pieces run rest e none = rw (e, ← none) refl
+
+-- what adding a piece says where it was taken, and where it was not
+pub taken : (added : Bool) (h : Gathered) (o : Option Gathered) → added ≡ true → (if added then Some h else None) ≡ o → Some h ≡ o
+taken added h o is said = ap (λ b. if b then Some h else None) (sym is) ∙ said
+
+pub not_taken : (added : Bool) (h : Gathered) (o : Option Gathered) → added ≡ false → (if added then Some h else None) ≡ o → None ≡ o
+not_taken added h o is said = ap (λ b. if b then Some h else None) (sym is) ∙ said
+
+pub found_if : (added : Bool) (found : Found) → option_map gathered (then_some added found) ≡ (if added then Some (gathered found) else None)
+found_if true found = refl
+found_if false found = refl
 
 pub bind_some : {A : Type 0} (o : Option A) → (o >>= λ x. Some x) ≡ o
 bind_some None = refl

@@ -1,5 +1,5 @@
 //! What stands behind the date of a timestamp.
-ghost use Rattle.std.specs.Prelude.{◌≡◌};
+ghost use Rattle.std.specs.Prelude.{◌≡◌, Some, None, if◌then◌else◌};
 ghost use Rattle.std.specs.Option.{option_map};
 ghost use Rattle.std.specs.List.{slice_split};
 ghost use Rattle.org_stamp.specs.Parts.{is_blank};
@@ -8,6 +8,7 @@ ghost use Rattle.org_stamp.specs.Reading.{nothing, part_of, parts_of, gathered, 
 
 use crate::kind::{Kind, Times};
 use crate::part::{is_blank, read_kind};
+use std::mem;
 
 /// A repeater or a delay, with its bytes.
 #[derive(Clone, Copy)]
@@ -47,50 +48,51 @@ fn are_apart(first: Kind, second: Kind) -> bool
 }
 
 impl<'a> Cookies<'a> {
-    // A first cookie, or a second of the other kind.
-    fn with(self, cookie: Cookie<'a>) -> Option<Cookies<'a>>
-        ensures { option_map parts_of result
-            ≡ cookies_with (parts_of self.entry) (part_of cookie.entry) }
+    // Takes a first cookie, or a second of the other kind; false where it is neither.
+    fn add(&mut self, cookie: Cookie<'a>) -> bool
+        ensures { (if result then Some (parts_of self.new) else None)
+            ≡ cookies_with (parts_of self.old) (part_of cookie.entry) }
     {
-        match self {
-            Cookies::Empty => Some(Cookies::One(cookie)),
-            Cookies::One(first) if are_apart(first.kind, cookie.kind) => Some(Cookies::Two(
-                first, cookie,
-            )),
-            _ => None,
+        match *self {
+            Cookies::Empty => {
+                *self = Cookies::One(cookie);
+                true
+            }
+            Cookies::One(first) if are_apart(first.kind, cookie.kind) => {
+                *self = Cookies::Two(first, cookie);
+                true
+            }
+            _ => false,
         }
     }
 }
 
 impl<'a> Found<'a> {
-    // One part more, if none of its kind was found.
-    fn with(self, run: &'a [u8], kind: Kind) -> Option<Found<'a>>
-        ensures { option_map gathered result ≡ found_with (gathered self.entry) run.now kind }
+    // Takes one part more; false where one of its kind was found before.
+    fn add(&mut self, run: &'a [u8], kind: Kind) -> bool
+        ensures { (if result then Some (gathered self.new) else None)
+            ≡ found_with (gathered self.old) run.now kind }
     {
         match kind {
-            Kind::Name => (!self.named).then_some(Found {
-                named: true,
-                ..self
-            }),
-            Kind::Clock(times) => self.time.is_none().then_some(Found {
-                time: Some(times),
-                ..self
-            }),
-            Kind::Repeat(_) | Kind::Delay => {
-                let cookies = self.cookies.with(Cookie { run, kind })?;
-                Some(Found { cookies, ..self })
-            }
+            Kind::Name => !mem::replace(&mut self.named, true),
+            Kind::Clock(times) => self.time.replace(times).is_none(),
+            Kind::Repeat(_) | Kind::Delay => self.cookies.add(Cookie { run, kind }),
         }
     }
 
-    // What lies between two blanks: nothing, or a part.
-    fn with_piece(self, run: &'a [u8]) -> Option<Found<'a>>
-        ensures { option_map gathered result ≡ piece_with (gathered self.entry) run.now }
+    // Takes what lies between two blanks: nothing, or a part; false where it is neither, or where
+    // one of its kind was found before.
+    fn add_piece(&mut self, run: &'a [u8]) -> bool
+        ensures { (if result then Some (gathered self.new) else None)
+            ≡ piece_with (gathered self.old) run.now }
     {
         if run.is_empty() {
-            return Some(self);
+            return true;
         }
-        self.with(run, read_kind(run)?)
+        match read_kind(run) {
+            Some(kind) => self.add(run, kind),
+            None => false,
+        }
     }
 }
 
@@ -106,11 +108,13 @@ fn read_pieces(tail: &[u8]) -> Option<Found<'_>>
     let mut start = 0;
     for (at, byte) in tail.iter().enumerate() {
         if is_blank(*byte) {
-            found = found.with_piece(&tail[start..at])?;
+            if !found.add_piece(&tail[start..at]) {
+                return None;
+            }
             start = at + 1;
         }
     }
-    found.with_piece(&tail[start..])
+    found.add_piece(&tail[start..]).then_some(found)
 }
 
 /// What the bytes behind a date say: nothing, or parts with blanks before each.
