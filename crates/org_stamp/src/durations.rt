@@ -2,7 +2,6 @@
 ghost use Rattle.std.specs.Prelude.{◌≡◌, ◌≤◌, IfOk};
 ghost use Rattle.org_stamp.specs.Stamp.{duration_text};
 
-use crate::text::push_two;
 use std::alloc::{AllocError, Global};
 
 /// The duration as `H:MM` (Org manual, "Clocking commands"): the hours right-aligned in `width`
@@ -12,10 +11,6 @@ pub fn duration(alloc: Global, minutes: u64, width: usize) -> Result<Vec<u8>, Al
     requires high { width ≤ 2 }
     ensures { IfOk result (λ v. v.items ≡ duration_text minutes width) }
 {
-    let mut out = format!(in alloc; "{}:", minutes / 60)?.into_bytes();
-    if out.len() <= width {
-        out.insert(0, b' ')?;
-    }
-    push_two(&mut out, (minutes % 60) as u16)?;
-    Ok(out)
+    let text = format!(in alloc; "{:width$}:{:02}", minutes / 60, minutes % 60)?;
+    Ok(text.into_bytes())
 }

@@ -1,7 +1,7 @@
 //! What timestamps are written as.
 ghost use Rattle.std.specs.Prelude.{◌≡◌, ◌+◌, ◌%◌, [], ◌∷◌, ◌++◌, OnOk};
 ghost use Rattle.org_stamp.specs.Calendar.{weekday_of};
-ghost use Rattle.org_stamp.specs.Stamp.{two_digits, date_text, day_name, clock_text, end_text, time_text, cookies_text};
+ghost use Rattle.org_stamp.specs.Stamp.{date_text, day_name, clock_text, end_text, time_text, cookies_text};
 ghost use Rattle.org_stamp.specs.Reading.{part_of, parts_of};
 
 use crate::calendar::Day;
@@ -14,13 +14,6 @@ fn digit(number: u16) -> u8
     ensures { result ≡ 48 + number % 10 }
 {
     b'0' + (number % 10) as u8
-}
-
-/// Appends the last two decimal digits.
-pub fn push_two(out: &mut Vec<u8>, number: u16) -> Result<(), AllocError>
-    ensures { OnOk result (out.new.items ≡ out.old.items ++ two_digits number) }
-{
-    out.extend_from_slice(&[digit(number / 10), digit(number)])
 }
 
 // Appends `YYYY-MM-DD` and a space.
