@@ -1,8 +1,9 @@
 -- Days after days, by their numbers.
-use Rattle.std.proofs.Common.{◌≡◌, ℕ, zero, suc, ◌+◌, ◌-◌, ◌*◌, ◌/◌, ◌%◌, ◌<◌, ◌≤◌, ◌⊎◌, inl, inr, nat_lt, nat_le, None, Some, true, false, cond, ℤ, pos, neg_ℤ, ◌+ℤ◌, ◌<ℤ◌, ◌≤ℤ◌, refl, sym, ap, ◌∙◌, subst, arith, mul-le-mul_right}
+use Rattle.std.proofs.Common.{◌≡◌, ℕ, zero, suc, ◌+◌, ◌-◌, ◌*◌, ◌/◌, ◌%◌, ◌^◌, ◌<◌, ◌≤◌, ◌⊎◌, inl, inr, nat_lt, nat_le, None, Some, true, false, cond, ℤ, pos, neg_ℤ, ◌+ℤ◌, ◌<ℤ◌, ◌≤ℤ◌, refl, sym, ap, ◌∙◌, subst, arith, mul-le-mul_right}
 use Rattle.std.specs.Int.{IsInRange}
 use Rattle.std.proofs.Math.Nat.{div-mul-le_self}
 use Rattle.std.proofs.lemmas.Bool.{cases_lt}
+use Rattle.std.proofs.lemmas.Nat.{le-div, div_below}
 use Rattle.std.proofs.lemmas.Bool.Decides.{nat_tests}
 use Rattle.jiff_core.specs.declared.civil.date.Date.{Date}
 use Rattle.jiff_core.specs.Calendar.{days_in_month, days_from_civil}
@@ -207,6 +208,16 @@ few_steps from to step j some le lt =
 
 pub whole_steps : (from to step : ℕ) → from ≤ to → from + (to - from) / step * step ≤ to
 whole_steps from to step le = omega (arith, div-mul-le_self (to - from) step)
+
+-- where one step fits, the whole steps are one at least, and few
+pub whole_some : (from to step : ℕ) → 1 ≤ step → from + step ≤ to → 1 ≤ (to - from) / step
+whole_some from to step some le = le-div 1 (to - from) step some (omega (arith, le))
+
+pub whole_few : (e : CivilDay) (from to step : ℕ) → IsDay e → to ≡ month_number e → 1 ≤ step → (to - from) / step + 1 ≤ 2 ^ 20
+whole_few e from to step h is some =
+    let early : to < 2 ^ 20 - 1 = omega (arith, is, h.0.1, h.1.1) in
+    let few : (to - from) / step < 2 ^ 20 - 1 = div_below (to - from) step (2 ^ 20 - 1) some (omega (arith, early, some)) in
+    omega (arith, few)
 
 pub past_steps : (from to step : ℕ) → 1 ≤ step → from ≤ to → to < from + ((to - from) / step + 1) * step
 past_steps from to step some le = omega arith

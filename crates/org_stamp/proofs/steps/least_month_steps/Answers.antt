@@ -3,7 +3,7 @@ use Rattle.std.proofs.lemmas.Int.{ints}
 use Rattle.std.proofs.Math.Nat.{div-mul-le_self}
 use Rattle.std.proofs.lemmas.Bool.{cases_lt}
 use Rattle.org_stamp.specs.Calendar.{day_number, months_after, month_number}
-use Rattle.org_stamp.proofs.Later.{reach, miss, few_steps, whole_steps, past_steps, months_within, found_months, to_year_in, reached_at, missed_at, missed_steps}
+use Rattle.org_stamp.proofs.Later.{reach, miss, few_steps, whole_steps, past_steps, whole_some, whole_few, months_within, found_months, to_year_in, reached_at, missed_at, missed_steps}
 use Rattle.org_stamp.proofs.steps.least_month_steps.Goals as goal
 use Rattle.org_stamp.proofs.steps.least_month_steps.Goals.{in_default-via-in-Some+else-target-number, in_default-via-in_default}
 
@@ -77,3 +77,30 @@ returns-then-to-from-clause-bound c = omega arith
 
 pub nonzero_div-whole : goal.nonzero_div-whole
 nonzero_div-whole c = omega arith
+
+pub returns-then-to-from-clause-some : goal.returns-then-to-from-clause-some
+returns-then-to-from-clause-some c = omega arith
+
+pub returns-then-to-from-clause-least : goal.returns-then-to-from-clause-least
+returns-then-to-from-clause-least c = λ j some lt. absurd (omega (arith, some, lt))
+
+pub returns-in-Some-clause-some : goal.returns-in-Some-clause-some
+returns-in-Some-clause-some c = whole_some c.month_number-from.result c.month_number-to.result c.args.step c.requires.step c.if-to-from.false
+
+pub returns-in-Some-clause-bound : goal.returns-in-Some-clause-bound
+returns-in-Some-clause-bound c =
+    omega (arith, whole_few c.args.now c.month_number-from.result c.month_number-to.result c.args.step c.month_number-to.ensures.valid c.month_number-to.ensures.value c.requires.step)
+
+pub overflow_cast-number : goal.overflow_cast-number
+overflow_cast-number c = omega (arith, ints, c.number.ensures.bound)
+
+pub overflow_add-result : goal.overflow_add-result
+overflow_add-result c =
+    omega (arith, whole_few c.args.now c.month_number-from.result c.month_number-to.result c.args.step c.month_number-to.ensures.valid c.month_number-to.ensures.value c.requires.step)
+
+pub returns-in_default-clause-some : goal.returns-in_default-clause-some
+returns-in_default-clause-some c = omega arith
+
+pub returns-in_default-clause-bound : goal.returns-in_default-clause-bound
+returns-in_default-clause-bound c =
+    whole_few c.args.now c.month_number-from.result c.month_number-to.result c.args.step c.month_number-to.ensures.valid c.month_number-to.ensures.value c.requires.step

@@ -41,8 +41,8 @@ returns-in-Day-clause-later c =
     let k = c.least_day_steps.result in
     let v = c.args.interval.value in
     let there = days_after c.self.inside.day (k * v) in
-    let reached : c.target.result ≤ℤ day_number there = omega (arith, ints, c.least_day_steps.ensures.reached, c.target.ensures.bound) in
-    by_day s c.args.interval.unit Day (k * v) c.args.now there c.target.result c.in-Day.is (day_is s c.self.inside.day k v day) stamp.behind.time c.target.ensures.minute c.target.ensures.value reached
+    let reached : c.target-target.result ≤ℤ day_number there = omega (arith, ints, c.least_day_steps.ensures.reached, c.target-target.ensures.bound) in
+    by_day s c.args.interval.unit Day (k * v) c.args.now there c.target-target.result c.in-Day.is (day_is s c.self.inside.day k v day) stamp.behind.time c.target-target.ensures.minute c.target-target.ensures.value reached
 
 pub returns-in-Day-clause-least : goal.returns-in-Day-clause-least
 returns-in-Day-clause-least c = λ j some lt later.
@@ -52,8 +52,8 @@ returns-in-Day-clause-least c = λ j some lt later.
     let v = c.args.interval.value in
     let there = days_after c.self.inside.day (j * v) in
     let few = c.least_day_steps.ensures.least j some lt in
-    let missed : day_number there <ℤ c.target.result = omega (arith, ints, few, c.target.ensures.bound) in
-    not_by_day s c.args.interval.unit Day (j * v) c.args.now there c.target.result c.in-Day.is (day_is s c.self.inside.day j v day) stamp.behind.time c.target.ensures.minute c.target.ensures.value missed later
+    let missed : day_number there <ℤ c.target-target.result = omega (arith, ints, few, c.target-target.ensures.bound) in
+    not_by_day s c.args.interval.unit Day (j * v) c.args.now there c.target-target.result c.in-Day.is (day_is s c.self.inside.day j v day) stamp.behind.time c.target-target.ensures.minute c.target-target.ensures.value missed later
 
 pub returns-in-Week-clause-later : goal.returns-in-Week-clause-later
 returns-in-Week-clause-later c =
@@ -63,8 +63,8 @@ returns-in-Week-clause-later c =
     let k = c.least_day_steps-in-Week.result in
     let v = c.args.interval.value in
     let there = days_after c.self.inside.day (k * (7 * v)) in
-    let reached : c.target-in-Week.result ≤ℤ day_number there = omega (arith, ints, c.least_day_steps-in-Week.ensures.reached, c.target-in-Week.ensures.bound) in
-    by_day s c.args.interval.unit Week (k * v) c.args.now there c.target-in-Week.result c.in-Week.is (week_is s c.self.inside.day k v day) stamp.behind.time c.target-in-Week.ensures.minute c.target-in-Week.ensures.value reached
+    let reached : c.target-target.result ≤ℤ day_number there = omega (arith, ints, c.least_day_steps-in-Week.ensures.reached, c.target-target.ensures.bound) in
+    by_day s c.args.interval.unit Week (k * v) c.args.now there c.target-target.result c.in-Week.is (week_is s c.self.inside.day k v day) stamp.behind.time c.target-target.ensures.minute c.target-target.ensures.value reached
 
 pub returns-in-Week-clause-least : goal.returns-in-Week-clause-least
 returns-in-Week-clause-least c = λ j some lt later.
@@ -74,8 +74,8 @@ returns-in-Week-clause-least c = λ j some lt later.
     let v = c.args.interval.value in
     let there = days_after c.self.inside.day (j * (7 * v)) in
     let few = c.least_day_steps-in-Week.ensures.least j some lt in
-    let missed : day_number there <ℤ c.target-in-Week.result = omega (arith, ints, few, c.target-in-Week.ensures.bound) in
-    not_by_day s c.args.interval.unit Week (j * v) c.args.now there c.target-in-Week.result c.in-Week.is (week_is s c.self.inside.day j v day) stamp.behind.time c.target-in-Week.ensures.minute c.target-in-Week.ensures.value missed later
+    let missed : day_number there <ℤ c.target-target.result = omega (arith, ints, few, c.target-target.ensures.bound) in
+    not_by_day s c.args.interval.unit Week (j * v) c.args.now there c.target-target.result c.in-Week.is (week_is s c.self.inside.day j v day) stamp.behind.time c.target-target.ensures.minute c.target-target.ensures.value missed later
 
 pub returns-in-Month-clause-later : goal.returns-in-Month-clause-later
 returns-in-Month-clause-later c =
@@ -85,8 +85,8 @@ returns-in-Month-clause-later c =
     let k = c.least_month_steps.result in
     let v = c.args.interval.value in
     let there = months_after c.self.inside.day (k * v) in
-    let reached : c.target-in-Month.result ≤ℤ day_number there = omega (arith, ints, c.least_month_steps.ensures.reached, c.target-in-Month.ensures.bound) in
-    by_day s c.args.interval.unit Month (k * v) c.args.now there c.target-in-Month.result c.in-Month.is (month_is s c.self.inside.day k v day) stamp.behind.time c.target-in-Month.ensures.minute c.target-in-Month.ensures.value reached
+    let reached : c.target-target.result ≤ℤ day_number there = omega (arith, ints, c.least_month_steps.ensures.reached, c.target-target.ensures.bound) in
+    by_day s c.args.interval.unit Month (k * v) c.args.now there c.target-target.result c.in-Month.is (month_is s c.self.inside.day k v day) stamp.behind.time c.target-target.ensures.minute c.target-target.ensures.value reached
 
 pub returns-in-Month-clause-least : goal.returns-in-Month-clause-least
 returns-in-Month-clause-least c = λ j some lt later.
@@ -96,8 +96,8 @@ returns-in-Month-clause-least c = λ j some lt later.
     let v = c.args.interval.value in
     let there = months_after c.self.inside.day (j * v) in
     let few = c.least_month_steps.ensures.least j some lt in
-    let missed : day_number there <ℤ c.target-in-Month.result = omega (arith, ints, few, c.target-in-Month.ensures.bound) in
-    not_by_day s c.args.interval.unit Month (j * v) c.args.now there c.target-in-Month.result c.in-Month.is (month_is s c.self.inside.day j v day) stamp.behind.time c.target-in-Month.ensures.minute c.target-in-Month.ensures.value missed later
+    let missed : day_number there <ℤ c.target-target.result = omega (arith, ints, few, c.target-target.ensures.bound) in
+    not_by_day s c.args.interval.unit Month (j * v) c.args.now there c.target-target.result c.in-Month.is (month_is s c.self.inside.day j v day) stamp.behind.time c.target-target.ensures.minute c.target-target.ensures.value missed later
 
 pub returns-in-Year-clause-later : goal.returns-in-Year-clause-later
 returns-in-Year-clause-later c =
@@ -107,8 +107,8 @@ returns-in-Year-clause-later c =
     let k = c.least_month_steps-in-Year.result in
     let v = c.args.interval.value in
     let there = months_after c.self.inside.day (k * (12 * v)) in
-    let reached : c.target-in-Year.result ≤ℤ day_number there = omega (arith, ints, c.least_month_steps-in-Year.ensures.reached, c.target-in-Year.ensures.bound) in
-    by_day s c.args.interval.unit Year (k * v) c.args.now there c.target-in-Year.result c.in-Year.is (year_is s c.self.inside.day k v day) stamp.behind.time c.target-in-Year.ensures.minute c.target-in-Year.ensures.value reached
+    let reached : c.target-target.result ≤ℤ day_number there = omega (arith, ints, c.least_month_steps-in-Year.ensures.reached, c.target-target.ensures.bound) in
+    by_day s c.args.interval.unit Year (k * v) c.args.now there c.target-target.result c.in-Year.is (year_is s c.self.inside.day k v day) stamp.behind.time c.target-target.ensures.minute c.target-target.ensures.value reached
 
 pub returns-in-Year-clause-least : goal.returns-in-Year-clause-least
 returns-in-Year-clause-least c = λ j some lt later.
@@ -118,8 +118,8 @@ returns-in-Year-clause-least c = λ j some lt later.
     let v = c.args.interval.value in
     let there = months_after c.self.inside.day (j * (12 * v)) in
     let few = c.least_month_steps-in-Year.ensures.least j some lt in
-    let missed : day_number there <ℤ c.target-in-Year.result = omega (arith, ints, few, c.target-in-Year.ensures.bound) in
-    not_by_day s c.args.interval.unit Year (j * v) c.args.now there c.target-in-Year.result c.in-Year.is (year_is s c.self.inside.day j v day) stamp.behind.time c.target-in-Year.ensures.minute c.target-in-Year.ensures.value missed later
+    let missed : day_number there <ℤ c.target-target.result = omega (arith, ints, few, c.target-target.ensures.bound) in
+    not_by_day s c.args.interval.unit Year (j * v) c.args.now there c.target-target.result c.in-Year.is (year_is s c.self.inside.day j v day) stamp.behind.time c.target-target.ensures.minute c.target-target.ensures.value missed later
 
 pub overflow_mul-value : goal.overflow_mul-value
 overflow_mul-value c = omega arith
