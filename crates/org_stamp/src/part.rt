@@ -35,7 +35,12 @@ fn is_name_byte(byte: u8) -> bool
 fn is_name(run: &[u8]) -> bool
     ensures { result ≡ list_all is_name_byte run.now }
 {
-    run.iter().all(|byte| is_name_byte(*byte))
+    for byte in run {
+        if !is_name_byte(*byte) {
+            return false;
+        }
+    }
+    true
 }
 
 fn find(text: &[u8], byte: u8) -> Option<usize>
