@@ -1,13 +1,9 @@
 -- Tests of the words of a list.
-use Rattle.std.proofs.Common.{◌≡◌, ◌∙◌, ℕ, Bool, ◌||◌, List, [], ◌∷◌, refl, ap}
+use Rattle.std.proofs.Common.{◌≡◌, ◌∙◌, ℕ, ◌||◌, List, [], ◌∷◌, refl, ap}
 use Rattle.std.specs.Prelude.{map}
 use Rattle.std.specs.List.{list_any}
 use Rattle.std.specs.Str.{bytes_eq}
 use Rattle.std.specs.Cmp.Lexicographic.{nat_list_eq_equiv}
-
-pub list_any-map : {X Y : Type 0} (p : X → Bool) (f : Y → X) (ys : List Y) → list_any p (map f ys) ≡ list_any (λ y. p (f y)) ys
-list_any-map p f [] = refl
-list_any-map p f (y ∷ ys) = ap (λ b. p (f y) || b) (list_any-map p f ys)
 
 -- the test of a word, whichever of the two comes first
 pub list_any-flipped : {X : Type 0} (f : X → List ℕ) (w : List ℕ) (xs : List X) → list_any (λ x. bytes_eq (f x) w) xs ≡ list_any (bytes_eq w) (map f xs)
