@@ -1,5 +1,7 @@
-use Rattle.std.proofs.Common.{◌≡◌, ◌∙◌, ◌+◌, ◌<◌, ◌^◌, ◌-◌, ◌++◌, [], true, drop, take, length, ap, List, arith, ℕ}
-use Rattle.std.proofs.lemmas.List.{length-drop}
+use Rattle.std.proofs.Common.{◌≡◌, ◌∙◌, ◌+◌, ◌≤◌, ◌<◌, ◌^◌, ◌-◌, ◌++◌, [], true, drop, take, length, length-append, refl, ap, subst, List, arith, ℕ}
+use Rattle.std.specs.Prelude.{OnErr, Result, Ok, Err}
+use Rattle.std.specs.declared.alloc.AllocError.{AllocError}
+use Rattle.std.proofs.lemmas.List.{length-drop, length-take}
 use Rattle.std.proofs.lemmas.Result.{on_ok_weaker}
 use Rattle.org_outline.specs.declared.heads.Heading.{Heading}
 use Rattle.org_outline.specs.Outline.{headings_of, heads_from}
@@ -74,3 +76,29 @@ overflow_add-behind c = omega arith
 
 pub replace-requires-clause-within : goal.replace-requires-clause-within
 replace-requires-clause-within c = omega arith
+
+-- what is so whatever a call answered is so where it failed
+on_err : {P : Type 0} (r : Result (Unit {0}) AllocError) → P → OnErr r P
+on_err (Ok _) so = tt
+on_err (Err _) so = so
+
+-- headings that were put in leave room for all that stand before and among them
+cut_within : (held fresh all : List Heading) (first last count : ℕ) → first ≤ length held → count ≡ length fresh → all ≡ take first held ++ (fresh ++ drop last held) → first + count ≤ length all
+cut_within held fresh all first last count low size is =
+    let behind = length-append fresh (drop last held) in
+    omega (arith, low, size, ap (λ (l : List Heading). length l) is, length-append (take first held) (fresh ++ drop last held), behind, length-take first held)
+
+pub returns-then-first-len-clause-err : goal.returns-then-first-len-clause-err
+returns-then-first-len-clause-err c = subst (λ (hs : List Heading). OnErr c.scan.result (c.scan.new.headings.items ≡ hs)) c.self.view_is c.scan.ensures.err
+
+pub returns-in_err-scan-clause-err : goal.returns-in_err-scan-clause-err
+returns-in_err-scan-clause-err c = on_err c.from_residual.result refl
+
+pub returns-in_err-replace-clause-err : goal.returns-in_err-replace-clause-err
+returns-in_err-replace-clause-err c = on_err c.from_residual-in_err-replace.result (c.in_err-replace.ensures.err ∙ c.self.view_is)
+
+pub move_from-requires-clause-within : goal.move_from-requires-clause-within
+move_from-requires-clause-within c =
+    let held = c.self.inside.headings.items in
+    let low : c.starts_before-first.result ≤ length held = subst (λ (hs : List Heading). c.starts_before-first.result ≤ length hs) c.as_slice.ensures.value c.starts_before-first.ensures.within in
+    cut_within held _ _ _ _ _ low (c.len-2.ensures ∙ c.scan-2.new.headings.ok.0) (c.as_mut_slice.ensures.value ∙ c.in_ok-replace.ensures.ok)
