@@ -1,5 +1,5 @@
 //! Replies, written line by line.
-ghost use Rattle.std.specs.Prelude.{◌≡◌, ◌+◌, ◌≤◌, ◌++◌, length, OnOk, OnErr, codes, decimal};
+ghost use Rattle.std.specs.Prelude.{◌≡◌, ◌+◌, ◌≤◌, ◌++◌, length, Ok, OnOk, OnErr, codes, decimal};
 ghost use Rattle.std.specs.Io.KnownBytes.{Appends};
 ghost use Rattle.std.specs.List.{flat_map};
 ghost use Rattle.arrayvec.specs.ArrayVec.{array_vec_len};
@@ -36,10 +36,7 @@ pub fn write_answer<W: Sink>(
     ensures err { OnErr result (IsCounted (W.failures writer.old) (W.failures writer.new)) }
 {
     match answer {
-        Ok(Reply::Done(n)) => write_done(writer, *n, before, safe),
-        Ok(Reply::Safe(n)) => write_safe(writer, *n),
-        Ok(Reply::Text(bytes)) => write_text(writer, bytes.as_slice()),
-        Ok(Reply::Time(minutes)) => write_time(writer, *minutes),
+        Ok(reply) => write_reply(writer, reply, before, safe),
         Err(fault) => write_fault(writer, *fault),
     }?;
     writer.flush()
@@ -54,10 +51,11 @@ pub fn write_unread<W: Sink>(writer: &mut W, fault: LineFault) -> Result<(), Pip
     ensures same { OnOk result (W.failures writer.new ≡ W.failures writer.old) }
     ensures err { OnErr result (IsCounted (W.failures writer.old) (W.failures writer.new)) }
 {
-    match fault {
-        LineFault::BadLine => writer.write(b"refused 20 BadLine\n")?,
-        LineFault::OutOfMemory => writer.write(b"fault OutOfMemory\n")?,
-    }
+    let line: &[u8] = match fault {
+        LineFault::BadLine => b"refused 20 BadLine\n",
+        LineFault::OutOfMemory => b"fault OutOfMemory\n",
+    };
+    writer.write(line)?;
     writer.flush()
 }
 
@@ -79,6 +77,27 @@ pub fn write_settled<W: Sink>(
         Err(fault) => write_fault(writer, fault),
     }?;
     writer.flush()
+}
+
+fn write_reply<W: Sink>(
+    writer: &mut W,
+    reply: &Reply,
+    before: u64,
+    safe: u64,
+) -> Result<(), PipeFault>
+    ensures ok { OnOk result (Appends (W.written writer.old) (W.written writer.new)
+        (answer_text (Ok reply.now) before safe)) }
+    ensures part { OnErr result (AppendsSome (W.written writer.old) (W.written writer.new)
+        (answer_text (Ok reply.now) before safe)) }
+    ensures same { OnOk result (W.failures writer.new ≡ W.failures writer.old) }
+    ensures err { OnErr result (IsCounted (W.failures writer.old) (W.failures writer.new)) }
+{
+    match reply {
+        Reply::Done(n) => write_done(writer, *n, before, safe),
+        Reply::Safe(n) => write_safe(writer, *n),
+        Reply::Text(bytes) => write_text(writer, bytes.as_slice()),
+        Reply::Time(minutes) => write_time(writer, *minutes),
+    }
 }
 
 fn write_done<W: Sink>(writer: &mut W, n: u64, before: u64, safe: u64) -> Result<(), PipeFault>
