@@ -13,7 +13,7 @@ use Rattle.org_serve.specs.Transcript.{Answers, ServesAll, ServesLines, RunsSome
 use Rattle.org_serve.specs.Feeding.{FeedOk, FeedErr, EndsWith}
 use Rattle.org_serve.proofs.Counting.{read_apart}
 use Rattle.org_serve.proofs.Cuts.{cut-append}
-use Rattle.org_serve.proofs.Joins.{Answers-append, Appends-append, Consumes-append, Consumes-no_more, some_then}
+use Rattle.org_serve.proofs.Joins.{Answers-append, Appends-append, Appends-none, Consumes-append, Consumes-none, Consumes-no_more, some_then}
 
 -- The input so far was read, its lines are answered, and what stands behind its last newline is
 -- kept.
@@ -24,6 +24,11 @@ pub record Served {S : Type 0} (AnswersLine : S → List ℕ → List ℕ → S 
   pub answered : Answers AnswersLine old (cut input).lines out new
   pub wrote : Appends written written' out
   pub stands : Stands pending (cut input).rest
+
+-- none of it was read
+pub Served-none : {S : Type 0} {AnswersLine : S → List ℕ → List ℕ → S → Type 0} {old : S} {left written : Option (List ℕ)} {pending : Pending} → Stands pending []
+    → Served AnswersLine old old left left written written pending
+Served-none {left = left} {written = written} stands = record { input = []; out = []; read = Consumes-none left; answered = (refl, refl); wrote = Appends-none written; stands = stands }
 
 pub Served-more : {S : Type 0} {AnswersLine : S → List ℕ → List ℕ → S → Type 0} {old mid : S} {left between written among : Option (List ℕ)} {pending : Pending}
     → (s : Served AnswersLine old mid left between written among pending) (piece : List ℕ) (new : S) (left' written' : Option (List ℕ)) (pending' : Pending)

@@ -5,6 +5,7 @@ pub mod Feeding
 mod Fields
 mod Pieces
 mod Nodes
+mod Moments
 pub mod Inputs
 pub mod Utf8
 pub mod Counting

@@ -18,7 +18,7 @@ pub fn file_names(alloc: Global, given: &[FileName]) -> Result<Option<Vec<FileNa
         × AreSorted (journal_name ∷ with_archives given.now) names.items)) }
     ensures many { IfOk result (λ found. IfNone found (AreTooMany given.now)) }
 {
-    let given = in_order(copied(alloc, given)?);
+    let given = in_order(given.to_vec(alloc)?);
     if given.len() > MOST_NAMES {
         return Ok(None);
     }
@@ -26,23 +26,12 @@ pub fn file_names(alloc: Global, given: &[FileName]) -> Result<Option<Vec<FileNa
     Ok(Some(in_order(names)))
 }
 
-fn copied(alloc: Global, given: &[FileName]) -> Result<Vec<FileName>, AllocError>
-    ensures { IfOk result (λ names. names.items ≡ given.now) }
-{
-    let mut names = Vec::new(alloc);
-    for name in given {
-        names.push(name.clone()?)?;
-    }
-    Ok(names)
-}
-
 // The journal's name, and each of these with its archive file's.
 fn with_journal(alloc: Global, given: &[FileName]) -> Result<Vec<FileName>, AllocError>
     requires { All IsOrgFile given.now }
     ensures { IfOk result (λ names. names.items ≡ journal_name ∷ with_archives given.now) }
 {
-    let mut names = Vec::new(alloc);
-    names.push(FileName::journal_name(alloc)?)?;
+    let mut names = vec![in alloc; FileName::journal_name(alloc)?]?;
     for name in given {
         names.push(name.clone()?)?;
         names.push(name.archive()?)?;

@@ -7,14 +7,14 @@ use Rattle.org_serve.proofs.names.file_names.Goals as goal
 
 pub with_journal-requires : goal.with_journal-requires
 with_journal-requires c =
-    let first : AreSorted c.args.given.now c.in_order-given.result.items = rw c.in_ok-copied.ensures at c.in_order-given.ensures in
+    let first : AreSorted c.args.given.now c.in_order-given.result.items = rw (c.in_ok-to_vec.ensures.items_if_clones_equal (λ x y is. is)) at c.in_order-given.ensures in
     rw c.deref.ensures.value (all_sorted IsOrgFile c.args.given.now c.in_order-given.result.items first c.requires)
 
 pub returns-clause-few : goal.returns-clause-few
 returns-clause-few c =
     let given = c.args.given.now in
     let sorted = c.in_order-given.result.items in
-    let first : AreSorted given sorted = rw c.in_ok-copied.ensures at c.in_order-given.ensures in
+    let first : AreSorted given sorted = rw (c.in_ok-to_vec.ensures.items_if_clones_equal (λ x y is. is)) at c.in_order-given.ensures in
     let few : length sorted ≤ most_names = grind arith in
     let second = rw (c.in_ok-names.ensures, c.deref.ensures.value) at c.in_order.ensures in
     ((sorted, first, few), sorted_files given sorted c.in_order.result.items first second)

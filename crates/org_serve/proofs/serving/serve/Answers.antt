@@ -4,10 +4,10 @@ use Rattle.org_serve.specs.Counts.{HasRisenBy, HasRead}
 use Rattle.org_serve.specs.Lines.{cut}
 use Rattle.org_serve.specs.Crashes.{HasSettledOver}
 use Rattle.org_serve.proofs.Cuts.{rest-free}
-use Rattle.org_serve.proofs.Inputs.{Served-more, Served-some, Served-some_wrote, Served-no_more, serves_read, serves_some, serves_end}
+use Rattle.org_serve.proofs.Inputs.{Served-none, Served-more, Served-some, Served-some_wrote, Served-no_more, serves_read, serves_some, serves_end}
 use Rattle.org_serve.proofs.Joins.{Consumes-kept}
-use Rattle.org_serve.proofs.Counting.{HasRisenBy-counted, within_counted, within_all, read_more, ended_read, ended_otherwise}
-use Rattle.org_serve.proofs.Breaking.{untouched_then, breaks_then}
+use Rattle.org_serve.proofs.Counting.{HasRisenBy-counted, within_counted, within_all, read_none, read_more, ended_read, ended_otherwise}
+use Rattle.org_serve.proofs.Breaking.{untouched_then, breaks_then, accounts_still}
 use Rattle.org_serve.proofs.Honest.{kept_end, kept_runs, kept_served, kept_settled, kept_some}
 use Rattle.org_serve.proofs.Crashes.{session_of_served, session_of_ends, session_of_settled, session_of_some, runs_read, runs_finish, runs_some, runs_keep}
 use Rattle.org_serve.proofs.serving.serve.Goals as goal
@@ -153,3 +153,24 @@ returns-in-Ok-eq0-clause-untouched g c = untouched_then c.loop.invariant.1 c.fin
 
 pub returns-in-Ok-eq0-clause-accounts : goal.returns-in-Ok-eq0-clause-accounts
 returns-in-Ok-eq0-clause-accounts g c = breaks_then c.loop.invariant.1 c.finish.ensures.untouched c.loop.invariant.2 c.finish.ensures.accounts
+
+pub returns-in-Ok-eq0-clause-broken : goal.returns-in-Ok-eq0-clause-broken
+returns-in-Ok-eq0-clause-broken g c = c.finish.ensures.broken
+
+pub returns-in-Err-feed-clause-broken : goal.returns-in-Err-feed-clause-broken
+returns-in-Err-feed-clause-broken g c = tt
+
+pub returns-clause-broken : goal.returns-clause-broken
+returns-clause-broken g c = tt
+
+pub loop-init : goal.loop-init
+loop-init g c = (
+  Served-none c.new-pending.ensures,
+  λ broke. refl,
+  accounts_still c.args.store.now.session,
+  inl (omega arith),
+  refl,
+  refl,
+  omega arith,
+  read_none (g.R.Source.left c.args.reader.now),
+)
