@@ -1,16 +1,40 @@
--- Fields that are read in another order than they stand in.
-use Rattle.std.proofs.Common.{◌≡◌, Option, None, Some, Err, refl, ap}
+-- Commands of which a part isn't there, in whatever order the parts are read.
+use Rattle.std.proofs.Common.{◌≡◌, Option, None, Some, Result, Ok, Err, refl, sym, subst, true≢false}
+use Rattle.std.specs.Prelude.{IsErr, IsErrAnd}
 use Rattle.std.specs.Option.{option_map, option_and_then, ok_or}
+use Rattle.org_serve.specs.declared.fault.LineFault.{LineFault}
+use Rattle.org_serve.specs.declared.fault.LineFault.TheVariants.{BadLine, OutOfMemory}
+use Rattle.org_serve.specs.Gives.{Gives}
 
 -- what is refused isn't there
 pub refused : {A E : Type 0} (found : Option A) (fault e : E) → Err e ≡ ok_or found fault → found ≡ None
 refused None fault e is = refl
 refused (Some x) fault e is = absurd (cc)
 
--- a last field that isn't read
-pub last_none : {A B C D X : Type 0} (a : Option A) (b : Option B) (c : Option C) (d : Option D) (make : A → B → C → D → X) → d ≡ None
-    → option_and_then (λ x. option_and_then (λ y. option_and_then (λ z. option_map (λ t. make x y z t) d) c) b) a ≡ None
-last_none None b c d make none = refl
-last_none (Some x) None c d make none = refl
-last_none (Some x) (Some y) None d make none = refl
-last_none (Some x) (Some y) (Some z) d make none = ap (λ e. option_map (λ t. make x y z t) e) none
+-- behind a part that is there or isn't
+pub behind : {A X : Type 0} (a : Option A) (more : A → Option X) → ((x : A) → more x ≡ None) → option_and_then more a ≡ None
+behind None more none = refl
+behind (Some x) more none = none x
+
+-- a file and a path
+abbrev pub both : {A B : Type 0} → Option A → Option B → Option (A × B)
+both {A} {B} a b = option_and_then (λ (x : A). option_map {U = A × B} (λ (y : B). (x, y)) b) a
+
+-- which aren't both there
+pub not_both : {A B X : Type 0} (a : Option A) (b : Option B) (more : A → B → Option X) → both a b ≡ None → option_and_then (λ x. option_and_then (more x) b) a ≡ None
+not_both None b more none = refl
+not_both (Some x) None more none = refl
+not_both (Some x) (Some y) more none = absurd (cc)
+
+-- a `?` hands on that a part isn't there
+pub part_refused : {Y : Type 0} (answer : Result Y LineFault) (whole : Option Y) → IsErr answer → whole ≡ None → Gives answer whole
+part_refused (Ok y) whole failed none = absurd (true≢false (sym failed))
+part_refused (Err BadLine) whole failed none = none
+part_refused (Err OutOfMemory) whole failed none = tt
+
+-- or why it couldn't be read
+pub part_unread : {X Y : Type 0} (fault : LineFault) (part : Option X) (answer : Result Y LineFault) (whole : Option Y) → Gives (Err fault) part → IsErrAnd answer (λ e. e ≡ fault)
+    → (part ≡ None → whole ≡ None) → Gives answer whole
+part_unread fault part (Ok y) whole gives is none = absurd is
+part_unread BadLine part (Err f) whole gives is none = subst (λ (e : LineFault). Gives (Err e) whole) (sym is) (none gives)
+part_unread OutOfMemory part (Err f) whole gives is none = subst (λ (e : LineFault). Gives (Err e) whole) (sym is) tt
