@@ -149,7 +149,12 @@ fn is_org_name(name: &[u8]) -> bool
 fn has_name_bytes(name: &[u8]) -> bool
     ensures { result ≡ list_all is_name_byte name.now }
 {
-    name.iter().all(|b| is_name_byte(*b))
+    for byte in name {
+        if !is_name_byte(*byte) {
+            return false;
+        }
+    }
+    true
 }
 
 fn is_name_byte(byte: u8) -> bool

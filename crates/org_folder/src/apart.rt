@@ -141,7 +141,12 @@ fn first_again(nodes: &[Option<Node>]) -> Option<usize>
 fn is_among(nodes: &[Option<Node>], node: &Option<Node>) -> bool
     ensures { result ≡ list_any (λ other. is_same other node.now) nodes.now }
 {
-    nodes.iter().any(|other| is_same(other, node))
+    for other in nodes {
+        if is_same(other, node) {
+            return true;
+        }
+    }
+    false
 }
 
 fn is_same(one: &Option<Node>, other: &Option<Node>) -> bool

@@ -85,7 +85,12 @@ fn digits(text: &[u8]) -> usize
     ensures count { result ≡ prefix_len is_ascii_digit text.now }
     ensures within { result ≤ length text.now }
 {
-    text.iter().take_while(|byte| byte.is_ascii_digit()).count()
+    for (count, byte) in text.iter().enumerate() {
+        if !byte.is_ascii_digit() {
+            return count;
+        }
+    }
+    text.len()
 }
 
 /// Whether the text is a colon and two digits.
