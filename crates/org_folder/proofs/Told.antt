@@ -1,12 +1,11 @@
 -- What a call that the record tells of did to the files and to their past.
-use Rattle.std.proofs.Common.{◌≡◌, ◌≢◌, ℕ, ◌≤◌, List, [], ◌∷◌, length, true, false, is_ok, IsErr, IfSome, MatchOption, Option, None, Some, ◌<◌, ◌⊎◌, Result, Ok, Err, IfOk, OnOk, OnErr, refl, sym, ◌∙◌, ap, subst, inl, inr, ⊎_elim, arith}
+use Rattle.std.proofs.Common.{◌≡◌, ◌≢◌, ℕ, ◌≤◌, List, [], ◌∷◌, length, true, false, is_ok, IsErr, ◌⊎◌, Result, Ok, Err, IfOk, OnOk, OnErr, refl, sym, ◌∙◌, ap, subst, inl, inr, ⊎_elim, arith}
 use Rattle.org_disk.specs.Disk.{FileState, IsImage, AreImages, AreLeftBy, IsLeftBy, Passes, write, cut, sync}
 use Rattle.org_disk.specs.declared.disk.DiskFault.{DiskFault}
 use Rattle.org_disk.proofs.Moments.{Image, passes_none, passes_as}
 use Rattle.org_disk.proofs.Ranges.{nothing_written}
 use Rattle.org_folder.specs.Calls.{Event, World, files, changed, reading, AreRight, LeftSince, Looks, Does}
 use Rattle.org_folder.specs.Calls.Event.{Length, Read, Write, Cut, Sync}
-use Rattle.std.specs.List.{AllWithin, HoldsAt}
 use Rattle.org_folder.specs.CallsLaws.{changed_here, changed_other, own_image}
 
 abbrev Answer : Type 0
@@ -168,12 +167,6 @@ pub within_called : (world : World) (called name : List ℕ) (n : ℕ) (old mid 
     → n ≤ length (files world mid called).content
 within_called world called name n old mid same before le =
     subst (λ c. n ≤ length (files world mid c).content) (sym same) (subst (λ calls. n ≤ length (files world calls name).content) (sym before) le)
-
--- where a search ends
-pub at_first : {X : Type 0} (Yes No : X → Type 0) (xs : List X) (found : Option ℕ)
-    → MatchOption found (AllWithin No xs 0 (length xs)) (λ i. (i < length xs) × HoldsAt Yes xs i × AllWithin No xs 0 i) → IfSome found (λ i. HoldsAt Yes xs i)
-at_first Yes No xs None first = tt
-at_first Yes No xs (Some i) first = first.1
 
 -- a sync that came to it, or a fault before it
 pub does_sync_opened : (world : World) (called name : List ℕ) (old mid new : List Event) (result : Answer) → AreRight world new → called ≡ name → mid ≡ old

@@ -150,9 +150,12 @@ where
             HoldsAt (λ opened. opened.name ≡ name.now) self.now.files.items at) }
         ensures index { IfSome result (λ at. at < length self.now.files.items) }
     {
-        self.files
-            .iter()
-            .position(|opened| opened.name().as_str() == name.as_str())
+        for (at, opened) in self.files.iter().enumerate() {
+            if opened.name().as_str() == name.as_str() {
+                return Some(at);
+            }
+        }
+        None
     }
 
     fn keep(&mut self, opened: Opened<C::File>) -> Result<usize, DiskFault>
