@@ -154,9 +154,6 @@ returns-in-Ok-eq0-clause-untouched g c = untouched_then c.loop.invariant.1 c.fin
 pub returns-in-Ok-eq0-clause-accounts : goal.returns-in-Ok-eq0-clause-accounts
 returns-in-Ok-eq0-clause-accounts g c = breaks_then c.loop.invariant.1 c.finish.ensures.untouched c.loop.invariant.2 c.finish.ensures.accounts
 
-pub returns-in-Ok-eq0-clause-broken : goal.returns-in-Ok-eq0-clause-broken
-returns-in-Ok-eq0-clause-broken g c = c.finish.ensures.broken
-
 pub returns-in-Err-feed-clause-broken : goal.returns-in-Err-feed-clause-broken
 returns-in-Err-feed-clause-broken g c = tt
 
