@@ -1,5 +1,5 @@
 //! The files of a store as one.
-ghost use Rattle.std.specs.Prelude.{◌≡◌, ◌≤◌, [], None, true, false, length, IsFalse, OnOk, IfOk, IfErr, IsErrOf, IsOk};
+ghost use Rattle.std.specs.Prelude.{◌≡◌, ◌≢◌, ◌≤◌, [], None, true, false, length, IsFalse, OnOk, IfOk, IfErr, IsErrOf, IsOk};
 ghost use Rattle.std.specs.List.{All, Contains};
 ghost use Rattle.std.specs.Map.{keys_of};
 ghost use Rattle.org_disk.specs.Accounts.{Accounts, Looks};
@@ -172,6 +172,28 @@ impl<D: Disk> FileSet<D> {
         if changes.len() == 0 {
             return Ok(());
         }
+        self.commit_changes(changes)
+    }
+
+    // Commits changes, of which there are some, where no call of the disk has failed.
+    fn commit_changes<C: Changes<FileName>>(&mut self, changes: &C) -> Result<(), SetFault>
+        requires whole { IsFalse self.old.broken }
+        requires some { C.pairs changes.now ≢ [] }
+        requires named { All (λ change. Contains self.old.names change.0) (C.pairs changes.now) }
+        requires small { All (λ change. length change.1.bytes ≤ LIMIT) (C.pairs changes.now) }
+        requires edits { D.honest self.old.disk
+            → All (λ change. IsEditOf (contents (D.files self.old.disk) change.0) change.1)
+            (C.pairs changes.now) }
+        ensures commits { D.honest self.new.disk → Commits D.files D.moment D.left_since
+            (changed (C.pairs changes.now) (contents (D.files self.old.disk)))
+            (IsOther (keys_of (C.pairs changes.now))) self.old.disk self.new.disk result }
+        ensures record { D.honest self.new.disk → OnOk result (HasRecordOf (C.pairs changes.now)
+            (contents (D.files self.new.disk) journal_name)) }
+        ensures memory { IsErrOf result SetFault.OutOfMemory → self.new ≡ self.old }
+        ensures set { KeepsSet self.old self.new (λ s. s.names) (λ s. s.broken) result }
+        ensures accounts { Accounts D.steady D.honest D.failures self.old.disk self.new.disk
+            (IsErrOf result SetFault.Device) }
+    {
         let alloc = *self.names.allocator();
         let record = Record::new(entries_of(alloc, changes)?);
         let body = record.encode(alloc)?;

@@ -1,47 +1,16 @@
-use Rattle.std.proofs.Common.{◌≡◌, ℕ, List, [], Option, Some, Ok, Err, length, true≢false, refl, sym, ◌∙◌, ap, subst, arith}
-use Rattle.std.specs.Prelude.{IsTrue}
+use Rattle.std.proofs.Common.{◌≡◌, ℕ, List, [], Ok, Err, length, true≢false, refl, sym, ◌∙◌, ap, arith}
 use Rattle.std.specs.Map.{keys_of}
 use Rattle.std.proofs.lemmas.List.{nil_from_length}
-use Rattle.std.proofs.lemmas.Result.{err_from_is_err_and}
-use Rattle.org_disk.specs.Names.{journal_name}
-use Rattle.org_disk.specs.declared.disk.DiskFault.{DiskFault}
 use Rattle.org_splice.specs.Texts.{EditedText}
-use Rattle.org_journal.specs.declared.record.Entry.{Entry}
-use Rattle.org_journal.specs.declared.record.Version.TheVariants.{Two}
-use Rattle.org_journal.specs.Record.{IsWellFormed}
-use Rattle.org_journal.specs.Recovered.{contents, all_fit, replayed}
+use Rattle.org_journal.specs.Recovered.{contents}
 use Rattle.org_fileset.specs.Entries.{changed}
-use Rattle.org_fileset.specs.Replay.{AreApplicable, Commits}
-use Rattle.org_fileset.specs.Writes.{IsOther, IsUnwritten}
-use Rattle.org_fileset.specs.declared.fault.SetFault.TheVariants.{Broken, Device}
-use Rattle.org_fileset.proofs.Accounted.{accounts_other}
-use Rattle.org_fileset.proofs.Recorded.{changes_applicable, changes_fit}
-use Rattle.org_disk.proofs.Accounting.{accounts_none, accounts_ok}
-use Rattle.org_journal.proofs.Accounted.{accounts_answered, accounts_failed, accounts_quiet}
-use Rattle.org_fileset.proofs.Sets.{keeps_whole, keeps_broken, keeps_refused, ok_apart, device_apart, broken_apart, memory_apart, passed_never}
-use Rattle.org_fileset.proofs.Committing.{committable, all_edits, changes_formed, commits_none, commits_changes, has_record}
+use Rattle.org_fileset.specs.Writes.{IsOther}
+use Rattle.org_fileset.specs.declared.fault.SetFault.TheVariants.{Broken}
+use Rattle.org_disk.proofs.Accounting.{accounts_none}
+use Rattle.org_journal.proofs.Accounted.{accounts_answered, accounts_quiet}
+use Rattle.org_fileset.proofs.Sets.{keeps_whole, keeps_refused, broken_apart}
+use Rattle.org_fileset.proofs.Committing.{commits_none}
 use Rattle.org_fileset.proofs.set.FileSet.commit.Goals as goal
-
-pub encode-requires : goal.encode-requires
-encode-requires g c =
-    let named = rw (← c.self.view_is) at c.requires.named in
-    subst (λ (l : List Entry). IsWellFormed Two l) (sym c.new-record.ensures)
-    (changes_formed c.self.inside.names.items (g.C.Changes.pairs c.args.changes.now) c.in_ok-entries_of.field-0.items c.in_ok-entries_of.ensures.entries c.in_ok-entries_of.ensures.distinct
-    (λ none. omega (arith, c.if-len-eq0.false, c.len.ensures.len ∙ ap length none)) c.self.invariant.each c.self.invariant.few named c.requires.small)
-
-pub commit_entries-requires-clause-applicable : goal.commit_entries-requires-clause-applicable
-commit_entries-requires-clause-applicable g c honest =
-    let named = rw (← c.self.view_is) at c.requires.named in
-    subst AreApplicable (sym (c.entries.ensures ∙ c.new-record.ensures))
-    (changes_applicable (g.C.Changes.pairs c.args.changes.now) c.in_ok-entries_of.field-0.items c.in_ok-entries_of.ensures.entries c.in_ok-entries_of.ensures.distinct
-    (committable c.self.inside.names.items (g.C.Changes.pairs c.args.changes.now) c.self.invariant.each named c.requires.small))
-
-pub commit_entries-requires-clause-fits : goal.commit_entries-requires-clause-fits
-commit_entries-requires-clause-fits g c honest =
-    let edits = rw (← c.self.view_is) at c.requires.edits in
-    let files = contents (g.D.Disk.files c.self.inside.disk) in
-    subst (λ (l : List Entry). IsTrue (all_fit l files)) (sym (c.entries.ensures ∙ c.new-record.ensures))
-    (changes_fit (g.C.Changes.pairs c.args.changes.now) c.in_ok-entries_of.field-0.items files c.in_ok-entries_of.ensures.entries (all_edits files (g.C.Changes.pairs c.args.changes.now) (edits c.if-self.false honest)))
 
 pub returns-then-len-eq0-clause-commits : goal.returns-then-len-eq0-clause-commits
 returns-then-len-eq0-clause-commits g c honest =
@@ -53,109 +22,9 @@ returns-then-len-eq0-clause-commits g c honest =
     commits_none d.files d.moment d.left_since (changed changes files) (IsOther (keys_of changes)) disk (Ok tt) (λ image left. g.met.D.Disk.only_now disk image honest left)
     (record { made = λ name not. ap (λ (l : List (List ℕ × EditedText)). changed l files name) (sym none); rest = λ rest. rest })
 
-pub returns-in_err-entries_of-clause-commits : goal.returns-in_err-entries_of-clause-commits
-returns-in_err-entries_of-clause-commits g c honest =
-    let d = g.D.Disk in
-    let disk = c.args.self.now.disk in
-    let after = changed (g.C.Changes.pairs c.args.changes.now) (contents (d.files disk)) in
-    commits_none d.files d.moment d.left_since after (IsOther (keys_of (g.C.Changes.pairs c.args.changes.now))) disk c.from_residual.result (λ image left. g.met.D.Disk.only_now disk image honest left) (passed_never _ _ c.from_residual.result c.from_residual.ensures.1)
-
-pub returns-in_err-body-clause-commits : goal.returns-in_err-body-clause-commits
-returns-in_err-body-clause-commits g c honest =
-    let d = g.D.Disk in
-    let disk = c.args.self.now.disk in
-    let after = changed (g.C.Changes.pairs c.args.changes.now) (contents (d.files disk)) in
-    commits_none d.files d.moment d.left_since after (IsOther (keys_of (g.C.Changes.pairs c.args.changes.now))) disk c.from_residual-in_err-body.result (λ image left. g.met.D.Disk.only_now disk image honest left) (passed_never _ _ c.from_residual-in_err-body.result c.from_residual-in_err-body.ensures.1)
-
-pub returns-in-Ok-clause-commits : goal.returns-in-Ok-clause-commits
-returns-in-Ok-clause-commits g c = rw (← c.self.view_is) (λ ended.
-    let honest = c.commit_entries.ensures.accounts.was_honest ended in
-    let edits = rw (← c.self.view_is) at c.requires.edits in
-    let d = g.D.Disk in
-    let disk = c.self.inside.disk in
-    let after = c.commit_entries.new.disk in
-    let entries = c.in_ok-entries_of.field-0.items in
-    let files = contents (d.files disk) in
-    let made : Commits {A = Unit {0}} {E = DiskFault} d.files d.moment d.left_since (replayed entries files) (IsUnwritten entries) disk after (Ok tt) =
-    subst (λ (l : List Entry). Commits {A = Unit {0}} {E = DiskFault} d.files d.moment d.left_since (replayed l files) (IsUnwritten l) disk after (Ok tt)) (c.entries.ensures ∙ c.new-record.ensures) (c.in-Ok.ensures.commits ended) in
-    commits_changes d.files d.moment d.left_since (g.C.Changes.pairs c.args.changes.now) entries disk after (Ok tt) (Ok tt) (λ none. omega (arith, c.if-len-eq0.false, c.len.ensures.len ∙ ap length none)) c.in_ok-entries_of.ensures.entries
-    (all_edits files (g.C.Changes.pairs c.args.changes.now) (edits c.if-self.false honest)) made made.done)
-
-pub returns-clause-commits : goal.returns-clause-commits
-returns-clause-commits g c = rw (← c.self.view_is) (λ ended.
-    let honest = c.commit_entries.ensures.accounts.was_honest ended in
-    let edits = rw (← c.self.view_is) at c.requires.edits in
-    let d = g.D.Disk in
-    let disk = c.self.inside.disk in
-    let after = c.commit_entries.new.disk in
-    let entries = c.in_ok-entries_of.field-0.items in
-    let files = contents (d.files disk) in
-    let made : Commits {A = Unit {0}} {E = DiskFault} d.files d.moment d.left_since (replayed entries files) (IsUnwritten entries) disk after c.commit_entries.result =
-    subst (λ (l : List Entry). Commits {A = Unit {0}} {E = DiskFault} d.files d.moment d.left_since (replayed l files) (IsUnwritten l) disk after c.commit_entries.result) (c.entries.ensures ∙ c.new-record.ensures) (c.commit_entries.ensures.commits ended) in
-    commits_changes d.files d.moment d.left_since (g.C.Changes.pairs c.args.changes.now) entries disk after c.commit_entries.result (Err Device) (λ none. omega (arith, c.if-len-eq0.false, c.len.ensures.len ∙ ap length none)) c.in_ok-entries_of.ensures.entries
-    (all_edits files (g.C.Changes.pairs c.args.changes.now) (edits c.if-self.false honest)) made tt)
-
--- the record of the changes
-pub returns-in-Ok-clause-record : goal.returns-in-Ok-clause-record
-returns-in-Ok-clause-record g c ended =
-    let journal = contents (g.D.Disk.files c.commit_entries.new.disk) journal_name in
-    has_record (g.C.Changes.pairs c.args.changes.now) c.in_ok-entries_of.field-0.items journal c.in_ok-entries_of.ensures.entries
-    (c.in-Ok.ensures.record ended ∙ ap (λ (l : List Entry). let o : Option (List Entry) = Some l in o) (c.entries.ensures ∙ c.new-record.ensures))
-
-pub returns-in_err-entries_of-clause-nothing : goal.returns-in_err-entries_of-clause-nothing
-returns-in_err-entries_of-clause-nothing g c none = absurd (omega (arith, c.if-len-eq0.false, c.len.ensures.len ∙ ap length none))
-
-pub returns-in_err-body-clause-nothing : goal.returns-in_err-body-clause-nothing
-returns-in_err-body-clause-nothing g c none = absurd (omega (arith, c.if-len-eq0.false, c.len.ensures.len ∙ ap length none))
-
-pub returns-in-Ok-clause-nothing : goal.returns-in-Ok-clause-nothing
-returns-in-Ok-clause-nothing g c none = absurd (omega (arith, c.if-len-eq0.false, c.len.ensures.len ∙ ap length none))
-
-pub returns-clause-nothing : goal.returns-clause-nothing
-returns-clause-nothing g c none = absurd (omega (arith, c.if-len-eq0.false, c.len.ensures.len ∙ ap length none))
-
 pub returns-then-len-eq0-clause-set : goal.returns-then-len-eq0-clause-set
 returns-then-len-eq0-clause-set g c =
     rw (← c.self.view_is) (keeps_whole _ _ _ _ refl c.if-self.false c.if-self.false (Ok (tt {0})) (λ e. cc e) (λ e. cc e))
-
-pub returns-in_err-entries_of-clause-set : goal.returns-in_err-entries_of-clause-set
-returns-in_err-entries_of-clause-set g c =
-    let p = err_from_is_err_and c.from_residual.result c.from_residual.ensures.1 in
-    rw (← c.self.view_is) (keeps_whole _ _ _ _ refl c.if-self.false c.if-self.false c.from_residual.result (λ e. cc (e, p.1, p.2)) (λ e. cc (e, p.1, p.2)))
-
-pub returns-in_err-body-clause-set : goal.returns-in_err-body-clause-set
-returns-in_err-body-clause-set g c =
-    let p = err_from_is_err_and c.from_residual-in_err-body.result c.from_residual-in_err-body.ensures.1 in
-    rw (← c.self.view_is) (keeps_whole _ _ _ _ refl c.if-self.false c.if-self.false c.from_residual-in_err-body.result (λ e. cc (e, p.1, p.2)) (λ e. cc (e, p.1, p.2)))
-
-pub returns-in-Ok-clause-set : goal.returns-in-Ok-clause-set
-returns-in-Ok-clause-set g c =
-    rw (← c.self.view_is) (keeps_whole _ _ _ _ refl c.if-self.false c.if-self.false (Ok (tt {0})) (λ e. cc e) (λ e. cc e))
-
-pub returns-clause-set : goal.returns-clause-set
-returns-clause-set g c = rw (← c.self.view_is) (keeps_broken _ _ _ _ refl c.if-self.false refl)
-
-pub returns-in-Ok-clause-accounts : goal.returns-in-Ok-clause-accounts
-returns-in-Ok-clause-accounts g c = rw (← c.self.view_is) (accounts_answered (accounts_ok c.in-Ok.ensures.accounts))
-
-pub returns-clause-accounts : goal.returns-clause-accounts
-returns-clause-accounts g c = rw (← c.self.view_is) (accounts_failed refl c.in-Err.ensures.accounts)
-
-pub commit_entries-requires-clause-journal : goal.commit_entries-requires-clause-journal
-commit_entries-requires-clause-journal g c = c.self.invariant.journal_is
-
-pub commit_entries-requires-clause-gate : goal.commit_entries-requires-clause-gate
-commit_entries-requires-clause-gate g c = c.self.invariant.gate c.if-self.false
-
-pub invariant_of-self : goal.invariant_of-self
-invariant_of-self g c =
-    let s = c.self.invariant in
-    record { journal_is = s.journal_is; each = s.each; few = s.few; gate = λ fine honest. c.in-Ok.ensures.gate honest }
-
-pub invariant_of-self-in-Err : goal.invariant_of-self-in-Err
-invariant_of-self-in-Err g c =
-    let s = c.self.invariant in
-    record { journal_is = s.journal_is; each = s.each; few = s.few; gate = λ fine. absurd (true≢false fine) }
 
 pub returns-then-self-clause-commits : goal.returns-then-self-clause-commits
 returns-then-self-clause-commits g c honest =
@@ -194,29 +63,23 @@ returns-then-len-eq0-clause-nothing g c none = (refl, λ whole. refl)
 pub returns-then-len-eq0-clause-accounts : goal.returns-then-len-eq0-clause-accounts
 returns-then-len-eq0-clause-accounts g c = accounts_answered (accounts_none _ _ _ _)
 
-pub returns-in_err-entries_of-clause-record : goal.returns-in_err-entries_of-clause-record
-returns-in_err-entries_of-clause-record g c honest = passed_never _ _ c.from_residual.result c.from_residual.ensures.1
+pub commit_changes-requires-clause-some : goal.commit_changes-requires-clause-some
+commit_changes-requires-clause-some g c none = omega (arith, c.if-len-eq0.false, c.len.ensures.len ∙ ap length none)
 
-pub returns-in_err-entries_of-clause-memory : goal.returns-in_err-entries_of-clause-memory
-returns-in_err-entries_of-clause-memory g c e = refl
+pub returns-clause-nothing : goal.returns-clause-nothing
+returns-clause-nothing g c none = absurd (omega (arith, c.if-len-eq0.false, c.len.ensures.len ∙ ap length none))
 
-pub returns-in_err-entries_of-clause-accounts : goal.returns-in_err-entries_of-clause-accounts
-returns-in_err-entries_of-clause-accounts g c = accounts_other c.from_residual.ensures.1 memory_apart (accounts_none _ _ _ _)
-
-pub returns-in_err-body-clause-record : goal.returns-in_err-body-clause-record
-returns-in_err-body-clause-record g c honest = passed_never _ _ c.from_residual-in_err-body.result c.from_residual-in_err-body.ensures.1
-
-pub returns-in_err-body-clause-memory : goal.returns-in_err-body-clause-memory
-returns-in_err-body-clause-memory g c e = refl
-
-pub returns-in_err-body-clause-accounts : goal.returns-in_err-body-clause-accounts
-returns-in_err-body-clause-accounts g c = accounts_other c.from_residual-in_err-body.ensures.1 memory_apart (accounts_none _ _ _ _)
-
-pub returns-in-Ok-clause-memory : goal.returns-in-Ok-clause-memory
-returns-in-Ok-clause-memory g c e = absurd (ok_apart e)
+pub returns-clause-commits : goal.returns-clause-commits
+returns-clause-commits g c = c.commit_changes.ensures.commits
 
 pub returns-clause-record : goal.returns-clause-record
-returns-clause-record g c honest = tt
+returns-clause-record g c = c.commit_changes.ensures.record
 
 pub returns-clause-memory : goal.returns-clause-memory
-returns-clause-memory g c e = absurd (device_apart e)
+returns-clause-memory g c = c.commit_changes.ensures.memory
+
+pub returns-clause-set : goal.returns-clause-set
+returns-clause-set g c = c.commit_changes.ensures.set
+
+pub returns-clause-accounts : goal.returns-clause-accounts
+returns-clause-accounts g c = c.commit_changes.ensures.accounts
