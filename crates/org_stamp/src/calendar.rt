@@ -1,10 +1,11 @@
-//! Days of the calendar, by the calendar's library.
+//! Days of the calendar, by jiff.
 ghost use Rattle.std.specs.Prelude.{◌≡◌, ◌<◌, ◌^◌, ◌≤ℤ◌, IfSome, neg_ℤ, pos};
 ghost use Rattle.org_stamp.specs.Parts.{day_if_any};
 ghost use Rattle.jiff_core.specs.Calendar.{IsBetween};
 ghost use Rattle.org_stamp.specs.Calendar.{IsDay, days_after, month_number, months_after, to_year_9999, day_number, weekday_of};
 
-use jiff_core::civil::{self, Date};
+use jiff::Span;
+use jiff::civil::{self, Date};
 use std::marker::Model;
 
 /// A day of the calendar, in a year from 0001 to 9999.
@@ -32,14 +33,13 @@ impl Day {
     pub fn new(year: u16, month: u16, day: u16) -> Option<Day>
         ensures { result ≡ day_if_any year month day }
     {
-        if year < 1 || year > 9999 || month < 1 || month > 12 || day < 1 || day > 31 {
+        if year < 1 || year > 9999 || month > 12 || day > 31 {
             return None;
         }
-        let (month, day) = (month as u8, day as u8);
-        if day > civil::days_in_month(year as i16, month) {
-            return None;
+        match Date::new(year as i16, month as i8, day as i8) {
+            Ok(date) => Some(Day::of(date)),
+            Err(_) => None,
         }
-        Some(Day { year, month, day })
     }
 
     /// The year, from 1 to 9999.
@@ -72,11 +72,7 @@ impl Day {
         ensures month { result.month ≡ self.month }
         ensures day { result.day ≡ self.day }
     {
-        Date {
-            year: self.year as i16,
-            month: self.month,
-            day: self.day,
-        }
+        civil::date(self.year as i16, self.month as i8, self.day as i8)
     }
 
     /// Days since 1970-01-01.
@@ -85,7 +81,7 @@ impl Day {
         ensures valid { IsDay self }
         ensures bound { IsBetween (neg_ℤ (pos 4_371_587)) (pos 2_932_896) result }
     {
-        self.date().to_unix_epoch_day()
+        self.date().to_plain().to_unix_epoch_day()
     }
 
     /// The day of the week, from 0 for Monday.
@@ -105,9 +101,9 @@ impl Day {
         ensures valid { IsDay result }
     {
         Day {
-            year: date.year as u16,
-            month: date.month,
-            day: date.day,
+            year: date.year() as u16,
+            month: date.month() as u8,
+            day: date.day() as u8,
         }
     }
 
@@ -117,7 +113,10 @@ impl Day {
         ensures value { result ≡ to_year_9999 (days_after self days) }
         ensures valid { IfSome result IsDay }
     {
-        match Date::from_unix_epoch_day(self.number() as i64 + days as i64) {
+        let Ok(span) = Span::new().try_days(days as i64) else {
+            return None;
+        };
+        match self.date().checked_add(span) {
             Ok(date) => Some(Day::of(date)),
             Err(_) => None,
         }
@@ -130,12 +129,13 @@ impl Day {
         ensures value { result ≡ to_year_9999 (months_after self months) }
         ensures valid { IfSome result IsDay }
     {
-        let number = self.year as u64 * 12 + (self.month as u64 - 1) + months;
-        let year = number / 12;
-        if year > 9999 {
+        let Ok(span) = Span::new().try_months(months as i64) else {
             return None;
+        };
+        match self.date().checked_add(span) {
+            Ok(date) => Some(Day::of(date)),
+            Err(_) => None,
         }
-        Some(Day::of(Date::constrain(year as i16, (number % 12 + 1) as u8, self.day)))
     }
 
     /// Months since January of the year 0.

@@ -1,0 +1,144 @@
+-- Days and months that the library adds to a day.
+use Rattle.std.proofs.Common.{◌≡◌, ℕ, ◌<◌, ◌≤◌, inl, inr, Bool, true, false, IsTrue, ℤ, pos, neg_ℤ, ◌+ℤ◌, ◌≤ℤ◌, refl, ap, ◌∙◌, arith}
+use Rattle.std.proofs.lemmas.Bool.{cases_lt}
+use Rattle.jiff_core.specs.declared.civil.date.Date.{Date}
+use Rattle.jiff_core.specs.declared.span.Span.{Span}
+use Rattle.jiff_core.specs.declared.unit.Unit.TheVariants.{Nanosecond, Microsecond, Millisecond, Second, Minute, Hour, Day, Week, Month, Year}
+use Rattle.jiff_core.specs.Calendar.{days_from_civil}
+use Rattle.jiff_core.specs.Date.{epoch_day}
+use Rattle.jiff_core.specs.Sign.{signed}
+use Rattle.jiff_core.specs.Span.{SetsUnit, total_magnitude, span_months, span_days, clock_days}
+use Rattle.jiff_core.proofs.SignedLemmas.{signed_arith}
+use Rattle.jiff_core.proofs.DateLemmas.{epoch_day_range}
+use Rattle.jiff.specs.Words.{date_add, CanAddToDate, add_months, shifted_year, shifted_month}
+use Rattle.jiff.proofs.Family.{add_months-zero}
+use Rattle.org_stamp.specs.Calendar.{CivilDay, IsDay, day_number, days_after, months_after}
+use Rattle.org_stamp.proofs.Later.{IsFoundDay, civil_of, last_number, year_within, same_parts, no_day, months_civil}
+
+-- the library's date of the day
+pub record IsDateOf (d : CivilDay) (a : Date) : Type 0 where
+  pub year : a.year ≡ pos d.year
+  pub month : a.month ≡ d.month
+  pub day : a.day ≡ d.day
+
+same_number : (d : CivilDay) (a : Date) → IsDateOf d a → epoch_day a ≡ day_number d
+same_number d a is = ap (λ y. days_from_civil y a.month a.day) is.year ∙ ap (λ m. days_from_civil (pos d.year) m a.day) is.month ∙ ap (λ n. days_from_civil (pos d.year) d.month n) is.day
+
+-- the span goes that many months and days forward, and no part of a day
+pub record GoesOn (months days : ℕ) (s : Span) : Type 0 where
+  pub months_are : span_months s ≡ pos months
+  pub days_are : span_days s ≡ pos days
+  pub clock : clock_days s ≡ pos 0
+
+not_negative : (b : Bool) → (IsTrue b → ⊥) → b ≡ false
+not_negative true not = absurd (not refl)
+not_negative false not = refl
+
+signed_forward : (b : Bool) (m n : ℕ) → b ≡ false → m ≡ n → signed b m ≡ pos n
+signed_forward true m n is same = absurd (cc)
+signed_forward false m n is same = ap pos same
+
+signed_zero : (b : Bool) (n : ℕ) → n ≡ 0 → signed b n ≡ pos 0
+signed_zero true n none = omega (arith, signed_arith)
+signed_zero false n none = omega (arith, signed_arith)
+
+unsigned_old : (old : Span) → total_magnitude old ≡ 0 → IsTrue old.negative → ⊥
+unsigned_old old none negative = omega (arith, old.zero_has_no_sign negative, none)
+
+pub by_days : (n : ℕ) (z : ℤ) (old s : Span) → total_magnitude old ≡ 0 → SetsUnit Day z old s → z ≡ pos n → GoesOn 0 n s
+by_days n z old s none sets is =
+    let forward : s.negative ≡ false = not_negative s.negative (λ negative. elim (sets.sign.0 negative) [
+      | inl less ↦ omega (arith, signed_arith, less, is)
+      | inr old_too ↦ unsigned_old old none old_too.0
+    ]) in
+    let years : s.years ≡ 0 = omega (arith, sets.others Year (omega arith), none) in
+    let months : s.months ≡ 0 = omega (arith, sets.others Month (omega arith), none) in
+    let weeks : s.weeks ≡ 0 = omega (arith, sets.others Week (omega arith), none) in
+    let hours : s.hours ≡ 0 = omega (arith, sets.others Hour (omega arith), none) in
+    let minutes : s.minutes ≡ 0 = omega (arith, sets.others Minute (omega arith), none) in
+    let seconds : s.seconds ≡ 0 = omega (arith, sets.others Second (omega arith), none) in
+    let milli : s.milliseconds ≡ 0 = omega (arith, sets.others Millisecond (omega arith), none) in
+    let micro : s.microseconds ≡ 0 = omega (arith, sets.others Microsecond (omega arith), none) in
+    let nano : s.nanoseconds ≡ 0 = omega (arith, sets.others Nanosecond (omega arith), none) in
+    record {
+      months_are = signed_zero s.negative _ (omega (arith, years, months));
+      days_are = signed_forward s.negative _ n forward (omega (arith, signed_arith, weeks, sets.value, is));
+      clock = signed_zero s.negative _ (omega (arith, hours, minutes, seconds, milli, micro, nano));
+    }
+
+pub by_months : (n : ℕ) (z : ℤ) (old s : Span) → total_magnitude old ≡ 0 → SetsUnit Month z old s → z ≡ pos n → GoesOn n 0 s
+by_months n z old s none sets is =
+    let forward : s.negative ≡ false = not_negative s.negative (λ negative. elim (sets.sign.0 negative) [
+      | inl less ↦ omega (arith, signed_arith, less, is)
+      | inr old_too ↦ unsigned_old old none old_too.0
+    ]) in
+    let years : s.years ≡ 0 = omega (arith, sets.others Year (omega arith), none) in
+    let weeks : s.weeks ≡ 0 = omega (arith, sets.others Week (omega arith), none) in
+    let days : s.days ≡ 0 = omega (arith, sets.others Day (omega arith), none) in
+    let hours : s.hours ≡ 0 = omega (arith, sets.others Hour (omega arith), none) in
+    let minutes : s.minutes ≡ 0 = omega (arith, sets.others Minute (omega arith), none) in
+    let seconds : s.seconds ≡ 0 = omega (arith, sets.others Second (omega arith), none) in
+    let milli : s.milliseconds ≡ 0 = omega (arith, sets.others Millisecond (omega arith), none) in
+    let micro : s.microseconds ≡ 0 = omega (arith, sets.others Microsecond (omega arith), none) in
+    let nano : s.nanoseconds ≡ 0 = omega (arith, sets.others Nanosecond (omega arith), none) in
+    record {
+      months_are = signed_forward s.negative _ n forward (omega (arith, signed_arith, years, sets.value, is));
+      days_are = signed_zero s.negative _ (omega (arith, weeks, days));
+      clock = signed_zero s.negative _ (omega (arith, hours, minutes, seconds, milli, micro, nano));
+    }
+
+-- ---- days
+
+pub days_added : (d : CivilDay) (a : Date) (n : ℕ) (s : Span) → IsDateOf d a → GoesOn 0 n s → date_add a s ≡ day_number d +ℤ pos n
+days_added d a n s is on =
+    rw (on.months_are, on.days_are, on.clock, add_months-zero a) (omega (arith, signed_arith, same_number d a is))
+
+pub days_fit : (d : CivilDay) (a : Date) (n : ℕ) (s : Span) → IsDateOf d a → GoesOn 0 n s → (neg_ℤ (pos 4_371_587) ≤ℤ (day_number d +ℤ pos n)) × ((day_number d +ℤ pos n) ≤ℤ pos 2_932_896) → CanAddToDate a s
+days_fit d a n s is on within =
+    let added = days_added d a n s is on in
+    (rw on.months_are (omega (arith, signed_arith, a.year_in, a.month_in)), rw added within)
+
+-- more days than a span has lead past the last year
+pub days_past : (d : CivilDay) (n : ℕ) → IsDay d → (n ≤ 7_304_484 → ⊥) → 9999 < (days_after d n).year
+days_past d n h not =
+    let many : 7_304_484 < n = elim (cases_lt 7_304_484 n) [ inl past ↦ past | inr few ↦ absurd (not few) ] in
+    no_day d n h (λ within. omega (arith, signed_arith, (last_number d (civil_of d h) h.0.1).0, within.1, many))
+
+-- ---- months
+
+shifted : (d : CivilDay) (a : Date) (n : ℕ) → IsDay d → IsDateOf d a → (shifted_year a (pos n) ≡ pos (months_after d n).year) × (shifted_month a (pos n) ≡ (months_after d n).month)
+shifted d a n h is = omega (arith, signed_arith, is.year, is.month, h.1)
+
+pub months_added : (d : CivilDay) (a : Date) (n : ℕ) (s : Span) → IsDay d → IsDateOf d a → GoesOn n 0 s → date_add a s ≡ day_number (months_after d n)
+months_added d a n s h is on =
+    let parts = shifted d a n h is in
+    let months : add_months a (pos n) ≡ day_number (months_after d n) = rw (parts.0, parts.1, is.day) refl in
+    rw (on.months_are, on.days_are, on.clock) (omega (arith, signed_arith, months))
+
+pub months_fit : (d : CivilDay) (a : Date) (n : ℕ) (s : Span) → IsDay d → IsDateOf d a → GoesOn n 0 s → (months_after d n).year ≤ 9999 → CanAddToDate a s
+months_fit d a n s h is on last =
+    let added = months_added d a n s h is on in
+    let parts = shifted d a n h is in
+    (rw (on.months_are, parts.0) (omega (arith, signed_arith, last)), rw added (last_number (months_after d n) (months_civil d n h) last))
+
+pub months_past : (d : CivilDay) (n : ℕ) → IsDay d → (n ≤ 239_976 → ⊥) → 9999 < (months_after d n).year
+months_past d n h not =
+    let many : 239_976 < n = elim (cases_lt 239_976 n) [ inl past ↦ past | inr few ↦ absurd (not few) ] in
+    omega (arith, h.0.0, many)
+
+-- where the library has no such day, the year is past 9999
+pub no_months : (d : CivilDay) (a : Date) (n : ℕ) (s : Span) → IsDay d → IsDateOf d a → GoesOn n 0 s → (CanAddToDate a s → ⊥) → 9999 < (months_after d n).year
+no_months d a n s h is on none =
+    elim (cases_lt 9999 (months_after d n).year) [
+      | inl past ↦ past
+      | inr last ↦ absurd (none (months_fit d a n s h is on last))
+    ]
+
+-- the library's date of the day that the number has
+pub months_found : (d : CivilDay) (n : ℕ) (date : Date) → IsDay d → epoch_day date ≡ day_number (months_after d n) → IsFoundDay date (months_after d n)
+months_found d n date h e =
+    let civil = months_civil d n h in
+    let range = epoch_day_range date in
+    let last = year_within (months_after d n) civil (rw (← e) range.1) in
+    let parts = same_parts date (months_after d n) civil last e in
+    record { civil = civil; last = last; year = parts.0; month = parts.1; day = parts.2 }
