@@ -1,8 +1,9 @@
 -- What calls over a store's files do, told of the store.
 use Rattle.std.proofs.Common.{◌≡◌, inl, inr, ℕ, ◌+◌, false, List, [], Result, Ok, Err, refl, sym, ◌∙◌, ap, subst, if◌then◌else◌}
+use Rattle.org_disk.specs.declared.disk.Disk.{Ghosts}
 use Rattle.std.specs.Prelude.{◌↔◌, IsErrOf, IsTrue}
 use Rattle.std.proofs.lemmas.Bool.{false≢true}
-use Rattle.org_disk.specs.Accounts.{Looks}
+use Rattle.org_disk.specs.Accounts.{LooksOver}
 use Rattle.org_disk.specs.Disk.{FileState, AreImages}
 use Rattle.org_outline.specs.States.{Keywords}
 use Rattle.org_journal.specs.Recovered.{Image, contents}
@@ -67,16 +68,16 @@ counts_from old mid new same (Err OutOfMemory) counts = still old mid new same c
 counts_from old mid new same (Err Device) counts = rw (same.accepted, same.acknowledged, same.group) at counts
 counts_from old mid new same (Err Broken) counts = still old mid new same counts
 
-module _ {D : Type 0} (files : D → List ℕ → FileState) (moment : D → ℕ) (left_since : D → ℕ → Image → Type 0) (honest : D → Type 0) (old : Kept D)
-    (start : honest old.disk → (image : Image) → left_since old.disk (moment old.disk) image → AreImages (files old.disk) image)
-    (own : old.session.settled ≡ texts_of (contents (files old.disk)) old.session.names) where
+module _ {D : Type 0} (g : Ghosts D) (old : Kept D)
+    (start : g.honest old.disk → (image : Image) → g.left_since old.disk (g.moment old.disk) image → AreImages (g.files old.disk) image)
+    (own : old.session.settled ≡ texts_of (contents (g.files old.disk)) old.session.names) where
   -- a call that looks at the disk at most
-  pub acts_quiet : (new : Kept D) (outcome : Outcome) (answer : Result Reply RunFault) → IsQuiet answer → (honest new.disk → honest old.disk) → (honest new.disk → Does old.session outcome answer new.session)
-      → (honest new.disk → Looks files moment left_since old.disk new.disk) → new.session.settled ≡ texts_of (contents (files new.disk)) new.session.names → SameCounts old.session new.session
-      → (IsErrOf answer Broken → ⊥) → (IsErrOf answer Device ↔ IsTrue new.session.broken) → Acts files moment left_since honest old outcome answer new
+  pub acts_quiet : (new : Kept D) (outcome : Outcome) (answer : Result Reply RunFault) → IsQuiet answer → (g.honest new.disk → g.honest old.disk) → (g.honest new.disk → Does old.session outcome answer new.session)
+      → (g.honest new.disk → LooksOver g old.disk new.disk) → new.session.settled ≡ texts_of (contents (g.files new.disk)) new.session.names → SameCounts old.session new.session
+      → (IsErrOf answer Broken → ⊥) → (IsErrOf answer Device ↔ IsTrue new.session.broken) → Acts g old outcome answer new
   acts_quiet new outcome answer quiet was does looks now same works breaks = record {
     does = does;
-    disk = λ h. leaves_same files moment left_since old (IsLeft old.session (contents (files old.disk)) outcome answer new.session.accepted)
+    disk = λ h. leaves_same g old (IsLeft old.session (contents (g.files old.disk)) outcome answer new.session.accepted)
         (IsLeftAlone old.session old.waiting outcome answer new.session.accepted) (IsErrOf answer Device) (start (was h)) own
         (λ image holds. inl holds) new (looks h).time (looks h).same now;
     counts = quiet_counts old.session new.session same answer quiet;
@@ -86,13 +87,13 @@ module _ {D : Type 0} (files : D → List ℕ → FileState) (moment : D → ℕ
 
   -- a call that changes nothing, for this reason
   module _ (new : Kept D) (same : new ≡ old) (unbroken : old.session.broken ≡ false) (outcome : Outcome) where
-    unwritten : (fault : RunFault) → honest new.disk → LeavesDisk files moment left_since old new (IsLeft {A = Reply} old.session (contents (files old.disk)) outcome (Err fault) new.session.accepted)
+    unwritten : (fault : RunFault) → g.honest new.disk → LeavesDisk g old new (IsLeft {A = Reply} old.session (contents (g.files old.disk)) outcome (Err fault) new.session.accepted)
         (IsLeftAlone {A = Reply} old.session old.waiting outcome (Err fault) new.session.accepted) (IsErrOf {T = Reply} (Err fault) Device)
     unwritten fault h =
-        leaves_unwritten files moment left_since old (IsLeft {A = Reply} old.session (contents (files old.disk)) outcome (Err fault) new.session.accepted)
+        leaves_unwritten g old (IsLeft {A = Reply} old.session (contents (g.files old.disk)) outcome (Err fault) new.session.accepted)
         (IsLeftAlone {A = Reply} old.session old.waiting outcome (Err fault) new.session.accepted) (IsErrOf {T = Reply} (Err fault) Device)
-        (start (subst (λ (k : Kept D). honest k.disk) same h)) own (λ image holds. inl holds)
-        new (ap (λ (k : Kept D). k.disk) same) (subst (λ (k : Kept D). k.session.settled ≡ texts_of (contents (files k.disk)) k.session.names) (sym same) own)
+        (start (subst (λ (k : Kept D). g.honest k.disk) same h)) own (λ image holds. inl holds)
+        new (ap (λ (k : Kept D). k.disk) same) (subst (λ (k : Kept D). k.session.settled ≡ texts_of (contents (g.files k.disk)) k.session.names) (sym same) own)
 
     counts_stay : SameCounts old.session new.session
     counts_stay = subst (λ (k : Kept D). SameCounts old.session k.session) (sym same) (record { accepted = refl; acknowledged = refl; group = refl })
@@ -100,7 +101,7 @@ module _ {D : Type 0} (files : D → List ℕ → FileState) (moment : D → ℕ
     whole : IsTrue new.session.broken → ⊥
     whole broken = false≢true (sym unbroken ∙ sym (ap (λ (k : Kept D). k.session.broken) same) ∙ broken)
 
-    pub acts_refused : (why : Refusal) → outcome ≡ Refuses why → Acts files moment left_since honest old outcome (Err (Refused why)) new
+    pub acts_refused : (why : Refusal) → outcome ≡ Refuses why → Acts g old outcome (Err (Refused why)) new
     acts_refused why is = record {
       does = λ h. (unbroken, is, ap (λ (k : Kept D). k.session) same);
       disk = unwritten (Refused why);
@@ -109,7 +110,7 @@ module _ {D : Type 0} (files : D → List ℕ → FileState) (moment : D → ℕ
       breaks = (λ fell. absurd (cc), λ broken. absurd (whole broken));
     }
 
-    pub acts_starved : Acts files moment left_since honest old outcome (Err OutOfMemory) new
+    pub acts_starved : Acts g old outcome (Err OutOfMemory) new
     acts_starved = record {
       does = λ h. (unbroken, ap (λ (k : Kept D). k.session) same);
       disk = unwritten OutOfMemory;
@@ -120,12 +121,12 @@ module _ {D : Type 0} (files : D → List ℕ → FileState) (moment : D → ℕ
 
   -- a plan that couldn't be put
   pub acts_put : (new : Kept D) → new ≡ old → (plan : Plan) (held next : Holding) → old.session.broken ≡ false → (result : Result (Unit {0}) RunFault) (fault : RunFault) (answer : Result Reply RunFault) → result ≡ Err fault
-      → answer ≡ Err fault → PutsPlan plan held result next → Acts files moment left_since honest old (changed old.session (new_texts plan held.now)) answer new
+      → answer ≡ Err fault → PutsPlan plan held result next → Acts g old (changed old.session (new_texts plan held.now)) answer new
   acts_put new same plan held next unbroken result fault answer was is puts =
-      subst (λ (a : Result Reply RunFault). Acts files moment left_since honest old (changed old.session (new_texts plan held.now)) a new) (sym is)
+      subst (λ (a : Result Reply RunFault). Acts g old (changed old.session (new_texts plan held.now)) a new) (sym is)
       (go fault (subst (λ (r : Result (Unit {0}) RunFault). PutsPlan plan held r next) was puts))
     where
-      go : (f : RunFault) → PutsPlan plan held (Err f) next → Acts files moment left_since honest old (changed old.session (new_texts plan held.now)) (Err f) new
+      go : (f : RunFault) → PutsPlan plan held (Err f) next → Acts g old (changed old.session (new_texts plan held.now)) (Err f) new
       go (Refused TooLarge) puts = acts_refused new same unbroken (changed old.session (new_texts plan held.now)) TooLarge (refuses_large old.session (new_texts plan held.now) puts.0)
       go (Refused NoSuchFile) puts = absurd puts
       go (Refused BadTemplate) puts = absurd puts
@@ -147,11 +148,11 @@ module _ {D : Type 0} (files : D → List ℕ → FileState) (moment : D → ℕ
 
   -- a file that couldn't be read
   pub acts_read : {A : Type 0} (new : Kept D) (outcome : Outcome) (result : Result A RunFault) (fault : RunFault) (answer : Result Reply RunFault) → result ≡ Err fault → answer ≡ Err fault → old.session.broken ≡ false
-      → (honest new.disk → honest old.disk) → (honest new.disk → Reads old.session result new.session) → (honest new.disk → Looks files moment left_since old.disk new.disk)
-      → new.session.settled ≡ texts_of (contents (files new.disk)) new.session.names → SameCounts old.session new.session
-      → (IsErrOf result Broken → ⊥) → (IsErrOf result Device ↔ IsTrue new.session.broken) → Acts files moment left_since honest old outcome answer new
+      → (g.honest new.disk → g.honest old.disk) → (g.honest new.disk → Reads old.session result new.session) → (g.honest new.disk → LooksOver g old.disk new.disk)
+      → new.session.settled ≡ texts_of (contents (g.files new.disk)) new.session.names → SameCounts old.session new.session
+      → (IsErrOf result Broken → ⊥) → (IsErrOf result Device ↔ IsTrue new.session.broken) → Acts g old outcome answer new
   acts_read {A} new outcome result fault answer was is unbroken honest_before reads looks now same works breaks =
-      subst (λ (a : Result Reply RunFault). Acts files moment left_since honest old outcome a new) (sym is)
+      subst (λ (a : Result Reply RunFault). Acts g old outcome a new) (sym is)
       (acts_quiet new outcome (Err fault) tt honest_before (λ h. does_read A old.session new.session outcome fault unbroken (subst (λ (r : Result A RunFault). Reads old.session r new.session) was (reads h)))
       looks now same (λ broken. works (was ∙ same_err fault Broken broken)) (λ fell. breaks.0 (was ∙ same_err fault Device fell), λ broken. err_same fault Device (sym was ∙ breaks.1 broken)))
     where
@@ -162,20 +163,20 @@ module _ {D : Type 0} (files : D → List ℕ → FileState) (moment : D → ℕ
       err_same fault other same = let one : fault ≡ other = cc in ap (λ (f : RunFault). Err f) one
 
   -- a call that looks at the disk at most, and one after it
-  pub acts_after : (mid new : Kept D) (outcome later : Outcome) (answer : Result Reply RunFault) → mid.waiting ≡ old.waiting → (honest new.disk → honest mid.disk) → (honest mid.disk → honest old.disk)
-      → (honest mid.disk → (outcome ≡ later) × (mid.session ≡ old.session)) → (honest mid.disk → Looks files moment left_since old.disk mid.disk) → SameCounts old.session mid.session
-      → Acts files moment left_since honest mid later answer new → Acts files moment left_since honest old outcome answer new
+  pub acts_after : (mid new : Kept D) (outcome later : Outcome) (answer : Result Reply RunFault) → mid.waiting ≡ old.waiting → (g.honest new.disk → g.honest mid.disk) → (g.honest mid.disk → g.honest old.disk)
+      → (g.honest mid.disk → (outcome ≡ later) × (mid.session ≡ old.session)) → (g.honest mid.disk → LooksOver g old.disk mid.disk) → SameCounts old.session mid.session
+      → Acts g mid later answer new → Acts g old outcome answer new
   acts_after mid new outcome later answer waits was was_before plans looks same acts = record {
     does = λ h. let is = plans (was h) in subst (λ (s : Session). Does s outcome answer new.session) is.1 (subst (λ (o : Outcome). Does mid.session o answer new.session) (sym is.0) (acts.does h));
     disk = λ h.
         let is = plans (was h) in
         let looked = looks (was h) in
-        leaves_after files moment left_since old (IsLeft old.session (contents (files old.disk)) outcome answer new.session.accepted) (IsLeftAlone old.session old.waiting outcome answer new.session.accepted) (IsErrOf answer Device)
+        leaves_after g old (IsLeft old.session (contents (g.files old.disk)) outcome answer new.session.accepted) (IsLeftAlone old.session old.waiting outcome answer new.session.accepted) (IsErrOf answer Device)
         (start (was_before (was h))) own
         (λ image holds. inl holds)
-        mid new (IsLeft mid.session (contents (files mid.disk)) later answer new.session.accepted) (IsLeftAlone mid.session mid.waiting later answer new.session.accepted) (IsErrOf answer Device) looked.time looked.same (acts.disk h)
-        (λ image left. subst (λ (s : Session). IsLeft s (contents (files old.disk)) outcome answer new.session.accepted image) is.1
-        (subst (λ (o : Outcome). IsLeft mid.session (contents (files old.disk)) o answer new.session.accepted image) (sym is.0)
+        mid new (IsLeft mid.session (contents (g.files mid.disk)) later answer new.session.accepted) (IsLeftAlone mid.session mid.waiting later answer new.session.accepted) (IsErrOf answer Device) looked.time looked.same (acts.disk h)
+        (λ image left. subst (λ (s : Session). IsLeft s (contents (g.files old.disk)) outcome answer new.session.accepted image) is.1
+        (subst (λ (o : Outcome). IsLeft mid.session (contents (g.files old.disk)) o answer new.session.accepted image) (sym is.0)
         (subst (λ (f : List ℕ → FileState). IsLeft mid.session (contents f) later answer new.session.accepted image) looked.same left)))
         (λ name this. rw (is.1, waits) (subst (λ (o : Outcome). IsLeftAlone old.session old.waiting o answer new.session.accepted name) is.0 this))
         (λ fell. fell);
@@ -186,13 +187,13 @@ module _ {D : Type 0} (files : D → List ℕ → FileState) (moment : D → ℕ
 
   -- one more command was counted, or wasn't
   module _ (new : Kept D) (outcome : Outcome) (names waiting texts : List (List ℕ)) (result : Result (Unit {0}) RunFault) (joins : Joins old.waiting names waiting) (accepts : outcome ≡ Accepts names texts) (unbroken : old.session.broken ≡ false)
-      (keeps : honest new.disk → Keeps old.session texts result new.session)
-      (leaves : honest new.disk → LeavesDisk files moment left_since old new (IsLeft old.session (contents (files old.disk)) (Accepts waiting texts) result new.session.accepted)
+      (keeps : g.honest new.disk → Keeps old.session texts result new.session)
+      (leaves : g.honest new.disk → LeavesDisk g old new (IsLeft old.session (contents (g.files old.disk)) (Accepts waiting texts) result new.session.accepted)
       (IsLeftAlone old.session [] (Accepts waiting texts) result new.session.accepted) (IsErrOf result Device))
       (counts : KeepsCounts old.session result new.session) (breaks : IsErrOf result Device ↔ IsTrue new.session.broken) where
-    left_accepting : (answer : Result Reply RunFault) (image : Image) → IsLeft old.session (contents (files old.disk)) (Accepts waiting texts) answer new.session.accepted image
-        → IsLeft old.session (contents (files old.disk)) outcome answer new.session.accepted image
-    left_accepting answer image left = subst (λ (o : Outcome). IsLeft old.session (contents (files old.disk)) o answer new.session.accepted image) (sym accepts) left
+    left_accepting : (answer : Result Reply RunFault) (image : Image) → IsLeft old.session (contents (g.files old.disk)) (Accepts waiting texts) answer new.session.accepted image
+        → IsLeft old.session (contents (g.files old.disk)) outcome answer new.session.accepted image
+    left_accepting answer image left = subst (λ (o : Outcome). IsLeft old.session (contents (g.files old.disk)) o answer new.session.accepted image) (sym accepts) left
 
     -- fewer files wait to be written
     alone_accepting : (answer : Result Reply RunFault) → (MayHaveWritten result → MayHaveWritten answer) → (name : List ℕ) → IsLeftAlone old.session old.waiting outcome answer new.session.accepted name
@@ -202,15 +203,15 @@ module _ {D : Type 0} (files : D → List ℕ → FileState) (moment : D → ℕ
         subst (λ (o : Outcome). IsSpared old.session old.waiting o new.session.accepted name) accepts (this (wrote writing)) in
         other_joined old.waiting names waiting joins name (told full counted)
 
-    pub acts_done : (n : ℕ) → result ≡ Ok tt → n ≡ new.session.accepted → Acts files moment left_since honest old outcome (Ok (Done n)) new
+    pub acts_done : (n : ℕ) → result ≡ Ok tt → n ≡ new.session.accepted → Acts g old outcome (Ok (Done n)) new
     acts_done n is number =
         let done = subst (λ r. KeepsCounts old.session r new.session) is counts in
         let more : n ≡ old.session.accepted + 1 = number ∙ done.0 in
         record {
           does = λ h. (unbroken, (texts, (names, accepts), more, subst (λ r. Keeps old.session texts r new.session) is (keeps h)));
-          disk = λ h. leaves_weaker files moment left_since old new (IsLeft old.session (contents (files old.disk)) (Accepts waiting texts) result new.session.accepted) (IsLeft old.session (contents (files old.disk)) outcome (Ok (Done n)) new.session.accepted)
+          disk = λ h. leaves_weaker g old new (IsLeft old.session (contents (g.files old.disk)) (Accepts waiting texts) result new.session.accepted) (IsLeft old.session (contents (g.files old.disk)) outcome (Ok (Done n)) new.session.accepted)
               (IsLeftAlone old.session [] (Accepts waiting texts) result new.session.accepted) (IsLeftAlone old.session old.waiting outcome (Ok (Done n)) new.session.accepted) (IsErrOf result Device) (IsErrOf {T = Reply} (Ok (Done n)) Device) (leaves h)
-              (λ image left. left_accepting (Ok (Done n)) image (left_as old.session (contents (files old.disk)) (Accepts waiting texts) result (Ok (Done n)) new.session.accepted image (λ wrote. tt) left))
+              (λ image left. left_accepting (Ok (Done n)) image (left_as old.session (contents (g.files old.disk)) (Accepts waiting texts) result (Ok (Done n)) new.session.accepted image (λ wrote. tt) left))
               (alone_accepting (Ok (Done n)) (λ wrote. tt))
               (λ fell. let no : Ok tt ≡ Err Device = sym is ∙ fell in absurd (cc));
           counts = (more, sym number, done.1 ∙ ap (λ (k : ℕ). if fills old.session then k else old.session.acknowledged) (sym more), done.2);
@@ -218,12 +219,12 @@ module _ {D : Type 0} (files : D → List ℕ → FileState) (moment : D → ℕ
           breaks = (λ fell. absurd (cc), λ broken. let fell : result ≡ Err Device = breaks.1 broken in let no : Ok tt ≡ Err Device = sym is ∙ fell in absurd (cc));
         }
 
-    pub acts_fault : (fault : RunFault) → result ≡ Err fault → Acts files moment left_since honest old outcome (Err fault) new
+    pub acts_fault : (fault : RunFault) → result ≡ Err fault → Acts g old outcome (Err fault) new
     acts_fault fault is = record {
       does = λ h. does_fault fault (subst (λ r. KeepsCounts old.session r new.session) is counts) (subst (λ r. Keeps old.session texts r new.session) is (keeps h));
-      disk = λ h. leaves_weaker files moment left_since old new (IsLeft old.session (contents (files old.disk)) (Accepts waiting texts) result new.session.accepted) (IsLeft {A = Reply} old.session (contents (files old.disk)) outcome (Err fault) new.session.accepted)
+      disk = λ h. leaves_weaker g old new (IsLeft old.session (contents (g.files old.disk)) (Accepts waiting texts) result new.session.accepted) (IsLeft {A = Reply} old.session (contents (g.files old.disk)) outcome (Err fault) new.session.accepted)
           (IsLeftAlone old.session [] (Accepts waiting texts) result new.session.accepted) (IsLeftAlone {A = Reply} old.session old.waiting outcome (Err fault) new.session.accepted) (IsErrOf result Device) (IsErrOf {T = Reply} (Err fault) Device) (leaves h)
-          (λ image left. left_accepting (Err fault) image (left_as {B = Reply} old.session (contents (files old.disk)) (Accepts waiting texts) result (Err fault) new.session.accepted image (λ wrote. subst MayHaveWritten is wrote) left))
+          (λ image left. left_accepting (Err fault) image (left_as {B = Reply} old.session (contents (g.files old.disk)) (Accepts waiting texts) result (Err fault) new.session.accepted image (λ wrote. subst MayHaveWritten is wrote) left))
           (alone_accepting (Err fault) (λ wrote. subst MayHaveWritten is wrote))
           (λ fell. same_answer fault Device (sym is ∙ fell));
       counts = counts_fault fault (subst (λ r. KeepsCounts old.session r new.session) is counts);

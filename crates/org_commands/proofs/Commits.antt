@@ -1,5 +1,6 @@
 -- A commit of held texts, told in the texts of a store's files.
 use Rattle.std.proofs.Common.{◌≡◌, ◌≢◌, ◌⊎◌, inl, inr, ℕ, ◌≤◌, Bool, true, false, List, [], ◌∷◌, length, map, Option, Some, None, Result, Ok, Err, refl, sym, ◌∙◌, ap, subst, if◌then◌else◌}
+use Rattle.org_disk.specs.declared.disk.Disk.{Ghosts}
 use Rattle.std.specs.Prelude.{◌↔◌, IsErrOf, IsTrue}
 use Rattle.std.specs.List.{All, AllByRecursion, Contains, list_any}
 use Rattle.std.specs.Map.{keys_of}
@@ -9,7 +10,6 @@ use Rattle.std.proofs.lemmas.Bool.{cases_Bool, false≢true}
 use Rattle.std.proofs.lemmas.List.Elements.{All-from_recursion}
 use Rattle.org_disk.specs.Names.{journal_name}
 use Rattle.org_disk.specs.Accounts.{LeavesOver}
-use Rattle.org_disk.specs.Disk.{FileState}
 use Rattle.org_disk.proofs.Names.{name_cases, same_name}
 use Rattle.org_splice.specs.Texts.{EditedText, IsEditOf, settled}
 use Rattle.org_journal.specs.Recovered.{Image, SameFiles, contents}
@@ -17,7 +17,7 @@ use Rattle.org_fileset.specs.Entries.{changed}
 use Rattle.org_fileset.specs.declared.fault.SetFault.{SetFault}
 use Rattle.org_fileset.specs.declared.fault.SetFault.TheVariants as set_fault
 use Rattle.org_fileset.specs.Names.{limit}
-use Rattle.org_fileset.specs.Replay.{Commits, IsAtRest}
+use Rattle.org_fileset.specs.Replay.{CommitsOver, IsAtRest}
 use Rattle.org_fileset.specs.Writes.{LeavesAlone, IsOther}
 use Rattle.org_texts.specs.Files.{waits}
 use Rattle.org_texts.specs.Texts.{Holding, TextSet, bytes_or, held_over, pairs, settled_set, text_of, text_or_none}
@@ -134,10 +134,10 @@ texts_settled_are names old new set apart same = texts_same (held_over (settled_
 
 -- ---- what a commit of the waiting texts says, told in the texts of the store's files
 
-module _ {D : Type 0} (files : D → List ℕ → FileState) (moment : D → ℕ) (left_since : D → ℕ → Image → Type 0) (names : List (List ℕ)) (live : Type 0) (old new : D) (set : TextSet)
-    (apart : AllByRecursion (λ name. name ≢ journal_name) names) (are : AreTextsOf names live (contents (files old)) set) (l : live) where
+module _ {D : Type 0} (g : Ghosts D) (names : List (List ℕ)) (live : Type 0) (old new : D) (set : TextSet)
+    (apart : AllByRecursion (λ name. name ≢ journal_name) names) (are : AreTextsOf names live (contents (g.files old)) set) (l : live) where
   abbrev before : Image
-  before = contents (files old)
+  before = contents (g.files old)
 
   abbrev after : List (List ℕ)
   after = texts_of (held_over set before) names
@@ -151,28 +151,28 @@ module _ {D : Type 0} (files : D → List ℕ → FileState) (moment : D → ℕ
   told : texts_of (changed (pairs set) before) names ≡ after
   told = texts_same (changed (pairs set) before) (held_over set before) names (λ name there. is_held name)
 
-  any_moment : {A E : Type 0} (result : Result A E) → Commits files moment left_since (changed (pairs set) before) (IsOther (keys_of (pairs set))) old new result → IsAtRest (files old)
-      → LeavesOver moment left_since old new (HoldsEither names before after)
+  any_moment : {A E : Type 0} (result : Result A E) → CommitsOver g (changed (pairs set) before) (IsOther (keys_of (pairs set))) old new result → IsAtRest (g.files old)
+      → LeavesOver g old new (HoldsEither names before after)
   any_moment result commits rest = leaves_as (commits.any_moment rest) (λ image left. subst (λ (texts : List (List ℕ)). HoldsEither names before texts image) told
       (left_by_commit names before (changed (pairs set) before) outside image left))
 
-  alone_waiting : LeavesAlone files moment left_since (IsOther (keys_of (pairs set))) old new → LeavesAlone files moment left_since (IsOther set.waiting) old new
-  alone_waiting alone = subst (λ (ns : List (List ℕ)). LeavesAlone files moment left_since (IsOther ns) old new) (pairs_keys set set.waiting) alone
+  alone_waiting : LeavesAlone g (IsOther (keys_of (pairs set))) old new → LeavesAlone g (IsOther set.waiting) old new
+  alone_waiting alone = subst (λ (ns : List (List ℕ)). LeavesAlone g (IsOther ns) old new) (pairs_keys set set.waiting) alone
 
-  pub commit_failed : {A E : Type 0} (result : Result A E) (fault : E) → Commits files moment left_since (changed (pairs set) before) (IsOther (keys_of (pairs set))) old new result
-      → CommitsTexts {A = A} files moment left_since names set.waiting after old new (Err fault)
+  pub commit_failed : {A E : Type 0} (result : Result A E) (fault : E) → CommitsOver g (changed (pairs set) before) (IsOther (keys_of (pairs set))) old new result
+      → CommitsTexts {A = A} g names set.waiting after old new (Err fault)
   commit_failed result fault commits = record { texts = tt; others = tt; rest = tt; any_moment = any_moment result commits; recoverable = commits.recoverable; alone = alone_waiting commits.alone }
 
-  pub made_held : SameFiles (contents (files new)) (changed (pairs set) before) → SameFiles (contents (files new)) (held_over set before)
+  pub made_held : SameFiles (contents (g.files new)) (changed (pairs set) before) → SameFiles (contents (g.files new)) (held_over set before)
   made_held made name not = made name not ∙ is_held name
 
-  pub commit_done : {A E : Type 0} (a : A) → Commits {A = A} {E = E} files moment left_since (changed (pairs set) before) (IsOther (keys_of (pairs set))) old new (Ok a) → CommitsTexts {A = A} {E = E} files moment left_since names set.waiting after old new (Ok a)
+  pub commit_done : {A E : Type 0} (a : A) → CommitsOver {A = A} {E = E} g (changed (pairs set) before) (IsOther (keys_of (pairs set))) old new (Ok a) → CommitsTexts {A = A} {E = E} g names set.waiting after old new (Ok a)
   commit_done a commits =
-      let now : texts_of (contents (files new)) names ≡ after = texts_same (contents (files new)) (held_over set before) names
+      let now : texts_of (contents (g.files new)) names ≡ after = texts_same (contents (g.files new)) (held_over set before) names
       (λ name there. made_held commits.done.made name (apart_from names apart name there)) in
       record {
         texts = now;
-        others = subst (λ (texts : List (List ℕ)). SameFiles (contents (files new)) (with_texts names texts before)) now (others_committed names before (contents (files new)) (changed (pairs set) before) outside commits.done.made);
+        others = subst (λ (texts : List (List ℕ)). SameFiles (contents (g.files new)) (with_texts names texts before)) now (others_committed names before (contents (g.files new)) (changed (pairs set) before) outside commits.done.made);
         rest = commits.done.rest;
         any_moment = any_moment (Ok a) commits;
         recoverable = commits.recoverable;

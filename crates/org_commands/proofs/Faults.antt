@@ -1,5 +1,6 @@
 -- Answers of calls, and what their faults say of the files and of the accounts.
-use Rattle.std.proofs.Common.{◌≡◌, ◌∙◌, ℕ, Bool, false, true, Result, Ok, Err, refl, sym, subst}
+use Rattle.std.proofs.Common.{◌≡◌, ◌∙◌, Bool, false, true, Result, Ok, Err, refl, sym, subst}
+use Rattle.org_disk.specs.declared.disk.Disk.{Ghosts}
 use Rattle.std.specs.Prelude.{◌↔◌, IfOk, IsErrOf, IsTrue}
 use Rattle.org_disk.specs.Accounts.{Accounts}
 use Rattle.org_disk.proofs.Accounting.{accounts_fine, accounts_none, accounts_then}
@@ -37,15 +38,15 @@ pub breaks_handed : {A B : Type 0} (first : Result A RunFault) (second : Result 
 breaks_handed first second fault mid new was given same breaks =
     (λ fell. same ∙ breaks.0 (fault_of_first first second fault Device was given fell), λ broken. fault_of_first second first fault Device given was (breaks.1 (sym same ∙ broken)))
 
-module _ {D : Type 0} {steady : Type 0} {honest : D → Type 0} {failures : D → ℕ} {old mid new : D} where
+module _ {D : Type 0} {g : Ghosts D} {old mid new : D} where
   -- the accounts of a call behind one whose answer is Ok
-  pub accounts_behind : {A Failed : Type 0} (answer : Result A RunFault) (x : A) → answer ≡ Ok x → Accounts steady honest failures old mid (IsErrOf answer Device) → Accounts steady honest failures mid new Failed
-      → Accounts steady honest failures old new Failed
+  pub accounts_behind : {A Failed : Type 0} (answer : Result A RunFault) (x : A) → answer ≡ Ok x → Accounts g old mid (IsErrOf answer Device) → Accounts g mid new Failed
+      → Accounts g old new Failed
   accounts_behind answer x is first second = accounts_then (accounts_fine (λ fell. fine_is_no_fault answer x Device is fell) first) second
 
   -- the accounts of a call, where another answer fails just where its own does, and the disk stays behind it
-  pub accounts_as : {Failed Fails : Type 0} → new ≡ mid → (Fails → Failed) → (Failed → Fails) → Accounts steady honest failures old mid Failed → Accounts steady honest failures old new Fails
-  accounts_as {Fails = Fails} same back on call = subst (λ disk. Accounts steady honest failures old disk Fails) (sym same) (record {
+  pub accounts_as : {Failed Fails : Type 0} → new ≡ mid → (Fails → Failed) → (Failed → Fails) → Accounts g old mid Failed → Accounts g old new Fails
+  accounts_as {Fails = Fails} same back on call = subst (λ disk. Accounts g old disk Fails) (sym same) (record {
     was_honest = call.was_honest;
     stays_honest = call.stays_honest;
     no_less = call.no_less;
@@ -55,9 +56,9 @@ module _ {D : Type 0} {steady : Type 0} {honest : D → Type 0} {failures : D �
 
   -- the accounts of a call whose fault is handed on, behind which the disk stays
   pub accounts_handed : {A B : Type 0} (first : Result A RunFault) (second : Result B RunFault) (fault : RunFault) → first ≡ Err fault → second ≡ Err fault → new ≡ mid
-      → Accounts steady honest failures old mid (IsErrOf first Device) → Accounts steady honest failures old new (IsErrOf second Device)
+      → Accounts g old mid (IsErrOf first Device) → Accounts g old new (IsErrOf second Device)
   accounts_handed first second fault was given same call = accounts_as same (fault_of_first first second fault Device was given) (fault_of_first second first fault Device given was) call
 
 -- the accounts of a call in memory
-pub accounts_memory : {D Fails : Type 0} {steady : Type 0} {honest : D → Type 0} {failures : D → ℕ} {old new : D} → new ≡ old → (Fails → ⊥) → Accounts steady honest failures old new Fails
-accounts_memory {steady = steady} {honest = honest} {failures = failures} {old = old} same fine = accounts_as same (λ fails. absurd (fine fails)) (λ no. absurd no) (accounts_none steady honest failures old)
+pub accounts_memory : {D Fails : Type 0} {g : Ghosts D} {old new : D} → new ≡ old → (Fails → ⊥) → Accounts g old new Fails
+accounts_memory {g = g} {old = old} same fine = accounts_as same (λ fails. absurd (fine fails)) (λ no. absurd no) (accounts_none g old)

@@ -1,5 +1,6 @@
 -- What the calls of a store leave of its disk.
 use Rattle.std.proofs.Common.{◌≡◌, inl, ℕ, List, sym, ap, subst}
+use Rattle.org_disk.specs.declared.disk.Disk.{Ghosts}
 use Rattle.org_disk.specs.Disk.{FileState, AreImages, Passes}
 use Rattle.org_disk.proofs.Moments.{passes_none, passes_as, passes_then, leaves_only}
 use Rattle.org_journal.specs.Recovered.{Image, SameFiles, IsRecoverable, contents}
@@ -11,53 +12,53 @@ use Rattle.org_commands.specs.Session.{Kept, Holds}
 use Rattle.org_commands.specs.Runs.{LeavesDisk}
 use Rattle.org_commands.proofs.Keeping.{left_at_rest, others_unwritten}
 
-module _ {D : Type 0} (files : D → List ℕ → FileState) (moment : D → ℕ) (left_since : D → ℕ → Image → Type 0) where
+module _ {D : Type 0} (g : Ghosts D) where
   -- less is said of what a crash leaves, and of failures
-  pub leaves_weaker : (old new : Kept D) (Was Left : Image → Type 0) (Under Alone : List ℕ → Type 0) (Fell Failed : Type 0) → LeavesDisk files moment left_since old new Was Under Fell → ((image : Image) → Was image → Left image)
-      → ((name : List ℕ) → Alone name → Under name) → (Fell → Failed) → LeavesDisk files moment left_since old new Left Alone Failed
+  pub leaves_weaker : (old new : Kept D) (Was Left : Image → Type 0) (Under Alone : List ℕ → Type 0) (Fell Failed : Type 0) → LeavesDisk g old new Was Under Fell → ((image : Image) → Was image → Left image)
+      → ((name : List ℕ) → Alone name → Under name) → (Fell → Failed) → LeavesDisk g old new Left Alone Failed
   leaves_weaker old new Was Left Under Alone Fell Failed leaves weaker fewer failed = record {
     any_moment = λ rest. leaves_as (leaves.any_moment rest) weaker;
     others = λ fine. leaves.others (λ fell. fine (failed fell));
     rest = λ fine. leaves.rest (λ fell. fine (failed fell));
     recoverable = leaves.recoverable;
-    alone = alone_fewer files moment left_since Alone Under old.disk new.disk leaves.alone fewer;
+    alone = alone_fewer g Alone Under old.disk new.disk leaves.alone fewer;
   }
 
   -- The settled texts are those of the disk's files, and a crash at the start leaves an image of
   -- these. What is left then recovers to what is settled, and that is allowed.
-  module _ (old : Kept D) (Left : Image → Type 0) (Alone : List ℕ → Type 0) (Failed : Type 0) (start : (image : Image) → left_since old.disk (moment old.disk) image → AreImages (files old.disk) image)
-      (own : old.session.settled ≡ texts_of (contents (files old.disk)) old.session.names) (quiet : (image : Image) → Holds old.session (contents (files old.disk)) old.session.settled image → Left image) where
-    still : IsAtRest (files old.disk) → (image : Image) → AreImages (files old.disk) image → Left image
-    still rest image are = quiet image (left_at_rest old.session (files old.disk) own rest image are)
+  module _ (old : Kept D) (Left : Image → Type 0) (Alone : List ℕ → Type 0) (Failed : Type 0) (start : (image : Image) → g.left_since old.disk (g.moment old.disk) image → AreImages (g.files old.disk) image)
+      (own : old.session.settled ≡ texts_of (contents (g.files old.disk)) old.session.names) (quiet : (image : Image) → Holds old.session (contents (g.files old.disk)) old.session.settled image → Left image) where
+    still : IsAtRest (g.files old.disk) → (image : Image) → AreImages (g.files old.disk) image → Left image
+    still rest image are = quiet image (left_at_rest old.session (g.files old.disk) own rest image are)
 
     -- a call that left the disk's files as they were
-    pub leaves_same : (new : Kept D) → Passes (moment old.disk) (moment new.disk) (left_since old.disk) (left_since new.disk) (AreImages (files old.disk)) → files new.disk ≡ files old.disk
-        → new.session.settled ≡ texts_of (contents (files new.disk)) new.session.names → LeavesDisk files moment left_since old new Left Alone Failed
+    pub leaves_same : (new : Kept D) → Passes (g.moment old.disk) (g.moment new.disk) (g.left_since old.disk) (g.left_since new.disk) (AreImages (g.files old.disk)) → g.files new.disk ≡ g.files old.disk
+        → new.session.settled ≡ texts_of (contents (g.files new.disk)) new.session.names → LeavesDisk g old new Left Alone Failed
     leaves_same new passes same now = record {
       any_moment = λ rest. leaves_only (passes_as passes (still rest)) (λ image since. still rest image (start image since));
-      others = λ fine. others_unwritten new.session.names new.session.settled (files old.disk) (files new.disk) now same;
+      others = λ fine. others_unwritten new.session.names new.session.settled (g.files old.disk) (g.files new.disk) now same;
       rest = λ fine rest. subst IsAtRest (sym same) rest;
       recoverable = λ rest. subst IsRecoverable (sym same) (inl (λ name not. rest.stable name));
-      alone = alone_looks files moment left_since Alone old.disk new.disk (record { same = same; time = passes });
+      alone = alone_looks g Alone old.disk new.disk (record { same = same; time = passes });
     }
 
     -- a call that made no call of the disk
-    pub leaves_unwritten : (new : Kept D) → new.disk ≡ old.disk → new.session.settled ≡ texts_of (contents (files new.disk)) new.session.names → LeavesDisk files moment left_since old new Left Alone Failed
+    pub leaves_unwritten : (new : Kept D) → new.disk ≡ old.disk → new.session.settled ≡ texts_of (contents (g.files new.disk)) new.session.names → LeavesDisk g old new Left Alone Failed
     leaves_unwritten new same now = leaves_same new
-        (subst (λ (disk : D). Passes (moment old.disk) (moment disk) (left_since old.disk) (left_since disk) (AreImages (files old.disk))) (sym same)
-        (passes_none (moment old.disk) (left_since old.disk) (AreImages (files old.disk))))
-        (ap files same) now
+        (subst (λ (disk : D). Passes (g.moment old.disk) (g.moment disk) (g.left_since old.disk) (g.left_since disk) (AreImages (g.files old.disk))) (sym same)
+        (passes_none (g.moment old.disk) (g.left_since old.disk) (AreImages (g.files old.disk))))
+        (ap g.files same) now
 
     -- such a call, and one after it
-    pub leaves_after : (mid new : Kept D) (Later : Image → Type 0) (Under : List ℕ → Type 0) (Fell : Type 0) → Passes (moment old.disk) (moment mid.disk) (left_since old.disk) (left_since mid.disk) (AreImages (files old.disk))
-        → files mid.disk ≡ files old.disk → LeavesDisk files moment left_since mid new Later Under Fell → ((image : Image) → Later image → Left image) → ((name : List ℕ) → Alone name → Under name) → (Fell → Failed)
-        → LeavesDisk files moment left_since old new Left Alone Failed
+    pub leaves_after : (mid new : Kept D) (Later : Image → Type 0) (Under : List ℕ → Type 0) (Fell : Type 0) → Passes (g.moment old.disk) (g.moment mid.disk) (g.left_since old.disk) (g.left_since mid.disk) (AreImages (g.files old.disk))
+        → g.files mid.disk ≡ g.files old.disk → LeavesDisk g mid new Later Under Fell → ((image : Image) → Later image → Left image) → ((name : List ℕ) → Alone name → Under name) → (Fell → Failed)
+        → LeavesDisk g old new Left Alone Failed
     leaves_after mid new Later Under Fell passes same later weaker fewer failed = record {
       any_moment = λ rest. leaves_only
           (passes_then (passes_as passes (still rest)) (later.any_moment (subst IsAtRest (sym same) rest)).passes weaker) (λ image since. still rest image (start image since));
-      others = λ fine. subst (λ (f : List ℕ → FileState). SameFiles (contents (files new.disk)) (with_texts new.session.names new.session.settled (contents f))) same (later.others (λ fell. fine (failed fell)));
+      others = λ fine. subst (λ (f : List ℕ → FileState). SameFiles (contents (g.files new.disk)) (with_texts new.session.names new.session.settled (contents f))) same (later.others (λ fell. fine (failed fell)));
       rest = λ fine rest. later.rest (λ fell. fine (failed fell)) (subst IsAtRest (sym same) rest);
       recoverable = λ rest. later.recoverable (subst IsAtRest (sym same) rest);
-      alone = alone_then files moment left_since Alone old.disk mid.disk new.disk (alone_looks files moment left_since Alone old.disk mid.disk (record { same = same; time = passes }))
-          (alone_fewer files moment left_since Alone Under mid.disk new.disk later.alone fewer);
+      alone = alone_then g Alone old.disk mid.disk new.disk (alone_looks g Alone old.disk mid.disk (record { same = same; time = passes }))
+          (alone_fewer g Alone Under mid.disk new.disk later.alone fewer);
     }

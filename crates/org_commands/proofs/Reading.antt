@@ -1,11 +1,10 @@
 -- Calls that only read: handed on, and one after another.
-use Rattle.std.proofs.Common.{◌≡◌, ◌∙◌, ◌⊎◌, inr, ⊎_elim, ℕ, false, List, Result, Ok, Err, refl, sym}
+use Rattle.std.proofs.Common.{◌≡◌, ◌∙◌, ◌⊎◌, inr, ⊎_elim, false, Result, Ok, Err, refl, sym}
+use Rattle.org_disk.specs.declared.disk.Disk.{Ghosts}
 use Rattle.std.specs.Prelude.{◌↔◌, IsErrOf, IsTrue}
 use Rattle.std.proofs.lemmas.Bool.{false≢true}
-use Rattle.org_disk.specs.Accounts.{Accounts, Looks}
-use Rattle.org_disk.specs.Disk.{FileState}
+use Rattle.org_disk.specs.Accounts.{Accounts, LooksOver}
 use Rattle.org_disk.proofs.Accounting.{accounts_fine, accounts_none, accounts_then, looks_none, looks_then}
-use Rattle.org_journal.specs.Recovered.{Image}
 use Rattle.org_fileset.specs.declared.fault.SetFault.{SetFault}
 use Rattle.org_fileset.specs.declared.fault.SetFault.TheVariants as set
 use Rattle.org_commands.specs.declared.command.RunFault.{RunFault}
@@ -15,8 +14,8 @@ use Rattle.org_commands.specs.Keeping.{fault_of_set}
 use Rattle.org_commands.specs.Reading.{OnlyReads}
 
 -- the accounts of a call, where another answer fails just where its own does
-accounts_as : {D : Type 0} {steady : Type 0} {honest : D → Type 0} {failures : D → ℕ} {old new : D} {Failed Fails : Type 0} → (Fails → Failed) → (Failed → Fails)
-    → Accounts steady honest failures old new Failed → Accounts steady honest failures old new Fails
+accounts_as : {D : Type 0} {g : Ghosts D} {old new : D} {Failed Fails : Type 0} → (Fails → Failed) → (Failed → Fails)
+    → Accounts g old new Failed → Accounts g old new Fails
 accounts_as back on call = record {
   was_honest = call.was_honest;
   stays_honest = call.stays_honest;
@@ -26,24 +25,24 @@ accounts_as back on call = record {
 }
 
 -- a call that did nothing
-pub only_reads_none : {D A : Type 0} {steady : Type 0} {honest : D → Type 0} {failures : D → ℕ} {files : D → List ℕ → FileState} {moment : D → ℕ} {left_since : D → ℕ → Image → Type 0} {old : OpenFiles D} {answer : Result A RunFault}
-    → old.broken ≡ false → (IsErrOf answer Broken → ⊥) → (IsErrOf answer Device → ⊥) → OnlyReads steady honest failures files moment left_since old old answer
-only_reads_none {steady = steady} {honest = honest} {failures = failures} {files = files} {moment = moment} {left_since = left_since} {old = old} unbroken works stays = record {
-  looks = λ h. looks_none files moment left_since old.disk;
+pub only_reads_none : {D A : Type 0} {g : Ghosts D} {old : OpenFiles D} {answer : Result A RunFault}
+    → old.broken ≡ false → (IsErrOf answer Broken → ⊥) → (IsErrOf answer Device → ⊥) → OnlyReads g old old answer
+only_reads_none {g = g} {old = old} unbroken works stays = record {
+  looks = λ h. looks_none g.files g.moment g.left_since old.disk;
   names = refl;
   waits = refl;
   works = works;
   breaks = (λ fell. absurd (stays fell), λ broken. absurd (false≢true (sym unbroken ∙ broken)));
-  accounts = accounts_as stays (λ no. absurd no) (accounts_none steady honest failures old.disk);
+  accounts = accounts_as stays (λ no. absurd no) (accounts_none g old.disk);
 }
 
 -- a call of the set of files that only looks at the disk, and an answer that is the device's fault
 -- just where the set's is
-pub only_reads_set : {D X A : Type 0} {steady : Type 0} {honest : D → Type 0} {failures : D → ℕ} {files : D → List ℕ → FileState} {moment : D → ℕ} {left_since : D → ℕ → Image → Type 0} {old new : OpenFiles D} {answer : Result A RunFault}
+pub only_reads_set : {D X A : Type 0} {g : Ghosts D} {old new : OpenFiles D} {answer : Result A RunFault}
     (result : Result X SetFault) → (IsErrOf answer Broken → ⊥) → (IsErrOf answer Device → IsErrOf result set.Device) → (IsErrOf result set.Device → IsErrOf answer Device)
-    → old.broken ≡ false → new.names ≡ old.names → new.held.before.waiting ≡ old.held.before.waiting → (honest new.disk → Looks files moment left_since old.disk new.disk)
-    → IsTrue new.broken ↔ (IsTrue old.broken ⊎ IsErrOf result set.Device) → Accounts steady honest failures old.disk new.disk (IsErrOf result set.Device)
-    → OnlyReads steady honest failures files moment left_since old new answer
+    → old.broken ≡ false → new.names ≡ old.names → new.held.before.waiting ≡ old.held.before.waiting → (g.honest new.disk → LooksOver g old.disk new.disk)
+    → IsTrue new.broken ↔ (IsTrue old.broken ⊎ IsErrOf result set.Device) → Accounts g old.disk new.disk (IsErrOf result set.Device)
+    → OnlyReads g old new answer
 only_reads_set result works back on unbroken names waits looks breaks accounts = record {
   looks = looks;
   names = names;
@@ -74,10 +73,10 @@ module _ {X A : Type 0} (result : Result X SetFault) (answer : Result A RunFault
 same_fault : {A B : Type 0} (fault other : RunFault) → ◌≡◌ {A = Result A RunFault} (Err fault) (Err other) → ◌≡◌ {A = Result B RunFault} (Err fault) (Err other)
 same_fault fault other is = let one : fault ≡ other = cc in cc
 
-module _ {D : Type 0} {steady : Type 0} {honest : D → Type 0} {failures : D → ℕ} {files : D → List ℕ → FileState} {moment : D → ℕ} {left_since : D → ℕ → Image → Type 0} {A B : Type 0} where
+module _ {D : Type 0} {g : Ghosts D} {A B : Type 0} where
   -- a call, and another answer that has these faults just where its own has
   only_reads_as : {old new : OpenFiles D} {first : Result A RunFault} {second : Result B RunFault} → (IsErrOf second Broken → IsErrOf first Broken) → (IsErrOf second Device → IsErrOf first Device)
-      → (IsErrOf first Device → IsErrOf second Device) → OnlyReads steady honest failures files moment left_since old new first → OnlyReads steady honest failures files moment left_since old new second
+      → (IsErrOf first Device → IsErrOf second Device) → OnlyReads g old new first → OnlyReads g old new second
   only_reads_as broken back on call = record {
     looks = call.looks;
     names = call.names;
@@ -89,18 +88,18 @@ module _ {D : Type 0} {steady : Type 0} {honest : D → Type 0} {failures : D �
 
   -- its fault, handed on
   pub only_reads_fault : {old new : OpenFiles D} {fault : RunFault} {answer : Result B RunFault} → answer ≡ Err fault
-      → OnlyReads {A = A} steady honest failures files moment left_since old new (Err fault) → OnlyReads steady honest failures files moment left_since old new answer
+      → OnlyReads {A = A} g old new (Err fault) → OnlyReads g old new answer
   only_reads_fault {fault = fault} is call =
       only_reads_as (λ broken. same_fault fault Broken (sym is ∙ broken)) (λ fell. same_fault fault Device (sym is ∙ fell)) (λ fell. is ∙ same_fault fault Device fell) call
 
   -- an answer of its own, behind a call that didn't fail
   pub only_reads_fine : {old new : OpenFiles D} {x : A} {answer : Result B RunFault} → (IsErrOf answer Broken → ⊥) → (IsErrOf answer Device → ⊥)
-      → OnlyReads steady honest failures files moment left_since old new (Ok x) → OnlyReads steady honest failures files moment left_since old new answer
+      → OnlyReads g old new (Ok x) → OnlyReads g old new answer
   only_reads_fine works stays call = only_reads_as (λ broken. absurd (works broken)) (λ fell. absurd (stays fell)) (λ fell. absurd (cc)) call
 
   -- a call that didn't fail, and one after it
-  pub only_reads_then : {old mid new : OpenFiles D} {x : A} {answer : Result B RunFault} → OnlyReads steady honest failures files moment left_since old mid (Ok x)
-      → OnlyReads steady honest failures files moment left_since mid new answer → OnlyReads steady honest failures files moment left_since old new answer
+  pub only_reads_then : {old mid new : OpenFiles D} {x : A} {answer : Result B RunFault} → OnlyReads g old mid (Ok x)
+      → OnlyReads g mid new answer → OnlyReads g old new answer
   only_reads_then first second = record {
     looks = λ h. looks_then (first.looks (second.accounts.was_honest h)) (second.looks h);
     names = second.names ∙ first.names;

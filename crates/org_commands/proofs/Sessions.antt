@@ -1,7 +1,8 @@
 -- What the calls of a store's files do to its session.
 use Rattle.std.proofs.Common.{◌≡◌, inl, inr, ⊎_elim, ℕ, ◌+◌, false, true, List, [], Option, Some, Result, Ok, Err, refl, sym, ◌∙◌, ap, subst}
+use Rattle.org_disk.specs.declared.disk.Disk.{Ghosts}
 use Rattle.std.specs.Prelude.{◌↔◌, IsErrOf, IsOkAnd, IsTrue, MatchResult}
-use Rattle.org_disk.specs.Disk.{FileState, AreImages, LeavesOnly}
+use Rattle.org_disk.specs.Disk.{AreImages, LeavesOnly}
 use Rattle.org_outline.specs.States.{Keywords}
 use Rattle.org_journal.specs.Recovered.{Image, IsRecoverable, contents}
 use Rattle.org_fileset.specs.declared.fault.SetFault.{SetFault}
@@ -47,24 +48,24 @@ settle_failed texts states old new tally result set.Device fails =
 settle_failed texts states old new tally result set.Broken fails = absurd (fails.works fails.is)
 
 -- what a settling that failed leaves of the disk
-module _ {D : Type 0} (files : D → List ℕ → FileState) (moment : D → ℕ) (left_since : D → ℕ → Image → Type 0) (states : Keywords) (old new : OpenFiles D) (tally : Tally)
-    (start : (image : Image) → left_since old.disk (moment old.disk) image → AreImages (files old.disk) image) where
+module _ {D : Type 0} (g : Ghosts D) (states : Keywords) (old new : OpenFiles D) (tally : Tally)
+    (start : (image : Image) → g.left_since old.disk (g.moment old.disk) image → AreImages (g.files old.disk) image) where
   abbrev before : Kept D
-  before = kept_over files states old tally
+  before = kept_over g.files states old tally
 
   abbrev now : Kept D
-  now = kept_over files states new tally
+  now = kept_over g.files states new tally
 
-  settle_unwritten : (fault : RunFault) → new ≡ old → LeavesDisk files moment left_since before now (IsLeft {A = Unit {0}} before.session (contents (files old.disk)) AsksToSettle (Err fault) now.session.accepted)
+  settle_unwritten : (fault : RunFault) → new ≡ old → LeavesDisk g before now (IsLeft {A = Unit {0}} before.session (contents (g.files old.disk)) AsksToSettle (Err fault) now.session.accepted)
       (IsLeftAlone {A = Unit {0}} before.session before.waiting AsksToSettle (Err fault) now.session.accepted) (IsErrOf {T = Unit {0}} (Err fault) Device)
   settle_unwritten fault same =
-      leaves_unwritten files moment left_since before (IsLeft {A = Unit {0}} before.session (contents (files old.disk)) AsksToSettle (Err fault) now.session.accepted)
+      leaves_unwritten g before (IsLeft {A = Unit {0}} before.session (contents (g.files old.disk)) AsksToSettle (Err fault) now.session.accepted)
       (IsLeftAlone {A = Unit {0}} before.session before.waiting AsksToSettle (Err fault) now.session.accepted) (IsErrOf {T = Unit {0}} (Err fault) Device) start refl (λ image holds. inl holds) now (ap (λ (held : OpenFiles D). held.disk) same) refl
 
   pub settle_leaves : (result : Result (Unit {0}) SetFault) (fault : SetFault) → Fails old new result fault
-      → (IsAtRest (files old.disk) → LeavesOnly (moment old.disk) (moment new.disk) (left_since old.disk) (left_since new.disk) (HoldsEither old.names (contents (files old.disk)) before.session.files))
-      → (IsAtRest (files old.disk) → IsRecoverable (files new.disk)) → LeavesAlone files moment left_since (IsOther old.held.before.waiting) old.disk new.disk
-      → LeavesDisk files moment left_since before now (IsLeft {A = Unit {0}} before.session (contents (files old.disk)) AsksToSettle (Err (fault_of_set fault)) now.session.accepted)
+      → (IsAtRest (g.files old.disk) → LeavesOnly (g.moment old.disk) (g.moment new.disk) (g.left_since old.disk) (g.left_since new.disk) (HoldsEither old.names (contents (g.files old.disk)) before.session.files))
+      → (IsAtRest (g.files old.disk) → IsRecoverable (g.files new.disk)) → LeavesAlone g (IsOther old.held.before.waiting) old.disk new.disk
+      → LeavesDisk g before now (IsLeft {A = Unit {0}} before.session (contents (g.files old.disk)) AsksToSettle (Err (fault_of_set fault)) now.session.accepted)
       (IsLeftAlone {A = Unit {0}} before.session before.waiting AsksToSettle (Err (fault_of_set fault)) now.session.accepted) (IsErrOf {T = Unit {0}} (Err (fault_of_set fault)) Device)
   settle_leaves result set.OutOfMemory fails leaves fit alone = settle_unwritten OutOfMemory (fails.memory fails.is)
   settle_leaves result set.Device fails leaves fit alone = record {
@@ -72,63 +73,63 @@ module _ {D : Type 0} (files : D → List ℕ → FileState) (moment : D → ℕ
     others = λ fine. absurd (fine refl);
     rest = λ fine. absurd (fine refl);
     recoverable = fit;
-    alone = alone_fewer files moment left_since (IsLeftAlone {A = Unit {0}} before.session before.waiting AsksToSettle (Err Device) now.session.accepted) (IsOther old.held.before.waiting) old.disk new.disk alone (λ name this. this refl);
+    alone = alone_fewer g (IsLeftAlone {A = Unit {0}} before.session before.waiting AsksToSettle (Err Device) now.session.accepted) (IsOther old.held.before.waiting) old.disk new.disk alone (λ name this. this refl);
   }
   settle_leaves result set.Broken fails leaves fit alone = absurd (fails.works fails.is)
 
 -- what the commit of a command that fills the group leaves of the disk
-module _ {D : Type 0} (files : D → List ℕ → FileState) (moment : D → ℕ) (left_since : D → ℕ → Image → Type 0) (states : Keywords) (old new : OpenFiles D) (was now : Tally) (waiting after : List (List ℕ))
-    (full : fills (session_over (λ disk. contents (files disk)) states old was) ≡ true) (more : now.accepted ≡ was.accepted + 1) where
+module _ {D : Type 0} (g : Ghosts D) (states : Keywords) (old new : OpenFiles D) (was now : Tally) (waiting after : List (List ℕ))
+    (full : fills (session_over (λ disk. contents (g.files disk)) states old was) ≡ true) (more : now.accepted ≡ was.accepted + 1) where
   abbrev LeavesFilled : Result (Unit {0}) RunFault → Type 0
-  LeavesFilled answer = LeavesDisk files moment left_since (kept_over files states old was) (kept_over files states new now)
-      (IsLeft (kept_over files states old was).session (contents (files old.disk)) (Accepts waiting after) answer now.accepted)
-      (IsLeftAlone (kept_over files states old was).session [] (Accepts waiting after) answer now.accepted) (IsErrOf answer Device)
+  LeavesFilled answer = LeavesDisk g (kept_over g.files states old was) (kept_over g.files states new now)
+      (IsLeft (kept_over g.files states old was).session (contents (g.files old.disk)) (Accepts waiting after) answer now.accepted)
+      (IsLeftAlone (kept_over g.files states old was).session [] (Accepts waiting after) answer now.accepted) (IsErrOf answer Device)
 
-  pub leaves_filled : new.names ≡ old.names → CommitsTexts {A = Unit {0}} {E = SetFault} files moment left_since old.names waiting after old.disk new.disk (Ok (tt {0})) → LeavesFilled (Ok (tt {0}))
+  pub leaves_filled : new.names ≡ old.names → CommitsTexts {A = Unit {0}} {E = SetFault} g old.names waiting after old.disk new.disk (Ok (tt {0})) → LeavesFilled (Ok (tt {0}))
   leaves_filled names made = record {
     any_moment = λ rest. leaves_as (made.any_moment rest) (λ image either. ⊎_elim (λ held. inl held) (λ all. inr (tt, (after, (refl, full, more), all))) either);
     others = λ fine. rw (names, made.texts) made.others;
     rest = λ fine. made.rest;
     recoverable = made.recoverable;
-    alone = alone_fewer files moment left_since (IsLeftAlone {A = Unit {0}} (kept_over files states old was).session [] (Accepts waiting after) (Ok (tt {0})) now.accepted) (IsOther waiting) old.disk new.disk made.alone (λ name this. this tt full more);
+    alone = alone_fewer g (IsLeftAlone {A = Unit {0}} (kept_over g.files states old was).session [] (Accepts waiting after) (Ok (tt {0})) now.accepted) (IsOther waiting) old.disk new.disk made.alone (λ name this. this tt full more);
   }
 
-  pub leaves_torn : (fault : SetFault) → CommitsTexts {A = Unit {0}} {E = SetFault} files moment left_since old.names waiting after old.disk new.disk (Err fault) → LeavesFilled (Err Device)
+  pub leaves_torn : (fault : SetFault) → CommitsTexts {A = Unit {0}} {E = SetFault} g old.names waiting after old.disk new.disk (Err fault) → LeavesFilled (Err Device)
   leaves_torn fault made = record {
     any_moment = λ rest. leaves_as (made.any_moment rest) (λ image either. ⊎_elim (λ held. inl held) (λ all. inr (refl, (after, (refl, full, more), all))) either);
     others = λ fine. absurd (fine refl);
     rest = λ fine. absurd (fine refl);
     recoverable = made.recoverable;
-    alone = alone_fewer files moment left_since (IsLeftAlone {A = Unit {0}} (kept_over files states old was).session [] (Accepts waiting after) (Err Device) now.accepted) (IsOther waiting) old.disk new.disk made.alone (λ name this. this refl full more);
+    alone = alone_fewer g (IsLeftAlone {A = Unit {0}} (kept_over g.files states old was).session [] (Accepts waiting after) (Err Device) now.accepted) (IsOther waiting) old.disk new.disk made.alone (λ name this. this refl full more);
   }
 
 -- .. and that of a settling
-pub leaves_settled : {D : Type 0} (files : D → List ℕ → FileState) (moment : D → ℕ) (left_since : D → ℕ → Image → Type 0) (states : Keywords) (old new : OpenFiles D) (was now : Tally) → new.names ≡ old.names
-    → CommitsTexts {A = Unit {0}} {E = SetFault} files moment left_since old.names old.held.before.waiting (session_over (λ disk. contents (files disk)) states old was).files old.disk new.disk (Ok (tt {0}))
-    → LeavesDisk files moment left_since (kept_over files states old was) (kept_over files states new now) (IsLeft {A = Unit {0}} (kept_over files states old was).session (contents (files old.disk)) AsksToSettle (Ok (tt {0})) now.accepted)
-    (IsLeftAlone {A = Unit {0}} (kept_over files states old was).session old.held.before.waiting AsksToSettle (Ok (tt {0})) now.accepted) (IsErrOf {T = Unit {0}} {E = RunFault} (Ok (tt {0})) Device)
-leaves_settled files moment left_since states old new was now names made = record {
-  any_moment = λ rest. leaves_as (made.any_moment rest) (λ image either. ⊎_elim (λ held. inl held) (λ all. inr (tt, ((session_over (λ disk. contents (files disk)) states old was).files, refl, all))) either);
+pub leaves_settled : {D : Type 0} (g : Ghosts D) (states : Keywords) (old new : OpenFiles D) (was now : Tally) → new.names ≡ old.names
+    → CommitsTexts {A = Unit {0}} {E = SetFault} g old.names old.held.before.waiting (session_over (λ disk. contents (g.files disk)) states old was).files old.disk new.disk (Ok (tt {0}))
+    → LeavesDisk g (kept_over g.files states old was) (kept_over g.files states new now) (IsLeft {A = Unit {0}} (kept_over g.files states old was).session (contents (g.files old.disk)) AsksToSettle (Ok (tt {0})) now.accepted)
+    (IsLeftAlone {A = Unit {0}} (kept_over g.files states old was).session old.held.before.waiting AsksToSettle (Ok (tt {0})) now.accepted) (IsErrOf {T = Unit {0}} {E = RunFault} (Ok (tt {0})) Device)
+leaves_settled g states old new was now names made = record {
+  any_moment = λ rest. leaves_as (made.any_moment rest) (λ image either. ⊎_elim (λ held. inl held) (λ all. inr (tt, ((session_over (λ disk. contents (g.files disk)) states old was).files, refl, all))) either);
   others = λ fine. rw (names, made.texts) made.others;
   rest = λ fine. made.rest;
   recoverable = made.recoverable;
-  alone = alone_fewer files moment left_since (IsLeftAlone {A = Unit {0}} (kept_over files states old was).session old.held.before.waiting AsksToSettle (Ok (tt {0})) now.accepted) (IsOther old.held.before.waiting) old.disk new.disk made.alone (λ name this. this tt);
+  alone = alone_fewer g (IsLeftAlone {A = Unit {0}} (kept_over g.files states old was).session old.held.before.waiting AsksToSettle (Ok (tt {0})) now.accepted) (IsOther old.held.before.waiting) old.disk new.disk made.alone (λ name this. this tt);
 }
 
 -- the same fault of a settling, handed on as a command's
-pub leaves_handed : {D : Type 0} (files : D → List ℕ → FileState) (moment : D → ℕ) (left_since : D → ℕ → Image → Type 0) (old new : Kept D) (result : Result (Unit {0}) RunFault) (given : Result Reply RunFault) (fault : RunFault)
+pub leaves_handed : {D : Type 0} (g : Ghosts D) (old new : Kept D) (result : Result (Unit {0}) RunFault) (given : Result Reply RunFault) (fault : RunFault)
     → result ≡ Err fault → given ≡ Err fault
-    → LeavesDisk files moment left_since old new (IsLeft old.session (contents (files old.disk)) AsksToSettle result new.session.accepted) (IsLeftAlone old.session old.waiting AsksToSettle result new.session.accepted) (IsErrOf result Device)
-    → LeavesDisk files moment left_since old new (IsLeft old.session (contents (files old.disk)) AsksToSettle given new.session.accepted) (IsLeftAlone old.session old.waiting AsksToSettle given new.session.accepted) (IsErrOf given Device)
-leaves_handed files moment left_since old new result given fault was is leaves =
+    → LeavesDisk g old new (IsLeft old.session (contents (g.files old.disk)) AsksToSettle result new.session.accepted) (IsLeftAlone old.session old.waiting AsksToSettle result new.session.accepted) (IsErrOf result Device)
+    → LeavesDisk g old new (IsLeft old.session (contents (g.files old.disk)) AsksToSettle given new.session.accepted) (IsLeftAlone old.session old.waiting AsksToSettle given new.session.accepted) (IsErrOf given Device)
+leaves_handed g old new result given fault was is leaves =
     let s = old.session in
-    let others = contents (files old.disk) in
+    let others = contents (g.files old.disk) in
     let n = new.session.accepted in
-    subst (λ (r : Result Reply RunFault). LeavesDisk files moment left_since old new (IsLeft s others AsksToSettle r n) (IsLeftAlone s old.waiting AsksToSettle r n) (IsErrOf r Device)) (sym is)
-    (leaves_weaker files moment left_since old new (IsLeft {A = Unit {0}} s others AsksToSettle (Err fault) n) (IsLeft {A = Reply} s others AsksToSettle (Err fault) n)
+    subst (λ (r : Result Reply RunFault). LeavesDisk g old new (IsLeft s others AsksToSettle r n) (IsLeftAlone s old.waiting AsksToSettle r n) (IsErrOf r Device)) (sym is)
+    (leaves_weaker g old new (IsLeft {A = Unit {0}} s others AsksToSettle (Err fault) n) (IsLeft {A = Reply} s others AsksToSettle (Err fault) n)
     (IsLeftAlone {A = Unit {0}} s old.waiting AsksToSettle (Err fault) n) (IsLeftAlone {A = Reply} s old.waiting AsksToSettle (Err fault) n)
     (IsErrOf {T = Unit {0}} (Err fault) Device) (IsErrOf {T = Reply} (Err fault) Device)
-    (subst (λ (r : Result (Unit {0}) RunFault). LeavesDisk files moment left_since old new (IsLeft s others AsksToSettle r n) (IsLeftAlone s old.waiting AsksToSettle r n) (IsErrOf r Device)) was leaves)
+    (subst (λ (r : Result (Unit {0}) RunFault). LeavesDisk g old new (IsLeft s others AsksToSettle r n) (IsLeftAlone s old.waiting AsksToSettle r n) (IsErrOf r Device)) was leaves)
     (λ image left. left) (λ name this. this) (same_fault fault Device))
 
 -- a call that changes no text

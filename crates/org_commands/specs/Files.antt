@@ -1,24 +1,26 @@
 -- What contracts see of a store's files: those of a disk, with what is held of their texts.
 use Rattle.std.specs.Prelude.{◌≡◌, ◌≢◌, ◌≤◌, ◌↔◌, ℕ, Bool, true, false, nat_lt, List, [], ◌∷◌, length, Option, None, Some, IsSome, Result, Ok, Err, OnOk, IsErrOf, IsTrue}
+use Rattle.org_disk.specs.declared.disk.Disk.{Ghosts}
 use Rattle.std.specs.List.{AllByRecursion, list_any}
 use Rattle.std.specs.Map.{lookup}
 use Rattle.std.specs.Option.{option_map}
 use Rattle.std.specs.Str.{bytes_eq}
 use Rattle.org_disk.specs.Names.{journal_name}
 use Rattle.org_splice.specs.Texts.{terminated_text}
-use Rattle.org_disk.specs.Disk.{FileState}
 use Rattle.org_disk.specs.Accounts.{LeavesOver}
 use Rattle.org_journal.specs.Recovered.{Image, IsRecoverable, SameFiles, contents}
 use Rattle.org_fileset.specs.declared.fault.SetFault.{SetFault}
 use Rattle.org_fileset.specs.declared.fault.SetFault.TheVariants.{Broken, Device}
+use Rattle.org_fileset.specs.declared.open.OpenRefused.{OpenRefused}
 use Rattle.org_fileset.specs.Names.{limit}
+use Rattle.org_fileset.specs.Opening.{IsOpenedFor, disk_in}
 use Rattle.org_fileset.specs.Replay.{IsAtRest}
 use Rattle.org_fileset.specs.Writes.{LeavesAlone, IsOther}
 use Rattle.org_texts.specs.declared.plan.FileEdits.{FileEdits}
 use Rattle.org_texts.specs.declared.plan.Plan.{Plan}
 use Rattle.org_texts.specs.Files.{StandOver, waits}
 use Rattle.org_texts.specs.Plan.{IsPlan, planned}
-use Rattle.org_texts.specs.Texts.{Holding, TextSet, bytes_or, text_of, text_or_none}
+use Rattle.org_texts.specs.Texts.{Holding, TextSet, bytes_or, held_over, nothing_held, text_of, text_or_none}
 use Rattle.org_commands.specs.declared.command.RunFault.{RunFault}
 use Rattle.org_commands.specs.declared.command.RunFault.TheVariants.{Refused, OutOfMemory}
 use Rattle.org_commands.specs.declared.command.Refusal.TheVariants.{TooLarge}
@@ -31,6 +33,16 @@ pub record OpenFiles (D : Type 0) : Type 0 where
   pub names : List (List ℕ)
   pub broken : Bool
   pub held : Holding
+
+-- the disk in the files that were opened, or the one that was handed back
+abbrev pub disk_of : {D : Type 0} → Result (OpenFiles D) (OpenRefused D) → D
+disk_of result = disk_in result (λ files. files.disk)
+
+-- Files that were just opened with the given names, of which nothing is held.
+abbrev pub AreOpened : {D : Type 0} → Ghosts D → List (List ℕ) → OpenFiles D → Type 0
+AreOpened g given files = (files.broken ≡ false)
+    × (files.held.now ≡ nothing_held) × (files.held.before ≡ nothing_held)
+    × IsOpenedFor given files.names (g.honest files.disk) (contents (g.files files.disk))
 
 -- Files that work, between commands: no call of the disk failed, and the texts are as the last
 -- command left them.
@@ -139,16 +151,32 @@ pub record KeepsFiles {D A : Type 0} (old new : OpenFiles D) (result : Result A 
 
 -- What a commit does that is to give files of these names these texts, where the disk is honest
 -- after it. It writes those that wait, and the journal.
-pub record CommitsTexts {D A E : Type 0} (files : D → List ℕ → FileState) (moment : D → ℕ)
-    (left_since : D → ℕ → Image → Type 0)
+pub record CommitsTexts {D A E : Type 0} (g : Ghosts D)
     (names waiting after : List (List ℕ)) (old new : D) (result : Result A E) : Type 0 where
-  pub texts : OnOk result (texts_of (contents (files new)) names ≡ after)
+  pub texts : OnOk result (texts_of (contents (g.files new)) names ≡ after)
   pub others : OnOk result
-      (SameFiles (contents (files new)) (with_texts names after (contents (files old))))
-  pub rest : OnOk result (IsAtRest (files old) → IsAtRest (files new))
+      (SameFiles (contents (g.files new)) (with_texts names after (contents (g.files old))))
+  pub rest : OnOk result (IsAtRest (g.files old) → IsAtRest (g.files new))
   -- where all was on the disk: what a crash at any moment since the call began leaves
-  pub any_moment : IsAtRest (files old)
-      → LeavesOver moment left_since old new (HoldsEither names (contents (files old)) after)
+  pub any_moment : IsAtRest (g.files old)
+      → LeavesOver g old new (HoldsEither names (contents (g.files old)) after)
   -- after a failure too, it may be opened again
-  pub recoverable : IsAtRest (files old) → IsRecoverable (files new)
-  pub alone : LeavesAlone files moment left_since (IsOther waiting) old new
+  pub recoverable : IsAtRest (g.files old) → IsRecoverable (g.files new)
+  pub alone : LeavesAlone g (IsOther waiting) old new
+
+-- the texts of all files as they are held, in the order of their names
+abbrev pub texts_now : {D : Type 0} → Ghosts D → OpenFiles D → List (List ℕ)
+texts_now g files = texts_of (held_over files.held.now (contents (g.files files.disk))) files.names
+
+-- What a commit of files does to their disk: it is to have the texts that are held.
+abbrev pub CommitsHeld : {D A E : Type 0} → Ghosts D → OpenFiles D → OpenFiles D → Result A E
+    → Type 0
+CommitsHeld g old new result = g.honest new.disk
+    → CommitsTexts g old.names old.held.now.waiting (texts_now g old) old.disk new.disk result
+
+-- Where it is done, the texts as they were before the next command are those that were held.
+abbrev pub HoldsCommitted : {D A E : Type 0} → Ghosts D → OpenFiles D → OpenFiles D → Result A E
+    → Type 0
+HoldsCommitted g old new result = OnOk result (g.honest new.disk
+    → texts_of (held_over new.held.before (contents (g.files new.disk))) old.names
+    ≡ texts_now g old)

@@ -1,7 +1,7 @@
 -- How a command is planned on the texts of a store's files, and how it is accepted.
 use Rattle.std.specs.Prelude.{◌≡◌, ◌↔◌, ℕ, ◌+◌, List, [], Option, None, Some, Result, Ok, Err, IsErrOf, IsTrue, if◌then◌else◌}
-use Rattle.org_disk.specs.Disk.{FileState}
-use Rattle.org_journal.specs.Recovered.{Image, contents}
+use Rattle.org_disk.specs.declared.disk.Disk.{Ghosts}
+use Rattle.org_journal.specs.Recovered.{contents}
 use Rattle.org_fileset.specs.declared.fault.SetFault.{SetFault}
 use Rattle.org_fileset.specs.declared.fault.SetFault.TheVariants as set
 use Rattle.org_outline.specs.declared.paths.PathFault.{PathFault}
@@ -18,7 +18,7 @@ use Rattle.org_commands.specs.declared.command.RunFault.{RunFault}
 use Rattle.org_commands.specs.declared.command.RunFault.TheVariants.{Refused, OutOfMemory, Device, Broken}
 use Rattle.org_commands.specs.Files.{new_texts}
 use Rattle.org_commands.specs.Session.{Session, Kept}
-use Rattle.org_commands.specs.Outcome.{Outcome, changed, refusal_of, refusal_of_move, refusal_of_path, refusal_of_state}
+use Rattle.org_commands.specs.Outcome.{Accepts, Outcome, changed, refusal_of, refusal_of_move, refusal_of_path, refusal_of_state}
 use Rattle.org_commands.specs.Step.{Does, done, failed_in_read, torn_in, fills}
 use Rattle.org_commands.specs.Left.{IsLeft, IsLeftAlone}
 use Rattle.org_commands.specs.Counts.{Counts, SameCounts}
@@ -59,13 +59,11 @@ LooksUp old found (Err Broken) new = ⊥
 
 -- What a call does that is to have this outcome: to the session, to the disk, and to the counts
 -- whatever the disk does.
-pub record Acts {D : Type 0} (files : D → List ℕ → FileState) (moment : D → ℕ)
-    (left_since : D → ℕ → Image → Type 0)
-    (honest : D → Type 0) (old : Kept D) (outcome : Outcome) (answer : Result Reply RunFault)
-    (new : Kept D) : Type 0 where
-  pub does : honest new.disk → Does old.session outcome answer new.session
-  pub disk : honest new.disk → LeavesDisk files moment left_since old new
-      (IsLeft old.session (contents (files old.disk)) outcome answer new.session.accepted)
+pub record Acts {D : Type 0} (g : Ghosts D) (old : Kept D) (outcome : Outcome)
+    (answer : Result Reply RunFault) (new : Kept D) : Type 0 where
+  pub does : g.honest new.disk → Does old.session outcome answer new.session
+  pub disk : g.honest new.disk → LeavesDisk g old new
+      (IsLeft old.session (contents (g.files old.disk)) outcome answer new.session.accepted)
       (IsLeftAlone old.session old.waiting outcome answer new.session.accepted)
       (IsErrOf answer Device)
   pub counts : Counts old.session answer new.session
@@ -82,6 +80,18 @@ Keeps old files (Err Device) new =
     × ((left : List (List ℕ)) × (now : List (List ℕ)) × (new ≡ torn_in old left now))
 Keeps old files (Err Broken) new = ⊥
 Keeps old files (Err (Refused why)) new = ⊥
+
+-- What counting one more command does, which made these texts, where so many files wait: the texts
+-- are kept, or all that waits is settled.
+abbrev pub KeepsOrSettles : {D : Type 0} → Ghosts D → Kept D → List (List ℕ) → List (List ℕ)
+    → Result (Unit {0}) RunFault → Kept D → Type 0
+KeepsOrSettles g old waiting texts answer new = g.honest new.disk
+    → Keeps old.session texts answer new.session
+    × LeavesDisk g old new
+    (IsLeft old.session (contents (g.files old.disk)) (Accepts waiting texts) answer
+    new.session.accepted)
+    (IsLeftAlone old.session [] (Accepts waiting texts) answer new.session.accepted)
+    (IsErrOf answer Device)
 
 -- what becomes of the counts
 abbrev pub KeepsCounts : Session → Result (Unit {0}) RunFault → Session → Type 0

@@ -8,6 +8,7 @@ pub mod Todo
 pub mod Clocks
 pub mod Quiet
 pub mod Clocking
+pub mod Kinds
 pub mod Outcome
 pub mod Step
 pub mod Waiting

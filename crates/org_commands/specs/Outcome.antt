@@ -239,15 +239,3 @@ outcome s (ClockOut moment) = clock_out s moment (running_over s.names s.files)
 outcome s (Time file path) = time s path (text_at s.names s.files file)
 outcome s (Show file) = show (text_at s.names s.files file)
 outcome s Settle = AsksToSettle
-
--- a command that changes files
-abbrev pub IsChange : Command → Type 0
-IsChange (Capture c) = Unit {0}
-IsChange (Refile c) = Unit {0}
-IsChange (Todo c) = Unit {0}
-IsChange (Archive c) = Unit {0}
-IsChange (ClockIn c) = Unit {0}
-IsChange (ClockOut moment) = Unit {0}
-IsChange (Time file path) = ⊥
-IsChange (Show file) = ⊥
-IsChange Settle = ⊥

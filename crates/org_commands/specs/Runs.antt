@@ -1,7 +1,8 @@
 -- Calls of a store over a disk: what each of them promises of it, and what a crash leaves
 -- meanwhile.
 use Rattle.std.specs.Prelude.{◌≡◌, ◌⊎◌, ◌↔◌, ℕ, List, [], Result, IsErrOf, IsTrue}
-use Rattle.org_disk.specs.Disk.{FileState, LeavesOnly}
+use Rattle.org_disk.specs.declared.disk.Disk.{Ghosts}
+use Rattle.org_disk.specs.Disk.{LeavesOnly}
 use Rattle.org_journal.specs.Recovered.{Image, SameFiles, IsRecoverable, contents}
 use Rattle.org_fileset.specs.Replay.{IsAtRest}
 use Rattle.org_fileset.specs.Writes.{LeavesAlone}
@@ -17,27 +18,25 @@ use Rattle.org_commands.specs.Step.{Step, Settles}
 use Rattle.org_commands.specs.Left.{IsLeft, IsLeftAlone}
 use Rattle.org_commands.specs.Waiting.{Waits, WaitsSettled}
 
--- What a call of a store leaves of its disk, where the disk is honest after it. `files`, `moment`
--- and `left_since` are what is seen of a disk of the type D; `Left` is what a crash may leave while
--- the call runs, `Alone` are the files that it leaves alone, and `Failed` says that the call
--- answers Device.
-pub record LeavesDisk {D : Type 0} (files : D → List ℕ → FileState) (moment : D → ℕ)
-    (left_since : D → ℕ → Image → Type 0) (old new : Kept D) (Left : Image → Type 0)
+-- What a call of a store leaves of its disk, where the disk is honest after it. `Left` is what a
+-- crash may leave while the call runs, `Alone` are the files that it leaves alone, and `Failed` says
+-- that the call answers Device.
+pub record LeavesDisk {D : Type 0} (g : Ghosts D) (old new : Kept D) (Left : Image → Type 0)
     (Alone : List ℕ → Type 0) (Failed : Type 0) : Type 0 where
   -- where all was on the disk: what a crash at any moment since the call began leaves
-  pub any_moment : IsAtRest (files old.disk)
-      → LeavesOnly (moment old.disk) (moment new.disk) (left_since old.disk)
-      (left_since new.disk) Left
+  pub any_moment : IsAtRest (g.files old.disk)
+      → LeavesOnly (g.moment old.disk) (g.moment new.disk) (g.left_since old.disk)
+      (g.left_since new.disk) Left
   -- where the disk didn't fail: the store's files have the texts that are settled, and all others
   -- are as they were
   pub others : (Failed → ⊥)
-      → SameFiles (contents (files new.disk))
-      (with_texts new.session.names new.session.settled (contents (files old.disk)))
+      → SameFiles (contents (g.files new.disk))
+      (with_texts new.session.names new.session.settled (contents (g.files old.disk)))
   -- .. and all is on the disk again
-  pub rest : (Failed → ⊥) → IsAtRest (files old.disk) → IsAtRest (files new.disk)
+  pub rest : (Failed → ⊥) → IsAtRest (g.files old.disk) → IsAtRest (g.files new.disk)
   -- after a failure too, it may be opened again
-  pub recoverable : IsAtRest (files old.disk) → IsRecoverable (files new.disk)
-  pub alone : LeavesAlone files moment left_since Alone old.disk new.disk
+  pub recoverable : IsAtRest (g.files old.disk) → IsRecoverable (g.files new.disk)
+  pub alone : LeavesAlone g Alone old.disk new.disk
 
 -- Where a call of a store does nothing, whatever its disk does: `Asks` says that it asks for a
 -- settling and no more.
@@ -59,12 +58,11 @@ pub record IsBrokenBy {A : Type 0} (old : Session) (answer : Result A RunFault) 
 
 -- A command was run over a disk of the type D that is honest after it: the store was `old`, this
 -- was answered, and the store is `new`.
-pub record RunsOver {D : Type 0} (files : D → List ℕ → FileState) (moment : D → ℕ)
-    (left_since : D → ℕ → Image → Type 0) (old : Kept D) (command : Command)
+pub record RunsOver {D : Type 0} (g : Ghosts D) (old : Kept D) (command : Command)
     (answer : Result Reply RunFault) (new : Kept D) : Type 0 where
   pub step : Step old.session command answer new.session
-  pub disk : LeavesDisk files moment left_since old new
-      (IsLeft old.session (contents (files old.disk))
+  pub disk : LeavesDisk g old new
+      (IsLeft old.session (contents (g.files old.disk))
       (outcome old.session command) answer new.session.accepted)
       (IsLeftAlone old.session old.waiting
       (outcome old.session command) answer new.session.accepted)
@@ -73,16 +71,24 @@ pub record RunsOver {D : Type 0} (files : D → List ℕ → FileState) (moment 
   pub idle : IsIdle (command ≡ Settle) old answer new
 
 -- The same of settling.
-pub record SettlesOver {D : Type 0} (files : D → List ℕ → FileState) (moment : D → ℕ)
-    (left_since : D → ℕ → Image → Type 0) (old : Kept D) (answer : Result (Unit {0}) RunFault)
-    (new : Kept D) : Type 0 where
+pub record SettlesOver {D : Type 0} (g : Ghosts D) (old : Kept D)
+    (answer : Result (Unit {0}) RunFault) (new : Kept D) : Type 0 where
   pub step : Settles old.session answer new.session
-  pub disk : LeavesDisk files moment left_since old new
-      (IsLeft old.session (contents (files old.disk)) AsksToSettle answer new.session.accepted)
+  pub disk : LeavesDisk g old new
+      (IsLeft old.session (contents (g.files old.disk)) AsksToSettle answer new.session.accepted)
       (IsLeftAlone old.session old.waiting AsksToSettle answer new.session.accepted)
       (IsErrOf answer Device)
   pub waits : WaitsSettled old.waiting answer new.waiting
   pub idle : IsIdle (Unit {0}) old answer new
+
+-- What `Store::run` and `Store::settle` promise: this of a disk that is honest after the call.
+abbrev pub Runs : {D : Type 0} → Ghosts D → Kept D → Command → Result Reply RunFault → Kept D
+    → Type 0
+Runs g old command answer new = g.honest new.disk → RunsOver g old command answer new
+
+abbrev pub SettlesAll : {D : Type 0} → Ghosts D → Kept D → Result (Unit {0}) RunFault → Kept D
+    → Type 0
+SettlesAll g old answer new = g.honest new.disk → SettlesOver g old answer new
 
 -- The texts that are settled are those of the disk's files.
 abbrev pub IsOnDisk : Session → Image → Type 0

@@ -1,5 +1,6 @@
 -- What callers see of a store.
 use Rattle.std.specs.Prelude.{ℕ, Bool, List}
+use Rattle.org_disk.specs.declared.disk.Disk.{Ghosts}
 use Rattle.org_disk.specs.Disk.{FileState}
 use Rattle.org_outline.specs.States.{Keywords}
 use Rattle.org_journal.specs.Recovered.{Image, contents}
@@ -58,3 +59,11 @@ kept_over files states opened tally = record {
   session = session_over (λ disk. contents (files disk)) states opened tally;
   waiting = opened.held.before.waiting;
 }
+
+-- What a call over files does to the session of a store that counts anything, where the disk is
+-- honest after it: it was in this relation to what it is.
+abbrev pub BetweenSessions : {D : Type 0} → Ghosts D → Keywords → OpenFiles D → OpenFiles D
+    → (Session → Session → Type 0) → Type 0
+BetweenSessions g states old new Relation = (tally : Tally) → g.honest new.disk
+    → Relation (kept_over g.files states old tally).session
+    (kept_over g.files states new tally).session

@@ -6,20 +6,18 @@ ghost use Rattle.std.specs.Option.{ForSome, option_map};
 ghost use Rattle.std.specs.Str.{bytes_eq};
 ghost use Rattle.org_disk.specs.Accounts.{Accounts};
 ghost use Rattle.org_disk.specs.Names.{IsOrgFile};
-ghost use Rattle.org_journal.specs.Recovered.{contents};
-ghost use Rattle.org_fileset.specs.Opening.{IsDeviceRefusal, IsOpenedFor, IsRefusedFor, disk_in};
+ghost use Rattle.org_fileset.specs.Opening.{IsDeviceRefusal, IsRefusedFor};
 ghost use Rattle.org_fileset.specs.Recovery.{Reopens};
 ghost use Rattle.org_fileset.specs.Names.{limit};
 ghost use Rattle.org_outline.specs.States.{Keywords};
-ghost use Rattle.org_texts.specs.Texts.{bytes_or, held_over, nothing_held, text_of};
-ghost use Rattle.org_commands.specs.declared.tally.Tally.{Tally};
+ghost use Rattle.org_texts.specs.Texts.{bytes_or, text_of};
 ghost use Rattle.org_commands.specs.Clocks.{RunsIn};
-ghost use Rattle.org_commands.specs.Files.{AreReady, AreSmallToWrite, CommitsTexts, IsPlanFor, IsReady, KeepsFiles, KeepsHeld, PutsPlan, StaysInMemory, files_of, has_large, texts_in};
-ghost use Rattle.org_commands.specs.InOrder.{is_name, texts_of};
+ghost use Rattle.org_commands.specs.Files.{AreOpened, AreReady, AreSmallToWrite, CommitsHeld, HoldsCommitted, IsPlanFor, IsReady, KeepsFiles, KeepsHeld, PutsPlan, StaysInMemory, disk_of, files_of, has_large, texts_in};
+ghost use Rattle.org_commands.specs.InOrder.{is_name};
 ghost use Rattle.org_commands.specs.Keeping.{Reads};
 ghost use Rattle.org_commands.specs.Quiet.{Forgets};
 ghost use Rattle.org_commands.specs.Reading.{OnlyReads};
-ghost use Rattle.org_commands.specs.Session.{kept_over};
+ghost use Rattle.org_commands.specs.Session.{BetweenSessions};
 
 use crate::command::{Refusal, RunFault};
 use org_disk::{Disk, FileName};
@@ -68,16 +66,11 @@ impl<D: Disk> Files<D> {
     /// brought to an end first: see `FileSet::open`, whose faults it answers.
     pub fn open(alloc: Global, disk: D, names: Vec<FileName>) -> Result<Files<D>, OpenRefused<D>>
         requires { All IsOrgFile names.items }
-        ensures opened { IfOk result (λ files. (files.broken ≡ false)
-            × (files.held.now ≡ nothing_held) × (files.held.before ≡ nothing_held)
-            × IsOpenedFor names.items files.names (D.honest files.disk)
-            (contents (D.files files.disk))) }
-        ensures reopens { let now = disk_in result (λ files. files.disk) in D.honest now
-            → Reopens D.files D.moment D.left_since disk now result }
+        ensures opened { IfOk result (λ files. AreOpened D.Disk names.items files) }
+        ensures reopens { Reopens D.Disk disk (disk_of result) result }
         ensures refused { IfErr result (λ refused.
-            IsRefusedFor D.honest D.files names.items disk refused.disk refused.fault) }
-        ensures accounts { Accounts D.steady D.honest D.failures disk
-            (disk_in result (λ files. files.disk)) (IsDeviceRefusal result) }
+            IsRefusedFor D.Disk names.items disk refused.disk refused.fault) }
+        ensures accounts { Accounts D.Disk disk (disk_of result) (IsDeviceRefusal result) }
     {
         match FileSet::open(alloc, disk, names) {
             Ok(set) => Ok(Files {
@@ -165,16 +158,14 @@ impl<D: Disk> Files<D> {
         requires name { is_name self.old.names name.now ≡ true }
         requires unbroken { self.old.broken ≡ false }
         ensures held { OnOk result (IsSome (text_of self.new.held.now name.now)) }
-        ensures reads { (states : Keywords) (tally : Tally) → D.honest self.new.disk
-            → Reads (kept_over D.files states self.old tally).session result
-            (kept_over D.files states self.new tally).session }
+        ensures reads { (states : Keywords) → BetweenSessions D.Disk states self.old self.new
+            (λ old new. Reads old result new) }
         ensures begun { self.old.held.now ≡ self.old.held.before
             → self.new.held.now ≡ self.new.held.before }
         ensures ready { (names : List (List ℕ)) → AreReady names self.old.held
             → AreReady names self.new.held }
         ensures keeps { KeepsHeld self.old.held self.new.held }
-        ensures disk { OnlyReads D.steady D.honest D.failures D.files D.moment D.left_since
-            self.old self.new result }
+        ensures disk { OnlyReads D.Disk self.old self.new result }
     {
         if self.texts.get(name).is_some() {
             return Ok(());
@@ -205,11 +196,9 @@ impl<D: Disk> Files<D> {
         ensures ready { OnOk result ((names : List (List ℕ)) → AreReady names self.old.held
             → AreReady (name.now ∷ names) self.new.held) }
         ensures keeps { KeepsHeld self.old.held self.new.held }
-        ensures reads { (states : Keywords) (tally : Tally) → D.honest self.new.disk
-            → Reads (kept_over D.files states self.old tally).session result
-            (kept_over D.files states self.new tally).session }
-        ensures disk { OnlyReads D.steady D.honest D.failures D.files D.moment D.left_since
-            self.old self.new result }
+        ensures reads { (states : Keywords) → BetweenSessions D.Disk states self.old self.new
+            (λ old new. Reads old result new) }
+        ensures disk { OnlyReads D.Disk self.old self.new result }
     {
         self.load(name)?;
         self.make_ready(name)?;
@@ -279,19 +268,14 @@ impl<D: Disk> Files<D> {
         requires unbroken { self.old.broken ≡ false }
         requires small { (self.old.held.now ≡ self.old.held.before)
             ⊎ AreSmallToWrite self.old.held.now }
-        ensures commits { D.honest self.new.disk → CommitsTexts D.files D.moment D.left_since
-            self.old.names self.old.held.now.waiting (texts_of (held_over self.old.held.now
-            (contents (D.files self.old.disk))) self.old.names) self.old.disk self.new.disk result }
-        ensures texts { OnOk result (D.honest self.new.disk
-            → texts_of (held_over self.new.held.before (contents (D.files self.new.disk)))
-            self.old.names ≡ texts_of (held_over self.old.held.now
-            (contents (D.files self.old.disk))) self.old.names) }
+        ensures commits { CommitsHeld D.Disk self.old self.new result }
+        ensures texts { HoldsCommitted D.Disk self.old self.new result }
         ensures held { MatchResult result (λ _. (self.new.held.now ≡ self.new.held.before)
             × (self.new.held.now.waiting ≡ [])) (λ _. self.new.held ≡ self.old.held) }
         ensures idle { (IsErrOf result SetFault.OutOfMemory → self.new ≡ self.old)
             × (self.old.held.now.waiting ≡ [] → self.new.disk ≡ self.old.disk) }
         ensures set { KeepsFiles self.old self.new result }
-        ensures accounts { Accounts D.steady D.honest D.failures self.old.disk self.new.disk
+        ensures accounts { Accounts D.Disk self.old.disk self.new.disk
             (IsErrOf result SetFault.Device) }
     {
         self.set.commit(&self.texts)?;

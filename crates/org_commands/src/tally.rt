@@ -11,13 +11,13 @@ pub struct Tally {
     /// How many commands may be accepted and not acknowledged before they are settled, from 1 to
     /// 1,000.
     pub group: u32,
+    pub ghost ordered: { acknowledged ≤ accepted },
 }
 
 impl Tally {
     /// Whether one more accepted command fills the group.
     pub(crate) fn fills(&self) -> bool
-        requires counted { self.now.acknowledged ≤ self.now.accepted }
-        requires countable { self.now.accepted + 1 < 2 ^ 64 }
+        requires { self.now.accepted + 1 < 2 ^ 64 }
         ensures { result ≡ nat_le self.now.group (self.now.accepted + 1 - self.now.acknowledged) }
     {
         u64::from(self.group) <= self.accepted + 1 - self.acknowledged

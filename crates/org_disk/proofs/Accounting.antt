@@ -3,13 +3,15 @@ use Rattle.std.proofs.Common.{◌≡◌, refl, sym, true, false, true≢false, �
 use Rattle.std.specs.Prelude.{Result, Ok, Err, IsErr, ◌≤◌}
 use Rattle.org_disk.specs.declared.disk.DiskFault.{DiskFault}
 use Rattle.org_disk.specs.Disk.{FileState, AreImages, HasRisen, IsCounted}
-use Rattle.org_disk.specs.Accounts.{Accounts, AccountsOfCall, Looks}
+use Rattle.org_disk.specs.Accounts.{Accounts}
+use Rattle.org_disk.specs.Calls.{AccountsOfCall, LooksInCall}
+use Rattle.org_disk.specs.declared.disk.Disk.{Ghosts}
 use Rattle.org_disk.proofs.Moments.{passes_none, passes_then}
 
 -- no call
-pub accounts_none : {D : Type 0} (steady : Type 0) (honest : D → Type 0) (failures : D → ℕ) (disk : D)
-    → Accounts steady honest failures disk disk ⊥
-accounts_none steady honest failures disk = record {
+pub accounts_none : {D : Type 0} (g : Ghosts D) (disk : D)
+    → Accounts g disk disk ⊥
+accounts_none g disk = record {
   was_honest = λ h. h;
   stays_honest = λ steady h. h;
   no_less = omega arith;
@@ -23,8 +25,8 @@ counted_up {before} {now} counted = ⊎_elim {C = (before ≤ now) × HasRisen b
     (λ full. (omega (arith, full.1), inr (omega (arith, full.0, full.1)))) counted
 
 -- one call
-pub accounts_call : {D : Type 0} {A : Type 0} {steady : Type 0} {honest : D → Type 0} {failures : D → ℕ} {old new : D} (result : Result A DiskFault)
-    → AccountsOfCall steady honest failures old new result → Accounts steady honest failures old new (IsErr result)
+pub accounts_call : {D : Type 0} {A : Type 0} {g : Ghosts D} {old new : D} (result : Result A DiskFault)
+    → AccountsOfCall g.steady g.honest g.failures old new result → Accounts g old new (IsErr result)
 accounts_call (Ok done) call = record {
   was_honest = call.was_honest;
   stays_honest = call.stays_honest;
@@ -41,8 +43,8 @@ accounts_call (Err fault) call = record {
 }
 
 -- a call that didn't fail
-pub accounts_fine : {D : Type 0} {steady : Type 0} {honest : D → Type 0} {failures : D → ℕ} {old new : D} {Failed : Type 0} → (Failed → ⊥)
-    → Accounts steady honest failures old new Failed → Accounts steady honest failures old new ⊥
+pub accounts_fine : {D : Type 0} {g : Ghosts D} {old new : D} {Failed : Type 0} → (Failed → ⊥)
+    → Accounts g old new Failed → Accounts g old new ⊥
 accounts_fine fine call = record {
   was_honest = call.was_honest;
   stays_honest = call.stays_honest;
@@ -52,31 +54,32 @@ accounts_fine fine call = record {
 }
 
 -- the same by the test of an answer that is Ok
-pub accounts_ok : {D : Type 0} {steady : Type 0} {honest : D → Type 0} {failures : D → ℕ} {old new : D}
-    → Accounts steady honest failures old new (false ≡ true) → Accounts steady honest failures old new ⊥
+pub accounts_ok : {D : Type 0} {g : Ghosts D} {old new : D}
+    → Accounts g old new (false ≡ true) → Accounts g old new ⊥
 accounts_ok call = accounts_fine (λ failed. true≢false (sym failed)) call
 
-pub accounts_call_ok : {D : Type 0} {A : Type 0} {x : A} {steady : Type 0} {honest : D → Type 0} {failures : D → ℕ} {old new : D}
-    → AccountsOfCall steady honest failures old new (Ok x) → Accounts steady honest failures old new ⊥
+pub accounts_call_ok : {D : Type 0} {A : Type 0} {x : A} {g : Ghosts D} {old new : D}
+    → AccountsOfCall g.steady g.honest g.failures old new (Ok x) → Accounts g old new ⊥
 accounts_call_ok {x = x} call = accounts_ok (accounts_call (Ok x) call)
 
 -- calls that didn't fail, and others after them
-pub accounts_then : {D : Type 0} {steady : Type 0} {honest : D → Type 0} {failures : D → ℕ} {old mid new : D} {Failed : Type 0}
-    → Accounts steady honest failures old mid ⊥ → Accounts steady honest failures mid new Failed → Accounts steady honest failures old new Failed
-accounts_then {failures = failures} {new = new} first second = record {
+pub accounts_then : {D : Type 0} {g : Ghosts D} {old mid new : D} {Failed : Type 0}
+    → Accounts g old mid ⊥ → Accounts g mid new Failed → Accounts g old new Failed
+accounts_then {g = g} {new = new} first second = record {
   was_honest = λ h. first.was_honest (second.was_honest h);
   stays_honest = λ steady h. second.stays_honest steady (first.stays_honest steady h);
   no_less = omega (arith, first.no_less, second.no_less);
-  risen = λ failed. subst (λ (n : ℕ). HasRisen n (failures new)) (first.equal (λ none. none)) (second.risen failed);
+  risen = λ failed. subst (λ (n : ℕ). HasRisen n (g.failures new)) (first.equal (λ none. none)) (second.risen failed);
   equal = λ fine. second.equal fine ∙ first.equal (λ none. none);
 }
 
+-- Of calls that only look, by what is seen of the disk: `LooksOver g` names its parts as well.
 pub looks_none : {D : Type 0} (files : D → List ℕ → FileState) (moment : D → ℕ) (left_since : D → ℕ → (List ℕ → List ℕ) → Type 0) (disk : D)
-    → Looks files moment left_since disk disk
+    → LooksInCall files moment left_since disk disk
 looks_none files moment left_since disk = record { same = refl; time = passes_none (moment disk) (left_since disk) (AreImages (files disk)) }
 
 pub looks_then : {D : Type 0} {files : D → List ℕ → FileState} {moment : D → ℕ} {left_since : D → ℕ → (List ℕ → List ℕ) → Type 0} {old mid new : D}
-    → Looks files moment left_since old mid → Looks files moment left_since mid new → Looks files moment left_since old new
+    → LooksInCall files moment left_since old mid → LooksInCall files moment left_since mid new → LooksInCall files moment left_since old new
 looks_then first second = record {
   same = second.same ∙ first.same;
   time = passes_then first.time second.time (λ image left. subst (λ (f : List ℕ → FileState). AreImages f image) first.same left);

@@ -2,7 +2,7 @@
 use Rattle.std.proofs.Common.{◌≡◌, ℕ, ◌+◌, ◌-◌, ◌^◌, min, List, refl, sym, ap, ◌∙◌, subst, inl, inr, ⊎_elim, arith}
 use Rattle.std.specs.Prelude.{Result, Ok, Err}
 use Rattle.std.proofs.lemmas.Bool.{cases_lt}
-use Rattle.org_disk.specs.Accounts.{AccountsOfCall, Looks, PassesOver}
+use Rattle.org_disk.specs.Calls.{AccountsOfCall, LooksInCall, PassesInCall}
 use Rattle.org_disk.specs.Disk.{FileState, IsImage, AreImages, Changes, IsCounted}
 use Rattle.org_disk.specs.Fuse.{fuse_failures, Burns}
 use Rattle.org_disk.specs.declared.disk.DiskFault.{DiskFault}
@@ -59,11 +59,11 @@ burns_passed old new result spent some kept = record { spent = spent; blown = λ
 
 -- The disk, where a call failed at the fuse.
 module _ {D : Type 0} (files : D → List ℕ → FileState) (moment : D → ℕ) (left_since : D → ℕ → (List ℕ → List ℕ) → Type 0) (old new : D) (same : new ≡ old) where
-  pub passes_blown : (P : (List ℕ → List ℕ) → Type 0) → PassesOver moment left_since old new P
-  passes_blown P = subst (λ (d : D). PassesOver moment left_since old d P) (sym same)
+  pub passes_blown : (P : (List ℕ → List ℕ) → Type 0) → PassesInCall moment left_since old new P
+  passes_blown P = subst (λ (d : D). PassesInCall moment left_since old d P) (sym same)
       (record { later = omega arith; nothing_else = λ t image le left. inl left; keeps = λ t image le left. left })
 
-  pub looks_blown : Looks files moment left_since old new
+  pub looks_blown : LooksInCall files moment left_since old new
   looks_blown = record { same = ap files same; time = passes_blown (AreImages (files old)) }
 
   pub changes_blown : (effect : FileState → FileState) (name : List ℕ) (fault : DiskFault) → IsImage (files new name) (files new name).content → Changes effect name (files old) (files new) (Err fault)

@@ -1,6 +1,6 @@
 -- A disk in memory, as callers see it.
 use Rattle.std.specs.Prelude.{◌≡◌, ℕ, ◌-◌, ◌==◌, List, length, Bool, true, false, ◌||◌, if◌then◌else◌, IsTrue, IsFalse, Result, IsErr, OnOk, OnErr, count_by}
-use Rattle.org_disk.specs.Accounts.{Looks}
+use Rattle.org_disk.specs.Calls.{LooksInCall}
 use Rattle.org_disk.specs.Disk.{FileState, IsCounted, IsImage}
 use Rattle.org_disk.specs.declared.disk.DiskFault.{DiskFault}
 use Rattle.org_disk.specs.Record.{files_after, is_call, LeftSince}
@@ -25,7 +25,7 @@ memory_left_since disk = LeftSince disk.calls.items
 -- a call without effect: each file is as it was, and a crash within the call leaves an image from
 -- before it
 abbrev pub HasNoEffect : MemoryDisk → MemoryDisk → Type 0
-HasNoEffect old new = Looks memory_files memory_moment memory_left_since old new
+HasNoEffect old new = LooksInCall memory_files memory_moment memory_left_since old new
 
 -- how many calls of `Disk` are in the record
 abbrev pub call_count : MemoryDisk → ℕ

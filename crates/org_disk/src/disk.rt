@@ -1,7 +1,7 @@
 //! A disk as the layers above see it: what a read gives, and what a crash may leave.
 ghost use Rattle.std.specs.Prelude.{◌≡◌, ◌+◌, ◌^◌, ◌<◌, ◌≤◌, List, ℕ, length, take, drop, IfOk, OnOk};
 ghost use Rattle.org_disk.specs.Disk.{FileState, IsImage, AreImages, AreLeftBy, Changes, write, cut, sync};
-ghost use Rattle.org_disk.specs.Accounts.{AccountsOfCall, Looks, PassesOver};
+ghost use Rattle.org_disk.specs.Calls.{AccountsOfCall, LooksInCall, PassesInCall};
 
 use crate::FileName;
 use thiserror::Error;
@@ -43,7 +43,7 @@ pub trait Disk {
     fn length(&mut self, name: &FileName) -> Result<u64, DiskFault>
         ensures value { IfOk result (λ n. honest self.new →
             n ≡ length (files self.old name.now).content) }
-        ensures looks { honest self.new → Looks files moment left_since self.old self.new }
+        ensures looks { honest self.new → LooksInCall files moment left_since self.old self.new }
         ensures accounts { AccountsOfCall steady honest failures self.old self.new result };
 
     /// Fills the buffer with the bytes of a file from `from` on; they lie within its length. It
@@ -53,7 +53,7 @@ pub trait Disk {
             (files self.old name.now).content }
         ensures bytes { OnOk result (honest self.new →
             into.new ≡ take (length into.old) (drop from (files self.old name.now).content)) }
-        ensures looks { honest self.new → Looks files moment left_since self.old self.new }
+        ensures looks { honest self.new → LooksInCall files moment left_since self.old self.new }
         ensures accounts { AccountsOfCall steady honest failures self.old self.new result };
 
     /// Writes bytes over a file from `from` on, which is at most its length; the file grows where
@@ -66,7 +66,7 @@ pub trait Disk {
         ensures effect { honest self.new →
             Changes (write from bytes.now) name.now (files self.old) (files self.new) result }
         ensures time { honest self.new →
-            PassesOver moment left_since self.old self.new
+            PassesInCall moment left_since self.old self.new
             (AreLeftBy (write from bytes.now) name.now (files self.old)) }
         ensures accounts { AccountsOfCall steady honest failures self.old self.new result };
 
@@ -78,7 +78,7 @@ pub trait Disk {
         ensures effect { honest self.new →
             Changes (cut to) name.now (files self.old) (files self.new) result }
         ensures time { honest self.new →
-            PassesOver moment left_since self.old self.new
+            PassesInCall moment left_since self.old self.new
             (AreLeftBy (cut to) name.now (files self.old)) }
         ensures accounts { AccountsOfCall steady honest failures self.old self.new result };
 
@@ -87,7 +87,7 @@ pub trait Disk {
         ensures effect { honest self.new →
             Changes sync name.now (files self.old) (files self.new) result }
         ensures time { honest self.new →
-            PassesOver moment left_since self.old self.new
+            PassesInCall moment left_since self.old self.new
             (AreLeftBy sync name.now (files self.old)) }
         ensures accounts { AccountsOfCall steady honest failures self.old self.new result };
 

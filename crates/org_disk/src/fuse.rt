@@ -56,7 +56,7 @@ impl<D: Disk> Fuse<D> {
 impl<D: Disk> Disk for Fuse<D> {
     ghost use Rattle.std.specs.Prelude.{◌<◌, ◌≤◌, length, take, drop, IfOk};
     ghost use Rattle.org_disk.specs.Disk.{AreLeftBy, Changes, cut, sync, write};
-    ghost use Rattle.org_disk.specs.Accounts.{AccountsOfCall, Looks, PassesOver};
+    ghost use Rattle.org_disk.specs.Calls.{AccountsOfCall, LooksInCall, PassesInCall};
     ghost use Rattle.org_disk.specs.Fuse.{fuse_failures, Burns};
 
     ghost honest = { λ fuse. D.honest fuse.disk };
@@ -82,7 +82,7 @@ impl<D: Disk> Disk for Fuse<D> {
         ensures value { IfOk result (λ n. D.honest self.new.disk →
             n ≡ length (D.files self.old.disk name.now).content) }
         ensures looks { D.honest self.new.disk →
-            Looks D.files D.moment D.left_since self.old.disk self.new.disk }
+            LooksInCall D.files D.moment D.left_since self.old.disk self.new.disk }
         ensures accounts { AccountsOfCall D.steady (λ fuse. D.honest fuse.disk)
             (λ fuse. fuse_failures fuse.failures (D.failures fuse.disk)) self.old self.new result }
         ensures burns { Burns self.old self.new result }
@@ -99,7 +99,7 @@ impl<D: Disk> Disk for Fuse<D> {
         ensures bytes { OnOk result (D.honest self.new.disk → into.new ≡
             take (length into.old) (drop from (D.files self.old.disk name.now).content)) }
         ensures looks { D.honest self.new.disk →
-            Looks D.files D.moment D.left_since self.old.disk self.new.disk }
+            LooksInCall D.files D.moment D.left_since self.old.disk self.new.disk }
         ensures accounts { AccountsOfCall D.steady (λ fuse. D.honest fuse.disk)
             (λ fuse. fuse_failures fuse.failures (D.failures fuse.disk)) self.old self.new result }
         ensures burns { Burns self.old self.new result }
@@ -118,7 +118,7 @@ impl<D: Disk> Disk for Fuse<D> {
             Changes (write from bytes.now) name.now
             (D.files self.old.disk) (D.files self.new.disk) result }
         ensures time { D.honest self.new.disk →
-            PassesOver D.moment D.left_since self.old.disk self.new.disk
+            PassesInCall D.moment D.left_since self.old.disk self.new.disk
             (AreLeftBy (write from bytes.now) name.now (D.files self.old.disk)) }
         ensures accounts { AccountsOfCall D.steady (λ fuse. D.honest fuse.disk)
             (λ fuse. fuse_failures fuse.failures (D.failures fuse.disk)) self.old self.new result }
@@ -135,7 +135,7 @@ impl<D: Disk> Disk for Fuse<D> {
         ensures effect { D.honest self.new.disk →
             Changes (cut to) name.now (D.files self.old.disk) (D.files self.new.disk) result }
         ensures time { D.honest self.new.disk →
-            PassesOver D.moment D.left_since self.old.disk self.new.disk
+            PassesInCall D.moment D.left_since self.old.disk self.new.disk
             (AreLeftBy (cut to) name.now (D.files self.old.disk)) }
         ensures accounts { AccountsOfCall D.steady (λ fuse. D.honest fuse.disk)
             (λ fuse. fuse_failures fuse.failures (D.failures fuse.disk)) self.old self.new result }
@@ -151,7 +151,7 @@ impl<D: Disk> Disk for Fuse<D> {
         ensures effect { D.honest self.new.disk →
             Changes sync name.now (D.files self.old.disk) (D.files self.new.disk) result }
         ensures time { D.honest self.new.disk →
-            PassesOver D.moment D.left_since self.old.disk self.new.disk
+            PassesInCall D.moment D.left_since self.old.disk self.new.disk
             (AreLeftBy sync name.now (D.files self.old.disk)) }
         ensures accounts { AccountsOfCall D.steady (λ fuse. D.honest fuse.disk)
             (λ fuse. fuse_failures fuse.failures (D.failures fuse.disk)) self.old self.new result }

@@ -1,5 +1,6 @@
 -- The stages of a commit, and what is left in each.
 use Rattle.std.proofs.Common.{◌≡◌, ◌≢◌, inl, inr, ℕ, ◌+◌, ◌≤◌, ◌++◌, List, [], ◌∷◌, length, drop, true, false, Some, Result, Ok, OnOk, refl, sym, ◌∙◌, ap, subst, arith, length-append}
+use Rattle.org_disk.specs.declared.disk.Disk.{Ghosts}
 use Rattle.std.specs.Prelude.{nat_le, slice_index, ◌==◌}
 use Rattle.std.proofs.lemmas.Bool.{cases_Bool, and_right, and_from, le-leb, ne_eqb}
 use Rattle.org_splice.specs.Overwritten.{overwritten}
@@ -97,38 +98,38 @@ module _ (entries : List Entry) (files : List ℕ → FileState) (applicable : A
           ]
 
 -- What a call did that wrote a record behind the closed gate, or failed there; and what one that opened the gate then.
-module _ {D : Type 0} (files : D → List ℕ → FileState) (moment : D → ℕ) (left_since : D → ℕ → Image → Type 0) (old : D) (journal : List ℕ) (name_is : journal ≡ journal_name) (entries : List Entry)
-    (applicable : AreApplicable entries) (fit : all_fit entries (contents (files old)) ≡ true) where
-  arming : (new : D) → PassesOver moment left_since old new (LeavesClosed journal (files old)) → IsAtRest (files old)
-      → PassesOver moment left_since old new (IsBeforeOrAfter (contents (files old)) (replayed entries (contents (files old))))
-  arming new time rest = passes_as time (λ image left. while_arming entries (files old) applicable fit rest image (subst (λ (n : List ℕ). LeavesClosed n (files old) image) name_is left))
+module _ {D : Type 0} (g : Ghosts D) (old : D) (journal : List ℕ) (name_is : journal ≡ journal_name) (entries : List Entry)
+    (applicable : AreApplicable entries) (fit : all_fit entries (contents (g.files old)) ≡ true) where
+  arming : (new : D) → PassesOver g old new (LeavesClosed journal (g.files old)) → IsAtRest (g.files old)
+      → PassesOver g old new (IsBeforeOrAfter (contents (g.files old)) (replayed entries (contents (g.files old))))
+  arming new time rest = passes_as time (λ image left. while_arming entries (g.files old) applicable fit rest image (subst (λ (n : List ℕ). LeavesClosed n (g.files old) image) name_is left))
 
-  arming_alone : (new : D) (r : Result (Unit {0}) DiskFault) {content : List ℕ} → PassesOver moment left_since old new (LeavesClosed journal (files old)) → Puts journal content (files old) (files new) r
-      → LeavesAlone files moment left_since (IsUnwritten entries) old new
+  arming_alone : (new : D) (r : Result (Unit {0}) DiskFault) {content : List ℕ} → PassesOver g old new (LeavesClosed journal (g.files old)) → Puts journal content (g.files old) (g.files new) r
+      → LeavesAlone g (IsUnwritten entries) old new
   arming_alone new r time puts =
-      alone_journal files moment left_since journal (IsUnwritten entries) (LeavesClosed journal (files old)) old new name_is (λ name is. is.apart) puts.others time (λ image left. left.others)
+      alone_journal g journal (IsUnwritten entries) (LeavesClosed journal (g.files old)) old new name_is (λ name is. is.apart) puts.others time (λ image left. left.others)
 
-  pub armed_writes : (new : D) (r told : Result (Unit {0}) DiskFault) → PassesOver moment left_since old new (LeavesClosed journal (files old)) → {content : List ℕ} → Puts journal content (files old) (files new) r
-      → OnOk told (IsOpenOver entries (files new)) → WritesRecord files moment left_since entries old new told
+  pub armed_writes : (new : D) (r told : Result (Unit {0}) DiskFault) → PassesOver g old new (LeavesClosed journal (g.files old)) → {content : List ℕ} → Puts journal content (g.files old) (g.files new) r
+      → OnOk told (IsOpenOver entries (g.files new)) → WritesRecord g entries old new told
   armed_writes new r told time puts opened = record {
     opened = opened;
     any_moment = arming new time;
-    others = subst (λ (n : List ℕ). (other : List ℕ) → other ≢ n → files new other ≡ files old other) name_is puts.others;
+    others = subst (λ (n : List ℕ). (other : List ℕ) → other ≢ n → g.files new other ≡ g.files old other) name_is puts.others;
     alone = arming_alone new r time puts;
   }
 
-  pub opened_writes : HasClosedGate (files old journal_name) → (body : List ℕ) → ((more : List ℕ) → journal_at (body ++ more) ≡ Some entries) → 15 ≤ length body → (mid new : D) (r : Result (Unit {0}) DiskFault)
-      → PassesOver moment left_since old mid (LeavesClosed journal (files old)) → Puts journal (overwritten 1 body (files old journal).content) (files old) (files mid) (Ok tt)
-      → PassesOver moment left_since mid new (LeavesBody journal (files mid)) → Puts journal (1 ∷ drop 1 (files mid journal).content) (files mid) (files new) r
-      → WritesRecord files moment left_since entries old new r
+  pub opened_writes : HasClosedGate (g.files old journal_name) → (body : List ℕ) → ((more : List ℕ) → journal_at (body ++ more) ≡ Some entries) → 15 ≤ length body → (mid new : D) (r : Result (Unit {0}) DiskFault)
+      → PassesOver g old mid (LeavesClosed journal (g.files old)) → Puts journal (overwritten 1 body (g.files old journal).content) (g.files old) (g.files mid) (Ok tt)
+      → PassesOver g mid new (LeavesBody journal (g.files mid)) → Puts journal (1 ∷ drop 1 (g.files mid journal).content) (g.files mid) (g.files new) r
+      → WritesRecord g entries old new r
   opened_writes gate body reads enough mid new r arm_time arms opening opens =
-      let armed = subst (λ (n : List ℕ). Puts n (overwritten 1 body (files old n).content) (files old) (files mid) (Ok tt)) name_is arms in
-      let opened = subst (λ (n : List ℕ). Puts n (1 ∷ drop 1 (files mid n).content) (files mid) (files new) r) name_is opens in
+      let armed = subst (λ (n : List ℕ). Puts n (overwritten 1 body (g.files old n).content) (g.files old) (g.files mid) (Ok tt)) name_is arms in
+      let opened = subst (λ (n : List ℕ). Puts n (1 ∷ drop 1 (g.files mid n).content) (g.files mid) (g.files new) r) name_is opens in
       record {
-        opened = on_ok_both r opened.stable opened.is (opened_over entries (files old) applicable fit gate body reads enough (files mid) armed.is armed.others (files new));
+        opened = on_ok_both r opened.stable opened.is (opened_over entries (g.files old) applicable fit gate body reads enough (g.files mid) armed.is armed.others (g.files new));
         any_moment = λ rest. passes_then (arming mid arm_time rest) opening (λ image left.
-            while_opening entries (files old) applicable fit gate body reads enough (files mid) armed.is armed.others rest image (subst (λ (n : List ℕ). LeavesBody n (files mid) image) name_is left));
+            while_opening entries (g.files old) applicable fit gate body reads enough (g.files mid) armed.is armed.others rest image (subst (λ (n : List ℕ). LeavesBody n (g.files mid) image) name_is left));
         others = λ name not. opened.others name not ∙ armed.others name not;
-        alone = alone_then files moment left_since (IsUnwritten entries) old mid new (arming_alone mid (Ok tt) arm_time arms)
-            (alone_journal files moment left_since journal (IsUnwritten entries) (LeavesBody journal (files mid)) mid new name_is (λ name is. is.apart) opens.others opening (λ image left. left.others));
+        alone = alone_then g (IsUnwritten entries) old mid new (arming_alone mid (Ok tt) arm_time arms)
+            (alone_journal g journal (IsUnwritten entries) (LeavesBody journal (g.files mid)) mid new name_is (λ name is. is.apart) opens.others opening (λ image left. left.others));
       }

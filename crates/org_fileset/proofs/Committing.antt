@@ -1,5 +1,6 @@
 -- What a set's commit needs of its changes, from what is asked of them.
 use Rattle.std.proofs.Common.{◌≡◌, ◌≢◌, inl, inr, ◌≤◌, ℕ, zero, suc, List, [], ◌∷◌, length, drop, map, true, Some, refl, ◌∙◌, subst, arith}
+use Rattle.org_disk.specs.declared.disk.Disk.{Ghosts}
 use Rattle.std.specs.List.{All, AllByRecursion, Contains, IsDistinct}
 use Rattle.std.specs.Map.{keys_of}
 use Rattle.std.specs.Set.{is_member}
@@ -23,7 +24,7 @@ use Rattle.org_journal.specs.Record.{IsEntry, IsWellFormed, greatest_length, mos
 use Rattle.org_journal.specs.Recovered.{Image, contents, replayed}
 use Rattle.org_journal.specs.Reading.{journal_at}
 use Rattle.org_fileset.specs.Entries.{AreEntriesOf, HasRecordOf, changed}
-use Rattle.org_fileset.specs.Replay.{IsAtRest, IsBeforeOrAfter, IsCommitted, Commits}
+use Rattle.org_fileset.specs.Replay.{IsAtRest, IsBeforeOrAfter, IsCommitted, CommitsOver}
 use Rattle.org_fileset.specs.Writes.{IsOther, IsUnwritten}
 use Rattle.org_fileset.proofs.Commits.{at_rest_recovers}
 use Rattle.org_fileset.proofs.Writes.{alone_none, alone_fewer, others_unwritten}
@@ -128,28 +129,28 @@ changes_left changes entries files m n past since are edits left = record {
 }
 
 -- no call of the disk, and no change
-pub commits_none : {D A E : Type 0} (files : D → List ℕ → FileState) (moment : D → ℕ) (left_since : D → ℕ → Image → Type 0) (after : Image) (Alone : List ℕ → Type 0) (disk : D) (r : Result A E)
-    → ((image : Image) → left_since disk (moment disk) image → AreImages (files disk) image) → OnOk r (IsCommitted after (files disk) (files disk)) → Commits files moment left_since after Alone disk disk r
-commits_none files moment left_since after Alone disk r now done = record {
+pub commits_none : {D A E : Type 0} (g : Ghosts D) (after : Image) (Alone : List ℕ → Type 0) (disk : D) (r : Result A E)
+    → ((image : Image) → g.left_since disk (g.moment disk) image → AreImages (g.files disk) image) → OnOk r (IsCommitted after (g.files disk) (g.files disk)) → CommitsOver g after Alone disk disk r
+commits_none g after Alone disk r now done = record {
   done = done;
-  any_moment = λ rest. leaves_only (passes_none (moment disk) (left_since disk) (IsBeforeOrAfter (contents (files disk)) after)) (λ image left. inl (at_rest_recovers (files disk) rest image (now image left)));
+  any_moment = λ rest. leaves_only (passes_none (g.moment disk) (g.left_since disk) (IsBeforeOrAfter (contents (g.files disk)) after)) (λ image left. inl (at_rest_recovers (g.files disk) rest image (now image left)));
   recoverable = λ rest. inl (λ name not. rest.stable name);
-  alone = alone_none files moment left_since Alone disk;
+  alone = alone_none g Alone disk;
 }
 
 -- the commit of the record is one of the changes
-pub commits_changes : {D A E B F : Type 0} (files : D → List ℕ → FileState) (moment : D → ℕ) (left_since : D → ℕ → Image → Type 0) (changes : List Change) (entries : List Entry) (old new : D)
-    (r : Result A E) (s : Result B F) → (changes ≡ [] → ⊥) → AreEntriesOf changes entries → AllByRecursion (λ (change : Change). IsEditOf (contents (files old) change.0) change.1) changes
-    → Commits files moment left_since (replayed entries (contents (files old))) (IsUnwritten entries) old new r → OnOk s (IsCommitted (replayed entries (contents (files old))) (files old) (files new))
-    → Commits files moment left_since (changed changes (contents (files old))) (IsOther (keys_of changes)) old new s
-commits_changes files moment left_since changes entries old new r s some are edits commits done = record {
+pub commits_changes : {D A E B F : Type 0} (g : Ghosts D) (changes : List Change) (entries : List Entry) (old new : D)
+    (r : Result A E) (s : Result B F) → (changes ≡ [] → ⊥) → AreEntriesOf changes entries → AllByRecursion (λ (change : Change). IsEditOf (contents (g.files old) change.0) change.1) changes
+    → CommitsOver g (replayed entries (contents (g.files old))) (IsUnwritten entries) old new r → OnOk s (IsCommitted (replayed entries (contents (g.files old))) (g.files old) (g.files new))
+    → CommitsOver g (changed changes (contents (g.files old))) (IsOther (keys_of changes)) old new s
+commits_changes g changes entries old new r s some are edits commits done = record {
   done = on_ok_weaker s (λ made. record {
-    made = λ name not. made.made name not ∙ changes_made changes entries (contents (files old)) name are edits;
+    made = λ name not. made.made name not ∙ changes_made changes entries (contents (g.files old)) name are edits;
     rest = made.rest;
   }) done;
-  any_moment = λ rest. changes_left changes entries (contents (files old)) (moment old) (moment new) (left_since old) (left_since new) are edits (commits.any_moment rest);
+  any_moment = λ rest. changes_left changes entries (contents (g.files old)) (g.moment old) (g.moment new) (g.left_since old) (g.left_since new) are edits (commits.any_moment rest);
   recoverable = commits.recoverable;
-  alone = alone_fewer files moment left_since (IsOther (keys_of changes)) (IsUnwritten entries) old new commits.alone (λ name other. others_unwritten changes entries name are some other);
+  alone = alone_fewer g (IsOther (keys_of changes)) (IsUnwritten entries) old new commits.alone (λ name other. others_unwritten changes entries name are some other);
 }
 
 -- what a commit leaves in the journal

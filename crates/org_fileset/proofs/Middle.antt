@@ -1,5 +1,6 @@
 -- What lies on the disk between two parts of a call.
 use Rattle.std.proofs.Common.{◌≡◌, ◌⊎◌, inl, inr, ⊎_elim, ℕ, List, false, sym, ◌∙◌}
+use Rattle.org_disk.specs.declared.disk.Disk.{Ghosts}
 use Rattle.org_disk.specs.Accounts.{LeavesOver}
 use Rattle.org_disk.specs.Disk.{FileState, AreImages}
 use Rattle.org_disk.specs.Names.{journal_name}
@@ -18,32 +19,32 @@ pub rest_recovers : (files : List ℕ → FileState) (texts : Image) → IsAtRes
 rest_recovers files texts rest = closed_recovers texts (contents files) (shut (contents files journal_name) rest.gate.closed)
 
 -- an image of the disk in the middle is one that a crash might have left since the start
-pub counts_between : {D : Type 0} (files : D → List ℕ → FileState) (moment : D → ℕ) (left_since : D → ℕ → Image → Type 0) (old mid new : D)
-    → ((image : Image) → AreImages (files mid) image → left_since mid (moment old) image) → IsBetween moment left_since old mid new
-    → (image : Image) → AreImages (files mid) image → left_since new (moment old) image
-counts_between files moment left_since old mid new counts between image left = between.keeps image (counts image left)
+pub counts_between : {D : Type 0} (g : Ghosts D) (old mid new : D)
+    → ((image : Image) → AreImages (g.files mid) image → g.left_since mid (g.moment old) image) → IsBetween g old mid new
+    → (image : Image) → AreImages (g.files mid) image → g.left_since new (g.moment old) image
+counts_between g old mid new counts between image left = between.keeps image (counts image left)
 
-pub middle_of_commit : {D : Type 0} (files : D → List ℕ → FileState) (moment : D → ℕ) (left_since : D → ℕ → Image → Type 0) (old mid new : D) (after : Image)
-    → ((image : Image) → AreImages (files mid) image → left_since mid (moment old) image) → AreImages (files mid) (contents (files mid)) → IsAtRest (files mid)
-    → IsBetween moment left_since old mid new → LeavesOver moment left_since old new (IsBeforeOrAfter (contents (files old)) after)
-    → SameFiles (contents (files mid)) (contents (files old)) ⊎ SameFiles (contents (files mid)) after
-middle_of_commit files moment left_since old mid new after counts own rest between leaves =
-    ⊎_elim (λ before. inl (rest_recovers (files mid) (contents (files old)) rest before)) (λ made. inr (rest_recovers (files mid) after rest made))
-    (leaves.each (contents (files mid)) (counts_between files moment left_since old mid new counts between (contents (files mid)) own))
+pub middle_of_commit : {D : Type 0} (g : Ghosts D) (old mid new : D) (after : Image)
+    → ((image : Image) → AreImages (g.files mid) image → g.left_since mid (g.moment old) image) → AreImages (g.files mid) (contents (g.files mid)) → IsAtRest (g.files mid)
+    → IsBetween g old mid new → LeavesOver g old new (IsBeforeOrAfter (contents (g.files old)) after)
+    → SameFiles (contents (g.files mid)) (contents (g.files old)) ⊎ SameFiles (contents (g.files mid)) after
+middle_of_commit g old mid new after counts own rest between leaves =
+    ⊎_elim (λ before. inl (rest_recovers (g.files mid) (contents (g.files old)) rest before)) (λ made. inr (rest_recovers (g.files mid) after rest made))
+    (leaves.each (contents (g.files mid)) (counts_between g old mid new counts between (contents (g.files mid)) own))
 
 differ : (half held other : Image) → SameFiles held half → AreOtherFiles half other → SameFiles held other → ⊥
 differ half held other made apart same = apart.differs (sym (made apart.name apart.apart) ∙ same apart.name apart.apart)
 
-pub commits_apart : {D : Type 0} (files : D → List ℕ → FileState) (moment : D → ℕ) (left_since : D → ℕ → Image → Type 0) (old mid new : D) (half after : Image)
-    → ((image : Image) → AreImages (files mid) image → left_since mid (moment old) image) → AreImages (files mid) (contents (files mid)) → IsAtRest (files old)
-    → IsCommitted half (files old) (files mid) → AreOtherFiles half (contents (files old)) → AreOtherFiles half after
-    → IsBetween moment left_since old mid new → LeavesOver moment left_since old new (IsBeforeOrAfter (contents (files old)) after) → ⊥
-commits_apart files moment left_since old mid new half after counts own rest made from_old from_new between leaves =
-    ⊎_elim (differ half (contents (files mid)) (contents (files old)) made.made from_old) (differ half (contents (files mid)) after made.made from_new)
-    (middle_of_commit files moment left_since old mid new after counts own (made.rest rest) between leaves)
+pub commits_apart : {D : Type 0} (g : Ghosts D) (old mid new : D) (half after : Image)
+    → ((image : Image) → AreImages (g.files mid) image → g.left_since mid (g.moment old) image) → AreImages (g.files mid) (contents (g.files mid)) → IsAtRest (g.files old)
+    → IsCommitted half (g.files old) (g.files mid) → AreOtherFiles half (contents (g.files old)) → AreOtherFiles half after
+    → IsBetween g old mid new → LeavesOver g old new (IsBeforeOrAfter (contents (g.files old)) after) → ⊥
+commits_apart g old mid new half after counts own rest made from_old from_new between leaves =
+    ⊎_elim (differ half (contents (g.files mid)) (contents (g.files old)) made.made from_old) (differ half (contents (g.files mid)) after made.made from_new)
+    (middle_of_commit g old mid new after counts own (made.rest rest) between leaves)
 
 -- what two commits tell, one behind the other
-pub between_commits : {D : Type 0} (moment : D → ℕ) (left_since : D → ℕ → Image → Type 0) (old mid new : D) {P Q : Image → Type 0}
-    → LeavesOver moment left_since old mid P → LeavesOver moment left_since mid new Q → IsBetween moment left_since old mid new
-between_commits moment left_since old mid new first second =
-    record { later = first.passes.later; keeps = λ image left. second.passes.keeps (moment old) image first.passes.later left }
+pub between_commits : {D : Type 0} (g : Ghosts D) (old mid new : D) {P Q : Image → Type 0}
+    → LeavesOver g old mid P → LeavesOver g mid new Q → IsBetween g old mid new
+between_commits g old mid new first second =
+    record { later = first.passes.later; keeps = λ image left. second.passes.keeps (g.moment old) image first.passes.later left }

@@ -1,9 +1,10 @@
 -- An opening's steps: a look at the journal, and what brings to an end what was found there.
 use Rattle.std.proofs.Common.{◌≡◌, ◌≢◌, inl, inr, ℕ, ◌<◌, ◌≤◌, List, ◌∷◌, length, drop, true, false, Result, Ok, Err, IfOk, OnOk, None, sym, ◌∙◌, ap, subst}
+use Rattle.org_disk.specs.declared.disk.Disk.{Ghosts}
 use Rattle.std.specs.Prelude.{IsSomeAnd}
 use Rattle.std.proofs.lemmas.Result.{on_ok_weaker}
 use Rattle.org_disk.specs.Disk.{FileState, IsImage, IsStable, AreImages, AreLeftBy, Changes, sync}
-use Rattle.org_disk.specs.Accounts.{Looks, PassesOver}
+use Rattle.org_disk.specs.Accounts.{LooksOver, PassesOver}
 use Rattle.org_disk.specs.Names.{journal_name}
 use Rattle.org_disk.specs.declared.disk.DiskFault.{DiskFault}
 use Rattle.org_disk.proofs.Images.{stable_is}
@@ -18,7 +19,7 @@ use Rattle.org_journal.specs.Finding.{Finds, IsWritable}
 use Rattle.org_journal.specs.Gate.{front_size, is_open, HasClosedGate, LeavesClosed, Puts}
 use Rattle.org_journal.specs.Recovered.{Image, SameFiles, IsRecoverable, recovered, all_fit, contents}
 use Rattle.org_fileset.specs.Looking.{IsLookedAt, IsFoundIn}
-use Rattle.org_fileset.specs.Recovery.{EachRecovers, RecoversAsBefore, IsReopened, Reopens, is_closed, closed_journal}
+use Rattle.org_fileset.specs.Recovery.{EachRecovers, RecoversAsBefore, IsReopened, ReopensOver, is_closed, closed_journal}
 use Rattle.org_fileset.specs.Replay.{AreApplicable, IsOpenOver, IsAtRest, ReplaysOver}
 use Rattle.org_fileset.specs.Writes.{LeavesAlone, IsUnconcerned, IsUnwritten}
 use Rattle.org_fileset.proofs.Armed.{closed_after, on_ok_both}
@@ -67,46 +68,46 @@ open_over files found entries stable is finds =
 pub armed_applicable : (found : Found) (entries : List Entry) → found ≡ Armed entries → IsWritable found → AreApplicable entries
 armed_applicable found entries is writable = formed_applicable entries (subst IsWritable is writable)
 
-module _ {D : Type 0} (files : D → List ℕ → FileState) (moment : D → ℕ) (left_since : D → ℕ → Image → Type 0) where
+module _ {D : Type 0} (g : Ghosts D) where
   -- a sync of the journal, whatever it answers
-  pub looked_sync : (journal : List ℕ) (old new : D) (r : Result (Unit {0}) DiskFault) → journal ≡ journal_name → IsImage (files old journal_name) (files old journal_name).content
-      → ((name : List ℕ) → IsImage (files new name) (files new name).content) → Changes sync journal (files old) (files new) r → PassesOver moment left_since old new (AreLeftBy sync journal (files old))
-      → IsLookedAt files moment left_since old new
+  pub looked_sync : (journal : List ℕ) (old new : D) (r : Result (Unit {0}) DiskFault) → journal ≡ journal_name → IsImage (g.files old journal_name) (g.files old journal_name).content
+      → ((name : List ℕ) → IsImage (g.files new name) (g.files new name).content) → Changes sync journal (g.files old) (g.files new) r → PassesOver g old new (AreLeftBy sync journal (g.files old))
+      → IsLookedAt g old new
   looked_sync journal old new r name_is own owns synced time =
-      let changes = subst (λ (n : List ℕ). Changes sync n (files old) (files new) r) name_is synced in
+      let changes = subst (λ (n : List ℕ). Changes sync n (g.files old) (g.files new) r) name_is synced in
       record {
-        images = λ image left name. sync_after journal_name (files old) (files new) r own changes name (image name) (left name);
-        time = passes_as time (λ image left. sync_left journal_name (files old) image own (subst (λ (n : List ℕ). AreLeftBy sync n (files old) image) name_is left));
-        recoverable = sync_recoverable (files old) (files new) r own owns changes;
-        alone = alone_journal files moment left_since journal (IsUnconcerned (contents (files old) journal_name)) (AreLeftBy sync journal (files old)) old new name_is (λ name is. is.apart)
+        images = λ image left name. sync_after journal_name (g.files old) (g.files new) r own changes name (image name) (left name);
+        time = passes_as time (λ image left. sync_left journal_name (g.files old) image own (subst (λ (n : List ℕ). AreLeftBy sync n (g.files old) image) name_is left));
+        recoverable = sync_recoverable (g.files old) (g.files new) r own owns changes;
+        alone = alone_journal g journal (IsUnconcerned (contents (g.files old) journal_name)) (AreLeftBy sync journal (g.files old)) old new name_is (λ name is. is.apart)
             synced.others time (λ image left. left.others);
       }
 
   -- a look behind it
-  pub looked_on : (old mid new : D) → IsLookedAt files moment left_since old mid → Looks files moment left_since mid new → IsLookedAt files moment left_since old new
+  pub looked_on : (old mid new : D) → IsLookedAt g old mid → LooksOver g mid new → IsLookedAt g old new
   looked_on old mid new look looks = record {
     images = λ image left. look.images image (subst (λ (f : List ℕ → FileState). AreImages f image) looks.same left);
     time = passes_then look.time looks.time look.images;
     recoverable = λ fit. subst IsRecoverable (sym looks.same) (look.recoverable fit);
-    alone = alone_then files moment left_since (IsUnconcerned (contents (files old) journal_name)) old mid new look.alone
-        (alone_looks files moment left_since (IsUnconcerned (contents (files old) journal_name)) mid new looks);
+    alone = alone_then g (IsUnconcerned (contents (g.files old) journal_name)) old mid new look.alone
+        (alone_looks g (IsUnconcerned (contents (g.files old) journal_name)) mid new looks);
   }
 
   -- what is said of one answer is said of another one, where that is no Ok
-  pub reopens_as : {A B E F : Type 0} (old new : D) (r : Result A E) (told : Result B F) → Reopens files moment left_since old new r → OnOk told (IsReopened (files old) (files new))
-      → Reopens files moment left_since old new told
+  pub reopens_as : {A B E F : Type 0} (old new : D) (r : Result A E) (told : Result B F) → ReopensOver g old new r → OnOk told (IsReopened (g.files old) (g.files new))
+      → ReopensOver g old new told
   reopens_as old new r told made done = record { done = done; any_moment = made.any_moment; recoverable = made.recoverable; bad = made.bad; idle = made.idle; alone = made.alone }
 
-module _ {D : Type 0} (files : D → List ℕ → FileState) (moment : D → ℕ) (left_since : D → ℕ → Image → Type 0) (old : D)
-    (starts : (image : Image) → left_since old (moment old) image → AreImages (files old) image) where
-  before : EachRecovers (files old) → (image : Image) → left_since old (moment old) image → RecoversAsBefore (files old) image
-  before each image left = as_before (files old) each image (starts image left)
+module _ {D : Type 0} (g : Ghosts D) (old : D)
+    (starts : (image : Image) → g.left_since old (g.moment old) image → AreImages (g.files old) image) where
+  before : EachRecovers (g.files old) → (image : Image) → g.left_since old (g.moment old) image → RecoversAsBefore (g.files old) image
+  before each image left = as_before (g.files old) each image (starts image left)
 
   -- a look that fails is an opening that fails
-  pub refused_reopens : {A E : Type 0} (new : D) (r : Result A E) → IsLookedAt files moment left_since old new → OnOk r (IsReopened (files old) (files new)) → Reopens files moment left_since old new r
+  pub refused_reopens : {A E : Type 0} (new : D) (r : Result A E) → IsLookedAt g old new → OnOk r (IsReopened (g.files old) (g.files new)) → ReopensOver g old new r
   refused_reopens new r look done = record {
     done = done;
-    any_moment = λ fit each. leaves_only (passes_as look.time (as_before (files old) each)) (before each);
+    any_moment = λ fit each. leaves_only (passes_as look.time (as_before (g.files old) each)) (before each);
     recoverable = λ fit each. look.recoverable fit;
     bad = λ none. leaves_only look.time starts;
     idle = λ closed. leaves_only look.time starts;
@@ -114,16 +115,16 @@ module _ {D : Type 0} (files : D → List ℕ → FileState) (moment : D → ℕ
   }
 
   -- what is made of the files that were looked at is made of them as they were
-  pub looked_then : {A E : Type 0} (mid new : D) (r : Result A E) → IsLookedAt files moment left_since old mid → contents (files mid) ≡ contents (files old) → Reopens files moment left_since mid new r
-      → Reopens files moment left_since old new r
+  pub looked_then : {A E : Type 0} (mid new : D) (r : Result A E) → IsLookedAt g old mid → contents (g.files mid) ≡ contents (g.files old) → ReopensOver g mid new r
+      → ReopensOver g old new r
   looked_then mid new r look same made = record {
     done = on_ok_weaker r (λ done. record {
-      recovered_then = subst (λ (f : Image). IsSomeAnd (recovered f) (SameFiles (contents (files new)))) same done.recovered_then;
+      recovered_then = subst (λ (f : Image). IsSomeAnd (recovered f) (SameFiles (contents (g.files new)))) same done.recovered_then;
       journal = done.journal ∙ ap (λ (f : Image). closed_journal (f journal_name)) same;
       gate = done.gate;
       rest = λ fit each. done.rest (look.recoverable fit) (still each);
     }) made.done;
-    any_moment = λ fit each. leaves_only (passes_then (passes_as look.time (as_before (files old) each)) (made.any_moment (look.recoverable fit) (still each)).passes (λ image stand. record {
+    any_moment = λ fit each. leaves_only (passes_then (passes_as look.time (as_before (g.files old) each)) (made.any_moment (look.recoverable fit) (still each)).passes (λ image stand. record {
       start = stand.start;
       left = look.images stand.start stand.left;
       texts = stand.texts;
@@ -133,25 +134,25 @@ module _ {D : Type 0} (files : D → List ℕ → FileState) (moment : D → ℕ
     recoverable = λ fit each. made.recoverable (look.recoverable fit) (still each);
     bad = λ none. leaves_only (passes_then look.time (made.bad (ap recovered same ∙ none)).passes look.images) starts;
     idle = λ closed. leaves_only (passes_then look.time (made.idle (ap (λ (f : Image). is_closed (f journal_name)) same ∙ closed)).passes look.images) starts;
-    alone = alone_then files moment left_since (IsUnconcerned (contents (files old) journal_name)) old mid new look.alone
-        (subst (λ (f : Image). LeavesAlone files moment left_since (IsUnconcerned (f journal_name)) mid new) same made.alone);
+    alone = alone_then g (IsUnconcerned (contents (g.files old) journal_name)) old mid new look.alone
+        (subst (λ (f : Image). LeavesAlone g (IsUnconcerned (f journal_name)) mid new) same made.alone);
   }
     where
-      still : EachRecovers (files old) → EachRecovers (files mid)
+      still : EachRecovers (g.files old) → EachRecovers (g.files mid)
       still each image left = each image (look.images image left)
 
-  module _ (own : (name : List ℕ) → IsImage (files old name) (files old name).content) where
+  module _ (own : (name : List ℕ) → IsImage (g.files old name) (g.files old name).content) where
     -- the record of an open journal is applied
-    pub replayed_reopens : (entries : List Entry) (new : D) (r : Result (Unit {0}) DiskFault) → AreApplicable entries → IsOpenOver entries (files old) → all_fit entries (contents (files old)) ≡ true
-        → ReplaysOver files moment left_since entries old new r → Reopens files moment left_since old new r
+    pub replayed_reopens : (entries : List Entry) (new : D) (r : Result (Unit {0}) DiskFault) → AreApplicable entries → IsOpenOver entries (g.files old) → all_fit entries (contents (g.files old)) ≡ true
+        → ReplaysOver g entries old new r → ReopensOver g old new r
     replayed_reopens entries new r applicable over fits replays =
-        let now = files old in
+        let now = g.files old in
         let opened : is_open (contents now journal_name) ≡ true = over.opened in
         let told = over.found in
         let can = λ (fit : IsRecoverable now). recoverable_replayable now own entries applicable over fits fit in
         record {
           done = on_ok_weaker r (λ done. record {
-            recovered_then = (let made : IsSomeAnd (recovered (contents now)) (SameFiles (contents (files new))) = rw (opened, told, fits) done.made in made);
+            recovered_then = (let made : IsSomeAnd (recovered (contents now)) (SameFiles (contents (g.files new))) = rw (opened, told, fits) done.made in made);
             journal = done.journal ∙ sym (closed_open (contents now journal_name) opened);
             gate = done.gate;
             rest = λ fit each. done.rest (can fit);
@@ -160,21 +161,21 @@ module _ {D : Type 0} (files : D → List ℕ → FileState) (moment : D → ℕ
           recoverable = λ fit each. replays.recoverable (can fit);
           bad = λ none. absurd (found_good (contents now) (Armed entries) (opened, told, fits) none);
           idle = not_open (contents now journal_name) opened;
-          alone = alone_fewer files moment left_since (IsUnconcerned (contents now journal_name)) (IsUnwritten entries) old new replays.alone
+          alone = alone_fewer g (IsUnconcerned (contents now journal_name)) (IsUnwritten entries) old new replays.alone
               (λ name is. record { apart = is.apart; unnamed = is.unnamed opened entries told });
         }
 
     -- a closed gate stays, where the journal is whole
-    pub gate_stays : {A E : Type 0} (new : D) (r : Result A E) → IsStable (files old journal_name) → is_open (contents (files old) journal_name) ≡ false → Looks files moment left_since old new
-        → OnOk r (front_size ≤ length (files old journal_name).content) → Reopens files moment left_since old new r
+    pub gate_stays : {A E : Type 0} (new : D) (r : Result A E) → IsStable (g.files old journal_name) → is_open (contents (g.files old) journal_name) ≡ false → LooksOver g old new
+        → OnOk r (front_size ≤ length (g.files old journal_name).content) → ReopensOver g old new r
     gate_stays new r stable shut looks whole =
-        let now = files old in
-        let read : contents (files new) ≡ contents now = ap (λ (f : List ℕ → FileState). contents f) looks.same in
+        let now = g.files old in
+        let read : contents (g.files new) ≡ contents now = ap (λ (f : List ℕ → FileState). contents f) looks.same in
         record {
           done = on_ok_weaker r (λ long.
               let gate = shut_gate (now journal_name) stable shut long in
               record {
-                recovered_then = recovered_closed (contents now) (contents (files new)) shut (λ name not. ap (λ (f : Image). f name) read);
+                recovered_then = recovered_closed (contents now) (contents (g.files new)) shut (λ name not. ap (λ (f : Image). f name) read);
                 journal = ap (λ (f : Image). f journal_name) read ∙ sym (closed_shut (contents now journal_name) shut long);
                 gate = subst (λ (f : List ℕ → FileState). HasClosedGate (f journal_name)) (sym looks.same) gate;
                 rest = λ fit each. subst IsAtRest (sym looks.same) (closed_rest now gate stable (closed_stable now shut fit));
@@ -183,22 +184,22 @@ module _ {D : Type 0} (files : D → List ℕ → FileState) (moment : D → ℕ
           recoverable = λ fit each. subst IsRecoverable (sym looks.same) fit;
           bad = λ none. leaves_only looks.time starts;
           idle = λ closed. leaves_only looks.time starts;
-          alone = alone_looks files moment left_since (IsUnconcerned (contents now journal_name)) old new looks;
+          alone = alone_looks g (IsUnconcerned (contents now journal_name)) old new looks;
         }
 
     -- a journal that is shorter than a header gets its gate, closed
-    pub gate_given : (journal : List ℕ) (mid new : D) (r : Result (Unit {0}) DiskFault) → journal ≡ journal_name → is_open (contents (files old) journal_name) ≡ false
-        → length (files old journal_name).content < front_size → Looks files moment left_since old mid → PassesOver moment left_since mid new (LeavesClosed journal (files mid))
-        → Puts journal (0 ∷ drop 1 (files mid journal).content) (files mid) (files new) r → Reopens files moment left_since old new r
+    pub gate_given : (journal : List ℕ) (mid new : D) (r : Result (Unit {0}) DiskFault) → journal ≡ journal_name → is_open (contents (g.files old) journal_name) ≡ false
+        → length (g.files old journal_name).content < front_size → LooksOver g old mid → PassesOver g mid new (LeavesClosed journal (g.files mid))
+        → Puts journal (0 ∷ drop 1 (g.files mid journal).content) (g.files mid) (g.files new) r → ReopensOver g old new r
     gate_given journal mid new r name_is shut short looks time put =
-        let now = files old in
-        let last = files new in
-        let puts = subst (λ (n : List ℕ). Puts n (0 ∷ drop 1 (files mid n).content) (files mid) last r) name_is put in
-        let same : (name : List ℕ) → files mid name ≡ now name = λ name. ap (λ (f : List ℕ → FileState). f name) looks.same in
+        let now = g.files old in
+        let last = g.files new in
+        let puts = subst (λ (n : List ℕ). Puts n (0 ∷ drop 1 (g.files mid n).content) (g.files mid) last r) name_is put in
+        let same : (name : List ℕ) → g.files mid name ≡ now name = λ name. ap (λ (f : List ℕ → FileState). f name) looks.same in
         let others = λ (fit : IsRecoverable now) (name : List ℕ) (not : name ≢ journal_name). subst IsStable (sym (puts.others name not ∙ same name)) (closed_stable now shut fit name not) in
         record {
           done = on_ok_both r puts.stable puts.is (λ stable is.
-              let gate = closed_after (last journal_name) (drop 1 (files mid journal_name).content) stable is in
+              let gate = closed_after (last journal_name) (drop 1 (g.files mid journal_name).content) stable is in
               record {
                 recovered_then = recovered_closed (contents now) (contents last) shut (λ name not. ap (λ (f : FileState). f.content) (puts.others name not ∙ same name));
                 journal = is ∙ ap (λ (f : FileState). 0 ∷ drop 1 f.content) (same journal_name) ∙ sym (closed_short (contents now journal_name) short);
@@ -206,10 +207,10 @@ module _ {D : Type 0} (files : D → List ℕ → FileState) (moment : D → ℕ
                 rest = λ fit each. closed_rest last gate stable (others fit);
               });
           any_moment = λ fit each. leaves_only (passes_then (passes_as looks.time (as_before now each)) time (λ image left. closed_before now own shut (closed_stable now shut fit) image
-              (subst (λ (f : List ℕ → FileState). LeavesClosed journal_name f image) looks.same (subst (λ (n : List ℕ). LeavesClosed n (files mid) image) name_is left)))) (before each);
+              (subst (λ (f : List ℕ → FileState). LeavesClosed journal_name f image) looks.same (subst (λ (n : List ℕ). LeavesClosed n (g.files mid) image) name_is left)))) (before each);
           recoverable = λ fit each. inl (others fit);
           bad = λ none. absurd (found_good (contents now) Closed shut none);
           idle = not_short (contents now journal_name) short;
-          alone = alone_then files moment left_since (IsUnconcerned (contents now journal_name)) old mid new (alone_looks files moment left_since (IsUnconcerned (contents now journal_name)) old mid looks)
-              (alone_journal files moment left_since journal (IsUnconcerned (contents now journal_name)) (LeavesClosed journal (files mid)) mid new name_is (λ name is. is.apart) put.others time (λ image left. left.others));
+          alone = alone_then g (IsUnconcerned (contents now journal_name)) old mid new (alone_looks g (IsUnconcerned (contents now journal_name)) old mid looks)
+              (alone_journal g journal (IsUnconcerned (contents now journal_name)) (LeavesClosed journal (g.files mid)) mid new name_is (λ name is. is.apart) put.others time (λ image left. left.others));
         }

@@ -1,14 +1,14 @@
 -- What a call of a set makes of it besides its disk.
-use Rattle.std.proofs.Common.{◌≡◌, inl, inr, List, ℕ, Bool, true, false, refl, sym, ◌∙◌, ⊎_elim}
+use Rattle.std.proofs.Common.{◌≡◌, inl, inr, true, false, refl, sym, ◌∙◌, ⊎_elim}
 use Rattle.std.specs.Prelude.{Result, Ok, Err, OnOk, IsErrOf, IsErrAnd}
 use Rattle.std.proofs.lemmas.Bool.{true≢false}
-use Rattle.org_fileset.specs.Set.{KeepsSet}
+use Rattle.org_fileset.specs.Set.{KeepsSet, Opened}
 use Rattle.org_fileset.specs.declared.fault.SetFault.{SetFault}
 use Rattle.org_fileset.specs.declared.fault.SetFault.TheVariants.{Broken, Device, OutOfMemory}
 
-module _ {S A : Type 0} (old new : S) (names : S → List (List ℕ)) (broken : S → Bool) (same : names new ≡ names old) (whole : broken old ≡ false) where
+module _ {D A : Type 0} (old new : Opened D) (same : new.names ≡ old.names) (whole : old.broken ≡ false) where
   -- no call of the disk failed
-  pub keeps_whole : broken new ≡ false → (result : Result A SetFault) → (IsErrOf result Broken → ⊥) → (IsErrOf result Device → ⊥) → KeepsSet old new names broken result
+  pub keeps_whole : new.broken ≡ false → (result : Result A SetFault) → (IsErrOf result Broken → ⊥) → (IsErrOf result Device → ⊥) → KeepsSet old new result
   keeps_whole still result answered fine = record {
     same_names = same;
     refuses = (λ e. absurd (answered e), λ b. absurd (true≢false (sym b ∙ whole)));
@@ -17,7 +17,7 @@ module _ {S A : Type 0} (old new : S) (names : S → List (List ℕ)) (broken : 
   }
 
   -- a call of the disk failed
-  pub keeps_broken : broken new ≡ true → KeepsSet {A = A} old new names broken (Err Device)
+  pub keeps_broken : new.broken ≡ true → KeepsSet {A = A} old new (Err Device)
   keeps_broken is = record {
     same_names = same;
     refuses = (λ e. cc e, λ b. absurd (true≢false (sym b ∙ whole)));
@@ -26,8 +26,8 @@ module _ {S A : Type 0} (old new : S) (names : S → List (List ℕ)) (broken : 
   }
 
 -- a broken one does nothing
-pub keeps_refused : {S A : Type 0} (old : S) (names : S → List (List ℕ)) (broken : S → Bool) → broken old ≡ true → KeepsSet {A = A} old old names broken (Err Broken)
-keeps_refused old names broken before = record {
+pub keeps_refused : {D A : Type 0} (old : Opened D) → old.broken ≡ true → KeepsSet {A = A} old old (Err Broken)
+keeps_refused old before = record {
   same_names = refl;
   refuses = (λ e. before, λ b. refl);
   breaks = (λ b. inl b, λ either. before);

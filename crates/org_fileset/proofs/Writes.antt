@@ -1,11 +1,12 @@
 -- Calls that leave files alone, one after another.
 use Rattle.std.proofs.Common.{◌≡◌, ◌≢◌, inl, inr, ℕ, List, [], ◌∷◌, true, false, Result, refl, sym, ◌∙◌, ap, subst}
+use Rattle.org_disk.specs.declared.disk.Disk.{Ghosts}
 use Rattle.std.specs.Prelude.{Bool, IsFalse, ◌||◌, slice_get, Some}
 use Rattle.std.specs.List.{list_any}
 use Rattle.std.specs.Map.{keys_of}
 use Rattle.std.specs.Str.{bytes_eq}
 use Rattle.org_disk.specs.Disk.{FileState, IsImage, AreLeftBy, Changes}
-use Rattle.org_disk.specs.Accounts.{Looks, PassesOver}
+use Rattle.org_disk.specs.Accounts.{LooksOver, PassesOver}
 use Rattle.org_disk.specs.Names.{journal_name}
 use Rattle.org_disk.specs.declared.disk.DiskFault.{DiskFault}
 use Rattle.org_disk.proofs.Moments.{Image, passes_none, passes_as, passes_then}
@@ -17,63 +18,63 @@ use Rattle.org_fileset.specs.Entries.{AreEntriesOf}
 use Rattle.org_fileset.proofs.Takes.{named_apart}
 use Rattle.org_fileset.specs.Writes.{HasImagesOf, LeavesAlone, IsOther, IsUnwritten}
 
-module _ {D : Type 0} (files : D → List ℕ → FileState) (moment : D → ℕ) (left_since : D → ℕ → Image → Type 0) where
+module _ {D : Type 0} (g : Ghosts D) where
   -- no call
-  pub alone_none : (These : List ℕ → Type 0) (disk : D) → LeavesAlone files moment left_since These disk disk
-  alone_none These disk = record { same = λ name this. refl; time = passes_none (moment disk) (left_since disk) (HasImagesOf These (files disk)) }
+  pub alone_none : (These : List ℕ → Type 0) (disk : D) → LeavesAlone g These disk disk
+  alone_none These disk = record { same = λ name this. refl; time = passes_none (g.moment disk) (g.left_since disk) (HasImagesOf These (g.files disk)) }
 
   -- one run of calls after another
-  pub alone_then : (These : List ℕ → Type 0) (old mid new : D) → LeavesAlone files moment left_since These old mid → LeavesAlone files moment left_since These mid new
-      → LeavesAlone files moment left_since These old new
+  pub alone_then : (These : List ℕ → Type 0) (old mid new : D) → LeavesAlone g These old mid → LeavesAlone g These mid new
+      → LeavesAlone g These old new
   alone_then These old mid new first second = record {
     same = λ name this. second.same name this ∙ first.same name this;
     time = passes_then first.time second.time (λ image has name this. subst (λ f. IsImage f (image name)) (first.same name this) (has name this));
   }
 
   -- fewer files
-  pub alone_fewer : (These Those : List ℕ → Type 0) (old new : D) → LeavesAlone files moment left_since Those old new → ((name : List ℕ) → These name → Those name)
-      → LeavesAlone files moment left_since These old new
+  pub alone_fewer : (These Those : List ℕ → Type 0) (old new : D) → LeavesAlone g Those old new → ((name : List ℕ) → These name → Those name)
+      → LeavesAlone g These old new
   alone_fewer These Those old new alone fewer = record {
     same = λ name this. alone.same name (fewer name this);
     time = passes_as alone.time (λ image has name this. has name (fewer name this));
   }
 
   -- a call that looks
-  pub alone_looks : (These : List ℕ → Type 0) (old new : D) → Looks files moment left_since old new → LeavesAlone files moment left_since These old new
+  pub alone_looks : (These : List ℕ → Type 0) (old new : D) → LooksOver g old new → LeavesAlone g These old new
   alone_looks These old new looks = record {
     same = λ name this. ap (λ (f : List ℕ → FileState). f name) looks.same;
     time = passes_as looks.time (λ image left name this. left name);
   }
 
   -- calls on the file of one name, of which these words are said
-  pub alone_but : (name : List ℕ) (P : Image → Type 0) (old new : D) → ((other : List ℕ) → other ≢ name → files new other ≡ files old other) → PassesOver moment left_since old new P
-      → ((image : Image) → P image → HasImagesOf (λ other. other ≢ name) (files old) image) → LeavesAlone files moment left_since (λ other. other ≢ name) old new
+  pub alone_but : (name : List ℕ) (P : Image → Type 0) (old new : D) → ((other : List ℕ) → other ≢ name → g.files new other ≡ g.files old other) → PassesOver g old new P
+      → ((image : Image) → P image → HasImagesOf (λ other. other ≢ name) (g.files old) image) → LeavesAlone g (λ other. other ≢ name) old new
   alone_but name P old new others time has = record { same = others; time = passes_as time has }
 
   -- one such call
-  pub alone_call : (effect : FileState → FileState) (name : List ℕ) (old new : D) (result : Result (Unit {0}) DiskFault) → Changes effect name (files old) (files new) result
-      → PassesOver moment left_since old new (AreLeftBy effect name (files old)) → LeavesAlone files moment left_since (λ other. other ≢ name) old new
-  alone_call effect name old new result changes time = alone_but name (AreLeftBy effect name (files old)) old new changes.others time (λ image left. left.others)
+  pub alone_call : (effect : FileState → FileState) (name : List ℕ) (old new : D) (result : Result (Unit {0}) DiskFault) → Changes effect name (g.files old) (g.files new) result
+      → PassesOver g old new (AreLeftBy effect name (g.files old)) → LeavesAlone g (λ other. other ≢ name) old new
+  alone_call effect name old new result changes time = alone_but name (AreLeftBy effect name (g.files old)) old new changes.others time (λ image left. left.others)
 
 -- calls on the file of one entry of a record
-pub alone_entry : {D : Type 0} (files : D → List ℕ → FileState) (moment : D → ℕ) (left_since : D → ℕ → Image → Type 0) (entries : List Entry) (i : ℕ) (entry : Entry) (old mid new : D) → slice_get entries i ≡ Some entry
-    → LeavesAlone files moment left_since (λ name. IsFalse (is_named name entries)) old mid → LeavesAlone files moment left_since (λ other. other ≢ entry.name) mid new
-    → LeavesAlone files moment left_since (λ name. IsFalse (is_named name entries)) old new
-alone_entry files moment left_since entries i entry old mid new is sofar here =
-    alone_then files moment left_since (λ name. IsFalse (is_named name entries)) old mid new sofar
-    (alone_fewer files moment left_since (λ name. IsFalse (is_named name entries)) (λ other. other ≢ entry.name) mid new here (λ name none. named_apart entries i entry name none is))
+pub alone_entry : {D : Type 0} (g : Ghosts D) (entries : List Entry) (i : ℕ) (entry : Entry) (old mid new : D) → slice_get entries i ≡ Some entry
+    → LeavesAlone g (λ name. IsFalse (is_named name entries)) old mid → LeavesAlone g (λ other. other ≢ entry.name) mid new
+    → LeavesAlone g (λ name. IsFalse (is_named name entries)) old new
+alone_entry g entries i entry old mid new is sofar here =
+    alone_then g (λ name. IsFalse (is_named name entries)) old mid new sofar
+    (alone_fewer g (λ name. IsFalse (is_named name entries)) (λ other. other ≢ entry.name) mid new here (λ name none. named_apart entries i entry name none is))
 
 -- What no record names, and isn't the journal, is left alone by calls on its files ..
-pub alone_applied : {D : Type 0} (files : D → List ℕ → FileState) (moment : D → ℕ) (left_since : D → ℕ → Image → Type 0) (entries : List Entry) (old new : D)
-    → LeavesAlone files moment left_since (λ name. IsFalse (is_named name entries)) old new → LeavesAlone files moment left_since (IsUnwritten entries) old new
-alone_applied files moment left_since entries old new alone = alone_fewer files moment left_since (IsUnwritten entries) (λ name. IsFalse (is_named name entries)) old new alone (λ name is. is.unnamed)
+pub alone_applied : {D : Type 0} (g : Ghosts D) (entries : List Entry) (old new : D)
+    → LeavesAlone g (λ name. IsFalse (is_named name entries)) old new → LeavesAlone g (IsUnwritten entries) old new
+alone_applied g entries old new alone = alone_fewer g (IsUnwritten entries) (λ name. IsFalse (is_named name entries)) old new alone (λ name is. is.unnamed)
 
 -- .. and on the journal
-pub alone_journal : {D : Type 0} (files : D → List ℕ → FileState) (moment : D → ℕ) (left_since : D → ℕ → Image → Type 0) (journal : List ℕ) (These : List ℕ → Type 0) (P : Image → Type 0) (old new : D) → journal ≡ journal_name
-    → ((name : List ℕ) → These name → name ≢ journal_name) → ((other : List ℕ) → other ≢ journal → files new other ≡ files old other) → PassesOver moment left_since old new P
-    → ((image : Image) → P image → HasImagesOf (λ other. other ≢ journal) (files old) image) → LeavesAlone files moment left_since These old new
-alone_journal files moment left_since journal These P old new is apart others time has =
-    alone_fewer files moment left_since These (λ other. other ≢ journal) old new (alone_but files moment left_since journal P old new others time has) (λ name this same. apart name this (same ∙ is))
+pub alone_journal : {D : Type 0} (g : Ghosts D) (journal : List ℕ) (These : List ℕ → Type 0) (P : Image → Type 0) (old new : D) → journal ≡ journal_name
+    → ((name : List ℕ) → These name → name ≢ journal_name) → ((other : List ℕ) → other ≢ journal → g.files new other ≡ g.files old other) → PassesOver g old new P
+    → ((image : Image) → P image → HasImagesOf (λ other. other ≢ journal) (g.files old) image) → LeavesAlone g These old new
+alone_journal g journal These P old new is apart others time has =
+    alone_fewer g These (λ other. other ≢ journal) old new (alone_but g journal P old new others time has) (λ name this same. apart name this (same ∙ is))
 
 -- The files that a record of changes doesn't name are those that aren't changed.
 

@@ -1,5 +1,6 @@
 -- The words of the laws.
 use Rattle.std.specs.Prelude.{◌≡◌, ◌≢◌, ◌⊎◌, ℕ, ◌≤◌, List, Result}
+use Rattle.org_disk.specs.declared.disk.Disk.{Ghosts}
 use Rattle.org_disk.specs.Disk.{FileState, IsStable, AreImages, AreLeftBy, Changes}
 use Rattle.org_disk.specs.Names.{journal_name}
 use Rattle.org_disk.specs.declared.disk.DiskFault.{DiskFault}
@@ -53,11 +54,11 @@ pub record AreAtRest (texts : Image) (files : List ℕ → FileState) : Type 0 w
 
 -- Calls go from the one disk to the other by way of this one: nothing that a crash might have left
 -- of it is forgotten.
-pub record IsBetween {D : Type 0} (moment : D → ℕ) (left_since : D → ℕ → Image → Type 0)
+pub record IsBetween {D : Type 0} (g : Ghosts D)
     (old mid new : D) : Type 0 where
-  pub later : moment old ≤ moment mid
-  pub keeps : (image : Image) → left_since mid (moment old) image
-      → left_since new (moment old) image
+  pub later : g.moment old ≤ g.moment mid
+  pub keeps : (image : Image) → g.left_since mid (g.moment old) image
+      → g.left_since new (g.moment old) image
 
 -- some file but the journal has other bytes
 pub record AreOtherFiles (one other : Image) : Type 0 where

@@ -1,8 +1,8 @@
 -- What opening a set of files answers.
 use Rattle.std.specs.Prelude.{◌≡◌, ◌≢◌, ◌≤◌, ℕ, List, length, Some, None, IsSomeAnd, Result, Ok, Err, Vec}
+use Rattle.org_disk.specs.declared.disk.Disk.{Ghosts}
 use Rattle.std.specs.Global.{Global}
 use Rattle.std.specs.List.{AllByRecursion}
-use Rattle.org_disk.specs.Disk.{FileState}
 use Rattle.org_disk.specs.Names.{journal_name}
 use Rattle.org_disk.specs.declared.name.FileName.{FileName}
 use Rattle.org_journal.specs.Record.{most_entries}
@@ -91,7 +91,8 @@ pub record IsOpenedFor (given names : List (List ℕ)) (honest : Type 0) (now : 
 
 -- An opening with the given names over the disk `before` was refused for this fault, and handed it
 -- back as `now`.
-pub record IsRefusedFor {D : Type 0} (honest : D → Type 0) (files : D → List ℕ → FileState)
-    (given : List (List ℕ)) (before now : D) (fault : OpenFault) : Type 0 where
-  pub reason : IsReason given (honest now) (contents (files before)) (contents (files now)) fault
+pub record IsRefusedFor {D : Type 0} (g : Ghosts D) (given : List (List ℕ)) (before now : D)
+    (fault : OpenFault) : Type 0 where
+  pub reason : IsReason given (g.honest now) (contents (g.files before)) (contents (g.files now))
+      fault
   pub unused : fault ≡ TooManyFiles → now ≡ before

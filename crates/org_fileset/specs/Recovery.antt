@@ -1,5 +1,6 @@
 -- What an opening may leave.
 use Rattle.std.specs.Prelude.{◌≡◌, ℕ, nat_le, Bool, ◌&&◌, not, List, ◌∷◌, length, drop, Result, OnOk, IsSomeAnd, IsTrue, is_some, None, if◌then◌else◌}
+use Rattle.org_disk.specs.declared.disk.Disk.{Ghosts}
 use Rattle.org_disk.specs.Disk.{FileState, AreImages}
 use Rattle.org_disk.specs.Accounts.{LeavesOver}
 use Rattle.org_disk.specs.Names.{journal_name}
@@ -43,17 +44,20 @@ pub record IsReopened (old new : List ℕ → FileState) : Type 0 where
 -- them, and the disk is as recoverable after it. Where the journal is bad, as it reads, or is whole
 -- and its gate is closed, a crash leaves what it might have left before, and nothing else. Files
 -- that no record of an open journal names are left alone.
-pub record Reopens {D A E : Type 0} (files : D → List ℕ → FileState) (moment : D → ℕ)
-    (left_since : D → ℕ → Image → Type 0) (old new : D) (result : Result A E) : Type 0 where
-  pub done : OnOk result (IsReopened (files old) (files new))
-  pub any_moment : IsRecoverable (files old) → EachRecovers (files old)
-      → LeavesOver moment left_since old new (RecoversAsBefore (files old))
-  pub recoverable : IsRecoverable (files old) → EachRecovers (files old) → IsRecoverable (files new)
-  pub bad : recovered (contents (files old)) ≡ None
-      → LeavesOver moment left_since old new (AreImages (files old))
+pub record ReopensOver {D A E : Type 0} (g : Ghosts D) (old new : D) (result : Result A E)
+    : Type 0 where
+  pub done : OnOk result (IsReopened (g.files old) (g.files new))
+  pub any_moment : IsRecoverable (g.files old) → EachRecovers (g.files old)
+      → LeavesOver g old new (RecoversAsBefore (g.files old))
+  pub recoverable : IsRecoverable (g.files old) → EachRecovers (g.files old)
+      → IsRecoverable (g.files new)
+  pub bad : recovered (contents (g.files old)) ≡ None
+      → LeavesOver g old new (AreImages (g.files old))
   -- A whole journal with a closed gate leaves nothing to bring to an end: whatever is answered, a
   -- crash leaves what it might have left before.
-  pub idle : IsTrue (is_closed (contents (files old) journal_name))
-      → LeavesOver moment left_since old new (AreImages (files old))
-  pub alone : LeavesAlone files moment left_since
-      (IsUnconcerned (contents (files old) journal_name)) old new
+  pub idle : IsTrue (is_closed (contents (g.files old) journal_name))
+      → LeavesOver g old new (AreImages (g.files old))
+  pub alone : LeavesAlone g (IsUnconcerned (contents (g.files old) journal_name)) old new
+
+abbrev pub Reopens : {D A E : Type 0} → Ghosts D → D → D → Result A E → Type 0
+Reopens g old new result = g.honest new → ReopensOver g old new result

@@ -1,6 +1,7 @@
 -- Files to which a record is being applied: whatever a crash leaves of them, the record makes the
 -- same texts of it.
 use Rattle.std.specs.Prelude.{◌≡◌, ◌≢◌, ◌⊎◌, ℕ, ◌≤◌, List, [], ◌∷◌, drop, Some, Result, OnOk, MatchBool, IsTrue, IsFalse}
+use Rattle.org_disk.specs.declared.disk.Disk.{Ghosts}
 use Rattle.std.specs.List.{AllByRecursion}
 use Rattle.std.specs.Str.{bytes_eq}
 use Rattle.org_disk.specs.Disk.{FileState, IsImage, IsStable, Passes}
@@ -107,27 +108,25 @@ pub record IsReplayed (entries : List Entry) (old new : List ℕ → FileState) 
 
 -- What a call does that applies the record of an open journal to its files, and closes the gate,
 -- where the disk is honest after it.
-pub record ReplaysOver {D : Type 0} (files : D → List ℕ → FileState) (moment : D → ℕ)
-    (left_since : D → ℕ → Image → Type 0) (entries : List Entry) (old new : D)
+pub record ReplaysOver {D : Type 0} (g : Ghosts D) (entries : List Entry) (old new : D)
     (result : Result (Unit {0}) DiskFault) : Type 0 where
-  pub done : OnOk result (IsReplayed entries (files old) (files new))
+  pub done : OnOk result (IsReplayed entries (g.files old) (g.files new))
   -- where the record makes the same texts of whatever a crash leaves at the start
-  pub any_moment : (can : IsReplayable entries (files old))
-      → PassesOver moment left_since old new (RecoversTo can.texts)
-  pub recoverable : IsReplayable entries (files old) → IsRecoverable (files new)
-  pub alone : LeavesAlone files moment left_since (IsUnwritten entries) old new
+  pub any_moment : (can : IsReplayable entries (g.files old))
+      → PassesOver g old new (RecoversTo can.texts)
+  pub recoverable : IsReplayable entries (g.files old) → IsRecoverable (g.files new)
+  pub alone : LeavesAlone g (IsUnwritten entries) old new
 
 -- What a call does that writes a record behind a closed gate and opens the gate over it, where the
 -- disk is honest after it. The journal alone is written; where all was on the disk, a crash leaves
 -- what recovers to the files before, or to those that the record makes of them.
-pub record WritesRecord {D : Type 0} (files : D → List ℕ → FileState) (moment : D → ℕ)
-    (left_since : D → ℕ → Image → Type 0) (entries : List Entry) (old new : D)
+pub record WritesRecord {D : Type 0} (g : Ghosts D) (entries : List Entry) (old new : D)
     (result : Result (Unit {0}) DiskFault) : Type 0 where
-  pub opened : OnOk result (IsOpenOver entries (files new))
-  pub any_moment : IsAtRest (files old) → PassesOver moment left_since old new
-      (IsBeforeOrAfter (contents (files old)) (replayed entries (contents (files old))))
-  pub others : (name : List ℕ) → name ≢ journal_name → files new name ≡ files old name
-  pub alone : LeavesAlone files moment left_since (IsUnwritten entries) old new
+  pub opened : OnOk result (IsOpenOver entries (g.files new))
+  pub any_moment : IsAtRest (g.files old) → PassesOver g old new
+      (IsBeforeOrAfter (contents (g.files old)) (replayed entries (contents (g.files old))))
+  pub others : (name : List ℕ) → name ≢ journal_name → g.files new name ≡ g.files old name
+  pub alone : LeavesAlone g (IsUnwritten entries) old new
 
 -- The files are these now; what was at rest is at rest.
 pub record IsCommitted (after : Image) (old new : List ℕ → FileState) : Type 0 where
@@ -136,26 +135,24 @@ pub record IsCommitted (after : Image) (old new : List ℕ → FileState) : Type
 
 -- What a commit does that is to make these files, and to leave some alone, where the disk is honest
 -- after it.
-pub record Commits {D A E : Type 0} (files : D → List ℕ → FileState) (moment : D → ℕ)
-    (left_since : D → ℕ → Image → Type 0) (after : Image) (Alone : List ℕ → Type 0) (old new : D)
-    (result : Result A E) : Type 0 where
-  pub done : OnOk result (IsCommitted after (files old) (files new))
+pub record CommitsOver {D A E : Type 0} (g : Ghosts D) (after : Image) (Alone : List ℕ → Type 0)
+    (old new : D) (result : Result A E) : Type 0 where
+  pub done : OnOk result (IsCommitted after (g.files old) (g.files new))
   -- where all was on the disk: what a crash at any moment since the call began leaves
-  pub any_moment : IsAtRest (files old)
-      → LeavesOver moment left_since old new (IsBeforeOrAfter (contents (files old)) after)
+  pub any_moment : IsAtRest (g.files old)
+      → LeavesOver g old new (IsBeforeOrAfter (contents (g.files old)) after)
   -- after a failure too, it may be opened again
-  pub recoverable : IsAtRest (files old) → IsRecoverable (files new)
-  pub alone : LeavesAlone files moment left_since Alone old new
+  pub recoverable : IsAtRest (g.files old) → IsRecoverable (g.files new)
+  pub alone : LeavesAlone g Alone old new
 
 -- `AppliesPatches` and `Replays` of a disk before calls and after them
-abbrev pub AppliesPatchesOver : {D : Type 0} → (D → List ℕ → FileState) → (D → ℕ)
-    → (D → ℕ → Image → Type 0) → List (ℕ × List ℕ) → ℕ → List ℕ → List ℕ → D → D → Type 0
-AppliesPatchesOver files moment left_since patches final name to old new =
-    AppliesPatches patches final name to (moment old) (moment new) (left_since old) (left_since new)
-    (files old) (files new)
+abbrev pub AppliesPatchesOver : {D : Type 0} → Ghosts D → List (ℕ × List ℕ) → ℕ → List ℕ → List ℕ
+    → D → D → Type 0
+AppliesPatchesOver g patches final name to old new =
+    AppliesPatches patches final name to (g.moment old) (g.moment new) (g.left_since old)
+    (g.left_since new) (g.files old) (g.files new)
 
-abbrev pub TakesOver : {D : Type 0} → (D → List ℕ → FileState) → (D → ℕ)
-    → (D → ℕ → Image → Type 0) → List Entry → Image → D → D → Type 0
-TakesOver files moment left_since entries texts old new =
-    Replays entries texts (moment old) (moment new) (left_since old) (left_since new) (files old)
-    (files new)
+abbrev pub TakesOver : {D : Type 0} → Ghosts D → List Entry → Image → D → D → Type 0
+TakesOver g entries texts old new =
+    Replays entries texts (g.moment old) (g.moment new) (g.left_since old) (g.left_since new)
+    (g.files old) (g.files new)

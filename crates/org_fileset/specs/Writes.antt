@@ -1,5 +1,6 @@
 -- Which files calls write.
 use Rattle.std.specs.Prelude.{◌≡◌, ◌≢◌, ℕ, List, [], ◌∷◌, IsTrue, IsFalse, Some, drop}
+use Rattle.org_disk.specs.declared.disk.Disk.{Ghosts}
 use Rattle.std.specs.List.{list_any}
 use Rattle.std.specs.Str.{bytes_eq}
 use Rattle.org_disk.specs.Disk.{FileState, IsImage}
@@ -17,10 +18,10 @@ HasImagesOf These files image = (name : List ℕ) → These name → IsImage (fi
 
 -- Calls leave these files alone: each is as it was, and a crash meanwhile leaves of it what it
 -- might have left before.
-pub record LeavesAlone {D : Type 0} (files : D → List ℕ → FileState) (moment : D → ℕ)
-    (left_since : D → ℕ → Image → Type 0) (These : List ℕ → Type 0) (old new : D) : Type 0 where
-  pub same : (name : List ℕ) → These name → files new name ≡ files old name
-  pub time : PassesOver moment left_since old new (HasImagesOf These (files old))
+pub record LeavesAlone {D : Type 0} (g : Ghosts D) (These : List ℕ → Type 0) (old new : D)
+    : Type 0 where
+  pub same : (name : List ℕ) → These name → g.files new name ≡ g.files old name
+  pub time : PassesOver g old new (HasImagesOf These (g.files old))
 
 -- A commit of the files of these names doesn't write the file of this name: there is nothing to
 -- commit, or it is neither one of these nor the journal.

@@ -25,14 +25,14 @@ pub fn apply_entry<D: Disk>(disk: &mut D, entry: &Entry) -> Result<(), DiskFault
     ensures applies { D.honest disk.new → (to : List ℕ)
         → EachPatchedTo (pairs_of entry.now.patches) entry.now.length to
         (D.files disk.old entry.now.name)
-        → AppliesPatchesOver D.files D.moment D.left_since
+        → AppliesPatchesOver D.Disk
         (pairs_of entry.now.patches) entry.now.length entry.now.name to disk.old disk.new }
     ensures content { OnOk result (D.honest disk.new → (D.files disk.new entry.now.name).content
         ≡ patched (pairs_of entry.now.patches) entry.now.length
         (D.files disk.old entry.now.name).content) }
-    ensures alone { D.honest disk.new → LeavesAlone D.files D.moment D.left_since
+    ensures alone { D.honest disk.new → LeavesAlone D.Disk
         (λ other. other ≢ entry.now.name) disk.old disk.new }
-    ensures accounts { Accounts D.steady D.honest D.failures disk.old disk.new (IsErr result) }
+    ensures accounts { Accounts D.Disk disk.old disk.new (IsErr result) }
 {
     for patch in entry.patches.as_slice() {
         disk.write_at(&entry.name, patch.from, patch.bytes.as_slice())?;
@@ -52,13 +52,13 @@ pub fn apply_all<D: Disk>(disk: &mut D, entries: &[Entry]) -> Result<(), DiskFau
     requires fits { D.honest disk.old → IsTrue (all_fit entries.now (contents (D.files disk.old))) }
     ensures replays { D.honest disk.new → IsStable (D.files disk.old journal_name)
         → (texts : Image) → EachTakes entries.now texts (D.files disk.old)
-        → TakesOver D.files D.moment D.left_since entries.now texts disk.old disk.new }
+        → TakesOver D.Disk entries.now texts disk.old disk.new }
     ensures contents { OnOk result (D.honest disk.new → (name : List ℕ)
         → contents (D.files disk.new) name ≡ replayed entries.now (contents (D.files disk.old))
         name) }
-    ensures alone { D.honest disk.new → LeavesAlone D.files D.moment D.left_since
+    ensures alone { D.honest disk.new → LeavesAlone D.Disk
         (λ name. IsFalse (is_named name entries.now)) disk.old disk.new }
-    ensures accounts { Accounts D.steady D.honest D.failures disk.old disk.new (IsErr result) }
+    ensures accounts { Accounts D.Disk disk.old disk.new (IsErr result) }
 {
     for entry in entries {
         apply_entry(disk, entry)?;
@@ -72,15 +72,15 @@ pub fn sync_all<D: Disk>(disk: &mut D, entries: &[Entry]) -> Result<(), DiskFaul
     requires { D.honest disk.old → AreApplicable entries.now }
     ensures replays { D.honest disk.new → IsStable (D.files disk.old journal_name)
         → (texts : Image) → EachTakes entries.now texts (D.files disk.old)
-        → TakesOver D.files D.moment D.left_since entries.now texts disk.old disk.new }
+        → TakesOver D.Disk entries.now texts disk.old disk.new }
     ensures contents { OnOk result (D.honest disk.new → (name : List ℕ)
         → contents (D.files disk.new) name ≡ contents (D.files disk.old) name) }
     ensures stable { OnOk result (D.honest disk.new → (name : List ℕ)
         → (IsFalse (is_named name entries.now) → IsStable (D.files disk.old name))
         → IsStable (D.files disk.new name)) }
-    ensures alone { D.honest disk.new → LeavesAlone D.files D.moment D.left_since
+    ensures alone { D.honest disk.new → LeavesAlone D.Disk
         (λ name. IsFalse (is_named name entries.now)) disk.old disk.new }
-    ensures accounts { Accounts D.steady D.honest D.failures disk.old disk.new (IsErr result) }
+    ensures accounts { Accounts D.Disk disk.old disk.new (IsErr result) }
 {
     for entry in entries {
         disk.sync(&entry.name)?;

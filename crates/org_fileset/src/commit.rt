@@ -6,7 +6,7 @@ ghost use Rattle.org_journal.specs.Gate.{HasClosedGate};
 ghost use Rattle.org_journal.specs.Reading.{journal_at};
 ghost use Rattle.org_journal.specs.Recovered.{all_fit, replayed, contents};
 ghost use Rattle.org_journal.specs.declared.record.Entry.{Entry};
-ghost use Rattle.org_fileset.specs.Replay.{AreApplicable, Commits, IsOpenOver, ReplaysOver, WritesRecord};
+ghost use Rattle.org_fileset.specs.Replay.{AreApplicable, CommitsOver, IsOpenOver, ReplaysOver, WritesRecord};
 ghost use Rattle.org_fileset.specs.Writes.{IsUnwritten};
 
 use crate::apply::{apply_all, sync_all};
@@ -21,9 +21,8 @@ pub fn replay<D: Disk>(disk: &mut D, journal: &FileName, entries: &[Entry]) -> R
     requires applicable { D.honest disk.old → AreApplicable entries.now }
     requires opened { D.honest disk.old → IsOpenOver entries.now (D.files disk.old) }
     requires fits { D.honest disk.old → IsTrue (all_fit entries.now (contents (D.files disk.old))) }
-    ensures replays { D.honest disk.new → ReplaysOver D.files D.moment D.left_since
-        entries.now disk.old disk.new result }
-    ensures accounts { Accounts D.steady D.honest D.failures disk.old disk.new (IsErr result) }
+    ensures replays { D.honest disk.new → ReplaysOver D.Disk entries.now disk.old disk.new result }
+    ensures accounts { Accounts D.Disk disk.old disk.new (IsErr result) }
 {
     apply_all(disk, entries)?;
     sync_all(disk, entries)?;
@@ -40,8 +39,8 @@ fn write_record<D: Disk>(disk: &mut D, journal: &FileName, body: &[u8]) -> Resul
         → ((more : List ℕ) → journal_at (body.now ++ more) ≡ Some entries)
         → AreApplicable entries → D.honest disk.new
         → IsTrue (all_fit entries (contents (D.files disk.old)))
-        → WritesRecord D.files D.moment D.left_since entries disk.old disk.new result }
-    ensures accounts { Accounts D.steady D.honest D.failures disk.old disk.new (IsErr result) }
+        → WritesRecord D.Disk entries disk.old disk.new result }
+    ensures accounts { Accounts D.Disk disk.old disk.new (IsErr result) }
 {
     arm(disk, journal, body)?;
     open_gate(disk, journal)
@@ -63,13 +62,13 @@ pub fn commit_entries<D: Disk>(
     requires long { 15 ≤ length body.now }
     requires gate { D.honest disk.old → HasClosedGate (D.files disk.old journal_name) }
     requires fits { D.honest disk.old → IsTrue (all_fit entries.now (contents (D.files disk.old))) }
-    ensures commits { D.honest disk.new → Commits D.files D.moment D.left_since
+    ensures commits { D.honest disk.new → CommitsOver D.Disk
         (replayed entries.now (contents (D.files disk.old))) (IsUnwritten entries.now)
         disk.old disk.new result }
     ensures record { D.honest disk.new → OnOk result
         (journal_at (drop 1 (D.files disk.new journal_name).content) ≡ Some entries.now) }
     ensures gate { D.honest disk.new → OnOk result (HasClosedGate (D.files disk.new journal_name)) }
-    ensures accounts { Accounts D.steady D.honest D.failures disk.old disk.new (IsErr result) }
+    ensures accounts { Accounts D.Disk disk.old disk.new (IsErr result) }
 {
     write_record(disk, journal, body)?;
     replay(disk, journal, entries)

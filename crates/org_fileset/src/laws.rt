@@ -92,8 +92,8 @@ pub fn crashed_disk_opens_again()
 /// were, or all with the changed texts.
 pub fn middle_of_a_commit_counts<D: Disk>()
     ensures middle { (old mid new : D) (after : Image) → D.honest mid → IsAtRest (D.files mid)
-        → IsBetween D.moment D.left_since old mid new
-        → LeavesOver D.moment D.left_since old new (IsBeforeOrAfter (contents (D.files old)) after)
+        → IsBetween D.Disk old mid new
+        → LeavesOver D.Disk old new (IsBeforeOrAfter (contents (D.files old)) after)
         → SameFiles (contents (D.files mid)) (contents (D.files old))
         ⊎ SameFiles (contents (D.files mid)) after }
     // So the promise is false of a body that commits other files on its way: a part of the changed
@@ -101,15 +101,15 @@ pub fn middle_of_a_commit_counts<D: Disk>()
     ensures apart { (old mid new : D) (half after : Image) → D.honest mid
         → IsAtRest (D.files old) → IsCommitted half (D.files old) (D.files mid)
         → AreOtherFiles half (contents (D.files old)) → AreOtherFiles half after
-        → IsBetween D.moment D.left_since old mid new
-        → LeavesOver D.moment D.left_since old new (IsBeforeOrAfter (contents (D.files old)) after)
+        → IsBetween D.Disk old mid new
+        → LeavesOver D.Disk old new (IsBeforeOrAfter (contents (D.files old)) after)
         → ⊥ }
     // So it is of two commits, one behind the other, of which the first is done.
     ensures two { (old mid new : D) (half last after : Image) → D.honest mid
         → IsAtRest (D.files old) → IsCommitted half (D.files old) (D.files mid)
-        → LeavesOver D.moment D.left_since old mid (IsBeforeOrAfter (contents (D.files old)) half)
-        → LeavesOver D.moment D.left_since mid new (IsBeforeOrAfter (contents (D.files mid)) last)
+        → LeavesOver D.Disk old mid (IsBeforeOrAfter (contents (D.files old)) half)
+        → LeavesOver D.Disk mid new (IsBeforeOrAfter (contents (D.files mid)) last)
         → AreOtherFiles half (contents (D.files old)) → AreOtherFiles half after
-        → LeavesOver D.moment D.left_since old new (IsBeforeOrAfter (contents (D.files old)) after)
+        → LeavesOver D.Disk old new (IsBeforeOrAfter (contents (D.files old)) after)
         → ⊥ }
 {}

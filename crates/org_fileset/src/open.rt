@@ -106,9 +106,8 @@ pub fn check_sizes<D: Disk>(disk: &mut D, names: &[FileName]) -> Result<(), Open
     ensures sizes { D.honest disk.new → HaveSizes (contents (D.files disk.old)) names.now result }
     ensures not_too_many { IsErrOf result OpenFault.TooManyFiles → ⊥ }
     ensures not_bad { IsErrOf result OpenFault.BadJournal → ⊥ }
-    ensures looks { D.honest disk.new → Looks D.files D.moment D.left_since disk.old disk.new }
-    ensures accounts { Accounts D.steady D.honest D.failures disk.old disk.new
-        (IsErrOf result OpenFault.Device) }
+    ensures looks { Looks D.Disk disk.old disk.new }
+    ensures accounts { Accounts D.Disk disk.old disk.new (IsErrOf result OpenFault.Device) }
 {
     for name in names {
         if disk.length(name)? > LIMIT as u64 {
@@ -126,13 +125,11 @@ pub fn make_ready<D: Disk>(
     names: &[FileName],
 ) -> Result<(), OpenFault>
     requires { journal.now ≡ journal_name }
-    ensures reopens { D.honest disk.new → Reopens D.files D.moment D.left_since disk.old disk.new
-        result }
+    ensures reopens { Reopens D.Disk disk.old disk.new result }
     ensures answer { D.honest disk.new → IsAnswer (contents (D.files disk.old))
         (contents (D.files disk.new)) names.now result }
     ensures not_too_many { IsErrOf result OpenFault.TooManyFiles → ⊥ }
-    ensures accounts { Accounts D.steady D.honest D.failures disk.old disk.new
-        (IsErrOf result OpenFault.Device) }
+    ensures accounts { Accounts D.Disk disk.old disk.new (IsErrOf result OpenFault.Device) }
 {
     recover(alloc, disk, journal)?;
     check_sizes(disk, names)

@@ -18,15 +18,14 @@ use std::alloc::Global;
 fn look<D: Disk>(alloc: Global, disk: &mut D, journal: &FileName) -> Result<Found, FindFault>
     requires { journal.now ≡ journal_name }
     ensures looked { D.honest disk.new
-        → IsLookedAt D.files D.moment D.left_since disk.old disk.new }
+        → IsLookedAt D.Disk disk.old disk.new }
     ensures found { IfOk result (λ found. D.honest disk.new
         → IsFoundIn (D.files disk.old) (D.files disk.new) found) }
     ensures writable { IfOk result (λ found. IsWritable found) }
     ensures bad { IsErrOf result FindFault.BadJournal → D.honest disk.new
         → (recovered (contents (D.files disk.old)) ≡ None)
         × (contents (D.files disk.new) ≡ contents (D.files disk.old)) }
-    ensures accounts { Accounts D.steady D.honest D.failures disk.old disk.new
-        (IsErrOf result FindFault.Device) }
+    ensures accounts { Accounts D.Disk disk.old disk.new (IsErrOf result FindFault.Device) }
 {
     disk.sync(journal)?;
     find(alloc, disk, journal)
@@ -39,9 +38,8 @@ fn give_gate<D: Disk>(disk: &mut D, journal: &FileName) -> Result<(), DiskFault>
     requires stable { D.honest disk.old → IsStable (D.files disk.old journal_name) }
     requires closed { D.honest disk.old
         → IsFalse (is_open (contents (D.files disk.old) journal_name)) }
-    ensures reopens { D.honest disk.new → Reopens D.files D.moment D.left_since disk.old disk.new
-        result }
-    ensures accounts { Accounts D.steady D.honest D.failures disk.old disk.new (IsErr result) }
+    ensures reopens { Reopens D.Disk disk.old disk.new result }
+    ensures accounts { Accounts D.Disk disk.old disk.new (IsErr result) }
 {
     if disk.length(journal)? < FRONT {
         return prepare(disk, journal);
@@ -55,9 +53,8 @@ fn finish<D: Disk>(disk: &mut D, journal: &FileName, found: &Found) -> Result<()
     requires stable { D.honest disk.old → IsStable (D.files disk.old journal_name) }
     requires found { D.honest disk.old → Finds (contents (D.files disk.old)) (Ok found.now) }
     requires writable { IsWritable found.now }
-    ensures reopens { D.honest disk.new → Reopens D.files D.moment D.left_since disk.old disk.new
-        result }
-    ensures accounts { Accounts D.steady D.honest D.failures disk.old disk.new (IsErr result) }
+    ensures reopens { Reopens D.Disk disk.old disk.new result }
+    ensures accounts { Accounts D.Disk disk.old disk.new (IsErr result) }
 {
     match found {
         Found::Armed(record) => replay(disk, journal, record.entries()),
@@ -75,13 +72,11 @@ fn finish<D: Disk>(disk: &mut D, journal: &FileName, found: &Found) -> Result<()
 /// answered.
 pub fn recover<D: Disk>(alloc: Global, disk: &mut D, journal: &FileName) -> Result<(), FindFault>
     requires { journal.now ≡ journal_name }
-    ensures reopens { D.honest disk.new → Reopens D.files D.moment D.left_since disk.old disk.new
-        result }
+    ensures reopens { Reopens D.Disk disk.old disk.new result }
     ensures bad { IsErrOf result FindFault.BadJournal → D.honest disk.new
         → (recovered (contents (D.files disk.old)) ≡ None)
         × (contents (D.files disk.new) ≡ contents (D.files disk.old)) }
-    ensures accounts { Accounts D.steady D.honest D.failures disk.old disk.new
-        (IsErrOf result FindFault.Device) }
+    ensures accounts { Accounts D.Disk disk.old disk.new (IsErrOf result FindFault.Device) }
 {
     let found = look(alloc, disk, journal)?;
     finish(disk, journal, &found)?;

@@ -1,17 +1,11 @@
 //! The files of a store as one.
-ghost use Rattle.std.specs.Prelude.{◌≡◌, ◌≢◌, ◌≤◌, [], None, true, false, length, IsFalse, OnOk, IfOk, IfErr, IsErrOf, IsOk};
-ghost use Rattle.std.specs.List.{All, Contains};
-ghost use Rattle.std.specs.Map.{keys_of};
+ghost use Rattle.std.specs.Prelude.{◌≡◌, ◌≢◌, [], true, false, IsFalse, IfOk, IfErr, IsErrOf, IsOk};
+ghost use Rattle.std.specs.List.{All};
 ghost use Rattle.org_disk.specs.Accounts.{Accounts, Looks};
-ghost use Rattle.org_disk.specs.Names.{journal_name, IsOrgFile};
-ghost use Rattle.org_splice.specs.Texts.{IsEditOf};
-ghost use Rattle.org_journal.specs.Recovered.{recovered, contents};
-ghost use Rattle.org_fileset.specs.Entries.{HasRecordOf, changed};
-ghost use Rattle.org_fileset.specs.Opening.{IsDeviceRefusal, IsOpenedFor, IsRefusedFor, disk_in};
+ghost use Rattle.org_disk.specs.Names.{IsOrgFile};
+ghost use Rattle.org_fileset.specs.Opening.{IsDeviceRefusal, IsRefusedFor};
 ghost use Rattle.org_fileset.specs.Recovery.{Reopens};
-ghost use Rattle.org_fileset.specs.Replay.{Commits};
-ghost use Rattle.org_fileset.specs.Set.{KeepsSet};
-ghost use Rattle.org_fileset.specs.Writes.{IsOther};
+ghost use Rattle.org_fileset.specs.Set.{CanCommit, Commits, GivesBytes, IsOpenedSet, KeepsSet, LeavesRecord, disk_of};
 
 use crate::commit::commit_entries;
 use crate::entries::entries_of;
@@ -61,14 +55,11 @@ impl<D: Disk> FileSet<D> {
     /// refused call hands the disk back.
     pub fn open(alloc: Global, disk: D, names: Vec<FileName>) -> Result<FileSet<D>, OpenRefused<D>>
         requires { All IsOrgFile names.items }
-        ensures opened { IfOk result (λ set. (set.broken ≡ false) × IsOpenedFor names.items
-            set.names (D.honest set.disk) (contents (D.files set.disk))) }
-        ensures reopens { let now = disk_in result (λ set. set.disk) in D.honest now
-            → Reopens D.files D.moment D.left_since disk now result }
+        ensures opened { IfOk result (λ set. IsOpenedSet D.Disk names.items set) }
+        ensures reopens { Reopens D.Disk disk (disk_of result) result }
         ensures refused { IfErr result (λ refused.
-            IsRefusedFor D.honest D.files names.items disk refused.disk refused.fault) }
-        ensures accounts { Accounts D.steady D.honest D.failures disk
-            (disk_in result (λ set. set.disk)) (IsDeviceRefusal result) }
+            IsRefusedFor D.Disk names.items disk refused.disk refused.fault) }
+        ensures accounts { Accounts D.Disk disk (disk_of result) (IsDeviceRefusal result) }
     {
         let mut disk = disk;
         let (journal, names) = match journal_and_names(alloc, names) {
@@ -117,12 +108,10 @@ impl<D: Disk> FileSet<D> {
     /// The bytes of a file, one of the set's or not. `Device` breaks the set; after `OutOfMemory`
     /// the file can be read again; a broken set answers `Broken`.
     pub fn read(&mut self, name: &FileName) -> Result<Vec<u8>, SetFault>
-        ensures text { IfOk result (λ bytes. D.honest self.new.disk
-            → bytes.items ≡ contents (D.files self.old.disk) name.now) }
-        ensures looks { D.honest self.new.disk → Looks D.files D.moment D.left_since
-            self.old.disk self.new.disk }
-        ensures set { KeepsSet self.old self.new (λ s. s.names) (λ s. s.broken) result }
-        ensures accounts { Accounts D.steady D.honest D.failures self.old.disk self.new.disk
+        ensures text { GivesBytes D.Disk self.old.disk name.now self.new.disk result }
+        ensures looks { Looks D.Disk self.old.disk self.new.disk }
+        ensures set { KeepsSet self.old self.new result }
+        ensures accounts { Accounts D.Disk self.old.disk self.new.disk
             (IsErrOf result SetFault.Device) }
     {
         if self.broken {
@@ -149,21 +138,14 @@ impl<D: Disk> FileSet<D> {
     /// memory is taken before the first call of the disk. Where nothing was changed, no call of the
     /// disk is made.
     pub fn commit<C: Changes<FileName>>(&mut self, changes: &C) -> Result<(), SetFault>
-        requires named { All (λ change. Contains self.old.names change.0) (C.pairs changes.now) }
-        requires small { All (λ change. length change.1.bytes ≤ LIMIT) (C.pairs changes.now) }
-        requires edits { IsFalse self.old.broken → D.honest self.old.disk
-            → All (λ change. IsEditOf (contents (D.files self.old.disk) change.0) change.1)
-            (C.pairs changes.now) }
-        ensures commits { D.honest self.new.disk → Commits D.files D.moment D.left_since
-            (changed (C.pairs changes.now) (contents (D.files self.old.disk)))
-            (IsOther (keys_of (C.pairs changes.now))) self.old.disk self.new.disk result }
-        ensures record { D.honest self.new.disk → OnOk result (HasRecordOf (C.pairs changes.now)
-            (contents (D.files self.new.disk) journal_name)) }
+        requires { CanCommit D.Disk self.old (C.pairs changes.now) }
+        ensures commits { Commits D.Disk self.old.disk (C.pairs changes.now) self.new.disk result }
+        ensures record { LeavesRecord D.Disk (C.pairs changes.now) self.new.disk result }
         ensures memory { IsErrOf result SetFault.OutOfMemory → self.new ≡ self.old }
         ensures nothing { C.pairs changes.now ≡ []
             → (self.new ≡ self.old) × (IsFalse self.old.broken → IsOk result) }
-        ensures set { KeepsSet self.old self.new (λ s. s.names) (λ s. s.broken) result }
-        ensures accounts { Accounts D.steady D.honest D.failures self.old.disk self.new.disk
+        ensures set { KeepsSet self.old self.new result }
+        ensures accounts { Accounts D.Disk self.old.disk self.new.disk
             (IsErrOf result SetFault.Device) }
     {
         if self.broken {
@@ -179,19 +161,12 @@ impl<D: Disk> FileSet<D> {
     fn commit_changes<C: Changes<FileName>>(&mut self, changes: &C) -> Result<(), SetFault>
         requires whole { IsFalse self.old.broken }
         requires some { C.pairs changes.now ≢ [] }
-        requires named { All (λ change. Contains self.old.names change.0) (C.pairs changes.now) }
-        requires small { All (λ change. length change.1.bytes ≤ LIMIT) (C.pairs changes.now) }
-        requires edits { D.honest self.old.disk
-            → All (λ change. IsEditOf (contents (D.files self.old.disk) change.0) change.1)
-            (C.pairs changes.now) }
-        ensures commits { D.honest self.new.disk → Commits D.files D.moment D.left_since
-            (changed (C.pairs changes.now) (contents (D.files self.old.disk)))
-            (IsOther (keys_of (C.pairs changes.now))) self.old.disk self.new.disk result }
-        ensures record { D.honest self.new.disk → OnOk result (HasRecordOf (C.pairs changes.now)
-            (contents (D.files self.new.disk) journal_name)) }
+        requires can { CanCommit D.Disk self.old (C.pairs changes.now) }
+        ensures commits { Commits D.Disk self.old.disk (C.pairs changes.now) self.new.disk result }
+        ensures record { LeavesRecord D.Disk (C.pairs changes.now) self.new.disk result }
         ensures memory { IsErrOf result SetFault.OutOfMemory → self.new ≡ self.old }
-        ensures set { KeepsSet self.old self.new (λ s. s.names) (λ s. s.broken) result }
-        ensures accounts { Accounts D.steady D.honest D.failures self.old.disk self.new.disk
+        ensures set { KeepsSet self.old self.new result }
+        ensures accounts { Accounts D.Disk self.old.disk self.new.disk
             (IsErrOf result SetFault.Device) }
     {
         let alloc = *self.names.allocator();
@@ -213,12 +188,10 @@ pub(crate) fn read_file<D: Disk>(
     disk: &mut D,
     name: &FileName,
 ) -> Result<Vec<u8>, SetFault>
-    ensures text { IfOk result (λ bytes. D.honest disk.new
-        → bytes.items ≡ contents (D.files disk.old) name.now) }
-    ensures looks { D.honest disk.new → Looks D.files D.moment D.left_since disk.old disk.new }
+    ensures text { GivesBytes D.Disk disk.old name.now disk.new result }
+    ensures looks { Looks D.Disk disk.old disk.new }
     ensures not_broken { IsErrOf result SetFault.Broken → ⊥ }
-    ensures accounts { Accounts D.steady D.honest D.failures disk.old disk.new
-        (IsErrOf result SetFault.Device) }
+    ensures accounts { Accounts D.Disk disk.old disk.new (IsErrOf result SetFault.Device) }
 {
     let length = disk.length(name)?;
     let mut bytes = vec![in alloc; 0u8; length as usize]?;

@@ -2,7 +2,7 @@
 ghost use Rattle.std.specs.Prelude.{◌≡◌, [], IfOk, OnOk, OnErr, length};
 ghost use Rattle.org_disk.specs.Disk.{IsCounted};
 ghost use Rattle.org_folder.specs.Calls.{files, AreRight, LeftSince};
-ghost use Rattle.org_folder.specs.FolderDisk.{record_of};
+ghost use Rattle.org_folder.specs.FolderDisk.{path_of, record_of};
 
 use crate::calls::{Calls, SystemCalls};
 use crate::folder::Folder;
@@ -65,9 +65,8 @@ impl<R: Files + AllocGlobal + Drop, S: Start> CallsDisk<SystemCalls<R, S>>
 where
     R::File: FileExt,
 {
-    /// The disk of a folder. It makes no call of the system, and its record is empty. No disk is
-    /// made of a folder that `lock_folder` wasn't asked for; the folder is to be kept as long as
-    /// the disk.
+    /// The disk of a locked folder, by the folder's path. It makes no call of the system, and its
+    /// record is empty. The folder is to be kept as long as the disk.
     pub fn new(
         rt: R,
         alloc: Global,
@@ -75,6 +74,7 @@ where
     ) -> Result<FolderDisk<R, S>, AllocError>
         ensures failures { IfOk result (λ disk. disk.failures ≡ 0) }
         ensures empty { IfOk result (λ disk. record_of disk ≡ []) }
+        ensures path { IfOk result (λ disk. path_of disk ≡ folder.now.path.now) }
     {
         Ok(CallsDisk::over(alloc, SystemCalls::new(rt, alloc, folder.path())?))
     }

@@ -38,8 +38,8 @@ pub enum Found {
 fn size_of<D: Disk>(disk: &mut D, journal: &FileName) -> Result<Option<u64>, FindFault>
     ensures found { D.honest disk.new → FindsSize (D.files disk.old journal.now).content result }
     ensures small { IfOk result (λ found. IfSome found (λ size. front_size + size < 2 ^ 64)) }
-    ensures looks { D.honest disk.new → Looks D.files D.moment D.left_since disk.old disk.new }
-    ensures accounts { Accounts D.steady D.honest D.failures disk.old disk.new
+    ensures looks { Looks D.Disk disk.old disk.new }
+    ensures accounts { Accounts D.Disk disk.old disk.new
         (IsErrOf result FindFault.Device) }
 {
     let length = disk.length(journal)?;
@@ -84,8 +84,8 @@ fn body_of<D: Disk>(
     ensures bytes { IfOk result (λ body. D.honest disk.new
         → body.items ≡ take (15 + size) (drop 1 (D.files disk.old journal.now).content)) }
     ensures bad { ¬ (IsErrOf result FindFault.BadJournal) }
-    ensures looks { D.honest disk.new → Looks D.files D.moment D.left_since disk.old disk.new }
-    ensures accounts { Accounts D.steady D.honest D.failures disk.old disk.new
+    ensures looks { Looks D.Disk disk.old disk.new }
+    ensures accounts { Accounts D.Disk disk.old disk.new
         (IsErrOf result FindFault.Device) }
 {
     let mut body = vec![in alloc; 0u8; 15 + size as usize]?;
@@ -106,8 +106,8 @@ fn record_of<D: Disk>(
     ensures found { D.honest disk.new → FindsRecord (D.files disk.old journal.now).content result }
     ensures patches { IfOk result (λ entries. HaveWellFormedPatches entries) }
     ensures writable { IfOk result (λ entries. IsWellFormed Two entries) }
-    ensures looks { D.honest disk.new → Looks D.files D.moment D.left_since disk.old disk.new }
-    ensures accounts { Accounts D.steady D.honest D.failures disk.old disk.new
+    ensures looks { Looks D.Disk disk.old disk.new }
+    ensures accounts { Accounts D.Disk disk.old disk.new
         (IsErrOf result FindFault.Device) }
 {
     let body = body_of(alloc, disk, journal, size)?;
@@ -138,8 +138,8 @@ fn all_fit<D: Disk>(disk: &mut D, entries: &[Entry]) -> Result<bool, DiskFault>
     requires { HaveWellFormedPatches entries.now }
     ensures fit { IfOk result (λ answer. D.honest disk.new
         → answer ≡ all_fit entries.now (contents (D.files disk.old))) }
-    ensures looks { D.honest disk.new → Looks D.files D.moment D.left_since disk.old disk.new }
-    ensures accounts { Accounts D.steady D.honest D.failures disk.old disk.new (IsErr result) }
+    ensures looks { Looks D.Disk disk.old disk.new }
+    ensures accounts { Accounts D.Disk disk.old disk.new (IsErr result) }
 {
     for entry in entries {
         let size = disk.length(&entry.name)?;
@@ -159,8 +159,8 @@ pub fn find<D: Disk>(alloc: Global, disk: &mut D, journal: &FileName) -> Result<
     requires { journal.now ≡ journal_name }
     ensures found { D.honest disk.new → Finds (contents (D.files disk.old)) result }
     ensures writable { IfOk result (λ found. IsWritable found) }
-    ensures looks { D.honest disk.new → Looks D.files D.moment D.left_since disk.old disk.new }
-    ensures accounts { Accounts D.steady D.honest D.failures disk.old disk.new
+    ensures looks { Looks D.Disk disk.old disk.new }
+    ensures accounts { Accounts D.Disk disk.old disk.new
         (IsErrOf result FindFault.Device) }
 {
     let Some(size) = size_of(disk, journal)? else {

@@ -20,12 +20,12 @@ pub fn prepare<D: Disk>(disk: &mut D, journal: &FileName) -> Result<(), DiskFaul
     requires stable { D.honest disk.old → IsStable (D.files disk.old journal.now) }
     requires short { D.honest disk.old → length (D.files disk.old journal.now).content <
         front_size }
-    ensures any_moment { D.honest disk.new → PassesOver D.moment D.left_since disk.old disk.new
+    ensures any_moment { D.honest disk.new → PassesOver D.Disk disk.old disk.new
         (LeavesClosed journal.now (D.files disk.old)) }
     ensures puts { D.honest disk.new → Puts journal.now
         (0 ∷ drop 1 (D.files disk.old journal.now).content)
         (D.files disk.old) (D.files disk.new) result }
-    ensures accounts { Accounts D.steady D.honest D.failures disk.old disk.new (IsErr result) }
+    ensures accounts { Accounts D.Disk disk.old disk.new (IsErr result) }
 {
     set_gate(disk, journal, CLOSED)
 }
@@ -34,12 +34,12 @@ pub fn prepare<D: Disk>(disk: &mut D, journal: &FileName) -> Result<(), DiskFaul
 /// also where the call fails; bytes that stood behind the new ones stay.
 pub fn arm<D: Disk>(disk: &mut D, journal: &FileName, body: &[u8]) -> Result<(), DiskFault>
     requires { D.honest disk.old → HasClosedGate (D.files disk.old journal.now) }
-    ensures any_moment { D.honest disk.new → PassesOver D.moment D.left_since disk.old disk.new
+    ensures any_moment { D.honest disk.new → PassesOver D.Disk disk.old disk.new
         (LeavesClosed journal.now (D.files disk.old)) }
     ensures puts { D.honest disk.new → Puts journal.now
         (overwritten 1 body.now (D.files disk.old journal.now).content)
         (D.files disk.old) (D.files disk.new) result }
-    ensures accounts { Accounts D.steady D.honest D.failures disk.old disk.new (IsErr result) }
+    ensures accounts { Accounts D.Disk disk.old disk.new (IsErr result) }
 {
     disk.write_at(journal, 1, body)?;
     disk.sync(journal)
@@ -49,7 +49,7 @@ pub fn arm<D: Disk>(disk: &mut D, journal: &FileName, body: &[u8]) -> Result<(),
 /// moment the journal differs from what it was at its first byte alone, also where the call fails.
 pub fn open_gate<D: Disk>(disk: &mut D, journal: &FileName) -> Result<(), DiskFault>
     requires { D.honest disk.old → IsStable (D.files disk.old journal.now) }
-    ensures any_moment { D.honest disk.new → PassesOver D.moment D.left_since disk.old disk.new
+    ensures any_moment { D.honest disk.new → PassesOver D.Disk disk.old disk.new
         (LeavesBody journal.now (D.files disk.old)) }
     ensures puts { D.honest disk.new → Puts journal.now
         (1 ∷ drop 1 (D.files disk.old journal.now).content)
@@ -57,7 +57,7 @@ pub fn open_gate<D: Disk>(disk: &mut D, journal: &FileName) -> Result<(), DiskFa
     ensures opened { D.honest disk.new → OnOk result
         (IsTrue (is_some (journal_at (drop 1 (D.files disk.old journal.now).content)))
         → IsTrue (is_open (D.files disk.new journal.now).content)) }
-    ensures accounts { Accounts D.steady D.honest D.failures disk.old disk.new (IsErr result) }
+    ensures accounts { Accounts D.Disk disk.old disk.new (IsErr result) }
 {
     set_gate(disk, journal, OPEN)
 }
@@ -67,12 +67,12 @@ pub fn open_gate<D: Disk>(disk: &mut D, journal: &FileName) -> Result<(), DiskFa
 pub fn close_gate<D: Disk>(disk: &mut D, journal: &FileName) -> Result<(), DiskFault>
     requires stable { D.honest disk.old → IsStable (D.files disk.old journal.now) }
     requires nonempty { D.honest disk.old → 1 ≤ length (D.files disk.old journal.now).content }
-    ensures any_moment { D.honest disk.new → PassesOver D.moment D.left_since disk.old disk.new
+    ensures any_moment { D.honest disk.new → PassesOver D.Disk disk.old disk.new
         (LeavesBody journal.now (D.files disk.old)) }
     ensures puts { D.honest disk.new → Puts journal.now
         (0 ∷ drop 1 (D.files disk.old journal.now).content)
         (D.files disk.old) (D.files disk.new) result }
-    ensures accounts { Accounts D.steady D.honest D.failures disk.old disk.new (IsErr result) }
+    ensures accounts { Accounts D.Disk disk.old disk.new (IsErr result) }
 {
     set_gate(disk, journal, CLOSED)
 }
@@ -80,12 +80,12 @@ pub fn close_gate<D: Disk>(disk: &mut D, journal: &FileName) -> Result<(), DiskF
 // Writes the gate alone, and syncs it.
 fn set_gate<D: Disk>(disk: &mut D, journal: &FileName, gate: u8) -> Result<(), DiskFault>
     requires { D.honest disk.old → IsStable (D.files disk.old journal.now) }
-    ensures any_moment { D.honest disk.new → PassesOver D.moment D.left_since disk.old disk.new
+    ensures any_moment { D.honest disk.new → PassesOver D.Disk disk.old disk.new
         (LeavesBody journal.now (D.files disk.old)) }
     ensures puts { D.honest disk.new → Puts journal.now
         (gate ∷ drop 1 (D.files disk.old journal.now).content)
         (D.files disk.old) (D.files disk.new) result }
-    ensures accounts { Accounts D.steady D.honest D.failures disk.old disk.new (IsErr result) }
+    ensures accounts { Accounts D.Disk disk.old disk.new (IsErr result) }
 {
     disk.write_at(journal, 0, &[gate])?;
     disk.sync(journal)

@@ -1,10 +1,8 @@
--- What a run of the program may tell.
-use Rattle.std.specs.Prelude.{◌≡◌, ◌⊎◌, ℕ, List, Result, Err, map, string_bytes}
-use Rattle.org_fileset.specs.declared.open.OpenFault.{OpenFault}
-use Rattle.org_serve.specs.declared.end.ServeEnd.{ServeEnd}
+-- Why a run of the program doesn't come to serve any line.
+use Rattle.std.specs.Prelude.{◌⊎◌, ℕ, List, map, string_bytes}
 use Rattle.org_program.specs.declared.arguments.Arguments.{Arguments}
 use Rattle.org_program.specs.declared.fault.Fault.{Fault}
-use Rattle.org_program.specs.Causes.{IsCause, told}
+use Rattle.org_program.specs.Causes.{IsCause}
 use Rattle.org_program.specs.Lists.{states_in}
 use Rattle.org_program.specs.Words.{IsFaultOfWords, Tells}
 
@@ -16,9 +14,6 @@ pub record IsFaultOfStart (fault : Fault) : Type 0 where
   pub told : Tells words arguments
   pub cause : IsCause (map string_bytes arguments.new.items) (states_in arguments) fault
 
--- why some words aren't taken, or the store of others isn't opened, or how serving it ended: never
--- that it ended well
+-- why some words aren't taken, or a store isn't set up by others
 abbrev pub IsFaultOfRun : Fault → Type 0
-IsFaultOfRun fault =
-    IsFaultOfWords fault
-    ⊎ (IsFaultOfStart fault ⊎ ((end : Result ServeEnd OpenFault) × (told end ≡ Err fault)))
+IsFaultOfRun fault = IsFaultOfWords fault ⊎ IsFaultOfStart fault

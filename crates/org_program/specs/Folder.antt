@@ -2,6 +2,7 @@
 -- what the folder held at first, and what calls that failed left.
 use Rattle.std.specs.Prelude.{ℕ, List, length}
 use Rattle.org_disk.specs.Disk.{FileState}
+use Rattle.org_disk.specs.declared.disk.Disk.{Ghosts}
 use Rattle.org_folder.specs.Calls.{World, AreRight, LeftSince, files}
 use Rattle.org_folder.specs.FolderDisk.{record_of}
 use Rattle.org_folder.specs.declared.disk.CallsDisk.{CallsDisk}
@@ -27,3 +28,15 @@ left_of world disk = LeftSince world (record_of disk)
 
 abbrev pub failures_of : {R S A B F : Type 0} → CallsDisk (SystemCalls R S A B) F → ℕ
 failures_of disk = disk.failures
+
+-- all that is seen of the disk of a folder that held `world` at first: what the impl of `Disk` says
+-- of it, written with the record of its calls
+abbrev pub seen_of : {R S A B F : Type 0} → World → Ghosts (CallsDisk (SystemCalls R S A B) F)
+seen_of world = record {
+  honest = is_right world;
+  steady = ⊥;
+  files = files_of world;
+  moment = moment_of;
+  left_since = left_of world;
+  failures = failures_of;
+}

@@ -4,3 +4,4 @@ pub mod Folder
 pub mod Words
 pub mod Lists
 pub mod Faults
+pub mod Runs

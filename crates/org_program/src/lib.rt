@@ -1,16 +1,19 @@
 //! The program: its arguments, the names and states that a store is opened with, a whole run over a
 //! folder, and what is told where it doesn't end well.
 //!
-//! It is a library, and `orgstore` calls its `run` and nothing else: a program is checked with the
-//! code of all libraries that it reaches, so it is to be small.
+//! It is a library, and `orgstore` calls its `run`: a program is checked with the code of all
+//! libraries that it reaches, so it is to be small.
 #![tactic(auto)]
 
 mod arguments;
 mod fault;
-mod folder;
 mod names;
 mod program;
 mod states;
+mod streams;
 
+pub use arguments::Arguments;
 pub use fault::Fault;
-pub use program::run;
+pub use org_folder::Unknown;
+pub use program::{Ran, run};
+pub use streams::{input, output};

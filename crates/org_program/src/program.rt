@@ -1,55 +1,102 @@
 //! A run of the program: what it is told to do, the folder of its files, and how it ended.
-ghost use Rattle.std.specs.Prelude.{◌≡◌, [], ◌++◌, ℕ, List, map, string_bytes, IfOk, IfErr, All};
-ghost use Rattle.std.specs.Io.Buffered.{writer_buffer};
+ghost use Rattle.std.specs.Prelude.{◌≡◌, ◌++◌, ℕ, List, map, string_bytes, IfOk, IfErr, All};
 ghost use Rattle.org_disk.specs.Names.{IsOrgFile};
-ghost use Rattle.org_fileset.specs.declared.open.OpenFault.TheVariants.{OutOfMemory};
+ghost use Rattle.org_serve.specs.Writes.{exchange};
 ghost use Rattle.org_store.specs.Group.{IsGroup};
 ghost use Rattle.org_program.specs.Causes.{told, IsCause, MayShare};
 ghost use Rattle.org_program.specs.Faults.{IsFaultOfRun};
 ghost use Rattle.org_program.specs.Lists.{states_in};
-ghost use Rattle.org_program.specs.declared.fault.Fault.TheVariants.{Open};
+ghost use Rattle.org_program.specs.Runs.{IsSetUp, RunsFolder, ServesFolder};
+ghost use Rattle.org_program.specs.Words.{Tells};
 
 use crate::arguments::{self, Arguments};
 use crate::fault::Fault;
-use crate::folder::serve_folder;
 use crate::names::new_names;
 use crate::states::states;
 use org_disk::FileName;
 use org_folder::{
-    ApartFault, FolderDisk, LockedFolder, Unknown, check_apart, fill_streams, lock_folder,
-    org_files,
+    ApartFault, FolderDisk, LockedFolder, Start, check_apart, fill_streams, lock_folder, org_files,
 };
-use org_serve::{Counted, ServeEnd, Served, Setup, file_names};
+use org_serve::{ServeEnd, Served, Setup, Sink, Source, file_names, serve_synced};
 use org_store::OpenFault;
-use std::io::{BufWriter, Stdout};
 
-/// Runs the command lines of standard input over the folder that the arguments name, and writes
-/// their replies to standard output. A fault is to be told on standard error, as it prints, and by
-/// the exit status, which is its `status`. It tells why words aren't taken, why the store of words
-/// that are isn't opened, or how serving it ended, which is then not well; no clause can name the
-/// words that the process was given.
-pub fn run(rt: &HostRuntime) -> Result<(), Fault>
-    ensures { IfErr result IsFaultOfRun }
+/// The most reads of an input; one that takes more ends with `Read`.
+const TURNS: u64 = 4_294_967_295;
+
+/// What a run of the program did.
+#[derive(Drop)]
+pub struct Ran<S: Start> {
+    /// What the words of the command line told it to do.
+    pub arguments: Arguments,
+    /// The disk of the folder, as the run left it.
+    pub disk: FolderDisk<HostRuntime, S>,
+    /// Ok where the input was served to its end, and all is settled. Else it says why not: the
+    /// store wasn't opened, or serving ended otherwise.
+    pub end: Result<(), Fault>,
+}
+
+/// Runs the command lines of a reader over the folder that the words of the command line name, and
+/// writes their replies to a writer.
+///
+/// `S` says what the folder held at first; no code reads it, and what is promised holds for every
+/// `S`. The disk that is handed back has a record of the calls of the operating system, which
+/// stands in proofs alone and was empty at first. What is said of a step is said where each answer
+/// in the record was right up to the end of that step (`is_right`): a wrong one later takes nothing
+/// from it.
+///
+/// The store is set up as the arguments say (`IsSetUp`), and over the folder's files it is run as
+/// `serve_synced` does (`RunsSynced`): its contract says what is answered, what is written, what a
+/// crash leaves at each moment, and why the run ended. The input is read at most 4,294,967,295
+/// times.
+///
+/// # Errors
+///
+/// No line is read, and none written, where words aren't taken (`Usage`), or where no store is set
+/// up: in this order `BadName`, `BadStates`, `Locked`, then `Open(Device)` or `SameFile`. Want of
+/// memory, `Open(OutOfMemory)`, may take the place of each. No clause can name the words that the
+/// process was given.
+pub fn run<S: Start, R: Source, W: Sink>(
+    rt: &HostRuntime,
+    reader: &mut R,
+    writer: &mut W,
+) -> Result<Ran<S>, Fault>
+    ensures words { IfOk result (λ ran. (words : List (List ℕ)) × Tells words ran.arguments) }
+    ensures runs { IfOk result (λ ran. RunsFolder S.world ran.arguments ran.disk ran.end
+        (exchange R.Source W.Sink reader.old reader.new writer.old writer.new)) }
+    ensures unserved { IfErr result (λ _. (reader.new ≡ reader.old)
+        × (writer.new ≡ writer.old)) }
+    ensures fault { IfErr result IsFaultOfRun }
 {
     let arguments = arguments::read(rt)?;
     // A standard stream that is closed is the folder then, and no file of the store.
     let _streams = fill_streams(rt, &arguments.folder)?;
-    // The folder is locked until all is served.
-    let (setup, folder) = setup(rt, &arguments)?;
-    serve(rt, setup, &folder)
+    let Served { disk, end } = serve(rt, &arguments, reader, writer)?;
+    Ok(Ran {
+        arguments,
+        disk,
+        end: told(end),
+    })
 }
 
-// Serves the command lines of standard input over the files of a locked folder.
-fn serve(rt: &HostRuntime, setup: Setup, folder: &LockedFolder<'_>) -> Result<(), Fault>
-    requires names { All IsOrgFile setup.names.items }
-    requires group { IsGroup setup.group }
-    ensures { IfErr result IsFaultOfRun }
+// Serves the lines of a reader over the folder that the arguments name.
+fn serve<S: Start, R: Source, W: Sink>(
+    rt: &HostRuntime,
+    arguments: &Arguments,
+    reader: &mut R,
+    writer: &mut W,
+) -> Result<Served<FolderDisk<HostRuntime, S>>, Fault>
+    requires { IsGroup arguments.now.group }
+    ensures serves { IfOk result (λ served. ServesFolder S.world arguments.now served.disk
+        served.end (exchange R.Source W.Sink reader.old reader.new writer.old writer.new)) }
+    ensures unserved { IfErr result (λ _. (reader.new ≡ reader.old)
+        × (writer.new ≡ writer.old)) }
+    ensures cause { IfErr result
+        (IsCause (map string_bytes arguments.now.new.items) (states_in arguments.now)) }
 {
-    let mut reader = Counted::new(rt.stdin());
-    let mut writer = Counted::new(stdout(rt)?);
-    let disk: FolderDisk<HostRuntime, Unknown> = FolderDisk::new(rt.clone()?, rt.alloc(), folder)?;
-    let Served { disk: _, end } = serve_folder(rt.alloc(), disk, setup, &mut reader, &mut writer);
-    told(end)
+    // The folder is locked until all is served.
+    let (setup, folder) = setup(rt, arguments)?;
+    let disk = FolderDisk::new(rt.clone()?, rt.alloc(), &folder)?;
+    Ok(serve_synced(rt.alloc(), disk, setup, reader, writer, TURNS))
 }
 
 // What there is to tell of how serving ended.
@@ -68,10 +115,7 @@ fn setup<'a>(rt: &HostRuntime, arguments: &'a Arguments) -> Result<(Setup, Locke
     requires { IsGroup arguments.now.group }
     ensures folder { IfOk result (λ made. made.1.path.now ≡ string_bytes arguments.now.folder) }
     ensures names { IfOk result (λ made. All IsOrgFile made.0.names.items) }
-    ensures new { IfOk result (λ made. (listed : List (List ℕ))
-        × (made.0.names.items ≡ map string_bytes arguments.now.new.items ++ listed)) }
-    ensures states { IfOk result (λ made. made.0.states ≡ states_in arguments.now) }
-    ensures group { IfOk result (λ made. made.0.group ≡ arguments.now.group) }
+    ensures is_set_up { IfOk result (λ made. IsSetUp arguments.now made.0) }
     ensures cause { IfErr result
         (IsCause (map string_bytes arguments.now.new.items) (states_in arguments.now)) }
 {
@@ -104,15 +148,5 @@ fn check_files(
     match file_names(rt.alloc(), names)? {
         Some(files) => check_apart(rt, folder, &files),
         None => Ok(()),
-    }
-}
-
-fn stdout(rt: &HostRuntime) -> Result<BufWriter<Stdout>, Fault>
-    ensures empty { IfOk result (λ writer. writer_buffer writer ≡ []) }
-    ensures fault { IfErr result (λ fault. fault ≡ Open OutOfMemory) }
-{
-    match BufWriter::new(rt.alloc(), rt.stdout()) {
-        Ok(writer) => Ok(writer),
-        Err(_) => Err(Fault::Open(OpenFault::OutOfMemory)),
     }
 }

@@ -1,5 +1,6 @@
 -- How calls of a store that may break it follow one another.
 use Rattle.std.proofs.Common.{◌≡◌, ℕ, true, false, true≢false, refl, sym, ap, ◌∙◌, arith, inl, inr, ◌⊎◌, ⊎_elim, Bool, subst}
+use Rattle.org_disk.specs.declared.disk.Disk.{Ghosts}
 use Rattle.std.specs.Prelude.{IsTrue, IsFalse, IsErrOf, Result, Ok, Err}
 use Rattle.org_disk.specs.Accounts.{Accounts}
 use Rattle.org_disk.proofs.Accounting.{accounts_none, accounts_then}
@@ -24,17 +25,17 @@ both_ways is isnt = true≢false (sym is ∙ isnt)
 pub untouched_then : {D : Type 0} {old mid new : Kept D} → (IsTrue old.session.broken → mid ≡ old) → (IsTrue mid.session.broken → new ≡ mid) → IsTrue old.session.broken → new ≡ old
 untouched_then first second before = second (ap (λ k. k.session.broken) (first before) ∙ before) ∙ first before
 
-pub breaks_then : {D : Type 0} {steady : Type 0} {honest : D → Type 0} {failures : D → ℕ} {old mid new : Kept D}
+pub breaks_then : {D : Type 0} {g : Ghosts D} {old mid new : Kept D}
     → (IsTrue old.session.broken → mid ≡ old) → (IsTrue mid.session.broken → new ≡ mid)
-    → Accounts steady honest failures old.disk mid.disk (HasBroken old.session mid.session) → Accounts steady honest failures mid.disk new.disk (HasBroken mid.session new.session)
-    → Accounts steady honest failures old.disk new.disk (HasBroken old.session new.session)
-breaks_then {D} {failures = failures} {old = old} {mid = mid} {new = new} kept_first kept_second first second = record {
+    → Accounts g old.disk mid.disk (HasBroken old.session mid.session) → Accounts g mid.disk new.disk (HasBroken mid.session new.session)
+    → Accounts g old.disk new.disk (HasBroken old.session new.session)
+breaks_then {D} {g = g} {old = old} {mid = mid} {new = new} kept_first kept_second first second = record {
   was_honest = λ h. first.was_honest (second.was_honest h);
   stays_honest = λ steady h. second.stays_honest steady (first.stays_honest steady h);
   no_less = omega (arith, first.no_less, second.no_less);
   risen = λ has. elim (broken_or_not mid.session.broken) [
-    | inl broke ↦ HasRisen-before (failures old.disk) (failures mid.disk) (failures new.disk) second.no_less (first.risen (has.0, broke))
-    | inr sound ↦ HasRisen-later (failures old.disk) (failures mid.disk) (failures new.disk) first.no_less (second.risen (sound, has.1))
+    | inl broke ↦ HasRisen-before (g.failures old.disk) (g.failures mid.disk) (g.failures new.disk) second.no_less (first.risen (has.0, broke))
+    | inr sound ↦ HasRisen-later (g.failures old.disk) (g.failures mid.disk) (g.failures new.disk) first.no_less (second.risen (sound, has.1))
   ];
   equal = λ fine.
       second.equal (λ has. elim (broken_or_not old.session.broken) [
@@ -72,24 +73,24 @@ ends_broken (Err run.Device) old new sound only_so so was = so (inr refl)
 ends_broken (Err run.Broken) old new sound only_so so was = absurd (both_ways (was refl) sound)
 
 -- a store that was opened and served is broken where its disk's count rose, and else not
-pub breaks_by_count : {D : Type 0} {steady : Type 0} {honest : D → Type 0} {failures : D → ℕ} {disk new : D} (store after : Kept D)
-    → Accounts steady honest failures disk store.disk ⊥ → Accounts steady honest failures store.disk after.disk (HasBroken store.session after.session)
+pub breaks_by_count : {D : Type 0} {g : Ghosts D} {disk new : D} (store after : Kept D)
+    → Accounts g disk store.disk ⊥ → Accounts g store.disk after.disk (HasBroken store.session after.session)
     → store.session.broken ≡ false → new ≡ after.disk
-    → (IsTrue after.session.broken → HasRisen (failures disk) (failures new)) × (IsFalse after.session.broken → failures new ≡ failures disk)
-breaks_by_count {D} {failures = failures} {disk = disk} store after opened served sound is =
+    → (IsTrue after.session.broken → HasRisen (g.failures disk) (g.failures new)) × (IsFalse after.session.broken → g.failures new ≡ g.failures disk)
+breaks_by_count {D} {g = g} {disk = disk} store after opened served sound is =
     let whole = accounts_then opened served in (
-      λ broke. subst (λ (d : D). HasRisen (failures disk) (failures d)) (sym is) (whole.risen (sound, broke)),
-      λ fine. ap failures is ∙ whole.equal (λ has. both_ways has.1 fine),
+      λ broke. subst (λ (d : D). HasRisen (g.failures disk) (g.failures d)) (sym is) (whole.risen (sound, broke)),
+      λ fine. ap g.failures is ∙ whole.equal (λ has. both_ways has.1 fine),
     )
 
 -- a store that was opened and served, as its disk's count tells it
-pub served_accounts : {D : Type 0} {steady : Type 0} {honest : D → Type 0} {failures : D → ℕ} {disk new : D} (end : ServeEnd) (store after : Kept D)
-    → Accounts steady honest failures disk store.disk ⊥ → Accounts steady honest failures store.disk after.disk (HasBroken store.session after.session)
+pub served_accounts : {D : Type 0} {g : Ghosts D} {disk new : D} (end : ServeEnd) (store after : Kept D)
+    → Accounts g disk store.disk ⊥ → Accounts g store.disk after.disk (HasBroken store.session after.session)
     → store.session.broken ≡ false → EndsBroken end after.session → new ≡ after.disk
-    → Accounts steady honest failures disk new (HasFailed (Ok end) (failures disk) (failures new))
-served_accounts {D} {steady} {honest} {failures} {disk} end store after opened served sound ends is =
+    → Accounts g disk new (HasFailed (Ok end) (g.failures disk) (g.failures new))
+served_accounts {D} {g} {disk} end store after opened served sound ends is =
     let whole = accounts_then opened served in
-    subst (λ (d : D). Accounts steady honest failures disk d (HasFailed (Ok end) (failures disk) (failures d))) (sym is) (record {
+    subst (λ (d : D). Accounts g disk d (HasFailed (Ok end) (g.failures disk) (g.failures d))) (sym is) (record {
       was_honest = whole.was_honest;
       stays_honest = whole.stays_honest;
       no_less = whole.no_less;
@@ -97,16 +98,16 @@ served_accounts {D} {steady} {honest} {failures} {disk} end store after opened s
       equal = equal end ends whole.risen whole.equal;
     })
   where
-    risen : (end : ServeEnd) → EndsBroken end after.session → (HasBroken store.session after.session → HasRisen (failures disk) (failures after.disk))
-        → HasFailed (Ok end) (failures disk) (failures after.disk) → HasRisen (failures disk) (failures after.disk)
+    risen : (end : ServeEnd) → EndsBroken end after.session → (HasBroken store.session after.session → HasRisen (g.failures disk) (g.failures after.disk))
+        → HasFailed (Ok end) (g.failures disk) (g.failures after.disk) → HasRisen (g.failures disk) (g.failures after.disk)
     risen End ends rises failed = absurd failed
     risen Unsettled ends rises failed = absurd failed
     risen Device ends rises failed = rises (sound, ends)
     risen Read ends rises failed = failed
     risen Write ends rises failed = failed
 
-    equal : (end : ServeEnd) → EndsBroken end after.session → (HasBroken store.session after.session → HasRisen (failures disk) (failures after.disk))
-        → ((HasBroken store.session after.session → ⊥) → failures after.disk ≡ failures disk) → (HasFailed (Ok end) (failures disk) (failures after.disk) → ⊥) → failures after.disk ≡ failures disk
+    equal : (end : ServeEnd) → EndsBroken end after.session → (HasBroken store.session after.session → HasRisen (g.failures disk) (g.failures after.disk))
+        → ((HasBroken store.session after.session → ⊥) → g.failures after.disk ≡ g.failures disk) → (HasFailed (Ok end) (g.failures disk) (g.failures after.disk) → ⊥) → g.failures after.disk ≡ g.failures disk
     equal End ends rises stays fine = stays (λ broke. both_ways broke.1 ends)
     equal Unsettled ends rises stays fine = stays (λ broke. both_ways broke.1 ends)
     equal Device ends rises stays fine = absurd (fine tt)
@@ -114,14 +115,14 @@ served_accounts {D} {steady} {honest} {failures} {disk} end store after opened s
     equal Write ends rises stays fine = stays (λ broke. fine (rises broke))
 
 -- nothing was done
-pub accounts_still : {D : Type 0} {steady : Type 0} {honest : D → Type 0} {failures : D → ℕ} {disk : D} (session : Session)
-    → Accounts steady honest failures disk disk (HasBroken session session)
-accounts_still {steady = steady} {honest = honest} {failures = failures} {disk = disk} session = accounts_quiet (λ has. both_ways has.1 has.0) (accounts_none steady honest failures disk)
+pub accounts_still : {D : Type 0} {g : Ghosts D} {disk : D} (session : Session)
+    → Accounts g disk disk (HasBroken session session)
+accounts_still {g = g} {disk = disk} session = accounts_quiet (λ has. both_ways has.1 has.0) (accounts_none g disk)
 
 -- a settling over a store that wasn't broken
-pub accounts_settled : {D : Type 0} {steady : Type 0} {honest : D → Type 0} {failures : D → ℕ} {disk disk' : D} (answer : Result (Unit {0}) RunFault) (old new : Session) → old.broken ≡ false
+pub accounts_settled : {D : Type 0} {g : Ghosts D} {disk disk' : D} (answer : Result (Unit {0}) RunFault) (old new : Session) → old.broken ≡ false
     → (IsTrue new.broken → IsTrue old.broken ⊎ IsErrOf answer run.Device) → (IsTrue old.broken ⊎ IsErrOf answer run.Device → IsTrue new.broken)
-    → Accounts steady honest failures disk disk' (IsErrOf answer run.Device) → Accounts steady honest failures disk disk' (HasBroken old new)
+    → Accounts g disk disk' (IsErrOf answer run.Device) → Accounts g disk disk' (HasBroken old new)
 accounts_settled answer old new sound only_so so call = record {
   was_honest = call.was_honest;
   stays_honest = call.stays_honest;

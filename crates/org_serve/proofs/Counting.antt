@@ -4,6 +4,7 @@ use Rattle.std.proofs.lemmas.List.{length-append}
 use Rattle.std.specs.Io.KnownBytes.{Consumes}
 use Rattle.org_disk.specs.Disk.{IsCounted, HasRisen}
 use Rattle.org_fileset.specs.declared.open.OpenFault.{OpenFault}
+use Rattle.org_serve.specs.Pipes.{Exchange, Pipes}
 use Rattle.org_serve.specs.declared.end.ServeEnd.{ServeEnd}
 use Rattle.org_serve.specs.declared.end.ServeEnd.TheVariants.{Read, Write}
 use Rattle.org_serve.specs.Counts.{HasRisenBy, HasRead, EndsForCause}
@@ -53,11 +54,11 @@ pub read_apart : Read ≡ Write → ⊥
 read_apart same = cc
 
 -- a read failed, or the turns are used up
-pub ended_read : {turns : ℕ} {left left' : Option (List ℕ)} {reads reads' read mid read' written written' : ℕ} → mid ≡ read
-    → IsCounted mid read' ⊎ (HasRisenBy turns reads reads' × HasRead turns left left') → reads' ≤ reads + turns → written' ≡ written
-    → EndsForCause turns (Ok Read) left left' reads reads' read read' written written'
-ended_read {turns} {left} {left'} {reads} {reads'} {read' = read'} before cause within same = record {
-  read_cause = λ is. subst (λ n. IsCounted n read' ⊎ (HasRisenBy turns reads reads' × HasRead turns left left')) before cause;
+pub ended_read : {turns : ℕ} (io : Exchange) {mid : ℕ} → mid ≡ io.before.failed_reads
+    → IsCounted mid io.after.failed_reads ⊎ (HasRisenBy turns io.before.reads io.after.reads × HasRead turns io.before.left io.after.left)
+    → io.after.reads ≤ io.before.reads + turns → io.after.failed_writes ≡ io.before.failed_writes → EndsForCause turns (Ok Read) io
+ended_read {turns} io before cause within same = record {
+  read_cause = λ is. subst (λ n. IsCounted n io.after.failed_reads ⊎ (HasRisenBy turns io.before.reads io.after.reads × HasRead turns io.before.left io.after.left)) before cause;
   within_turns = within;
   read_told = λ not. absurd (not refl);
   write_cause = λ is. absurd (read_apart (served_so is));
@@ -65,16 +66,16 @@ ended_read {turns} {left} {left'} {reads} {reads'} {read' = read'} before cause 
 }
 
 -- no read failed
-pub ended_otherwise : {turns : ℕ} {left left' : Option (List ℕ)} {reads reads' read read' written mid written' : ℕ} (end : ServeEnd) → end ≢ Read → reads' ≤ reads + turns → read' ≡ read → mid ≡ written
-    → (end ≡ Write → IsCounted mid written') → (end ≢ Write → written' ≡ mid) → EndsForCause turns (Ok end) left left' reads reads' read read' written written'
-ended_otherwise {written' = written'} end none within same before failed told = record {
+pub ended_otherwise : {turns : ℕ} (io : Exchange) {mid : ℕ} (end : ServeEnd) → end ≢ Read → io.after.reads ≤ io.before.reads + turns → io.after.failed_reads ≡ io.before.failed_reads
+    → mid ≡ io.before.failed_writes → (end ≡ Write → IsCounted mid io.after.failed_writes) → (end ≢ Write → io.after.failed_writes ≡ mid) → EndsForCause turns (Ok end) io
+ended_otherwise io end none within same before failed told = record {
   read_cause = λ is. absurd (none (served_so is));
   within_turns = within;
   read_told = λ not. same;
-  write_cause = λ is. subst (λ n. IsCounted n written') before (failed (served_so is));
+  write_cause = λ is. subst (λ n. IsCounted n io.after.failed_writes) before (failed (served_so is));
   write_told = λ not. told (λ is. not (ap Ok is)) ∙ before;
 }
 
 -- nothing was served
-pub ended_unserved : {turns : ℕ} {left : Option (List ℕ)} {reads read written : ℕ} {fault : OpenFault} → EndsForCause turns (Err fault) left left reads reads read read written written
-ended_unserved = record { read_cause = λ is. absurd (wasnt_served is); within_turns = omega arith; read_told = λ not. refl; write_cause = λ is. absurd (wasnt_served is); write_told = λ not. refl }
+pub ended_unserved : {turns : ℕ} (seen : Pipes) {fault : OpenFault} → EndsForCause turns (Err fault) (record { before = seen; after = seen })
+ended_unserved seen = record { read_cause = λ is. absurd (wasnt_served is); within_turns = omega arith; read_told = λ not. refl; write_cause = λ is. absurd (wasnt_served is); write_told = λ not. refl }

@@ -1,5 +1,6 @@
 -- What a crash leaves of a run that is told in one list of texts.
 use Rattle.std.proofs.Common.{◌≡◌, ◌⊎◌, inl, inr, ⊎_elim, ℕ, ◌≤◌, false, List, [], ◌∷◌, Option, Some, None, Result, Ok, Err, refl, sym, ap, ◌∙◌, subst, arith}
+use Rattle.org_disk.specs.declared.disk.Disk.{Ghosts}
 use Rattle.std.specs.Prelude.{slice_get, IsSomeAnd}
 use Rattle.std.proofs.lemmas.Option.{slice_get_within}
 use Rattle.org_disk.specs.Disk.{FileState, AreImages, LeavesOnly}
@@ -17,29 +18,30 @@ use Rattle.org_store.specs.History.{Past, Lists, HoldsPrefix}
 use Rattle.org_commands.specs.Runs.{IsOnDisk}
 use Rattle.org_store.proofs.History.{Begin, Counts, Stands, Texts, adds, begin_adds, further, lists_settling, lists_step, same_or_sound, texts_after, torn}
 use Rattle.org_store.proofs.Runs.{Course, HaveTexts, IsBetween, course_none, course_run, course_settle, falls, holds_back, on_disk_after}
+use Rattle.org_serve.specs.Pipes.{Exchange}
 use Rattle.org_serve.specs.Parts.{WritesSome}
 use Rattle.org_serve.specs.declared.fault.LineFault.{LineFault}
 use Rattle.org_serve.specs.Serving.{AnswersReadBy, AnswersLine}
 use Rattle.org_serve.specs.Crashes.{Runs, RunsHonest, RunsLine, HasSettledOver}
 use Rattle.org_serve.specs.declared.end.ServeEnd.{ServeEnd}
-use Rattle.org_serve.specs.History.{LeadsBy, RunsPast as ToldRunsPast, PastLine as ToldPast, HasSettledPast as ToldSettledPast}
+use Rattle.org_serve.specs.History.{HoldsSince, LeadsBy, RunsPast as ToldRunsPast, PastLine as ToldPast, HasSettledPast as ToldSettledPast}
 use Rattle.org_serve.specs.Transcript.{Answers}
 use Rattle.org_serve.proofs.Honest.{RunsPast, PastLine, HasSettledPast, past_runs}
 use Rattle.org_serve.proofs.Crashes.{answers_by}
 
 -- A run of stores has such a list.
-module _ {D : Type 0} (honest : D → Type 0) (files : D → List ℕ → FileState) (moment : D → ℕ) (left_since : D → ℕ → Image → Type 0) where
+module _ {D : Type 0} (g : Ghosts D) where
   abbrev LineTold : Past D → List ℕ → List ℕ → Past D → Type 0
-  LineTold = ToldPast honest files moment left_since
+  LineTold = ToldPast g
 
   abbrev SettledTold : Past D → Past D → Type 0
-  SettledTold = ToldSettledPast honest files moment left_since
+  SettledTold = ToldSettledPast g
 
   abbrev ReadsTold : Past D → Result Command LineFault → List ℕ → Past D → Type 0
-  ReadsTold = AnswersReadBy (ToldRunsPast honest files moment left_since) (λ past. past.store.session)
+  ReadsTold = AnswersReadBy (ToldRunsPast g) (λ past. past.store.session)
 
   abbrev ReadsKept : Kept D → Result Command LineFault → List ℕ → Kept D → Type 0
-  ReadsKept = AnswersReadBy (RunsHonest honest files moment left_since) (λ k. k.session)
+  ReadsKept = AnswersReadBy (RunsHonest g) (λ k. k.session)
 
   lift_read : (old : Past D) (read : Result Command LineFault) (out : List ℕ) (new : Kept D) → ReadsKept old.store read out new → (texts : Texts) × ReadsTold old read out (record { store = new; texts = texts })
   lift_read old (Err fault) out new ran = (old.texts, (ran.0, ap (λ (k : Kept D). record { store = k; texts = old.texts }) ran.1))
@@ -52,7 +54,7 @@ module _ {D : Type 0} (honest : D → Type 0) (files : D → List ℕ → FileSt
     ),
   )
 
-  pub lift_lines : (old : Past D) (lines : List (List ℕ)) (out : List ℕ) (new : Kept D) → Answers (RunsLine honest files moment left_since) old.store lines out new
+  pub lift_lines : (old : Past D) (lines : List (List ℕ)) (out : List ℕ) (new : Kept D) → Answers (RunsLine g) old.store lines out new
       → (texts : Texts) × Answers LineTold old lines out (record { store = new; texts = texts })
   lift_lines old [] out new a = (old.texts, (a.0, ap (λ (k : Kept D). record { store = k; texts = old.texts }) a.1))
   lift_lines old (line ∷ lines) out new a =
@@ -61,7 +63,7 @@ module _ {D : Type 0} (honest : D → Type 0) (files : D → List ℕ → FileSt
       let rest = lift_lines mid lines a.2 new a.5 in
       (rest.0, (mid, a.1, a.2, (a.3.0, a.3.1, one.1), a.4, rest.1))
 
-  pub lift_end : (mid : Past D) (new : Kept D) → (new ≡ mid.store) ⊎ HasSettledOver honest files moment left_since mid.store new
+  pub lift_end : (mid : Past D) (new : Kept D) → (new ≡ mid.store) ⊎ HasSettledOver g mid.store new
       → let last : Past D = record { store = new; texts = mid.texts } in (last ≡ mid) ⊎ SettledTold mid last
   lift_end mid new ends = ⊎_elim
       (λ same. inl (ap (λ (k : Kept D). record { store = k; texts = mid.texts }) same))
@@ -69,9 +71,9 @@ module _ {D : Type 0} (honest : D → Type 0) (files : D → List ℕ → FileSt
       ends
 
   -- the whole run
-  pub lift_run : (first : Past D) {after : Kept D} {end : ServeEnd} {left left' written written' : Option (List ℕ)}
-      → Runs (RunsLine honest files moment left_since) (HasSettledOver honest files moment left_since) first.store after end left left' written written'
-      → (texts : Texts) × Runs LineTold SettledTold first (record { store = after; texts = texts }) end left left' written written'
+  pub lift_run : (first : Past D) {after : Kept D} {end : ServeEnd} {io : Exchange}
+      → Runs (RunsLine g) (HasSettledOver g) first.store after end io
+      → (texts : Texts) × Runs LineTold SettledTold first (record { store = after; texts = texts }) end io
   lift_run first {after} run =
       let lines = lift_lines first run.ran run.out run.mid run.answered in
       let mid : Past D = record { store = run.mid; texts = lines.0 } in (
@@ -91,23 +93,23 @@ module _ {D : Type 0} (honest : D → Type 0) (files : D → List ℕ → FileSt
       )
 
   -- .. in which what was written is the same
-  pub lift_wrote : (first : Past D) {after : Kept D} {end : ServeEnd} {left left' written written' : Option (List ℕ)}
-      → (run : Runs (RunsLine honest files moment left_since) (HasSettledOver honest files moment left_since) first.store after end left left' written written')
-      → (acknowledged : ℕ) → WritesSome run.input run.others run.out acknowledged written written'
-      → WritesSome (lift_run first run).1.input (lift_run first run).1.others (lift_run first run).1.out acknowledged written written'
+  pub lift_wrote : (first : Past D) {after : Kept D} {end : ServeEnd} {io : Exchange}
+      → (run : Runs (RunsLine g) (HasSettledOver g) first.store after end io)
+      → (acknowledged : ℕ) → WritesSome run.input run.others run.out acknowledged io.before.written io.after.written
+      → WritesSome (lift_run first run).1.input (lift_run first run).1.others (lift_run first run).1.out acknowledged io.before.written io.after.written
   unfolding lift_run
   lift_wrote first run acknowledged some = some
 
 -- A run over a disk that is honest after each step.
-module _ {D : Type 0} (honest : D → Type 0) (files : D → List ℕ → FileState) (moment : D → ℕ) (left_since : D → ℕ → Image → Type 0) where
+module _ {D : Type 0} (g : Ghosts D) where
   abbrev Line : Past D → List ℕ → List ℕ → Past D → Type 0
-  Line = PastLine honest files moment left_since
+  Line = PastLine g
 
   abbrev Settled : Past D → Past D → Type 0
-  Settled = HasSettledPast honest files moment left_since
+  Settled = HasSettledPast g
 
   abbrev Reads : Past D → Result Command LineFault → List ℕ → Past D → Type 0
-  Reads = AnswersReadBy (RunsPast honest files moment left_since) (λ past. past.store.session)
+  Reads = AnswersReadBy (RunsPast g) (λ past. past.store.session)
 
   -- what is said of the sessions alone
   session_of_read : (old : Past D) (read : Result Command LineFault) (out : List ℕ) (new : Past D) → Reads old read out new → AnswersReadBy Step (λ s. s) old.store.session read out new.store.session
@@ -120,12 +122,12 @@ module _ {D : Type 0} (honest : D → Type 0) (files : D → List ℕ → FileSt
 
   -- What holds of each store of a run.
 
-  pub honest_lines : (old new : Past D) (lines : List (List ℕ)) (out : List ℕ) → Answers Line old lines out new → honest old.store.disk → honest new.store.disk
-  honest_lines old new [] out a here = subst (λ (p : Past D). honest p.store.disk) (sym a.1) here
+  pub honest_lines : (old new : Past D) (lines : List (List ℕ)) (out : List ℕ) → Answers Line old lines out new → g.honest old.store.disk → g.honest new.store.disk
+  honest_lines old new [] out a here = subst (λ (p : Past D). g.honest p.store.disk) (sym a.1) here
   honest_lines old new (line ∷ lines) out a here = honest_lines a.0 new lines a.2 a.5 (honest_read old a.3.0 a.1 a.0 a.3.2 here)
     where
-      honest_read : (old : Past D) (read : Result Command LineFault) (out : List ℕ) (new : Past D) → Reads old read out new → honest old.store.disk → honest new.store.disk
-      honest_read old (Err fault) out new ran here = subst (λ (p : Past D). honest p.store.disk) (sym ran.1) here
+      honest_read : (old : Past D) (read : Result Command LineFault) (out : List ℕ) (new : Past D) → Reads old read out new → g.honest old.store.disk → g.honest new.store.disk
+      honest_read old (Err fault) out new ran here = subst (λ (p : Past D). g.honest p.store.disk) (sym ran.1) here
       honest_read old (Ok command) out new ran here = ran.1.1
 
   lists_read : (old : Past D) (read : Result Command LineFault) (out : List ℕ) (new : Past D) → Reads old read out new → Lists old.store.session old.texts → Lists new.store.session new.texts
@@ -159,7 +161,7 @@ module _ {D : Type 0} (honest : D → Type 0) (files : D → List ℕ → FileSt
   -- What is reached by lines.
 
   abbrev Goes : Past D → Past D → (Session → Type 0) → Type 0
-  Goes old new P = Course files moment left_since old.store new.store P
+  Goes old new P = Course g old.store new.store P
 
   -- one line, and the lines after it
   module _ (old mid last : Past D) (course : Goes mid last (Counts last mid)) (lists : Lists old.store.session old.texts) (ends : Begin mid.texts last.texts) where
@@ -167,7 +169,7 @@ module _ {D : Type 0} (honest : D → Type 0) (files : D → List ℕ → FileSt
     course_read (Err fault) out ran = subst (λ p. Goes p last (Counts last p)) ran.1 course
     course_read (Ok command) out ran =
         let made = ran.1.0 in
-        course_run files moment left_since old.store mid.store last.store command ran.0 (Counts last old) (Counts last mid) made.0 course (inl refl)
+        course_run g old.store mid.store last.store command ran.0 (Counts last old) (Counts last mid) made.0 course (inl refl)
         (λ fine s later.
         further old mid last (lists_step old.store.session mid.store.session command ran.0 old.texts mid.texts made.0.step made.1 lists) ends
         (same_or_sound old.store.session mid.store.session command ran.0 fine made.0.step) s later)
@@ -186,31 +188,34 @@ module _ {D : Type 0} (honest : D → Type 0) (files : D → List ℕ → FileSt
 
   pub course_last : (mid last : Past D) → (last ≡ mid) ⊎ Settled mid last → Goes mid last (Counts last mid)
   course_last mid last ends = ⊎_elim
-      (λ same. subst (λ p. Goes mid p (Counts p mid)) (sym same) (course_none files moment left_since mid.store (Counts mid mid) (inl refl)))
-      (λ settled. course_settle files moment left_since mid.store last.store settled.0 (Counts last mid) settled.1.0.0 (inl refl))
+      (λ same. subst (λ p. Goes mid p (Counts p mid)) (sym same) (course_none g mid.store (Counts mid mid) (inl refl)))
+      (λ settled. course_settle g mid.store last.store settled.0 (Counts last mid) settled.1.0.0 (inl refl))
       ends
 
   -- What a crash leaves since a store of a run that wasn't broken.
-  pub leaves_since : (only_now : (disk : D) (image : Image) → honest disk → left_since disk (moment disk) image → AreImages (files disk) image)
-      → (first here last : Past D) → honest here.store.disk → IsAtRest (files first.store.disk) → IsOnDisk first.store.session (contents (files first.store.disk)) → here.store.session.broken ≡ false
-      → Lists here.store.session here.texts → Begin here.texts last.texts → (P : Session → Type 0) → Goes first here P → Goes here last (Counts last here)
-      → LeavesOnly (moment here.store.disk) (moment last.store.disk) (left_since here.store.disk) (left_since last.store.disk)
-      (HoldsPrefix first.store.session (contents (files first.store.disk)) last.texts here.store.session.acknowledged)
-  leaves_since only_now first here last honestly rest disk sound lists ends P before behind =
+  pub leaves_since : (only_now : (disk : D) (image : Image) → g.honest disk → g.left_since disk (g.moment disk) image → AreImages (g.files disk) image)
+      → (first here last : Past D) → g.honest here.store.disk → IsAtRest (g.files first.store.disk) → IsOnDisk first.store.session (contents (g.files first.store.disk)) → here.store.session.broken ≡ false
+      → Lists here.store.session here.texts → Lists last.store.session last.texts → Begin here.texts last.texts → (P : Session → Type 0) → Goes first here P → Goes here last (Counts last here)
+      → LeavesOnly (g.moment here.store.disk) (g.moment last.store.disk) (g.left_since here.store.disk) (g.left_since last.store.disk)
+      (HoldsSince first.store.session (contents (g.files first.store.disk)) here last)
+  leaves_since only_now first here last honestly rest disk sound lists listed ends P before behind =
       let rest_here = before.rest sound rest in
       let made = before.others sound disk in
-      let disk_here = on_disk_after here.store.session.names here.store.session.settled (contents (files first.store.disk)) (contents (files here.store.disk)) made in
+      let disk_here = on_disk_after here.store.session.names here.store.session.settled (contents (g.files first.store.disk)) (contents (g.files here.store.disk)) made in
       let back : (texts : List (List ℕ)) (image : Image) → (texts ≡ here.store.session.settled) ⊎ HaveTexts here.store.session.names here.store.session.files texts
-      → Holds here.store.session (contents (files here.store.disk)) texts image → Holds first.store.session (contents (files first.store.disk)) texts image =
+      → Holds here.store.session (contents (g.files here.store.disk)) texts image → Holds first.store.session (contents (g.files first.store.disk)) texts image =
       λ texts image which held.
-      holds_back first.store.session here.store.session (contents (files first.store.disk)) (contents (files here.store.disk)) image (before.onward sound) disk made texts which held in
-      let settled_holds : (image : Image) → Holds here.store.session (contents (files here.store.disk)) here.store.session.settled image
-      → HoldsPrefix first.store.session (contents (files first.store.disk)) last.texts here.store.session.acknowledged image =
-      λ image held. (
-        here.store.session.acknowledged,
-        omega arith,
-        rw (ends here.store.session.acknowledged here.store.session.settled (lists.settled sound)) (back here.store.session.settled image (inl refl) held),
-      ) in
+      holds_back first.store.session here.store.session (contents (g.files first.store.disk)) (contents (g.files here.store.disk)) image (before.onward sound) disk made texts which held in
+      let settled_holds : (image : Image) → Holds here.store.session (contents (g.files here.store.disk)) here.store.session.settled image
+      → HoldsSince first.store.session (contents (g.files first.store.disk)) here last image =
+      λ image held.
+      let stood = ends here.store.session.acknowledged here.store.session.settled (lists.settled sound) in
+      record {
+        count = here.store.session.acknowledged;
+        whole = inl refl;
+        accepted = omega (arith, slice_get_within last.texts here.store.session.acknowledged here.store.session.settled stood, listed.size);
+        holds = rw stood (back here.store.session.settled image (inl refl) held);
+      } in
       let stands : (s : Session) → IsBetween here.store.session last.store.session s → Counts last here s → Stands last s =
       λ s between counts. ⊎_elim
       (λ same. subst (Stands last) (sym same) (ends here.store.session.accepted here.store.session.files (lists.files sound)))
@@ -219,19 +224,22 @@ module _ {D : Type 0} (honest : D → Type 0) (files : D → List ℕ → FileSt
       leaves_only
       (passes_as (behind.passes rest_here disk_here sound) (λ image left. ⊎_elim
       (settled_holds image)
-      (λ reached. (
-        reached.0.accepted,
-        omega (arith, lists.order, reached.1.1.no_fewer),
-        rw (stands reached.0 reached.1.1 reached.1.2) (back reached.0.files image (inr reached.1.0) reached.2),
-      ))
+      (λ reached.
+      let stood = stands reached.0 reached.1.1 reached.1.2 in
+      record {
+        count = reached.0.accepted;
+        whole = inr reached.1.1.no_fewer;
+        accepted = omega (arith, slice_get_within last.texts reached.0.accepted reached.0.files stood, listed.size);
+        holds = rw stood (back reached.0.files image (inr reached.1.0) reached.2);
+      })
       left))
-      (λ image left. settled_holds image (recovers_as (contents (files here.store.disk)) (with_texts here.store.session.names here.store.session.settled (contents (files here.store.disk))) image disk_here
-      (at_rest_recovers (files here.store.disk) rest_here image (only_now here.store.disk image honestly left))))
+      (λ image left. settled_holds image (recovers_as (contents (g.files here.store.disk)) (with_texts here.store.session.names here.store.session.settled (contents (g.files here.store.disk))) image disk_here
+      (at_rest_recovers (g.files here.store.disk) rest_here image (only_now here.store.disk image honestly left))))
 
   -- What a crash leaves since each store on the way of a run, and at its end.
-  module _ (only_now : (disk : D) (image : Image) → honest disk → left_since disk (moment disk) image → AreImages (files disk) image)
-      {first last : Past D} {end : ServeEnd} {left left' written written' : Option (List ℕ)} (run : Runs Line Settled first last end left left' written written')
-      (honest_first : honest first.store.disk) (honest_last : honest last.store.disk) (rest : IsAtRest (files first.store.disk)) (disk : IsOnDisk first.store.session (contents (files first.store.disk)))
+  module _ (only_now : (disk : D) (image : Image) → g.honest disk → g.left_since disk (g.moment disk) image → AreImages (g.files disk) image)
+      {first last : Past D} {end : ServeEnd} {io : Exchange} (run : Runs Line Settled first last end io)
+      (honest_first : g.honest first.store.disk) (honest_last : g.honest last.store.disk) (rest : IsAtRest (g.files first.store.disk)) (disk : IsOnDisk first.store.session (contents (g.files first.store.disk)))
       (lists : Lists first.store.session first.texts) where
     course_to_last : Goes first last (Counts last first)
     course_to_last = course_past first run.mid last run.ran run.out run.answered (course_last run.mid last run.ends) (begin_end run.mid last run.ends) lists
@@ -240,39 +248,38 @@ module _ {D : Type 0} (honest : D → Type 0) (files : D → List ℕ → FileSt
     lists_last = lists_end run.mid last run.ends (lists_lines first run.mid run.ran run.out run.answered lists)
 
     pub since : (here : Past D) → LeadsBy Line first run.ran run.out run.mid here ⊎ (here ≡ last) → here.store.session.broken ≡ false
-        → LeavesOnly (moment here.store.disk) (moment last.store.disk) (left_since here.store.disk) (left_since last.store.disk)
-        (HoldsPrefix first.store.session (contents (files first.store.disk)) last.texts here.store.session.acknowledged)
+        → LeavesOnly (g.moment here.store.disk) (g.moment last.store.disk) (g.left_since here.store.disk) (g.left_since last.store.disk)
+        (HoldsSince first.store.session (contents (g.files first.store.disk)) here last)
     since here (inl leads) sound =
         leaves_since only_now first here last (honest_lines first here leads.answered leads.written leads.before honest_first) rest disk sound
-        (lists_lines first here leads.answered leads.written leads.before lists)
+        (lists_lines first here leads.answered leads.written leads.before lists) lists_last
         (λ k texts is. begin_end run.mid last run.ends k texts (begin_lines here run.mid leads.others leads.more leads.behind k texts is))
         (Counts here first)
-        (course_past first here here leads.answered leads.written leads.before (course_none files moment left_since here.store (Counts here here) (inl refl)) (λ k texts is. is) lists)
+        (course_past first here here leads.answered leads.written leads.before (course_none g here.store (Counts here here) (inl refl)) (λ k texts is. is) lists)
         (course_past here run.mid last leads.others leads.more leads.behind (course_last run.mid last run.ends) (begin_end run.mid last run.ends)
         (lists_lines first here leads.answered leads.written leads.before lists))
     since here (inr same) sound =
-        subst (λ (h : Past D). LeavesOnly (moment h.store.disk) (moment last.store.disk) (left_since h.store.disk) (left_since last.store.disk)
-        (HoldsPrefix first.store.session (contents (files first.store.disk)) last.texts h.store.session.acknowledged)) (sym same)
-        (leaves_since only_now first last last honest_last rest disk (ap (λ (h : Past D). h.store.session.broken) (sym same) ∙ sound) lists_last (λ k texts is. is) (Counts last first) course_to_last
-        (course_none files moment left_since last.store (Counts last last) (inl refl)))
+        subst (λ (h : Past D). LeavesOnly (g.moment h.store.disk) (g.moment last.store.disk) (g.left_since h.store.disk) (g.left_since last.store.disk)
+        (HoldsSince first.store.session (contents (g.files first.store.disk)) h last)) (sym same)
+        (leaves_since only_now first last last honest_last rest disk (ap (λ (h : Past D). h.store.session.broken) (sym same) ∙ sound) lists_last lists_last (λ k texts is. is) (Counts last first) course_to_last
+        (course_none g last.store (Counts last last) (inl refl)))
 
     -- a prefix that has all commands
     pub whole_prefix : (image : Image) → last.store.session.broken ≡ false → last.store.session.accepted ≤ last.store.session.acknowledged
-        → HoldsPrefix first.store.session (contents (files first.store.disk)) last.texts last.store.session.acknowledged image
-        → Holds first.store.session (contents (files first.store.disk)) last.store.session.files image
-    whole_prefix image sound all holds = some (slice_get last.texts holds.0) refl holds.2
+        → HoldsSince first.store.session (contents (g.files first.store.disk)) last last image
+        → Holds first.store.session (contents (g.files first.store.disk)) last.store.session.files image
+    whole_prefix image sound all holds = some (slice_get last.texts holds.count) refl holds.holds
       where
         the_same : (one other : List (List ℕ)) → Some one ≡ Some other → one ≡ other
         the_same one other same = cc
 
-        some : (found : Option (List (List ℕ))) → slice_get last.texts holds.0 ≡ found → IsSomeAnd found (λ texts. Holds first.store.session (contents (files first.store.disk)) texts image)
-            → Holds first.store.session (contents (files first.store.disk)) last.store.session.files image
+        some : (found : Option (List (List ℕ))) → slice_get last.texts holds.count ≡ found → IsSomeAnd found (λ texts. Holds first.store.session (contents (g.files first.store.disk)) texts image)
+            → Holds first.store.session (contents (g.files first.store.disk)) last.store.session.files image
         some None is held = absurd held
         some (Some texts) is held =
-            let within = slice_get_within last.texts holds.0 texts is in
-            let at : holds.0 ≡ last.store.session.accepted = omega (arith, within, lists_last.size, holds.1, all) in
+            let at : holds.count ≡ last.store.session.accepted = elim holds.whole [ inl settled ↦ omega (arith, settled, holds.accepted, all) | inr more ↦ omega (arith, more, holds.accepted) ] in
             let same : Some texts ≡ Some last.store.session.files = sym is ∙ (ap (slice_get last.texts) at ∙ lists_last.files sound) in
-            subst (λ t. Holds first.store.session (contents (files first.store.disk)) t image) (the_same texts last.store.session.files same) held
+            subst (λ t. Holds first.store.session (contents (g.files first.store.disk)) t image) (the_same texts last.store.session.files same) held
 
 -- no line was answered yet
 pub at_first : {S : Type 0} {AnswersLine : S → List ℕ → List ℕ → S → Type 0} (first new : S) (lines : List (List ℕ)) (out : List ℕ) → Answers AnswersLine first lines out new → LeadsBy AnswersLine first lines out new first
@@ -288,22 +295,28 @@ at_first first new lines out answered = record {
 }
 
 -- What a crash leaves of a run of a store that has such a list as it begins.
-pub run_leaves : {D : Type 0} (honest : D → Type 0) (files : D → List ℕ → FileState) (moment : D → ℕ) (left_since : D → ℕ → Image → Type 0)
-    → ((disk : D) (image : Image) → honest disk → left_since disk (moment disk) image → AreImages (files disk) image)
-    → (first : Past D) (new : Kept D) (end : ServeEnd) (left left' written written' : Option (List ℕ)) → honest new.disk → IsAtRest (files first.store.disk)
-    → IsOnDisk first.store.session (contents (files first.store.disk)) → first.store.session.broken ≡ false → Lists first.store.session first.texts
-    → Runs (RunsLine honest files moment left_since) (HasSettledOver honest files moment left_since) first.store new end left left' written written'
+pub run_leaves : {D : Type 0} (g : Ghosts D)
+    → ((disk : D) (image : Image) → g.honest disk → g.left_since disk (g.moment disk) image → AreImages (g.files disk) image)
+    → (first : Past D) (new : Kept D) (end : ServeEnd) (io : Exchange) → g.honest new.disk → IsAtRest (g.files first.store.disk)
+    → IsOnDisk first.store.session (contents (g.files first.store.disk)) → first.store.session.broken ≡ false → Lists first.store.session first.texts
+    → Runs (RunsLine g) (HasSettledOver g) first.store new end io
     → (last : Past D) × (last.store ≡ new) × Lists last.store.session last.texts
-    × Runs (ToldPast honest files moment left_since) (ToldSettledPast honest files moment left_since) first last end left left' written written'
-    × LeavesOnly (moment first.store.disk) (moment last.store.disk) (left_since first.store.disk) (left_since last.store.disk)
-    (HoldsPrefix first.store.session (contents (files first.store.disk)) last.texts first.store.session.acknowledged)
-run_leaves honest files moment left_since only_now first new end left left' written written' honestly rest disk sound lists run =
-    let lifted = lift_run honest files moment left_since first run in
+    × Runs (ToldPast g) (ToldSettledPast g) first last end io
+    × LeavesOnly (g.moment first.store.disk) (g.moment last.store.disk) (g.left_since first.store.disk) (g.left_since last.store.disk)
+    (HoldsSince first.store.session (contents (g.files first.store.disk)) first last)
+run_leaves g only_now first new end io honestly rest disk sound lists run =
+    let lifted = lift_run g first run in
     let last : Past _ = record { store = new; texts = lifted.0 } in
-    let told = past_runs honest files moment left_since lifted.1 honestly in (
+    let told = past_runs g lifted.1 honestly in (
       last,
       refl,
-      lists_last honest files moment left_since only_now told.0 told.1 honestly rest disk lists,
+      lists_last g only_now told.0 told.1 honestly rest disk lists,
       lifted.1,
-      since honest files moment left_since only_now told.0 told.1 honestly rest disk lists first (inl (at_first first told.0.mid told.0.ran told.0.out told.0.answered)) sound,
+      since g only_now told.0 told.1 honestly rest disk lists first (inl (at_first first told.0.mid told.0.ran told.0.out told.0.answered)) sound,
     )
+
+-- .. which is a prefix with at least the commands that were acknowledged
+pub since_prefix : {D : Type 0} (first : Session) (others image : Image) (here later : Past D) → here.store.session.acknowledged ≤ here.store.session.accepted
+    → HoldsSince first others here later image → HoldsPrefix first others later.texts here.store.session.acknowledged image
+since_prefix first others image here later order holds =
+    (holds.count, elim holds.whole [ inl settled ↦ omega (arith, settled) | inr more ↦ omega (arith, more, order) ], holds.holds)

@@ -1,6 +1,7 @@
 -- Steps that are told by the moment: where the disk is honest at the end, it was at each step, and
 -- all of them are told.
 use Rattle.std.proofs.Common.{◌≡◌, ◌⊎◌, inl, inr, ⊎_elim, ℕ, Bool, true, false, nat_lt, List, [], ◌∷◌, ◌++◌, Option, Result, Ok, Err, refl, ap, ◌∙◌, subst, append_assoc}
+use Rattle.org_disk.specs.declared.disk.Disk.{Ghosts}
 use Rattle.org_disk.specs.Disk.{FileState}
 use Rattle.org_journal.specs.Recovered.{Image}
 use Rattle.org_commands.specs.declared.command.Command.{Command}
@@ -8,6 +9,7 @@ use Rattle.org_commands.specs.declared.command.Reply.{Reply}
 use Rattle.org_commands.specs.declared.command.RunFault.{RunFault}
 use Rattle.org_commands.specs.Runs.{RunsOver, SettlesOver}
 use Rattle.org_commands.specs.Session.{Session, Kept}
+use Rattle.org_serve.specs.Pipes.{Exchange}
 use Rattle.org_serve.specs.declared.end.ServeEnd.{ServeEnd}
 use Rattle.org_serve.specs.declared.end.ServeEnd.TheVariants.{Write}
 use Rattle.org_serve.specs.declared.fault.LineFault.{LineFault}
@@ -87,8 +89,8 @@ module _ {S : Type 0} (session : S → Session) (good : S → Type 0) (Does : S 
   pub honest_some : (old new : S) (left left' : Option (List ℕ)) → RunsSome (AnswersLineBy ToldRun session) old new left left' → good new → RunsSome (AnswersLineBy Run session) old new left left'
   honest_some old new left left' some here = (some.0, some.1, some.2, some.3, some.4, some.5, (honest_lines old some.1 some.3 new some.6 here).0)
 
-  abbrev pub honest_runs : {old new : S} {end : ServeEnd} {left left' written written' : Option (List ℕ)} → Runs (AnswersLineBy ToldRun session) (HasSettledBy ToldSettling) old new end left left' written written' → good new
-      → Runs (AnswersLineBy Run session) (HasSettledBy Settling) old new end left left' written written' × good old
+  abbrev pub honest_runs : {old new : S} {end : ServeEnd} {io : Exchange} → Runs (AnswersLineBy ToldRun session) (HasSettledBy ToldSettling) old new end io → good new
+      → Runs (AnswersLineBy Run session) (HasSettledBy Settling) old new end io × good old
   honest_runs {old} {new} run here =
       let ends = honest_last run.mid new run.ends here in
       let lines = honest_lines old run.ran run.out run.mid run.answered ends.1 in (
@@ -125,9 +127,9 @@ module _ {S : Type 0} (session : S → Session) (good : S → Type 0) (Does : S 
       )
 
 -- The run up to a store on the way, as one in which a write failed there.
-abbrev pub up_to : {S : Type 0} {Line : S → List ℕ → List ℕ → S → Type 0} {Settles : S → S → Type 0} {first last : S} {end : ServeEnd} {left left' written written' : Option (List ℕ)}
-    → (run : Runs Line Settles first last end left left' written written') (here : S) (way : LeadsBy Line first run.ran run.out run.mid here)
-    → Runs Line Settles first here Write left left' written written'
+abbrev pub up_to : {S : Type 0} {Line : S → List ℕ → List ℕ → S → Type 0} {Settles : S → S → Type 0} {first last : S} {end : ServeEnd} {io : Exchange}
+    → (run : Runs Line Settles first last end io) (here : S) (way : LeadsBy Line first run.ran run.out run.mid here)
+    → Runs Line Settles first here Write io
 up_to run here way = record {
   input = run.input;
   ran = way.answered;
@@ -143,76 +145,76 @@ up_to run here way = record {
 
 -- The steps of a store over a disk that is honest after each of them.
 
-abbrev pub RunsHonest : {D : Type 0} → (D → Type 0) → (D → List ℕ → FileState) → (D → ℕ) → (D → ℕ → Image → Type 0) → Kept D → Command → Result Reply RunFault → Kept D → Type 0
-RunsHonest honest files moment left_since old command answer new = RunsOver files moment left_since old command answer new × honest new.disk
+abbrev pub RunsHonest : {D : Type 0} → Ghosts D → Kept D → Command → Result Reply RunFault → Kept D → Type 0
+RunsHonest g old command answer new = RunsOver g old command answer new × g.honest new.disk
 
-abbrev pub SettlesHonest : {D : Type 0} → (D → Type 0) → (D → List ℕ → FileState) → (D → ℕ) → (D → ℕ → Image → Type 0) → Kept D → Result (Unit {0}) RunFault → Kept D → Type 0
-SettlesHonest honest files moment left_since old answer new = SettlesOver files moment left_since old answer new × honest new.disk
+abbrev pub SettlesHonest : {D : Type 0} → Ghosts D → Kept D → Result (Unit {0}) RunFault → Kept D → Type 0
+SettlesHonest g old answer new = SettlesOver g old answer new × g.honest new.disk
 
-abbrev pub RunsLine : {D : Type 0} → (D → Type 0) → (D → List ℕ → FileState) → (D → ℕ) → (D → ℕ → Image → Type 0) → Kept D → List ℕ → List ℕ → Kept D → Type 0
-RunsLine honest files moment left_since = AnswersLineBy (RunsHonest honest files moment left_since) (λ k. k.session)
+abbrev pub RunsLine : {D : Type 0} → Ghosts D → Kept D → List ℕ → List ℕ → Kept D → Type 0
+RunsLine g = AnswersLineBy (RunsHonest g) (λ k. k.session)
 
-abbrev pub HasSettledOver : {D : Type 0} → (D → Type 0) → (D → List ℕ → FileState) → (D → ℕ) → (D → ℕ → Image → Type 0) → Kept D → Kept D → Type 0
-HasSettledOver honest files moment left_since = HasSettledBy (SettlesHonest honest files moment left_since)
+abbrev pub HasSettledOver : {D : Type 0} → Ghosts D → Kept D → Kept D → Type 0
+HasSettledOver g = HasSettledBy (SettlesHonest g)
 
-abbrev pub FinishesOver : {D : Type 0} → (D → Type 0) → (D → List ℕ → FileState) → (D → ℕ) → (D → ℕ → Image → Type 0) → Kept D → ServeEnd → List ℕ → Kept D → Type 0
-FinishesOver honest files moment left_since = FinishesBy (SettlesHonest honest files moment left_since) (λ k. k.session)
+abbrev pub FinishesOver : {D : Type 0} → Ghosts D → Kept D → ServeEnd → List ℕ → Kept D → Type 0
+FinishesOver g = FinishesBy (SettlesHonest g) (λ k. k.session)
 
 -- what a command does, and what it adds to the list
-abbrev pub DoesPast : {D : Type 0} → (D → List ℕ → FileState) → (D → ℕ) → (D → ℕ → Image → Type 0) → Past D → Command → Result Reply RunFault → Past D → Type 0
-DoesPast files moment left_since old command answer new = CallPast files moment left_since old (Ran command answer) new
+abbrev pub DoesPast : {D : Type 0} → Ghosts D → Past D → Command → Result Reply RunFault → Past D → Type 0
+DoesPast g old command answer new = CallPast g old (Ran command answer) new
 
-abbrev pub DoesSettlePast : {D : Type 0} → (D → List ℕ → FileState) → (D → ℕ) → (D → ℕ → Image → Type 0) → Past D → Result (Unit {0}) RunFault → Past D → Type 0
-DoesSettlePast files moment left_since old answer new = CallPast files moment left_since old (Settled answer) new
+abbrev pub DoesSettlePast : {D : Type 0} → Ghosts D → Past D → Result (Unit {0}) RunFault → Past D → Type 0
+DoesSettlePast g old answer new = CallPast g old (Settled answer) new
 
-abbrev pub RunsPast : {D : Type 0} → (D → Type 0) → (D → List ℕ → FileState) → (D → ℕ) → (D → ℕ → Image → Type 0) → Past D → Command → Result Reply RunFault → Past D → Type 0
-RunsPast honest files moment left_since old command answer new = DoesPast files moment left_since old command answer new × honest new.store.disk
+abbrev pub RunsPast : {D : Type 0} → Ghosts D → Past D → Command → Result Reply RunFault → Past D → Type 0
+RunsPast g old command answer new = DoesPast g old command answer new × g.honest new.store.disk
 
-abbrev pub SettlesPast : {D : Type 0} → (D → Type 0) → (D → List ℕ → FileState) → (D → ℕ) → (D → ℕ → Image → Type 0) → Past D → Result (Unit {0}) RunFault → Past D → Type 0
-SettlesPast honest files moment left_since old answer new = DoesSettlePast files moment left_since old answer new × honest new.store.disk
+abbrev pub SettlesPast : {D : Type 0} → Ghosts D → Past D → Result (Unit {0}) RunFault → Past D → Type 0
+SettlesPast g old answer new = DoesSettlePast g old answer new × g.honest new.store.disk
 
-abbrev pub PastLine : {D : Type 0} → (D → Type 0) → (D → List ℕ → FileState) → (D → ℕ) → (D → ℕ → Image → Type 0) → Past D → List ℕ → List ℕ → Past D → Type 0
-PastLine honest files moment left_since = AnswersLineBy (RunsPast honest files moment left_since) (λ past. past.store.session)
+abbrev pub PastLine : {D : Type 0} → Ghosts D → Past D → List ℕ → List ℕ → Past D → Type 0
+PastLine g = AnswersLineBy (RunsPast g) (λ past. past.store.session)
 
-abbrev pub HasSettledPast : {D : Type 0} → (D → Type 0) → (D → List ℕ → FileState) → (D → ℕ) → (D → ℕ → Image → Type 0) → Past D → Past D → Type 0
-HasSettledPast honest files moment left_since = HasSettledBy (SettlesPast honest files moment left_since)
+abbrev pub HasSettledPast : {D : Type 0} → Ghosts D → Past D → Past D → Type 0
+HasSettledPast g = HasSettledBy (SettlesPast g)
 
 -- What is told of a run of a store, where the disk is honest at its end.
-module _ {D : Type 0} (honest : D → Type 0) (files : D → List ℕ → FileState) (moment : D → ℕ) (left_since : D → ℕ → Image → Type 0) where
-  pub kept_served : {old new : Kept D} {left left' written written' : Option (List ℕ)} {pending : Pending} → Served (ToldLine honest files moment left_since) old new left left' written written' pending → honest new.disk
-      → Served (RunsLine honest files moment left_since) old new left left' written written' pending
-  kept_served s here = honest_served (λ (k : Kept D). k.session) (λ (k : Kept D). honest k.disk) (RunsOver files moment left_since) (SettlesOver files moment left_since) s here
+module _ {D : Type 0} (g : Ghosts D) where
+  pub kept_served : {old new : Kept D} {left left' written written' : Option (List ℕ)} {pending : Pending} → Served (ToldLine g) old new left left' written written' pending → g.honest new.disk
+      → Served (RunsLine g) old new left left' written written' pending
+  kept_served s here = honest_served (λ (k : Kept D). k.session) (λ (k : Kept D). g.honest k.disk) (RunsOver g) (SettlesOver g) s here
 
-  pub kept_some : (old new : Kept D) (left left' : Option (List ℕ)) → RunsSome (ToldLine honest files moment left_since) old new left left' → honest new.disk → RunsSome (RunsLine honest files moment left_since) old new left left'
-  kept_some old new left left' some here = honest_some (λ (k : Kept D). k.session) (λ (k : Kept D). honest k.disk) (RunsOver files moment left_since) (SettlesOver files moment left_since) old new left left' some here
+  pub kept_some : (old new : Kept D) (left left' : Option (List ℕ)) → RunsSome (ToldLine g) old new left left' → g.honest new.disk → RunsSome (RunsLine g) old new left left'
+  kept_some old new left left' some here = honest_some (λ (k : Kept D). k.session) (λ (k : Kept D). g.honest k.disk) (RunsOver g) (SettlesOver g) old new left left' some here
 
-  pub kept_end : (part : List ℕ) (old : Kept D) (end : ServeEnd) (new : Kept D) (written written' : Option (List ℕ)) → EndsWith (ToldFinishes honest files moment left_since) part old end new written written' → honest new.disk
-      → EndsWith (FinishesOver honest files moment left_since) part old end new written written'
-  kept_end part old end new written written' e here = honest_end (λ (k : Kept D). k.session) (λ (k : Kept D). honest k.disk) (RunsOver files moment left_since) (SettlesOver files moment left_since) part old end new written written' e here
+  pub kept_end : (part : List ℕ) (old : Kept D) (end : ServeEnd) (new : Kept D) (written written' : Option (List ℕ)) → EndsWith (ToldFinishes g) part old end new written written' → g.honest new.disk
+      → EndsWith (FinishesOver g) part old end new written written'
+  kept_end part old end new written written' e here = honest_end (λ (k : Kept D). k.session) (λ (k : Kept D). g.honest k.disk) (RunsOver g) (SettlesOver g) part old end new written written' e here
 
-  pub kept_settled : (old new : Kept D) → ToldSettled honest files moment left_since old new → honest new.disk → HasSettledOver honest files moment left_since old new
-  kept_settled old new settled here = (honest_settled (λ (k : Kept D). k.session) (λ (k : Kept D). honest k.disk) (RunsOver files moment left_since) (SettlesOver files moment left_since) old new settled here).0
+  pub kept_settled : (old new : Kept D) → ToldSettled g old new → g.honest new.disk → HasSettledOver g old new
+  kept_settled old new settled here = (honest_settled (λ (k : Kept D). k.session) (λ (k : Kept D). g.honest k.disk) (RunsOver g) (SettlesOver g) old new settled here).0
 
-  pub kept_runs : {old new : Kept D} {end : ServeEnd} {left left' written written' : Option (List ℕ)} → Runs (ToldLine honest files moment left_since) (ToldSettled honest files moment left_since) old new end left left' written written' → honest new.disk
-      → Runs (RunsLine honest files moment left_since) (HasSettledOver honest files moment left_since) old new end left left' written written'
-  kept_runs run here = (honest_runs (λ (k : Kept D). k.session) (λ (k : Kept D). honest k.disk) (RunsOver files moment left_since) (SettlesOver files moment left_since) run here).0
+  pub kept_runs : {old new : Kept D} {end : ServeEnd} {io : Exchange} → Runs (ToldLine g) (ToldSettled g) old new end io → g.honest new.disk
+      → Runs (RunsLine g) (HasSettledOver g) old new end io
+  kept_runs run here = (honest_runs (λ (k : Kept D). k.session) (λ (k : Kept D). g.honest k.disk) (RunsOver g) (SettlesOver g) run here).0
 
   -- .. and of one with the list
 
-  abbrev pub past_runs : {old new : Past D} {end : ServeEnd} {left left' written written' : Option (List ℕ)} → Runs (ToldPast honest files moment left_since) (ToldSettledPast honest files moment left_since) old new end left left' written written' → honest new.store.disk
-      → Runs (PastLine honest files moment left_since) (HasSettledPast honest files moment left_since) old new end left left' written written' × honest old.store.disk
-  past_runs run here = honest_runs (λ (past : Past D). past.store.session) (λ (past : Past D). honest past.store.disk) (DoesPast files moment left_since) (DoesSettlePast files moment left_since) run here
+  abbrev pub past_runs : {old new : Past D} {end : ServeEnd} {io : Exchange} → Runs (ToldPast g) (ToldSettledPast g) old new end io → g.honest new.store.disk
+      → Runs (PastLine g) (HasSettledPast g) old new end io × g.honest old.store.disk
+  past_runs run here = honest_runs (λ (past : Past D). past.store.session) (λ (past : Past D). g.honest past.store.disk) (DoesPast g) (DoesSettlePast g) run here
 
-  pub past_leads : (old : Past D) (lines : List (List ℕ)) (out : List ℕ) (new here : Past D) → LeadsBy (ToldPast honest files moment left_since) old lines out new here → honest new.store.disk
-      → LeadsBy (PastLine honest files moment left_since) old lines out new here
+  pub past_leads : (old : Past D) (lines : List (List ℕ)) (out : List ℕ) (new here : Past D) → LeadsBy (ToldPast g) old lines out new here → g.honest new.store.disk
+      → LeadsBy (PastLine g) old lines out new here
   past_leads old lines out new here leads honestly =
-      (honest_leads (λ (past : Past D). past.store.session) (λ (past : Past D). honest past.store.disk) (DoesPast files moment left_since) (DoesSettlePast files moment left_since) old lines out new here leads honestly).0
+      (honest_leads (λ (past : Past D). past.store.session) (λ (past : Past D). g.honest past.store.disk) (DoesPast g) (DoesSettlePast g) old lines out new here leads honestly).0
 
   -- the store before the settling at the end
-  pub past_last : (mid new : Past D) → (new ≡ mid) ⊎ ToldSettledPast honest files moment left_since mid new → honest new.store.disk → honest mid.store.disk
-  past_last mid new ends here = (honest_last (λ (past : Past D). past.store.session) (λ (past : Past D). honest past.store.disk) (DoesPast files moment left_since) (DoesSettlePast files moment left_since) mid new ends here).1
+  pub past_last : (mid new : Past D) → (new ≡ mid) ⊎ ToldSettledPast g mid new → g.honest new.store.disk → g.honest mid.store.disk
+  past_last mid new ends here = (honest_last (λ (past : Past D). past.store.session) (λ (past : Past D). g.honest past.store.disk) (DoesPast g) (DoesSettlePast g) mid new ends here).1
 
-  pub past_lines : (old : Past D) (lines : List (List ℕ)) (out : List ℕ) (new : Past D) → Answers (ToldPast honest files moment left_since) old lines out new → honest new.store.disk
-      → Answers (PastLine honest files moment left_since) old lines out new × honest old.store.disk
+  pub past_lines : (old : Past D) (lines : List (List ℕ)) (out : List ℕ) (new : Past D) → Answers (ToldPast g) old lines out new → g.honest new.store.disk
+      → Answers (PastLine g) old lines out new × g.honest old.store.disk
   past_lines old lines out new a here =
-      honest_lines (λ (past : Past D). past.store.session) (λ (past : Past D). honest past.store.disk) (DoesPast files moment left_since) (DoesSettlePast files moment left_since) old lines out new a here
+      honest_lines (λ (past : Past D). past.store.session) (λ (past : Past D). g.honest past.store.disk) (DoesPast g) (DoesSettlePast g) old lines out new a here

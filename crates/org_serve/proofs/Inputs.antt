@@ -2,6 +2,7 @@
 use Rattle.std.proofs.Common.{◌≡◌, ◌≢◌, ◌⊎◌, inl, inr, ⊎_elim, ℕ, List, [], ◌++◌, Option, refl, sym, ap, ◌∙◌, subst, append_assoc, append-nil}
 use Rattle.std.specs.Io.KnownBytes.{Consumes, Appends, IsAtEnd}
 use Rattle.org_commands.specs.Session.{Session}
+use Rattle.org_serve.specs.Pipes.{Exchange}
 use Rattle.org_serve.specs.declared.pending.Pending.{Pending}
 use Rattle.org_serve.specs.declared.end.ServeEnd.{ServeEnd}
 use Rattle.org_serve.specs.declared.end.ServeEnd.TheVariants.{Read, Write}
@@ -88,16 +89,22 @@ pub Served-all_ran : {S : Type 0} {AnswersLine : S → List ℕ → List ℕ →
     → Served AnswersLine old new left left' written among pending → RunsSome AnswersLine old new left left'
 Served-all_ran s = (s.input, (cut s.input).lines, [], s.out, s.read, sym (append-nil (cut s.input).lines), s.answered)
 
-pub Served-lines : {S : Type 0} {AnswersLine : S → List ℕ → List ℕ → S → Type 0} {old new : S} {left left' written written' : Option (List ℕ)} {pending : Pending}
-    → Served AnswersLine old new left left' written written' pending → ServesLines AnswersLine old new left left' written written'
-Served-lines s = (s.input, s.out, s.read, s.answered, s.wrote)
+pub Served-lines : {S : Type 0} {AnswersLine : S → List ℕ → List ℕ → S → Type 0} {old new : S} (io : Exchange) {pending : Pending}
+    → Served AnswersLine old new io.before.left io.after.left io.before.written io.after.written pending → ServesLines AnswersLine old new io
+Served-lines io s = (s.input, s.out, s.read, s.answered, s.wrote)
 
-pub Served-end : {S : Type 0} (Finishes : S → ServeEnd → List ℕ → S → Type 0) {AnswersLine : S → List ℕ → List ℕ → S → Type 0} {old mid : S} {left left' written among : Option (List ℕ)} {pending : Pending}
-    → (s : Served AnswersLine old mid left left' written among pending) (end : ServeEnd) (new : S) (written' : Option (List ℕ)) → IsAtEnd left'
-    → EndsWith Finishes (cut s.input).rest mid end new among written' → ServesAll AnswersLine Finishes old end new left left' written written'
-Served-end Finishes {mid = mid} {written = written} {among = among} s end new written' at_end ends =
-    let tail = ends.0 ++ ends.1 in
-    (s.input, s.out ++ tail, s.read, at_end, (mid, s.out, ends.0, ends.1, s.answered, ends.2, ends.3, refl), Appends-append written among written' s.out tail s.wrote ends.4)
+pub Served-end : {S : Type 0} (Finishes : S → ServeEnd → List ℕ → S → Type 0) {AnswersLine : S → List ℕ → List ℕ → S → Type 0} {old mid : S} (io : Exchange) {among : Option (List ℕ)} {pending : Pending}
+    → (s : Served AnswersLine old mid io.before.left io.after.left io.before.written among pending) (end : ServeEnd) (new : S) → IsAtEnd io.after.left
+    → EndsWith Finishes (cut s.input).rest mid end new among io.after.written → ServesAll AnswersLine Finishes old end new io
+Served-end Finishes {mid = mid} io {among = among} s end new at_end ends =
+    let tail = ends.0 ++ ends.1 in (
+      s.input,
+      s.out ++ tail,
+      s.read,
+      at_end,
+      (mid, s.out, ends.0, ends.1, s.answered, ends.2, ends.3, refl),
+      Appends-append io.before.written among io.after.written s.out tail s.wrote ends.4,
+    )
 
 -- a write fails after the settling
 pub Served-settled : {S : Type 0} (Settles : S → S → Type 0) {AnswersLine : S → List ℕ → List ℕ → S → Type 0} {old mid : S} {left left' written among : Option (List ℕ)} {pending : Pending}
@@ -107,21 +114,21 @@ Served-settled Settles {mid = mid} s new at_end settles = (s.input, mid, s.out, 
 -- What is read and written, by the sessions.
 
 -- a read failed, or the turns are used up
-pub serves_read : {old new : Session} {left left' written written' : Option (List ℕ)} {pending : Pending}
-    → Served AnswersLine old new left left' written written' pending → Serves old Read new left left' written written'
-serves_read s = record { all = λ not other. absurd (not refl); read = λ is. Served-lines s; write = λ is. absurd (read_apart is) }
+pub serves_read : {old new : Session} (io : Exchange) {pending : Pending}
+    → Served AnswersLine old new io.before.left io.after.left io.before.written io.after.written pending → Serves old Read new io
+serves_read io s = record { all = λ not other. absurd (not refl); read = λ is. Served-lines io s; write = λ is. absurd (read_apart is) }
 
 -- a write fails among the lines
-pub serves_some : {old new : Session} {left left' : Option (List ℕ)} (written written' : Option (List ℕ)) → RunsSome AnswersLine old new left left' → Serves old Write new left left' written written'
-serves_some written written' some = record { all = λ other not. absurd (not refl); read = λ is. absurd (read_apart (sym is)); write = λ is. inl some }
+pub serves_some : {old new : Session} (io : Exchange) → RunsSome AnswersLine old new io.before.left io.after.left → Serves old Write new io
+serves_some io some = record { all = λ other not. absurd (not refl); read = λ is. absurd (read_apart (sym is)); write = λ is. inl some }
 
 -- the input is read to its end
-pub serves_end : {old mid : Session} {left left' written among : Option (List ℕ)} {pending : Pending}
-    → (s : Served AnswersLine old mid left left' written among pending) (end : ServeEnd) (new : Session) (written' : Option (List ℕ)) → IsAtEnd left' → end ≢ Read
-    → (end ≢ Write → EndsWith Finishes (cut s.input).rest mid end new among written') → (end ≡ Write → (new ≡ mid) ⊎ HasSettled mid new)
-    → Serves old end new left left' written written'
-serves_end {old} {left = left} {left' = left'} s end new written' at_end none ends failed = record {
-  all = λ other not. Served-end Finishes s end new written' at_end (ends not);
+pub serves_end : {old mid : Session} (io : Exchange) {among : Option (List ℕ)} {pending : Pending}
+    → (s : Served AnswersLine old mid io.before.left io.after.left io.before.written among pending) (end : ServeEnd) (new : Session) → IsAtEnd io.after.left → end ≢ Read
+    → (end ≢ Write → EndsWith Finishes (cut s.input).rest mid end new among io.after.written) → (end ≡ Write → (new ≡ mid) ⊎ HasSettled mid new)
+    → Serves old end new io
+serves_end {old} io s end new at_end none ends failed = record {
+  all = λ other not. Served-end Finishes io s end new at_end (ends not);
   read = λ is. absurd (none is);
-  write = λ is. ⊎_elim (λ same. inl (subst (λ last. RunsSome AnswersLine old last left left') (sym same) (Served-all_ran s))) (λ settled. inr (Served-settled HasSettled s new at_end settled)) (failed is);
+  write = λ is. ⊎_elim (λ same. inl (subst (λ last. RunsSome AnswersLine old last io.before.left io.after.left) (sym same) (Served-all_ran s))) (λ settled. inr (Served-settled HasSettled s new at_end settled)) (failed is);
 }

@@ -3,7 +3,9 @@ use Rattle.std.proofs.Common.{◌≡◌, ℕ, List, [], ◌∷◌, ◌++◌, Opt
 use Rattle.std.specs.Prelude.{OnOk, OnErr, IfErr, IsErr, IsErrAnd}
 use Rattle.std.specs.Io.KnownBytes.{Consumes, Appends, Keeps}
 use Rattle.org_disk.specs.Disk.{IsCounted}
+use Rattle.org_serve.specs.declared.pipes.Sink as sinks
 use Rattle.org_serve.specs.Parts.{AppendsSome}
+use Rattle.org_serve.specs.Writes.{Writes}
 use Rattle.org_serve.specs.Transcript.{Answers}
 
 pub Answers-append : {S : Type 0} (AnswersLine : S → List ℕ → List ℕ → S → Type 0) (old mid new : S) (ls ms : List (List ℕ)) (out more : List ℕ)
@@ -71,38 +73,33 @@ pub on_err : {A E P : Type 0} (r : Result A E) → P → OnErr r P
 on_err (Ok x) held = tt
 on_err (Err e) held = held
 
--- A write of a text, from bytes s to bytes t, and from m failures to n: all of it, or some where it failed.
-pub record Wrote {A E : Type 0} (result : Result A E) (s t : Option (List ℕ)) (text : List ℕ) (m n : ℕ) : Type 0 where
-  pub all : OnOk result (Appends s t text)
-  pub some : OnErr result (AppendsSome s t text)
-  pub same : OnOk result (n ≡ m)
-  pub counted : OnErr result (IsCounted m n)
-
--- a flush behind it
-pub then_flushed : {A B E F : Type 0} {result : Result A E} (last : Result B F) {s t u : Option (List ℕ)} {text : List ℕ} {m n o : ℕ} {x : A} → result ≡ Ok x
-    → Wrote result s t text m n → Keeps t u → OnOk last (o ≡ n) → OnErr last (IsCounted n o) → Wrote last s u text m o
-then_flushed (Ok y) {s} {t} {u} {text} is wrote kept same counted =
-    let done = rw is at wrote.all in
+-- a flush behind a write
+pub then_flushed : {W A B E F : Type 0} (w : sinks.Ghosts W) {first mid new : W} {result : Result A E} (last : Result B F) {text : List ℕ} {x : A} → result ≡ Ok x
+    → Writes w first mid result text → Keeps (w.written mid) (w.written new)
+    → OnOk last (w.failures new ≡ w.failures mid) → OnErr last (IsCounted (w.failures mid) (w.failures new)) → Writes w first new last text
+then_flushed w {first} {mid} {new} (Ok y) {text} is wrote kept same counted =
+    let done = rw is at wrote.ok in
     record {
-      all = subst (λ (l : List ℕ). Appends s u l) (append-nil text) (Appends-append s t u text [] done (Appends-kept t u kept));
-      some = tt;
+      ok = subst (λ (l : List ℕ). Appends (w.written first) (w.written new) l) (append-nil text)
+          (Appends-append (w.written first) (w.written mid) (w.written new) text [] done (Appends-kept (w.written mid) (w.written new) kept));
+      part = tt;
       same = same ∙ (rw is at wrote.same);
       counted = tt;
     }
-then_flushed (Err e) {s} {t} {u} {text} {o = o} is wrote kept same counted =
-    let done = rw is at wrote.all in
+then_flushed w {first} {mid} {new} (Err e) {text} is wrote kept same counted =
+    let done = rw is at wrote.ok in
     record {
-      all = tt;
-      some = some_kept s t u text done kept;
+      ok = tt;
+      part = some_kept (w.written first) (w.written mid) (w.written new) text done kept;
       same = tt;
-      counted = subst (λ (k : ℕ). IsCounted k o) (rw is at wrote.same) counted;
+      counted = subst (λ (k : ℕ). IsCounted k (w.failures new)) (rw is at wrote.same) counted;
     }
 
--- handed on where it failed
-pub passed_on : {A B E F : Type 0} {result : Result A E} (last : Result B F) {s t : Option (List ℕ)} {text : List ℕ} {m n : ℕ} {e : E} → result ≡ Err e
-    → IsErr last → Wrote result s t text m n → Wrote last s t text m n
-passed_on (Ok y) is failed wrote = absurd (true≢false (sym failed))
-passed_on (Err f) is failed wrote = record { all = tt; some = rw is at wrote.some; same = tt; counted = rw is at wrote.counted }
+-- a write that failed, handed on
+pub passed_on : {W A B E F : Type 0} (w : sinks.Ghosts W) {first new : W} {result : Result A E} (last : Result B F) {text : List ℕ} {e : E} → result ≡ Err e
+    → IsErr last → Writes w first new result text → Writes w first new last text
+passed_on w (Ok y) is failed wrote = absurd (true≢false (sym failed))
+passed_on w (Err f) is failed wrote = record { ok = tt; part = rw is at wrote.part; same = tt; counted = rw is at wrote.counted }
 
 -- what a `?` passed on
 pub passed_never : {A E : Type 0} (P : E → Type 0) (Q : Type 0) (answer : Result A E) → IsErrAnd answer P → OnOk answer Q

@@ -1,6 +1,7 @@
 -- What holds of each of the texts by which a run is told, where accepted commands keep it: they are
 -- within the limit, and after refiles alone they have the same nodes.
 use Rattle.std.proofs.Common.{◌≡◌, inl, inr, ⊎_elim, ℕ, ◌+◌, true, List, [], ◌∷◌, ◌++◌, Option, Some, None, Result, Ok, Err, refl, sym, ap, ◌∙◌, subst, arith}
+use Rattle.org_disk.specs.declared.disk.Disk.{Ghosts}
 use Rattle.std.specs.Prelude.{All}
 use Rattle.std.specs.List.{AllByRecursion, IsDistinct}
 use Rattle.std.specs.Str.{bytes_eq}
@@ -27,6 +28,8 @@ use Rattle.org_store.proofs.History.{Texts, lists_step}
 use Rattle.org_store.proofs.Listed.{KeptNodes, each_at, keeps_nodes, keeps_small, prefix_nodes, prefix_opens, prefix_same}
 use Rattle.org_store.proofs.OnePlace.{names_apart}
 use Rattle.org_store.proofs.Reopening.{opened_small}
+use Rattle.org_serve.specs.declared.whole.Setup.{Setup}
+use Rattle.org_serve.specs.Pipes.{Exchange}
 use Rattle.org_serve.specs.declared.end.ServeEnd.{ServeEnd}
 use Rattle.org_serve.specs.declared.fault.LineFault.{LineFault}
 use Rattle.org_serve.specs.History.{PastLine as ToldPast, HasSettledPast as ToldSettledPast}
@@ -34,7 +37,7 @@ use Rattle.org_serve.specs.OnePlace.{OnlyRefiles}
 use Rattle.org_serve.specs.Serving.{AnswersReadBy, IsReadAs}
 use Rattle.org_serve.specs.Crashes.{Runs}
 use Rattle.org_serve.specs.Transcript.{Answers}
-use Rattle.org_serve.specs.Whole.{ServesOver, HoldsServed, IsOnTheWay}
+use Rattle.org_serve.specs.Whole.{ServesOver, IsOnTheWay}
 use Rattle.org_serve.proofs.Honest.{RunsPast, PastLine, HasSettledPast, past_runs, up_to}
 use Rattle.org_serve.proofs.Opened.{lists_first}
 
@@ -80,37 +83,37 @@ module _ (names : List (List ℕ)) (Q : List (List ℕ) → Type 0) (Allowed : L
         | inr sound ↦ keeps old line command files each.same_names allowed read (each_at Q texts old.accepted old.files each.all (each.lists.files sound)) accepts
       ]
 
-  module _ {D : Type 0} (honest : D → Type 0) (files : D → List ℕ → FileState) (moment : D → ℕ) (left_since : D → ℕ → Image → Type 0) where
+  module _ {D : Type 0} (g : Ghosts D) where
     each_read : (old : Past D) (line : List ℕ) (read : Result Command LineFault) (out : List ℕ) (new : Past D) → Allowed line → IsReadAs line read
-        → AnswersReadBy (RunsPast honest files moment left_since) (λ past. past.store.session) old read out new → Each old.store.session old.texts → Each new.store.session new.texts
+        → AnswersReadBy (RunsPast g) (λ past. past.store.session) old read out new → Each old.store.session old.texts → Each new.store.session new.texts
     each_read old line (Err fault) out new allowed read ran each = subst (λ (p : Past D). Each p.store.session p.texts) (sym ran.1) each
     each_read old line (Ok command) out new allowed read ran each =
         each_step old.store.session new.store.session line command ran.0 old.texts new.texts allowed read ran.1.0.0.step ran.1.0.1 each
 
-    each_lines : (old new : Past D) (lines : List (List ℕ)) (out : List ℕ) → AllByRecursion Allowed lines → Answers (PastLine honest files moment left_since) old lines out new
+    each_lines : (old new : Past D) (lines : List (List ℕ)) (out : List ℕ) → AllByRecursion Allowed lines → Answers (PastLine g) old lines out new
         → Each old.store.session old.texts → Each new.store.session new.texts
     each_lines old new [] out allowed a each = subst (λ (p : Past D). Each p.store.session p.texts) (sym a.1) each
     each_lines old new (line ∷ lines) out allowed a each = each_lines a.0 new lines a.2 allowed.1 a.5 (each_read old line a.3.0 a.1 a.0 allowed.0 a.3.1 a.3.2 each)
 
-    pub each_run : {first last : Past D} {end : ServeEnd} {left left' written written' : Option (List ℕ)}
-        (run : Runs (PastLine honest files moment left_since) (HasSettledPast honest files moment left_since) first last end left left' written written')
+    pub each_run : {first last : Past D} {end : ServeEnd} {io : Exchange}
+        (run : Runs (PastLine g) (HasSettledPast g) first last end io)
         → AllByRecursion Allowed run.ran → Each first.store.session first.texts → All Q last.texts
     each_run {first} run allowed each =
         let all = (each_lines first run.mid run.ran run.out allowed run.answered each).all in
         ⊎_elim (λ same. subst (λ (p : Past D). All Q p.texts) (sym same) all) (λ settled. subst (All Q) (sym settled.1.0.1) all) run.ends
 
   -- the same of a store on the way
-  module _ {D : Type 0} {honest : D → Type 0} {files : D → List ℕ → FileState} {moment : D → ℕ} {left_since : D → ℕ → Image → Type 0}
-      {states : Keywords} {group : ℕ} {given : List (List ℕ)} {disk now : D} {end : ServeEnd} {left left' written written' : Option (List ℕ)}
-      (served : ServesOver honest files moment left_since states group given disk now end left left' written written') (allowed : AllByRecursion Allowed served.run.ran)
-      (first : honest served.first.store.disk → Each served.first.store.session served.first.texts) where
-    pub each_on_the_way : (here : Past D) → IsOnTheWay served here → honest here.store.disk → All Q here.texts
+  module _ {D : Type 0} {g : Ghosts D}
+      {setup : Setup} {disk now : D} {end : ServeEnd} {io : Exchange}
+      (served : ServesOver g setup disk now end io) (allowed : AllByRecursion Allowed served.run.ran)
+      (first : g.honest served.first.store.disk → Each served.first.store.session served.first.texts) where
+    pub each_on_the_way : (here : Past D) → IsOnTheWay served here → g.honest here.store.disk → All Q here.texts
     each_on_the_way here (inl way) honestly =
-        let told = past_runs honest files moment left_since (up_to served.run here way) honestly in
-        each_run honest files moment left_since told.0 (all_first Allowed way.answered way.others (subst (AllByRecursion Allowed) way.all_lines allowed)) (first told.1)
+        let told = past_runs g (up_to served.run here way) honestly in
+        each_run g told.0 (all_first Allowed way.answered way.others (subst (AllByRecursion Allowed) way.all_lines allowed)) (first told.1)
     each_on_the_way here (inr last) honestly =
-        let told = past_runs honest files moment left_since served.run (subst (λ (p : Past D). honest p.store.disk) last honestly) in
-        subst (λ (p : Past D). All Q p.texts) (sym last) (each_run honest files moment left_since told.0 allowed (first told.1))
+        let told = past_runs g served.run (subst (λ (p : Past D). g.honest p.store.disk) last honestly) in
+        subst (λ (p : Past D). All Q p.texts) (sym last) (each_run g told.0 allowed (first told.1))
 
 -- Texts that are within the limit.
 
@@ -138,17 +141,17 @@ line_keeps names base apart s line command files same only read kept accepts = �
     (only command read.1)
 
 -- a run of a store that has such a list as it begins
-module _ {D : Type 0} (honest : D → Type 0) (files : D → List ℕ → FileState) (moment : D → ℕ) (left_since : D → ℕ → Image → Type 0) (given : List (List ℕ)) (first last : Past D) {end : ServeEnd}
-    {left left' written written' : Option (List ℕ)} (run : Runs (ToldPast honest files moment left_since) (ToldSettledPast honest files moment left_since) first last end left left' written written')
-    (of : IsSessionOf given first.store.session) (lists : Lists first.store.session first.texts) (small : All (AreSmall first.store.session.names) first.texts) (honestly : honest last.store.disk)
+module _ {D : Type 0} (g : Ghosts D) (given : List (List ℕ)) (first last : Past D) {end : ServeEnd}
+    {io : Exchange} (run : Runs (ToldPast g) (ToldSettledPast g) first last end io)
+    (of : IsSessionOf given first.store.session) (lists : Lists first.store.session first.texts) (small : All (AreSmall first.store.session.names) first.texts) (honestly : g.honest last.store.disk)
     (others image : Image) (least : ℕ) where
   abbrev names : List (List ℕ)
   names = first.store.session.names
 
   run_small : All (AreSmall names) last.texts
   run_small =
-      let told = past_runs honest files moment left_since run honestly in
-      each_run names (AreSmall names) Any (λ s line command texts same any read. keeps_small names s command texts same) honest files moment left_since told.0 (any_line told.0.ran)
+      let told = past_runs g run honestly in
+      each_run names (AreSmall names) Any (λ s line command texts same any read. keeps_small names s command texts same) g told.0 (any_line told.0.ran)
       (record { same_names = refl; lists = lists; all = small })
 
   pub run_opens : AreFew given → HoldsPrefix first.store.session others last.texts least image → IsOpenable given image
@@ -161,34 +164,34 @@ module _ {D : Type 0} (honest : D → Type 0) (files : D → List ℕ → FileSt
       → HasNodesOf names first.store.session.files image
   run_same only same =
       let base = first.store.session.files in
-      let told = past_runs honest files moment left_since run honestly in
+      let told = past_runs g run honestly in
       prefix_same given first.store.session others last.texts least image of
-      (each_run names (KeptNodes names base) OnlyRefiles (line_keeps names base (names_apart given first.store.session of)) honest files moment left_since told.0 (recursion_from_All OnlyRefiles run.ran only)
+      (each_run names (KeptNodes names base) OnlyRefiles (line_keeps names base (names_apart given first.store.session of)) g told.0 (recursion_from_All OnlyRefiles run.ran only)
       (record { same_names = refl; lists = lists; all = λ k d within. (small k d within, same k d within) }))
 
 -- a whole run
-module _ {D : Type 0} {honest : D → Type 0} {files : D → List ℕ → FileState} {moment : D → ℕ} {left_since : D → ℕ → Image → Type 0}
-    {states : Keywords} {group : ℕ} {given : List (List ℕ)} {disk now : D} {end : ServeEnd} {left left' written written' : Option (List ℕ)}
-    (served : ServesOver honest files moment left_since states group given disk now end left left' written written') (here : Past D) (least : ℕ) (image : Image)
-    (way : IsOnTheWay served here) (honestly : honest here.store.disk) where
+module _ {D : Type 0} {g : Ghosts D}
+    {setup : Setup} {disk now : D} {end : ServeEnd} {io : Exchange}
+    (served : ServesOver g setup disk now end io) (here : Past D) (least : ℕ) (image : Image)
+    (way : IsOnTheWay served here) (honestly : g.honest here.store.disk) where
   abbrev first : Session
   first = served.first.store.session
 
   abbrev others : Image
-  others = contents (files served.first.store.disk)
+  others = contents (g.files served.first.store.disk)
 
-  first_small : honest served.first.store.disk → AreSmall first.names first.files
+  first_small : g.honest served.first.store.disk → AreSmall first.names first.files
   first_small began = subst (AreSmall first.names) (sym (ap (λ (s : Session). s.files) served.begins.session)) (opened_small others first.names (served.sizes began))
 
   first_each : (Q : List (List ℕ) → Type 0) → Q first.files → All Q served.first.texts
   first_each Q here = subst (All Q) (sym served.texts) (All-cons Q first.files [] here (All-nil Q))
 
   first_lists : Lists first served.first.texts
-  first_lists = subst (Lists first) (sym served.texts) (lists_first states group given others first served.begins)
+  first_lists = subst (Lists first) (sym served.texts) (lists_first setup others first served.begins)
 
   here_small : All (AreSmall first.names) here.texts
   here_small = each_on_the_way first.names (AreSmall first.names) Any (λ s line command texts same any read. keeps_small first.names s command texts same) served (any_line served.run.ran)
       (λ began. record { same_names = refl; lists = first_lists; all = first_each (AreSmall first.names) (first_small began) }) here way honestly
 
-  pub served_opens : HoldsServed served here least image → IsOpenable given image
-  served_opens = prefix_opens given first others here.texts least image served.begins.few served.begins.names here_small
+  pub served_opens : HoldsPrefix first others here.texts least image → IsOpenable setup.names.items image
+  served_opens = prefix_opens setup.names.items first others here.texts least image served.begins.few served.begins.names here_small

@@ -1,5 +1,6 @@
 -- A whole run over a disk: an opening, and what is served then.
 use Rattle.std.proofs.Common.{◌≡◌, ◌⊎◌, inl, inr, ⊎_elim, ℕ, ◌≤◌, Bool, true, false, nat_lt, is_some, List, [], ◌∷◌, Option, Some, None, Result, Ok, Err, refl, sym, ap, ◌∙◌, subst, arith}
+use Rattle.org_disk.specs.declared.disk.Disk.{Ghosts}
 use Rattle.std.specs.Prelude.{IsSomeAnd, IsTrue, IsFalse, slice_get}
 use Rattle.org_disk.specs.Disk.{FileState, AreImages, HasRisen, LeavesOnly}
 use Rattle.org_disk.specs.Names.{journal_name}
@@ -20,6 +21,8 @@ use Rattle.org_commands.specs.Runs.{IsOnDisk}
 use Rattle.org_commands.specs.Session.{Session, Kept, Holds}
 use Rattle.org_commands.specs.Step.{Settles}
 use Rattle.org_commands.proofs.Keeping.{others_same}
+use Rattle.org_serve.specs.declared.whole.Setup.{Setup}
+use Rattle.org_serve.specs.Pipes.{Exchange}
 use Rattle.org_serve.specs.declared.end.ServeEnd.{ServeEnd}
 use Rattle.org_serve.specs.declared.end.ServeEnd.TheVariants.{End, Device, Read, Write}
 use Rattle.org_store.specs.History.{Past, Lists}
@@ -27,7 +30,7 @@ use Rattle.org_serve.specs.History.{LeadsBy}
 use Rattle.org_serve.specs.Parts.{WritesSome}
 use Rattle.org_serve.specs.Serving.{EndsBy, Finishes, Serves, end_of}
 use Rattle.org_serve.specs.Crashes.{RunsLine, HasSettledOver, Runs}
-use Rattle.org_serve.specs.Whole.{Begins, ServesOver, BreaksByCount, HoldsServed, IsForeign, IsOnTheWay, IsOnTheWayTo, Lasts, LeavesForeign}
+use Rattle.org_serve.specs.Whole.{Begins, ServesOver, ServesDisk, HoldsServed, IsForeign, IsOnTheWay, IsOnTheWayTo, Lasts}
 use Rattle.org_serve.proofs.Foreign.{leaves_foreign}
 use Rattle.org_serve.proofs.History.{at_first, lift_run, lift_wrote, session_of_past, since, whole_prefix}
 use Rattle.org_serve.proofs.Honest.{HasSettledPast, PastLine, past_last, past_leads, past_lines, past_runs, up_to}
@@ -38,15 +41,15 @@ leaves_then {m} first second =
     leaves_only (passes_then (passes_as first.passes (λ image p. inl p)) second.passes (λ image q. inr q))
     (λ image left. inl (first.each image (first.passes.keeps m image (omega arith) left)))
 
-begins : (states : Keywords) (group : ℕ) (given : List (List ℕ)) (files : Image) (store begun : Session) → begun ≡ record store { group = group }
-    → store ≡ opened states store.names (texts_of files store.names) → AreFew given → AreSorted (with_archives given) store.names → Begins states group given files begun
-begins states group given files store begun is opens few sorted =
-    subst (λ (s : Session). Begins states group given files s) (sym is) (record { few = few; names = sorted; session = ap (λ (s : Session). record s { group = group }) opens })
+begins : (setup : Setup) (files : Image) (store begun : Session) → begun ≡ record store { group = setup.group }
+    → store ≡ opened setup.states store.names (texts_of files store.names) → AreFew setup.names.items → AreSorted (with_archives setup.names.items) store.names → Begins setup files begun
+begins setup files store begun is opens few sorted =
+    subst (λ (s : Session). Begins setup files s) (sym is) (record { few = few; names = sorted; session = ap (λ (s : Session). record s { group = setup.group }) opens })
 
 -- a store that was opened, and in which the group was set
-module _ {D : Type 0} (files : D → List ℕ → FileState) (states : Keywords) (group : ℕ) (given : List (List ℕ)) (disk : D) (store begun : Kept D)
-    (is : begun ≡ record store { session = record store.session { group = group } })
-    (opens : store.session ≡ opened states store.session.names (texts_of (contents (files store.disk)) store.session.names)) where
+module _ {D : Type 0} (g : Ghosts D) (setup : Setup) (disk : D) (store begun : Kept D)
+    (is : begun ≡ record store { session = record store.session { group = setup.group } })
+    (opens : store.session ≡ opened setup.states store.session.names (texts_of (contents (g.files store.disk)) store.session.names)) where
   same_disk : begun.disk ≡ store.disk
   same_disk = ap (λ (k : Kept D). k.disk) is
 
@@ -58,47 +61,47 @@ module _ {D : Type 0} (files : D → List ℕ → FileState) (states : Keywords)
   is_sound = ap (λ (k : Kept D). k.session.broken) is ∙ ap (λ (s : Session). s.broken) opens
 
   -- the session that it begins with
-  begun_so : AreFew given → AreSorted (with_archives given) store.session.names → Begins states group given (contents (files begun.disk)) begun.session
-  begun_so few sorted = of_disk (λ d. Begins states group given (contents (files d)) begun.session)
-      (begins states group given (contents (files store.disk)) store.session begun.session (ap (λ (k : Kept D). k.session) is) opens few sorted)
+  begun_so : AreFew setup.names.items → AreSorted (with_archives setup.names.items) store.session.names → Begins setup (contents (g.files begun.disk)) begun.session
+  begun_so few sorted = of_disk (λ d. Begins setup (contents (g.files d)) begun.session)
+      (begins setup (contents (g.files store.disk)) store.session begun.session (ap (λ (k : Kept D). k.session) is) opens few sorted)
 
-  pub serves : (honest : D → Type 0) (moment : D → ℕ) (left_since : D → ℕ → Image → Type 0) → AreFew given → AreSorted (with_archives given) store.session.names
-      → (honest store.disk → first_large (contents (files store.disk)) store.session.names ≡ None)
-      → (honest begun.disk → honest disk) → (honest begun.disk → IsReopened (files disk) (files begun.disk))
-      → store.waiting ≡ [] → (honest begun.disk → LeavesAlone files moment left_since (IsUnconcerned (contents (files disk) journal_name)) disk begun.disk)
-      → {end : ServeEnd} {left left' written written' : Option (List ℕ)} (after : Kept D) (now : D) → now ≡ after.disk
-      → (ran : Runs (RunsLine honest files moment left_since) (HasSettledOver honest files moment left_since) begun after end left left' written written')
-      → (end ≡ Write → WritesSome ran.input ran.others ran.out after.session.acknowledged written written')
-      → (honest now → Serves begun.session end after.session left left' written written')
-      → ServesOver honest files moment left_since states group given disk now end left left' written written'
-  serves honest moment left_since few sorted sized began reopened waits alone after now given_up run begins_replies told =
+  pub serves : AreFew setup.names.items → AreSorted (with_archives setup.names.items) store.session.names
+      → (g.honest store.disk → first_large (contents (g.files store.disk)) store.session.names ≡ None)
+      → (g.honest begun.disk → g.honest disk) → (g.honest begun.disk → IsReopened (g.files disk) (g.files begun.disk))
+      → store.waiting ≡ [] → (g.honest begun.disk → LeavesAlone g (IsUnconcerned (contents (g.files disk) journal_name)) disk begun.disk)
+      → {end : ServeEnd} {io : Exchange} (after : Kept D) (now : D) → now ≡ after.disk
+      → (ran : Runs (RunsLine g) (HasSettledOver g) begun after end io)
+      → (end ≡ Write → WritesSome ran.input ran.others ran.out after.session.acknowledged io.before.written io.after.written)
+      → (g.honest now → Serves begun.session end after.session io)
+      → ServesOver g setup disk now end io
+  serves few sorted sized began reopened waits alone after now given_up run begins_replies told =
       let first : Past D = record { store = begun; texts = begun.session.files ∷ [] } in
-      let past = lift_run honest files moment left_since first run in record {
+      let past = lift_run g first run in record {
         first = first;
         last = record { store = after; texts = past.0 };
         began = began;
         reopened = reopened;
         begins = begun_so few sorted;
-        sizes = subst (λ (k : Kept D). honest k.disk → first_large (contents (files k.disk)) k.session.names ≡ None) (sym is) sized;
+        sizes = subst (λ (k : Kept D). g.honest k.disk → first_large (contents (g.files k.disk)) k.session.names ≡ None) (sym is) sized;
         texts = refl;
         waits = ap (λ (k : Kept D). k.waiting) is ∙ waits;
-        alone = λ h. alone_fewer files moment left_since (IsForeign given (contents (files disk) journal_name)) (IsUnconcerned (contents (files disk) journal_name)) disk begun.disk (alone h) (λ name foreign. foreign.unconcerned);
+        alone = λ h. alone_fewer g (IsForeign setup.names.items (contents (g.files disk) journal_name)) (IsUnconcerned (contents (g.files disk) journal_name)) disk begun.disk (alone h) (λ name foreign. foreign.unconcerned);
         run = past.1;
         given_up = given_up;
-        told = λ is. lift_wrote honest files moment left_since first run after.session.acknowledged (begins_replies is);
+        told = λ is. lift_wrote g first run after.session.acknowledged (begins_replies is);
         so_far = λ here way honestly.
-            session_of_past honest files moment left_since first way.answered way.written here
-            (past_lines honest files moment left_since first way.answered way.written here way.before honestly).0;
+            session_of_past g first way.answered way.written here
+            (past_lines g first way.answered way.written here way.before honestly).0;
         serves = told;
       }
 
 -- what is listed of a store that was just opened
-pub lists_first : (states : Keywords) (group : ℕ) (given : List (List ℕ)) (files : Image) (begin : Session) → Begins states group given files begin → Lists begin (begin.files ∷ [])
-lists_first states group given files begin begins =
+pub lists_first : (setup : Setup) (files : Image) (begin : Session) → Begins setup files begin → Lists begin (begin.files ∷ [])
+lists_first setup files begin begins =
     subst (λ (s : Session). Lists s (s.files ∷ [])) (sym begins.session) (record { size = refl; order = omega arith; files = λ sound. refl; settled = λ sound. refl })
 
-on_disk_first : (states : Keywords) (group : ℕ) (given : List (List ℕ)) (files : Image) (begin : Session) → Begins states group given files begin → IsOnDisk begin files
-on_disk_first states group given files begin begins =
+on_disk_first : (setup : Setup) (files : Image) (begin : Session) → Begins setup files begin → IsOnDisk begin files
+on_disk_first setup files begin begins =
     subst (λ texts. SameFiles files (with_texts begin.names texts files)) (sym (ap (λ (s : Session). s.settled) begins.session)) (others_same begin.names files)
 
 -- an image that recovers to files
@@ -110,10 +113,10 @@ recovers_to image texts holds = some (recovered image) holds
     some (Some found) held = refl
 
 -- of a disk that a crash leaves so, each image recovers to files
-pub each_recovers : {D : Type 0} (files : D → List ℕ → FileState) (moment : D → ℕ) (left_since : D → ℕ → Image → Type 0) (disk now : D) (P : Image → Type 0)
-    → ((image : Image) → AreImages (files now) image → left_since now (moment disk) image)
-    → LeavesOnly (moment disk) (moment now) (left_since disk) (left_since now) P → ((image : Image) → P image → (texts : Image) × RecoversTo texts image) → EachRecovers (files now)
-each_recovers files moment left_since disk now P counts leaves each image left = let holds = each image (leaves.each image (counts image left)) in recovers_to image holds.0 holds.1
+pub each_recovers : {D : Type 0} (g : Ghosts D) (disk now : D) (P : Image → Type 0)
+    → ((image : Image) → AreImages (g.files now) image → g.left_since now (g.moment disk) image)
+    → LeavesOnly (g.moment disk) (g.moment now) (g.left_since disk) (g.left_since now) P → ((image : Image) → P image → (texts : Image) × RecoversTo texts image) → EachRecovers (g.files now)
+each_recovers g disk now P counts leaves each image left = let holds = each image (leaves.each image (counts image left)) in recovers_to image holds.0 holds.1
 
 -- a store that ended well has settled all
 ended : (broken pending : Bool) (s : Session) (out : List ℕ) (new : Session) → EndsBy Settles (λ s. s) broken pending s End out new → broken ≡ s.broken → (pending ≡ false → s.accepted ≤ s.acknowledged)
@@ -132,49 +135,48 @@ ended false true s out new ends is none = settles ends.0 ends.1 ends.2
     settles (Err Broken) step same = absurd (cc)
 ended false false s out new ends is none = subst (λ (t : Session). (t.broken ≡ false) × (t.accepted ≤ t.acknowledged)) (sym ends.2) (sym is, none refl)
 
-module _ {D : Type 0} {honest : D → Type 0} {files : D → List ℕ → FileState} {moment : D → ℕ} {left_since : D → ℕ → Image → Type 0}
-    (only_now : (disk : D) (image : Image) → honest disk → left_since disk (moment disk) image → AreImages (files disk) image)
-    (counts_now : (disk : D) (t : ℕ) (image : Image) → honest disk → t ≤ moment disk → AreImages (files disk) image → left_since disk t image)
-    {states : Keywords} {group : ℕ} {given : List (List ℕ)} {disk now : D} {end : ServeEnd} {left left' written written' : Option (List ℕ)}
-    (served : ServesOver honest files moment left_since states group given disk now end left left' written written') where
-  session_is : served.first.store.session ≡ record (opened states served.first.store.session.names (texts_of (contents (files served.first.store.disk)) served.first.store.session.names)) { group = group }
+module _ {D : Type 0} {g : Ghosts D}
+    (only_now : (disk : D) (image : Image) → g.honest disk → g.left_since disk (g.moment disk) image → AreImages (g.files disk) image)
+    (counts_now : (disk : D) (t : ℕ) (image : Image) → g.honest disk → t ≤ g.moment disk → AreImages (g.files disk) image → g.left_since disk t image)
+    {setup : Setup} {disk now : D} {end : ServeEnd} {io : Exchange}
+    (served : ServesOver g setup disk now end io) where
+  session_is : served.first.store.session ≡ record (opened setup.states served.first.store.session.names (texts_of (contents (g.files served.first.store.disk)) served.first.store.session.names)) { group = setup.group }
   session_is = served.begins.session
 
   abbrev Line : Past D → List ℕ → List ℕ → Past D → Type 0
-  Line = PastLine honest files moment left_since
+  Line = PastLine g
 
   abbrev Settled : Past D → Past D → Type 0
-  Settled = HasSettledPast honest files moment left_since
+  Settled = HasSettledPast g
 
   lists : Lists served.first.store.session served.first.texts
   lists =
-      subst (Lists served.first.store.session) (sym served.texts) (lists_first states group given (contents (files served.first.store.disk)) served.first.store.session served.begins)
+      subst (Lists served.first.store.session) (sym served.texts) (lists_first setup (contents (g.files served.first.store.disk)) served.first.store.session served.begins)
 
-  on_disk : IsOnDisk served.first.store.session (contents (files served.first.store.disk))
-  on_disk = on_disk_first states group given (contents (files served.first.store.disk)) served.first.store.session served.begins
+  on_disk : IsOnDisk served.first.store.session (contents (g.files served.first.store.disk))
+  on_disk = on_disk_first setup (contents (g.files served.first.store.disk)) served.first.store.session served.begins
 
   -- What a crash leaves of a run up to one store, over a disk that is honest there, where the
   -- opening left it at rest.
-  module _ (later : Past D) {crashes : ServeEnd} (run : Runs Line Settled served.first later crashes left left' written written') (began : honest served.first.store.disk) (honestly : honest later.store.disk)
-      (rest : IsAtRest (files served.first.store.disk)) where
+  module _ (later : Past D) {crashes : ServeEnd} (run : Runs Line Settled served.first later crashes io) (began : g.honest served.first.store.disk) (honestly : g.honest later.store.disk)
+      (rest : IsAtRest (g.files served.first.store.disk)) where
     since_in : (here : Past D) → LeadsBy Line served.first run.ran run.out run.mid here ⊎ (here ≡ later) → here.store.session.broken ≡ false
-        → LeavesOnly (moment here.store.disk) (moment later.store.disk) (left_since here.store.disk) (left_since later.store.disk) (HoldsServed served later here.store.session.acknowledged)
-    since_in here way sound = since honest files moment left_since only_now run began honestly rest on_disk lists here way sound
+        → LeavesOnly (g.moment here.store.disk) (g.moment later.store.disk) (g.left_since here.store.disk) (g.left_since later.store.disk) (HoldsServed served here later)
+    since_in here way sound = since g only_now run began honestly rest on_disk lists here way sound
 
-    moment_in : LeavesOnly (moment disk) (moment served.first.store.disk) (left_since disk) (left_since served.first.store.disk) (RecoversAsBefore (files disk))
-        → LeavesOnly (moment disk) (moment later.store.disk) (left_since disk) (left_since later.store.disk) (λ image. RecoversAsBefore (files disk) image ⊎ HoldsServed served later 0 image)
+    moment_in : LeavesOnly (g.moment disk) (g.moment served.first.store.disk) (g.left_since disk) (g.left_since served.first.store.disk) (RecoversAsBefore (g.files disk))
+        → LeavesOnly (g.moment disk) (g.moment later.store.disk) (g.left_since disk) (g.left_since later.store.disk) (λ image. RecoversAsBefore (g.files disk) image ⊎ HoldsServed served served.first later image)
     moment_in opening =
         let first = served.first in
-        let no_command : first.store.session.acknowledged ≡ 0 = ap (λ (s : Session). s.acknowledged) session_is in
         let sound : first.store.session.broken ≡ false = ap (λ (s : Session). s.broken) session_is in
         let leaves = since_in first (inl (at_first first run.mid run.ran run.out run.answered)) sound in
-        leaves_then opening (subst (λ least. LeavesOnly (moment first.store.disk) (moment later.store.disk) (left_since first.store.disk) (left_since later.store.disk) (HoldsServed served later least)) no_command leaves)
+        leaves_then opening leaves
 
-    whole_in : later.store.session.broken ≡ false → later.store.session.accepted ≤ later.store.session.acknowledged → (image : Image) → AreImages (files later.store.disk) image
-        → Holds served.first.store.session (contents (files served.first.store.disk)) later.store.session.files image
+    whole_in : later.store.session.broken ≡ false → later.store.session.accepted ≤ later.store.session.acknowledged → (image : Image) → AreImages (g.files later.store.disk) image
+        → Holds served.first.store.session (contents (g.files served.first.store.disk)) later.store.session.files image
     whole_in sound all image images =
-        whole_prefix honest files moment left_since only_now run began honestly rest on_disk lists image sound all
-        ((since_in later (inr refl) sound).each image (counts_now later.store.disk (moment later.store.disk) image honestly (omega arith) images))
+        whole_prefix g only_now run began honestly rest on_disk lists image sound all
+        ((since_in later (inr refl) sound).each image (counts_now later.store.disk (g.moment later.store.disk) image honestly (omega arith) images))
 
   apart_read : End ≡ Read → ⊥
   apart_read same = cc
@@ -185,7 +187,7 @@ module _ {D : Type 0} {honest : D → Type 0} {files : D → List ℕ → FileSt
   not_less : (a b : ℕ) → nat_lt a b ≡ false → b ≤ a
   not_less a b not = grind (arith, not)
 
-  all_settled : honest now → end ≡ End → (served.last.store.session.broken ≡ false) × (served.last.store.session.accepted ≤ served.last.store.session.acknowledged)
+  all_settled : g.honest now → end ≡ End → (served.last.store.session.broken ≡ false) × (served.last.store.session.accepted ≤ served.last.store.session.acknowledged)
   all_settled honest_now well =
       let whole = (served.serves honest_now).all (λ (read : end ≡ Read). apart_read (sym well ∙ read)) (λ (write : end ≡ Write). apart_write (sym well ∙ write)) in
       let tells = whole.4 in
@@ -193,101 +195,99 @@ module _ {D : Type 0} {honest : D → Type 0} {files : D → List ℕ → FileSt
       ended tells.0.broken (nat_lt tells.0.acknowledged tells.0.accepted) tells.0 tells.3 served.last.store.session finish refl (not_less tells.0.acknowledged tells.0.accepted)
 
   -- What a crash leaves of the whole run.
-  module _ (rest : honest served.first.store.disk → IsAtRest (files served.first.store.disk))
-      (opening : honest served.first.store.disk → LeavesOnly (moment disk) (moment served.first.store.disk) (left_since disk) (left_since served.first.store.disk) (RecoversAsBefore (files disk))) where
-    moment_at_last : honest served.last.store.disk
-        → LeavesOnly (moment disk) (moment served.last.store.disk) (left_since disk) (left_since served.last.store.disk) (λ image. RecoversAsBefore (files disk) image ⊎ HoldsServed served served.last 0 image)
+  module _ (rest : g.honest served.first.store.disk → IsAtRest (g.files served.first.store.disk))
+      (opening : g.honest served.first.store.disk → LeavesOnly (g.moment disk) (g.moment served.first.store.disk) (g.left_since disk) (g.left_since served.first.store.disk) (RecoversAsBefore (g.files disk))) where
+    moment_at_last : g.honest served.last.store.disk
+        → LeavesOnly (g.moment disk) (g.moment served.last.store.disk) (g.left_since disk) (g.left_since served.last.store.disk) (λ image. RecoversAsBefore (g.files disk) image ⊎ HoldsServed served served.first served.last image)
     moment_at_last honestly =
-        let whole = past_runs honest files moment left_since served.run honestly in
+        let whole = past_runs g served.run honestly in
         moment_in served.last whole.0 whole.1 honestly (rest whole.1) (opening whole.1)
 
-    moment_at : (later : Past D) → IsOnTheWay served later → honest later.store.disk
-        → LeavesOnly (moment disk) (moment later.store.disk) (left_since disk) (left_since later.store.disk) (λ image. RecoversAsBefore (files disk) image ⊎ HoldsServed served later 0 image)
+    moment_at : (later : Past D) → IsOnTheWay served later → g.honest later.store.disk
+        → LeavesOnly (g.moment disk) (g.moment later.store.disk) (g.left_since disk) (g.left_since later.store.disk) (λ image. RecoversAsBefore (g.files disk) image ⊎ HoldsServed served served.first later image)
     moment_at later (inl way) honestly =
-        let whole = past_runs honest files moment left_since (up_to served.run later way) honestly in
+        let whole = past_runs g (up_to served.run later way) honestly in
         moment_in later whole.0 whole.1 honestly (rest whole.1) (opening whole.1)
     moment_at later (inr same) honestly =
-        subst (λ (p : Past D). LeavesOnly (moment disk) (moment p.store.disk) (left_since disk) (left_since p.store.disk) (λ image. RecoversAsBefore (files disk) image ⊎ HoldsServed served p 0 image)) (sym same)
-        (moment_at_last (subst (λ (p : Past D). honest p.store.disk) same honestly))
+        subst (λ (p : Past D). LeavesOnly (g.moment disk) (g.moment p.store.disk) (g.left_since disk) (g.left_since p.store.disk) (λ image. RecoversAsBefore (g.files disk) image ⊎ HoldsServed served served.first p image)) (sym same)
+        (moment_at_last (subst (λ (p : Past D). g.honest p.store.disk) same honestly))
 
-    since_at_last : (here : Past D) → IsOnTheWay served here → honest served.last.store.disk → here.store.session.broken ≡ false
-        → LeavesOnly (moment here.store.disk) (moment served.last.store.disk) (left_since here.store.disk) (left_since served.last.store.disk) (HoldsServed served served.last here.store.session.acknowledged)
+    since_at_last : (here : Past D) → IsOnTheWay served here → g.honest served.last.store.disk → here.store.session.broken ≡ false
+        → LeavesOnly (g.moment here.store.disk) (g.moment served.last.store.disk) (g.left_since here.store.disk) (g.left_since served.last.store.disk) (HoldsServed served here served.last)
     since_at_last here way honestly sound =
-        let whole = past_runs honest files moment left_since served.run honestly in
+        let whole = past_runs g served.run honestly in
         since_in served.last whole.0 whole.1 honestly (rest whole.1) here
         (⊎_elim
-        (λ leads. inl (past_leads honest files moment left_since served.first served.run.ran served.run.out served.run.mid here leads
-        (past_last honest files moment left_since served.run.mid served.last served.run.ends honestly)))
+        (λ leads. inl (past_leads g served.first served.run.ran served.run.out served.run.mid here leads
+        (past_last g served.run.mid served.last served.run.ends honestly)))
         (λ same. inr same)
         way)
         sound
 
-    since_at : (here later : Past D) → IsOnTheWayTo served here later → honest later.store.disk → here.store.session.broken ≡ false
-        → LeavesOnly (moment here.store.disk) (moment later.store.disk) (left_since here.store.disk) (left_since later.store.disk) (HoldsServed served later here.store.session.acknowledged)
+    since_at : (here later : Past D) → IsOnTheWayTo served here later → g.honest later.store.disk → here.store.session.broken ≡ false
+        → LeavesOnly (g.moment here.store.disk) (g.moment later.store.disk) (g.left_since here.store.disk) (g.left_since later.store.disk) (HoldsServed served here later)
     since_at here later (inl to) honestly sound =
-        let whole = past_runs honest files moment left_since (up_to served.run later to.0) honestly in
+        let whole = past_runs g (up_to served.run later to.0) honestly in
         since_in later whole.0 whole.1 honestly (rest whole.1) here
-        (inl (past_leads honest files moment left_since served.first to.0.answered to.0.written later here to.1 honestly)) sound
+        (inl (past_leads g served.first to.0.answered to.0.written later here to.1 honestly)) sound
     since_at here later (inr to) honestly sound =
-        subst (λ (p : Past D). LeavesOnly (moment here.store.disk) (moment p.store.disk) (left_since here.store.disk) (left_since p.store.disk) (HoldsServed served p here.store.session.acknowledged)) (sym to.0)
-        (since_at_last here to.1 (subst (λ (p : Past D). honest p.store.disk) to.0 honestly) sound)
+        subst (λ (p : Past D). LeavesOnly (g.moment here.store.disk) (g.moment p.store.disk) (g.left_since here.store.disk) (g.left_since p.store.disk) (HoldsServed served here p)) (sym to.0)
+        (since_at_last here to.1 (subst (λ (p : Past D). g.honest p.store.disk) to.0 honestly) sound)
 
     pub lasts : Lasts served
     lasts = record {
       any_moment = moment_at;
       since = since_at;
       ended = λ honest_now well image images.
-          let honestly : honest served.last.store.disk = subst honest served.given_up honest_now in
-          let whole = past_runs honest files moment left_since served.run honestly in
+          let honestly : g.honest served.last.store.disk = subst g.honest served.given_up honest_now in
+          let whole = past_runs g served.run honestly in
           let done = all_settled honest_now well in
-          whole_in served.last whole.0 whole.1 honestly (rest whole.1) done.0 done.1 image (subst (λ d. AreImages (files d) image) served.given_up images);
+          whole_in served.last whole.0 whole.1 honestly (rest whole.1) done.0 done.1 image (subst (λ d. AreImages (g.files d) image) served.given_up images);
     }
 
   -- what a crash leaves of it at the end
-  at_end : honest now → Lasts served → LeavesOnly (moment disk) (moment now) (left_since disk) (left_since now) (λ image. RecoversAsBefore (files disk) image ⊎ HoldsServed served served.last 0 image)
+  at_end : g.honest now → Lasts served → LeavesOnly (g.moment disk) (g.moment now) (g.left_since disk) (g.left_since now) (λ image. RecoversAsBefore (g.files disk) image ⊎ HoldsServed served served.first served.last image)
   at_end honest_now lasts =
-      subst (λ d. LeavesOnly (moment disk) (moment d) (left_since disk) (left_since d) (λ image. RecoversAsBefore (files disk) image ⊎ HoldsServed served served.last 0 image)) (sym served.given_up)
-      (lasts.any_moment served.last (inr refl) (subst honest served.given_up honest_now))
+      subst (λ d. LeavesOnly (g.moment disk) (g.moment d) (g.left_since disk) (g.left_since d) (λ image. RecoversAsBefore (g.files disk) image ⊎ HoldsServed served served.first served.last image)) (sym served.given_up)
+      (lasts.any_moment served.last (inr refl) (subst g.honest served.given_up honest_now))
 
   -- each image of the disk that is left recovers to files
-  pub left_recovers : honest now → Lasts served → EachRecovers (files now)
+  pub left_recovers : g.honest now → Lasts served → EachRecovers (g.files now)
   left_recovers honest_now lasts =
       let leaves = at_end honest_now lasts in
-      each_recovers files moment left_since disk now (λ image. RecoversAsBefore (files disk) image ⊎ HoldsServed served served.last 0 image)
-      (λ image left. counts_now now (moment disk) image honest_now leaves.passes.later left) leaves (λ image left. elim left [
+      each_recovers g disk now (λ image. RecoversAsBefore (g.files disk) image ⊎ HoldsServed served served.first served.last image)
+      (λ image left. counts_now now (g.moment disk) image honest_now leaves.passes.later left) leaves (λ image left. elim left [
         | inl before ↦ (before.texts, before.recovers_now)
-        | inr holds ↦ some image (slice_get served.last.texts holds.0) holds.2
+        | inr holds ↦ some image (slice_get served.last.texts holds.count) holds.holds
       ])
     where
-      some : (image : Image) (found : Option (List (List ℕ))) → IsSomeAnd found (λ texts. Holds served.first.store.session (contents (files served.first.store.disk)) texts image) → (texts : Image) × RecoversTo texts image
+      some : (image : Image) (found : Option (List (List ℕ))) → IsSomeAnd found (λ texts. Holds served.first.store.session (contents (g.files served.first.store.disk)) texts image) → (texts : Image) × RecoversTo texts image
       some image None held = absurd held
-      some image (Some texts) held = (with_texts served.first.store.session.names texts (contents (files served.first.store.disk)), held)
+      some image (Some texts) held = (with_texts served.first.store.session.names texts (contents (g.files served.first.store.disk)), held)
 
 -- a store that was opened, and in which the group was set: what it serves, and what a crash leaves
-module _ {D : Type 0} (honest : D → Type 0) (files : D → List ℕ → FileState) (moment : D → ℕ) (left_since : D → ℕ → Image → Type 0)
-    (only_now : (disk : D) (image : Image) → honest disk → left_since disk (moment disk) image → AreImages (files disk) image)
-    (counts_now : (disk : D) (t : ℕ) (image : Image) → honest disk → t ≤ moment disk → AreImages (files disk) image → left_since disk t image)
-    (states : Keywords) (group : ℕ) (given : List (List ℕ)) (disk : D) (store begun : Kept D)
-    (is : begun ≡ record store { session = record store.session { group = group } })
-    (opens : store.session ≡ opened states store.session.names (texts_of (contents (files store.disk)) store.session.names)) where
-  pub serves_lasting : AreFew given → AreSorted (with_archives given) store.session.names → (honest store.disk → first_large (contents (files store.disk)) store.session.names ≡ None)
-      → (honest begun.disk → honest disk) → (honest begun.disk → IsReopened (files disk) (files begun.disk))
-      → store.waiting ≡ [] → (honest begun.disk → LeavesAlone files moment left_since (IsUnconcerned (contents (files disk) journal_name)) disk begun.disk)
-      → {end : ServeEnd} {left left' written written' : Option (List ℕ)} (after : Kept D) (now : D) → now ≡ after.disk
-      → (ran : Runs (RunsLine honest files moment left_since) (HasSettledOver honest files moment left_since) begun after end left left' written written')
-      → (end ≡ Write → WritesSome ran.input ran.others ran.out after.session.acknowledged written written')
-      → (honest now → Serves begun.session end after.session left left' written written')
-      → (IsRecoverable (files disk) → EachRecovers (files disk) → honest begun.disk → LeavesOnly (moment disk) (moment begun.disk) (left_since disk) (left_since begun.disk) (RecoversAsBefore (files disk)))
-      → (failures : D → ℕ) → (IsTrue after.session.broken → HasRisen (failures disk) (failures now)) × (IsFalse after.session.broken → failures now ≡ failures disk)
-      → (served : ServesOver honest files moment left_since states group given disk now end left left' written written')
-      × BreaksByCount failures served
-      × LeavesForeign served
-      × (IsRecoverable (files disk) → EachRecovers (files disk) → Lasts served)
+module _ {D : Type 0} (g : Ghosts D)
+    (only_now : (disk : D) (image : Image) → g.honest disk → g.left_since disk (g.moment disk) image → AreImages (g.files disk) image)
+    (counts_now : (disk : D) (t : ℕ) (image : Image) → g.honest disk → t ≤ g.moment disk → AreImages (g.files disk) image → g.left_since disk t image)
+    (setup : Setup) (disk : D) (store begun : Kept D)
+    (is : begun ≡ record store { session = record store.session { group = setup.group } })
+    (opens : store.session ≡ opened setup.states store.session.names (texts_of (contents (g.files store.disk)) store.session.names)) where
+  pub serves_lasting : AreFew setup.names.items → AreSorted (with_archives setup.names.items) store.session.names → (g.honest store.disk → first_large (contents (g.files store.disk)) store.session.names ≡ None)
+      → (g.honest begun.disk → g.honest disk) → (g.honest begun.disk → IsReopened (g.files disk) (g.files begun.disk))
+      → store.waiting ≡ [] → (g.honest begun.disk → LeavesAlone g (IsUnconcerned (contents (g.files disk) journal_name)) disk begun.disk)
+      → {end : ServeEnd} {io : Exchange} (after : Kept D) (now : D) → now ≡ after.disk
+      → (ran : Runs (RunsLine g) (HasSettledOver g) begun after end io)
+      → (end ≡ Write → WritesSome ran.input ran.others ran.out after.session.acknowledged io.before.written io.after.written)
+      → (g.honest now → Serves begun.session end after.session io)
+      → (IsRecoverable (g.files disk) → EachRecovers (g.files disk) → g.honest begun.disk → LeavesOnly (g.moment disk) (g.moment begun.disk) (g.left_since disk) (g.left_since begun.disk) (RecoversAsBefore (g.files disk)))
+      → (IsTrue after.session.broken → HasRisen (g.failures disk) (g.failures now)) × (IsFalse after.session.broken → g.failures now ≡ g.failures disk)
+      → ServesDisk g setup disk now end io
   unfolding serves
-  serves_lasting few sorted sized began reopened waits alone after now given_up run begins_replies told opening failures counts =
-      let served = serves files states group given disk store begun is opens honest moment left_since few sorted sized began reopened waits alone after now given_up run begins_replies told in (
-        served,
-        record { broken = counts.0; sound = counts.1 },
-        leaves_foreign served,
-        λ fit each. lasts only_now counts_now served (λ honestly. (reopened honestly).rest fit each) (λ honestly. opening fit each honestly),
-      )
+  serves_lasting few sorted sized began reopened waits alone after now given_up run begins_replies told opening counts =
+      let served = serves g setup disk store begun is opens few sorted sized began reopened waits alone after now given_up run begins_replies told in
+      record {
+        served = served;
+        breaks = record { broken = counts.0; sound = counts.1 };
+        alone = leaves_foreign served;
+        lasts = λ fit each. lasts only_now counts_now served (λ honestly. (reopened honestly).rest fit each) (λ honestly. opening fit each honestly);
+      }

@@ -1,5 +1,6 @@
 -- A run over a disk whose files were synced first.
 use Rattle.std.proofs.Common.{◌≡◌, ◌≤◌, inl, inr, ⊎_elim, ℕ, List, Option, None, Result, Ok, Err, IfErr, refl, sym, ◌∙◌, ap, subst, arith}
+use Rattle.org_disk.specs.declared.disk.Disk.{Ghosts}
 use Rattle.std.specs.Prelude.{IsSomeAnd, IsTrue, is_some}
 use Rattle.org_disk.specs.Accounts.{LeavesOver}
 use Rattle.org_disk.specs.Disk.{FileState, IsImage, AreImages, HasRisen, LeavesOnly}
@@ -14,6 +15,8 @@ use Rattle.org_fileset.specs.Recovery.{EachRecovers, IsReopened, RecoversAsBefor
 use Rattle.org_fileset.specs.Writes.{LeavesAlone}
 use Rattle.org_fileset.proofs.Recovering.{as_before}
 use Rattle.org_fileset.proofs.Writes.{alone_then}
+use Rattle.org_serve.specs.declared.whole.Setup.{Setup}
+use Rattle.org_serve.specs.Pipes.{Exchange}
 use Rattle.org_serve.specs.declared.end.ServeEnd.{ServeEnd}
 use Rattle.org_store.specs.History.{Past}
 use Rattle.org_serve.specs.Syncing.{AreSynced, IsNotStored, OutsideStable, IsAsFound, IsSyncFault, stored}
@@ -60,54 +63,54 @@ reason_before given Honest before mid now same open_fault.Device why = why
 reason_before given Honest before mid now same open_fault.OutOfMemory why = tt
 
 -- a sync that failed
-pub unsynced_gives_back : {D : Type 0} (files : D → List ℕ → FileState) (moment : D → ℕ) (left_since : D → ℕ → Image → Type 0) (given : List (List ℕ)) (disk now : D) {fault : OpenFault}
-    → ((name : List ℕ) → IsImage (files now name) (files now name).content) → ((name bytes : List ℕ) → IsImage (files now name) bytes → IsImage (files disk name) bytes)
-    → ((name : List ℕ) → IsNotStored given name → files now name ≡ files disk name)
-    → LeavesOver moment left_since disk now (AreImages (files disk)) → GivesBackSynced files moment left_since given disk now (Err fault)
-unsynced_gives_back files moment left_since given disk now own images others time = record {
+pub unsynced_gives_back : {D : Type 0} (g : Ghosts D) (setup : Setup) (disk now : D) {fault : OpenFault}
+    → ((name : List ℕ) → IsImage (g.files now name) (g.files now name).content) → ((name bytes : List ℕ) → IsImage (g.files now name) bytes → IsImage (g.files disk name) bytes)
+    → ((name : List ℕ) → IsNotStored setup.names.items name → g.files now name ≡ g.files disk name)
+    → LeavesOver g disk now (AreImages (g.files disk)) → GivesBackSynced g setup disk now (Err fault)
+unsynced_gives_back g setup disk now own images others time = record {
   gives_back = record {
-    unopened = λ fit each. leaves_as time (as_before (files disk) each);
+    unopened = λ fit each. leaves_as time (as_before (g.files disk) each);
     unopened_bad = λ none. (refl, time);
     unopened_closed = λ closed. time;
-    recoverable = λ fit each. (still_recoverable (files disk) (files now) own images fit, still_recovers (files disk) (files now) own images each);
-    alone = synced_alone files moment left_since given (contents (files disk) journal_name) disk now others time;
+    recoverable = λ fit each. (still_recoverable (g.files disk) (g.files now) own images fit, still_recovers (g.files disk) (g.files now) own images each);
+    alone = synced_alone g setup.names.items (contents (g.files disk) journal_name) disk now others time;
   };
   unopened_as_found = λ outside. leaves_as time (λ image left. inl left);
-  recoverable_once_synced = λ outside. inr (refl, still_outside (files disk) (files now) own images given outside);
+  recoverable_once_synced = λ outside. inr (refl, still_outside (g.files disk) (g.files now) own images setup.names.items outside);
 }
 
-module _ {D : Type 0} (honest : D → Type 0) (files : D → List ℕ → FileState) (moment : D → ℕ) (left_since : D → ℕ → Image → Type 0)
-    (given : List (List ℕ)) (disk mid : D) (began : honest mid → honest disk)
-    (own : honest mid → (name : List ℕ) → IsImage (files mid name) (files mid name).content)
-    (synced : honest mid → AreSynced (stored given) (files disk) (files mid))
-    (images : honest mid → (name bytes : List ℕ) → IsImage (files mid name) bytes → IsImage (files disk name) bytes)
-    (others : honest mid → (name : List ℕ) → IsNotStored given name → files mid name ≡ files disk name)
-    (time : honest mid → LeavesOver moment left_since disk mid (AreImages (files disk))) where
-  reopened_from : (new : List ℕ → FileState) → honest mid → IsReopened (files mid) new → IsReopened (files disk) new
+module _ {D : Type 0} (g : Ghosts D)
+    (setup : Setup) (disk mid : D) (began : g.honest mid → g.honest disk)
+    (own : g.honest mid → (name : List ℕ) → IsImage (g.files mid name) (g.files mid name).content)
+    (synced : g.honest mid → AreSynced (stored setup.names.items) (g.files disk) (g.files mid))
+    (images : g.honest mid → (name bytes : List ℕ) → IsImage (g.files mid name) bytes → IsImage (g.files disk name) bytes)
+    (others : g.honest mid → (name : List ℕ) → IsNotStored setup.names.items name → g.files mid name ≡ g.files disk name)
+    (time : g.honest mid → LeavesOver g disk mid (AreImages (g.files disk))) where
+  reopened_from : (new : List ℕ → FileState) → g.honest mid → IsReopened (g.files mid) new → IsReopened (g.files disk) new
   reopened_from new h is = record {
     recovered_then = subst (λ (f : Image). IsSomeAnd (recovered f) (SameFiles (contents new))) (synced h).same is.recovered_then;
     journal = is.journal ∙ ap (λ (f : Image). closed_journal (f journal_name)) (synced h).same;
     gate = is.gate;
-    rest = λ fit each. is.rest (still_recoverable (files disk) (files mid) (own h) (images h) fit) (still_recovers (files disk) (files mid) (own h) (images h) each);
+    rest = λ fit each. is.rest (still_recoverable (g.files disk) (g.files mid) (own h) (images h) fit) (still_recovers (g.files disk) (g.files mid) (own h) (images h) each);
   }
 
   -- the files that are none of the run's are left alone by the syncs, and by what leaves them alone
   -- then
-  alone_behind : (new : D) → honest mid → LeavesAlone files moment left_since (IsForeign given (contents (files mid) journal_name)) mid new
-      → LeavesAlone files moment left_since (IsForeign given (contents (files disk) journal_name)) disk new
+  alone_behind : (new : D) → g.honest mid → LeavesAlone g (IsForeign setup.names.items (contents (g.files mid) journal_name)) mid new
+      → LeavesAlone g (IsForeign setup.names.items (contents (g.files disk) journal_name)) disk new
   alone_behind new h alone =
-      let journal = contents (files disk) journal_name in
-      alone_then files moment left_since (IsForeign given journal) disk mid new (synced_alone files moment left_since given journal disk mid (others h) (time h))
-      (subst (λ (f : Image). LeavesAlone files moment left_since (IsForeign given (f journal_name)) mid new) (synced h).same alone)
+      let journal = contents (g.files disk) journal_name in
+      alone_then g (IsForeign setup.names.items journal) disk mid new (synced_alone g setup.names.items journal disk mid (others h) (time h))
+      (subst (λ (f : Image). LeavesAlone g (IsForeign setup.names.items (f journal_name)) mid new) (synced h).same alone)
 
-  module _ {states : Keywords} {group : ℕ} {now : D} {end : ServeEnd} {left left' written written' : Option (List ℕ)}
-      (served : ServesOver honest files moment left_since states group given mid now end left left' written written') where
-    pub served_from : ServesOver honest files moment left_since states group given disk now end left left' written written'
+  module _ {now : D} {end : ServeEnd} {io : Exchange}
+      (served : ServesOver g setup mid now end io) where
+    pub served_from : ServesOver g setup disk now end io
     served_from = record {
       first = served.first;
       last = served.last;
       began = λ h. began (served.began h);
-      reopened = λ h. reopened_from (files served.first.store.disk) (served.began h) (served.reopened h);
+      reopened = λ h. reopened_from (g.files served.first.store.disk) (served.began h) (served.reopened h);
       begins = served.begins;
       sizes = served.sizes;
       texts = served.texts;
@@ -120,29 +123,29 @@ module _ {D : Type 0} (honest : D → Type 0) (files : D → List ℕ → FileSt
       serves = served.serves;
     }
 
-    pub breaks_from : (failures : D → ℕ) → failures mid ≡ failures disk → BreaksByCount failures served → BreaksByCount failures served_from
+    pub breaks_from : g.failures mid ≡ g.failures disk → BreaksByCount served → BreaksByCount served_from
     unfolding served_from
-    breaks_from failures same breaks = record {
-      broken = λ broke. subst (λ n. HasRisen n (failures now)) same (breaks.broken broke);
+    breaks_from same breaks = record {
+      broken = λ broke. subst (λ n. HasRisen n (g.failures now)) same (breaks.broken broke);
       sound = λ sound. breaks.sound sound ∙ same;
     }
 
-    first_honest : (later : Past D) → IsOnTheWay served later → honest later.store.disk → honest served.first.store.disk
-    first_honest later (inl way) h = (past_runs honest files moment left_since (up_to served.run later way) h).1
-    first_honest later (inr same) h = (past_runs honest files moment left_since served.run (subst (λ (p : Past D). honest p.store.disk) same h)).1
+    first_honest : (later : Past D) → IsOnTheWay served later → g.honest later.store.disk → g.honest served.first.store.disk
+    first_honest later (inl way) h = (past_runs g (up_to served.run later way) h).1
+    first_honest later (inr same) h = (past_runs g served.run (subst (λ (p : Past D). g.honest p.store.disk) same h)).1
 
     to_later : (here later : Past D) → IsOnTheWayTo served here later → IsOnTheWay served later
     to_later here later (inl to) = inl to.0
     to_later here later (inr to) = inr to.0
 
-    module _ (lasting : IsRecoverable (files mid) → EachRecovers (files mid) → Lasts served) (Before : Image → Type 0)
-        (ready : honest served.first.store.disk → IsRecoverable (files mid) × EachRecovers (files mid))
-        (early : (image : Image) → AreImages (files disk) image → Before image)
-        (late : honest served.first.store.disk → (image : Image) → RecoversAsBefore (files mid) image → Before image) where
-      lasts : honest served.first.store.disk → Lasts served
+    module _ (lasting : IsRecoverable (g.files mid) → EachRecovers (g.files mid) → Lasts served) (Before : Image → Type 0)
+        (ready : g.honest served.first.store.disk → IsRecoverable (g.files mid) × EachRecovers (g.files mid))
+        (early : (image : Image) → AreImages (g.files disk) image → Before image)
+        (late : g.honest served.first.store.disk → (image : Image) → RecoversAsBefore (g.files mid) image → Before image) where
+      lasts : g.honest served.first.store.disk → Lasts served
       lasts h = lasting (ready h).0 (ready h).1
 
-      pub lasts_from : LastsFrom Before served_from
+      pub lasts_from : LastsFrom served_from Before
       unfolding served_from
       lasts_from = record {
         any_moment = λ later way h.
@@ -151,64 +154,64 @@ module _ {D : Type 0} (honest : D → Type 0) (files : D → List ℕ → FileSt
             (λ image left. ⊎_elim (λ before. inl (late first image before)) (λ holds. inr holds) left);
         since = λ here later way h sound. (lasts (first_honest later (to_later here later way) h)).since here later way h sound;
         ended = λ h well image left.
-            let last : honest served.last.store.disk = subst honest served.given_up h in
-            (lasts (past_runs honest files moment left_since served.run last).1).ended h well image left;
+            let last : g.honest served.last.store.disk = subst g.honest served.given_up h in
+            (lasts (past_runs g served.run last).1).ended h well image left;
       }
 
     -- over a disk that was recoverable
-    pub lasts_recoverable : (IsRecoverable (files mid) → EachRecovers (files mid) → Lasts served) → IsRecoverable (files disk) → EachRecovers (files disk) → Lasts served_from
+    pub lasts_recoverable : (IsRecoverable (g.files mid) → EachRecovers (g.files mid) → Lasts served) → IsRecoverable (g.files disk) → EachRecovers (g.files disk) → Lasts served_from
     lasts_recoverable lasting fit each =
-        lasts_from lasting (RecoversAsBefore (files disk))
+        lasts_from lasting (RecoversAsBefore (g.files disk))
         (λ h.
         let m = served.began h in
-        (still_recoverable (files disk) (files mid) (own m) (images m) fit, still_recovers (files disk) (files mid) (own m) (images m) each))
-        (as_before (files disk) each)
-        (λ h image before. let m = served.began h in as_at_first (files disk) (files mid) (own m) (images m) image before)
+        (still_recoverable (g.files disk) (g.files mid) (own m) (images m) fit, still_recovers (g.files disk) (g.files mid) (own m) (images m) each))
+        (as_before (g.files disk) each)
+        (λ h image before. let m = served.began h in as_at_first (g.files disk) (g.files mid) (own m) (images m) image before)
 
     -- over one of which the other files were on the disk
-    pub lasts_found : (IsRecoverable (files mid) → EachRecovers (files mid) → Lasts served) → OutsideStable given (files disk) → LastsFrom (IsAsFound (files disk)) served_from
+    pub lasts_found : (IsRecoverable (g.files mid) → EachRecovers (g.files mid) → Lasts served) → OutsideStable setup.names.items (g.files disk) → LastsFrom served_from (IsAsFound (g.files disk))
     lasts_found lasting outside =
-        lasts_from lasting (IsAsFound (files disk))
+        lasts_from lasting (IsAsFound (g.files disk))
         (λ h.
         let m = served.began h in
-        let good = subst (λ (f : Image). IsTrue (is_some (recovered f))) (synced m).same (some_recovers (contents (files mid)) (contents (files served.first.store.disk)) (served.reopened h).recovered_then) in (
-          now_recoverable (files disk) (files mid) (own m) (images m) given (synced m) outside,
-          now_recovers (files disk) (files mid) (own m) (images m) given (synced m) outside good,
+        let good = subst (λ (f : Image). IsTrue (is_some (recovered f))) (synced m).same (some_recovers (contents (g.files mid)) (contents (g.files served.first.store.disk)) (served.reopened h).recovered_then) in (
+          now_recoverable (g.files disk) (g.files mid) (own m) (images m) setup.names.items (synced m) outside,
+          now_recovers (g.files disk) (g.files mid) (own m) (images m) setup.names.items (synced m) outside good,
         ))
         (λ image left. inl left)
-        (λ h image before. let m = served.began h in inr (as_read (files disk) (files mid) (own m) (images m) given (synced m) outside image before))
+        (λ h image before. let m = served.began h in inr (as_read (g.files disk) (g.files mid) (own m) (images m) setup.names.items (synced m) outside image before))
 
-  -- what is given back of a run behind the syncs
-  module _ {now : D} {end : Result ServeEnd OpenFault} (h : honest mid) (later : GivesBack files moment left_since given mid now end) where
-    still_gives_back : GivesBack files moment left_since given disk now end
+  -- what is setup.names.items back of a run behind the syncs
+  module _ {now : D} {end : Result ServeEnd OpenFault} (h : g.honest mid) (later : GivesBack g setup mid now end) where
+    still_gives_back : GivesBack g setup disk now end
     still_gives_back = record {
-      unopened = λ fit each. if_err end (λ fault left. leaves_behind (time h) left (as_before (files disk) each) (as_at_first (files disk) (files mid) (own h) (images h)))
-          (later.unopened (still_recoverable (files disk) (files mid) (own h) (images h) fit) (still_recovers (files disk) (files mid) (own h) (images h) each));
+      unopened = λ fit each. if_err end (λ fault left. leaves_behind (time h) left (as_before (g.files disk) each) (as_at_first (g.files disk) (g.files mid) (own h) (images h)))
+          (later.unopened (still_recoverable (g.files disk) (g.files mid) (own h) (images h) fit) (still_recovers (g.files disk) (g.files mid) (own h) (images h) each));
       unopened_bad = λ none.
           let bad = later.unopened_bad (ap recovered (synced h).same ∙ none) in
           (bad.0, leaves_behind (time h) bad.1 (λ image left. left) (all_images (images h)));
       unopened_closed = λ closed. if_err end (λ fault left. leaves_behind (time h) left (λ image left. left) (all_images (images h)))
           (later.unopened_closed (subst (λ (f : Image). IsTrue (is_closed (f journal_name))) (sym (synced h).same) closed));
-      recoverable = λ fit each. later.recoverable (still_recoverable (files disk) (files mid) (own h) (images h) fit) (still_recovers (files disk) (files mid) (own h) (images h) each);
+      recoverable = λ fit each. later.recoverable (still_recoverable (g.files disk) (g.files mid) (own h) (images h) fit) (still_recovers (g.files disk) (g.files mid) (own h) (images h) each);
       alone = alone_behind now h later.alone;
     }
 
-    pub synced_gives_back : ((name : List ℕ) → IsImage (files now name) (files now name).content)
-        → ((t : ℕ) (image : Image) → t ≤ moment now → AreImages (files now) image → left_since now t image) → GivesBackSynced files moment left_since given disk now end
+    pub synced_gives_back : ((name : List ℕ) → IsImage (g.files now name) (g.files now name).content)
+        → ((t : ℕ) (image : Image) → t ≤ g.moment now → AreImages (g.files now) image → g.left_since now t image) → GivesBackSynced g setup disk now end
     synced_gives_back own_now counts_now = record {
       gives_back = still_gives_back;
-      unopened_as_found = λ outside. elim (some_or_none (contents (files disk))) [
+      unopened_as_found = λ outside. elim (some_or_none (contents (g.files disk))) [
         | inl good ↦ if_err end
-            (λ fault left. leaves_behind (time h) left (λ image found. inl found) (λ image before. inr (as_read (files disk) (files mid) (own h) (images h) given (synced h) outside image before)))
-            (later.unopened (now_recoverable (files disk) (files mid) (own h) (images h) given (synced h) outside) (now_recovers (files disk) (files mid) (own h) (images h) given (synced h) outside good))
+            (λ fault left. leaves_behind (time h) left (λ image found. inl found) (λ image before. inr (as_read (g.files disk) (g.files mid) (own h) (images h) setup.names.items (synced h) outside image before)))
+            (later.unopened (now_recoverable (g.files disk) (g.files mid) (own h) (images h) setup.names.items (synced h) outside) (now_recovers (g.files disk) (g.files mid) (own h) (images h) setup.names.items (synced h) outside good))
         | inr none ↦ if_err_always end (leaves_as (still_gives_back.unopened_bad none).1 (λ image left. inl left))
       ];
-      recoverable_once_synced = λ outside. elim (some_or_none (contents (files disk))) [
-        | inl good ↦ inl (later.recoverable (now_recoverable (files disk) (files mid) (own h) (images h) given (synced h) outside)
-            (now_recovers (files disk) (files mid) (own h) (images h) given (synced h) outside good))
+      recoverable_once_synced = λ outside. elim (some_or_none (contents (g.files disk))) [
+        | inl good ↦ inl (later.recoverable (now_recoverable (g.files disk) (g.files mid) (own h) (images h) setup.names.items (synced h) outside)
+            (now_recovers (g.files disk) (g.files mid) (own h) (images h) setup.names.items (synced h) outside good))
         | inr none ↦
             let bad = later.unopened_bad (ap recovered (synced h).same ∙ none) in
-            let kept = each_image own_now (λ image left. bad.1.each image (counts_now (moment mid) image bad.1.passes.later left)) in
-            inr (bad.0, still_outside (files mid) (files now) own_now kept given (still_outside (files disk) (files mid) (own h) (images h) given outside))
+            let kept = each_image own_now (λ image left. bad.1.each image (counts_now (g.moment mid) image bad.1.passes.later left)) in
+            inr (bad.0, still_outside (g.files mid) (g.files now) own_now kept setup.names.items (still_outside (g.files disk) (g.files mid) (own h) (images h) setup.names.items outside))
       ];
     }

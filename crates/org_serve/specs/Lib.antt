@@ -1,3 +1,4 @@
+pub mod Pipes
 pub mod Counts
 pub mod Faults
 pub mod Gives
@@ -9,6 +10,7 @@ pub mod Transcript
 pub mod Feeding
 pub mod Replies
 pub mod Parts
+pub mod Writes
 pub mod Serving
 pub mod Crashes
 pub mod History

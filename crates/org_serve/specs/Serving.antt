@@ -14,6 +14,7 @@ use Rattle.org_serve.specs.declared.fault.LineFault.TheVariants.{BadLine, OutOfM
 use Rattle.org_serve.specs.Faults.{fault_text}
 use Rattle.org_serve.specs.Grammar.{command_of}
 use Rattle.org_serve.specs.Pending.{limit}
+use Rattle.org_serve.specs.Pipes.{Exchange}
 use Rattle.org_serve.specs.Replies.{answer_text, settled_text}
 use Rattle.org_serve.specs.Transcript.{ServesAll, ServesLines, RunsSome, RunsAllAndSettles}
 
@@ -103,14 +104,12 @@ abbrev pub HasBroken : Session → Session → Type 0
 HasBroken old new = IsFalse old.broken × IsTrue new.broken
 
 -- What is read and written, by the sessions before it and after it.
-pub record Serves (old : Session) (end : ServeEnd) (new : Session)
-    (left left' written written' : Option (List ℕ)) : Type 0 where
+pub record Serves (old : Session) (end : ServeEnd) (new : Session) (io : Exchange) : Type 0 where
   -- to the input's end
-  pub all : end ≢ Read → end ≢ Write
-      → ServesAll AnswersLine Finishes old end new left left' written written'
+  pub all : end ≢ Read → end ≢ Write → ServesAll AnswersLine Finishes old end new io
   -- up to a read that failed, or to the last of the turns
-  pub read : end ≡ Read → ServesLines AnswersLine old new left left' written written'
+  pub read : end ≡ Read → ServesLines AnswersLine old new io
   -- up to a write that failed
   pub write : end ≡ Write
-      → RunsSome AnswersLine old new left left'
-      ⊎ RunsAllAndSettles AnswersLine HasSettled old new left left'
+      → RunsSome AnswersLine old new io.before.left io.after.left
+      ⊎ RunsAllAndSettles AnswersLine HasSettled old new io.before.left io.after.left

@@ -7,6 +7,7 @@ use Rattle.std.specs.Io.KnownBytes.{Consumes, Appends, IsAtEnd}
 use Rattle.org_serve.specs.declared.end.ServeEnd.{ServeEnd}
 use Rattle.org_serve.specs.Lines.{cut}
 use Rattle.org_serve.specs.Faults.{bad_line, no_memory}
+use Rattle.org_serve.specs.Pipes.{Exchange}
 
 -- Lines are answered, one after another.
 abbrev pub Answers : {S : Type 0} → (S → List ℕ → List ℕ → S → Type 0) → S → List (List ℕ) → List ℕ
@@ -35,23 +36,22 @@ Transcript {S = S} AnswersLine Finishes old input end out new =
 
 -- The input was read to its end, and its transcript is what was written.
 abbrev pub ServesAll : {S : Type 0} → (S → List ℕ → List ℕ → S → Type 0)
-    → (S → ServeEnd → List ℕ → S → Type 0) → S → ServeEnd → S → Option (List ℕ) → Option (List ℕ)
-    → Option (List ℕ) → Option (List ℕ) → Type 0
-ServesAll AnswersLine Finishes old end new left left' written written' =
+    → (S → ServeEnd → List ℕ → S → Type 0) → S → ServeEnd → S → Exchange → Type 0
+ServesAll AnswersLine Finishes old end new io =
     (input : List ℕ) × (out : List ℕ)
-    × Consumes left left' input
-    × IsAtEnd left'
+    × Consumes io.before.left io.after.left input
+    × IsAtEnd io.after.left
     × Transcript AnswersLine Finishes old input end out new
-    × Appends written written' out
+    × Appends io.before.written io.after.written out
 
 -- The whole lines of what was read were answered, and nothing else was written.
-abbrev pub ServesLines : {S : Type 0} → (S → List ℕ → List ℕ → S → Type 0) → S → S → Option (List ℕ)
-    → Option (List ℕ) → Option (List ℕ) → Option (List ℕ) → Type 0
-ServesLines AnswersLine old new left left' written written' =
+abbrev pub ServesLines : {S : Type 0} → (S → List ℕ → List ℕ → S → Type 0) → S → S → Exchange
+    → Type 0
+ServesLines AnswersLine old new io =
     (input : List ℕ) × (out : List ℕ)
-    × Consumes left left' input
+    × Consumes io.before.left io.after.left input
     × Answers AnswersLine old (cut input).lines out new
-    × Appends written written' out
+    × Appends io.before.written io.after.written out
 
 -- Some of the lines of what was read, from the first on, were run.
 abbrev pub RunsSome : {S : Type 0} → (S → List ℕ → List ℕ → S → Type 0) → S → S → Option (List ℕ)

@@ -1,6 +1,6 @@
 //! Laws of the definitions, each the contract of a function that does nothing.
-ghost use Rattle.std.specs.Prelude.{ℕ, List, [], ◌≡◌, ◌∷◌, ◌++◌};
-ghost use Rattle.std.specs.Prelude.{All, Option, Some, Result, IsFalse};
+ghost use Rattle.std.specs.Prelude.{ℕ, List, [], ◌≡◌, ◌≤◌, ◌∷◌, ◌++◌};
+ghost use Rattle.std.specs.Prelude.{All, Some, Result, IsFalse};
 ghost use Rattle.org_disk.specs.Accounts.{LeavesOver};
 ghost use Rattle.org_journal.specs.Recovered.{Image, contents};
 ghost use Rattle.org_fileset.specs.Replay.{IsAtRest};
@@ -22,8 +22,10 @@ ghost use Rattle.org_commands.specs.Step.{Step};
 ghost use Rattle.org_serve.specs.OnePlace.{OnlyRefiles};
 ghost use Rattle.org_serve.specs.declared.end.ServeEnd.{ServeEnd};
 ghost use Rattle.org_serve.specs.Crashes.{Runs, RunsLine, HasSettledOver};
-ghost use Rattle.org_serve.specs.History.{PastLine, HasSettledPast};
-ghost use Rattle.org_serve.specs.Whole.{HoldsServed, IsOnTheWay, ServesOver};
+ghost use Rattle.org_serve.specs.History.{PastLine, HasSettledPast, HoldsSince};
+ghost use Rattle.org_serve.specs.Pipes.{Exchange};
+ghost use Rattle.org_serve.specs.Whole.{IsOnTheWay, ServesOver};
+ghost use Rattle.org_serve.specs.declared.whole.Setup.{Setup};
 ghost use Rattle.org_serve.specs.Grammar.{escaped, unescaped, path_of, path_field};
 ghost use Rattle.org_serve.specs.Lines.{cut, joined, HasNoNewline};
 ghost use Rattle.org_serve.specs.Replies.{answer_text, safe_line, told_safe};
@@ -66,29 +68,29 @@ pub fn safe_tells_acknowledged()
 /// store has the texts of all files as its session tells them, it goes on with those after each
 /// command that `serve` accepts. Where the disk is honest at the end, and was at rest with the
 /// settled texts of a store that wasn't broken, as it is between calls (`settled_is_on_disk`, a law
-/// of org_store), at every moment since then what a crash leaves recovers to the files after one
-/// prefix of the accepted commands, which has all that were acknowledged as it began; a command in
-/// which the disk failed may be the last of them.
+/// of org_store), at every moment since then what a crash leaves recovers to the files after the
+/// commands that were acknowledged as it began, or after a prefix of the accepted commands that has
+/// all that were accepted then. A command in which the disk failed may be the last of them.
 pub fn crashes_leave_a_prefix<D: Disk>()
     // a store that was just opened has such a list
     ensures opened { (states : Keywords) (names texts : List (List ℕ))
         → Lists (opened states names texts) (texts ∷ []) }
     // one that the lines go on with has it too
     ensures served { (first : Past D) (new : Kept D) (end : ServeEnd)
-        (left left' written written' : Option (List ℕ)) → D.honest new.disk
+        (io : Exchange) → D.honest new.disk
         → IsAtRest (D.files first.store.disk)
         → IsOnDisk first.store.session (contents (D.files first.store.disk))
         → IsFalse first.store.session.broken → Lists first.store.session first.texts
-        → Runs (RunsLine D.honest D.files D.moment D.left_since)
-        (HasSettledOver D.honest D.files D.moment D.left_since)
-        first.store new end left left' written written'
+        → Runs (RunsLine D.Disk) (HasSettledOver D.Disk) first.store new end io
         → (last : Past D) × (last.store ≡ new) × Lists last.store.session last.texts
-        × Runs (PastLine D.honest D.files D.moment D.left_since)
-        (HasSettledPast D.honest D.files D.moment D.left_since)
-        first last end left left' written written'
-        × LeavesOver D.moment D.left_since first.store.disk last.store.disk
-        (HoldsPrefix first.store.session (contents (D.files first.store.disk)) last.texts
-        first.store.session.acknowledged) }
+        × Runs (PastLine D.Disk) (HasSettledPast D.Disk) first last end io
+        × LeavesOver D.Disk first.store.disk last.store.disk
+        (HoldsSince first.store.session (contents (D.files first.store.disk)) first last) }
+    // such an image recovers to a prefix that has all commands that were acknowledged then
+    ensures prefix { (first : Session) (others image : Image) (here later : Past D)
+        → here.store.session.acknowledged ≤ here.store.session.accepted
+        → HoldsSince first others here later image
+        → HoldsPrefix first others later.texts here.store.session.acknowledged image }
 {}
 
 /// Every image of a store's disk opens again while lines are served, with the names that the store
@@ -96,21 +98,19 @@ pub fn crashes_leave_a_prefix<D: Disk>()
 pub fn every_image_opens<D: Disk>()
     // what `crashes_leave_a_prefix` tells of `serve`, where no text of the list was past the limit
     ensures served { (given : List (List ℕ)) (first last : Past D) (end : ServeEnd)
-        (left left' written written' : Option (List ℕ)) (others image : Image) (least : ℕ)
+        (io : Exchange) (others image : Image) (least : ℕ)
         → AreFew given → IsSessionOf given first.store.session
         → Lists first.store.session first.texts
         → All (AreSmall first.store.session.names) first.texts → D.honest last.store.disk
-        → Runs (PastLine D.honest D.files D.moment D.left_since)
-        (HasSettledPast D.honest D.files D.moment D.left_since)
-        first last end left left' written written'
+        → Runs (PastLine D.Disk) (HasSettledPast D.Disk) first last end io
         → HoldsPrefix first.store.session others last.texts least image → IsOpenable given image }
     // `Lasts` of `serve_disk`, behind the opening
-    ensures whole { (states : Keywords) (group : ℕ) (given : List (List ℕ)) (disk now : D)
-        (end : ServeEnd) (left left' written written' : Option (List ℕ))
-        (served : ServesOver D.honest D.files D.moment D.left_since states group given disk now
-        end left left' written written') (here : Past D) (least : ℕ) (image : Image)
-        → IsOnTheWay served here → D.honest here.store.disk
-        → HoldsServed served here least image → IsOpenable given image }
+    ensures whole { (setup : Setup) (disk now : D) (end : ServeEnd) (io : Exchange)
+        (served : ServesOver D.Disk setup disk now end io) (here : Past D) (least : ℕ)
+        (image : Image) → IsOnTheWay served here → D.honest here.store.disk
+        → HoldsPrefix served.first.store.session
+        (contents (D.files served.first.store.disk)) here.texts least image
+        → IsOpenable setup.names.items image }
 {}
 
 /// No file is written but the store's own and the journal while lines are served
@@ -118,21 +118,15 @@ pub fn every_image_opens<D: Disk>()
 /// file is as it was, and a crash meanwhile leaves of it what it might have left before. The files
 /// that wait at first are to be the store's own: where it was just opened, none does.
 pub fn only_own_files_are_written<D: Disk>()
-    ensures alone { (first last : Past D) (end : ServeEnd)
-        (left left' written written' : Option (List ℕ))
+    ensures alone { (first last : Past D) (end : ServeEnd) (io : Exchange)
         → AreNames first.store.session.names first.store.waiting → D.honest last.store.disk
-        → Runs (PastLine D.honest D.files D.moment D.left_since)
-        (HasSettledPast D.honest D.files D.moment D.left_since)
-        first last end left left' written written'
-        → LeavesAlone D.files D.moment D.left_since (IsApart first.store.session.names)
+        → Runs (PastLine D.Disk) (HasSettledPast D.Disk) first last end io
+        → LeavesAlone D.Disk (IsApart first.store.session.names)
         first.store.disk last.store.disk }
     // so it goes on
-    ensures waits { (first last : Past D) (end : ServeEnd)
-        (left left' written written' : Option (List ℕ))
+    ensures waits { (first last : Past D) (end : ServeEnd) (io : Exchange)
         → AreNames first.store.session.names first.store.waiting → D.honest last.store.disk
-        → Runs (PastLine D.honest D.files D.moment D.left_since)
-        (HasSettledPast D.honest D.files D.moment D.left_since)
-        first last end left left' written written'
+        → Runs (PastLine D.Disk) (HasSettledPast D.Disk) first last end io
         → (last.store.session.names ≡ first.store.session.names)
         × AreNames last.store.session.names last.store.waiting }
 {}
@@ -144,21 +138,18 @@ pub fn only_own_files_are_written<D: Disk>()
 /// when serving began.
 pub fn one_place<D: Disk>()
     ensures any_moment { (given : List (List ℕ)) (first last : Past D) (end : ServeEnd)
-        (left left' written written' : Option (List ℕ)) (others image : Image) (least : ℕ)
+        (io : Exchange) (others image : Image) (least : ℕ)
         → IsSessionOf given first.store.session → Lists first.store.session first.texts
         → All (AreSmall first.store.session.names) first.texts → D.honest last.store.disk
-        → Runs (PastLine D.honest D.files D.moment D.left_since)
-        (HasSettledPast D.honest D.files D.moment D.left_since)
-        first last end left left' written written'
+        → Runs (PastLine D.Disk) (HasSettledPast D.Disk) first last end io
         → HoldsPrefix first.store.session others last.texts least image
         → HasNodesOfPrefix first.store.session.names last.texts least image }
     ensures refiles { (given : List (List ℕ)) (first last : Past D) (end : ServeEnd)
-        (left left' written written' : Option (List ℕ)) (others image : Image) (least : ℕ)
+        (io : Exchange) (others image : Image) (least : ℕ)
         → IsSessionOf given first.store.session → Lists first.store.session first.texts
         → All (AreSmall first.store.session.names) first.texts → D.honest last.store.disk
-        → (run : Runs (PastLine D.honest D.files D.moment D.left_since)
-        (HasSettledPast D.honest D.files D.moment D.left_since)
-        first last end left left' written written') → All OnlyRefiles run.ran
+        → (run : Runs (PastLine D.Disk) (HasSettledPast D.Disk) first last end io)
+        → All OnlyRefiles run.ran
         → All (λ texts. HaveSameNodes texts first.store.session.files) first.texts
         → HoldsPrefix first.store.session others last.texts least image
         → HasNodesOf first.store.session.names first.store.session.files image }

@@ -1,14 +1,12 @@
 //! Replies, written line by line.
-ghost use Rattle.std.specs.Prelude.{◌≡◌, ◌+◌, ◌≤◌, ◌++◌, length, Ok, OnOk, OnErr, codes, decimal};
-ghost use Rattle.std.specs.Io.KnownBytes.{Appends};
+ghost use Rattle.std.specs.Prelude.{◌≡◌, ◌+◌, ◌≤◌, ◌++◌, length, Ok, codes, decimal};
 ghost use Rattle.std.specs.List.{flat_map};
 ghost use Rattle.arrayvec.specs.ArrayVec.{array_vec_len};
 ghost use Rattle.org_stamp.specs.Stamp.{duration_text};
 ghost use Rattle.org_commands.specs.declared.command.RunFault.TheVariants.{Refused};
-ghost use Rattle.org_disk.specs.Disk.{IsCounted};
 ghost use Rattle.org_serve.specs.Faults.{fault_text};
-ghost use Rattle.org_serve.specs.Parts.{AppendsSome};
 ghost use Rattle.org_serve.specs.Replies.{safe_line, safe_if_risen, fault_line, answer_text, settled_text};
+ghost use Rattle.org_serve.specs.Writes.{Writes};
 
 use crate::fault::LineFault;
 use crate::pipes::{PipeFault, Sink};
@@ -28,12 +26,7 @@ pub fn write_answer<W: Sink>(
     before: u64,
     safe: u64,
 ) -> Result<(), PipeFault>
-    ensures ok { OnOk result (Appends (W.written writer.old) (W.written writer.new)
-        (answer_text answer.now before safe)) }
-    ensures part { OnErr result (AppendsSome (W.written writer.old) (W.written writer.new)
-        (answer_text answer.now before safe)) }
-    ensures same { OnOk result (W.failures writer.new ≡ W.failures writer.old) }
-    ensures err { OnErr result (IsCounted (W.failures writer.old) (W.failures writer.new)) }
+    ensures { Writes W.Sink writer.old writer.new result (answer_text answer.now before safe) }
 {
     match answer {
         Ok(reply) => write_reply(writer, reply, before, safe),
@@ -44,12 +37,7 @@ pub fn write_answer<W: Sink>(
 
 /// Writes why a line wasn't run, and flushes.
 pub fn write_unread<W: Sink>(writer: &mut W, fault: LineFault) -> Result<(), PipeFault>
-    ensures ok { OnOk result (Appends (W.written writer.old) (W.written writer.new)
-        (fault_text fault)) }
-    ensures part { OnErr result (AppendsSome (W.written writer.old) (W.written writer.new)
-        (fault_text fault)) }
-    ensures same { OnOk result (W.failures writer.new ≡ W.failures writer.old) }
-    ensures err { OnErr result (IsCounted (W.failures writer.old) (W.failures writer.new)) }
+    ensures { Writes W.Sink writer.old writer.new result (fault_text fault) }
 {
     let line: &[u8] = match fault {
         LineFault::BadLine => b"refused 20 BadLine\n",
@@ -65,12 +53,7 @@ pub fn write_settled<W: Sink>(
     answer: Result<(), RunFault>,
     safe: u64,
 ) -> Result<(), PipeFault>
-    ensures ok { OnOk result (Appends (W.written writer.old) (W.written writer.new)
-        (settled_text answer safe)) }
-    ensures part { OnErr result (AppendsSome (W.written writer.old) (W.written writer.new)
-        (settled_text answer safe)) }
-    ensures same { OnOk result (W.failures writer.new ≡ W.failures writer.old) }
-    ensures err { OnErr result (IsCounted (W.failures writer.old) (W.failures writer.new)) }
+    ensures { Writes W.Sink writer.old writer.new result (settled_text answer safe) }
 {
     match answer {
         Ok(()) => write_safe(writer, safe),
@@ -85,12 +68,7 @@ fn write_reply<W: Sink>(
     before: u64,
     safe: u64,
 ) -> Result<(), PipeFault>
-    ensures ok { OnOk result (Appends (W.written writer.old) (W.written writer.new)
-        (answer_text (Ok reply.now) before safe)) }
-    ensures part { OnErr result (AppendsSome (W.written writer.old) (W.written writer.new)
-        (answer_text (Ok reply.now) before safe)) }
-    ensures same { OnOk result (W.failures writer.new ≡ W.failures writer.old) }
-    ensures err { OnErr result (IsCounted (W.failures writer.old) (W.failures writer.new)) }
+    ensures { Writes W.Sink writer.old writer.new result (answer_text (Ok reply.now) before safe) }
 {
     match reply {
         Reply::Done(n) => write_done(writer, *n, before, safe),
@@ -101,12 +79,8 @@ fn write_reply<W: Sink>(
 }
 
 fn write_done<W: Sink>(writer: &mut W, n: u64, before: u64, safe: u64) -> Result<(), PipeFault>
-    ensures ok { OnOk result (Appends (W.written writer.old) (W.written writer.new)
-        (codes "ok " ++ decimal n ++ codes "\n" ++ safe_if_risen before safe)) }
-    ensures part { OnErr result (AppendsSome (W.written writer.old) (W.written writer.new)
-        (codes "ok " ++ decimal n ++ codes "\n" ++ safe_if_risen before safe)) }
-    ensures same { OnOk result (W.failures writer.new ≡ W.failures writer.old) }
-    ensures err { OnErr result (IsCounted (W.failures writer.old) (W.failures writer.new)) }
+    ensures { Writes W.Sink writer.old writer.new result
+        (codes "ok " ++ decimal n ++ codes "\n" ++ safe_if_risen before safe) }
 {
     let lines = done_lines(n, before, safe);
     writer.write(lines.as_slice())
@@ -139,12 +113,7 @@ fn push_line(lines: &mut ArrayVec<u8, DONE_BYTES>, word: &[u8], n: u64)
 }
 
 fn write_safe<W: Sink>(writer: &mut W, safe: u64) -> Result<(), PipeFault>
-    ensures ok { OnOk result (Appends (W.written writer.old) (W.written writer.new)
-        (safe_line safe)) }
-    ensures part { OnErr result (AppendsSome (W.written writer.old) (W.written writer.new)
-        (safe_line safe)) }
-    ensures same { OnOk result (W.failures writer.new ≡ W.failures writer.old) }
-    ensures err { OnErr result (IsCounted (W.failures writer.old) (W.failures writer.new)) }
+    ensures { Writes W.Sink writer.old writer.new result (safe_line safe) }
 {
     write_pieces(
         writer,
@@ -153,12 +122,8 @@ fn write_safe<W: Sink>(writer: &mut W, safe: u64) -> Result<(), PipeFault>
 }
 
 fn write_text<W: Sink>(writer: &mut W, bytes: &[u8]) -> Result<(), PipeFault>
-    ensures ok { OnOk result (Appends (W.written writer.old) (W.written writer.new)
-        (codes "text " ++ decimal (length bytes.now) ++ codes "\n" ++ bytes.now ++ codes "\n")) }
-    ensures part { OnErr result (AppendsSome (W.written writer.old) (W.written writer.new)
-        (codes "text " ++ decimal (length bytes.now) ++ codes "\n" ++ bytes.now ++ codes "\n")) }
-    ensures same { OnOk result (W.failures writer.new ≡ W.failures writer.old) }
-    ensures err { OnErr result (IsCounted (W.failures writer.old) (W.failures writer.new)) }
+    ensures { Writes W.Sink writer.old writer.new result
+        (codes "text " ++ decimal (length bytes.now) ++ codes "\n" ++ bytes.now ++ codes "\n") }
 {
     let mut size = Buffer::new();
     write_pieces(
@@ -174,12 +139,8 @@ fn write_text<W: Sink>(writer: &mut W, bytes: &[u8]) -> Result<(), PipeFault>
 }
 
 fn write_time<W: Sink>(writer: &mut W, minutes: u64) -> Result<(), PipeFault>
-    ensures ok { OnOk result (Appends (W.written writer.old) (W.written writer.new)
-        (codes "time " ++ duration_text minutes 1 ++ codes "\n")) }
-    ensures part { OnErr result (AppendsSome (W.written writer.old) (W.written writer.new)
-        (codes "time " ++ duration_text minutes 1 ++ codes "\n")) }
-    ensures same { OnOk result (W.failures writer.new ≡ W.failures writer.old) }
-    ensures err { OnErr result (IsCounted (W.failures writer.old) (W.failures writer.new)) }
+    ensures { Writes W.Sink writer.old writer.new result
+        (codes "time " ++ duration_text minutes 1 ++ codes "\n") }
 {
     let past = (minutes % 60) as u8;
     let tail = [b':', b'0' + past / 10, b'0' + past % 10, b'\n'];
@@ -194,12 +155,7 @@ fn write_time<W: Sink>(writer: &mut W, minutes: u64) -> Result<(), PipeFault>
 }
 
 fn write_fault<W: Sink>(writer: &mut W, fault: RunFault) -> Result<(), PipeFault>
-    ensures ok { OnOk result (Appends (W.written writer.old) (W.written writer.new)
-        (fault_line fault)) }
-    ensures part { OnErr result (AppendsSome (W.written writer.old) (W.written writer.new)
-        (fault_line fault)) }
-    ensures same { OnOk result (W.failures writer.new ≡ W.failures writer.old) }
-    ensures err { OnErr result (IsCounted (W.failures writer.old) (W.failures writer.new)) }
+    ensures { Writes W.Sink writer.old writer.new result (fault_line fault) }
 {
     match fault {
         RunFault::Refused(why) => write_refusal(writer, why),
@@ -210,12 +166,7 @@ fn write_fault<W: Sink>(writer: &mut W, fault: RunFault) -> Result<(), PipeFault
 }
 
 fn write_refusal<W: Sink>(writer: &mut W, why: Refusal) -> Result<(), PipeFault>
-    ensures ok { OnOk result (Appends (W.written writer.old) (W.written writer.new)
-        (fault_line (Refused why))) }
-    ensures part { OnErr result (AppendsSome (W.written writer.old) (W.written writer.new)
-        (fault_line (Refused why))) }
-    ensures same { OnOk result (W.failures writer.new ≡ W.failures writer.old) }
-    ensures err { OnErr result (IsCounted (W.failures writer.old) (W.failures writer.new)) }
+    ensures { Writes W.Sink writer.old writer.new result (fault_line (Refused why)) }
 {
     let mut code = Buffer::new();
     let code = code.format(why.code()).as_bytes();
@@ -227,12 +178,8 @@ fn write_refusal<W: Sink>(writer: &mut W, why: Refusal) -> Result<(), PipeFault>
 
 // Writes bytes that stand in pieces.
 fn write_pieces<W: Sink>(writer: &mut W, pieces: &[&[u8]]) -> Result<(), PipeFault>
-    ensures ok { OnOk result (Appends (W.written writer.old) (W.written writer.new)
-        (flat_map (λ piece. piece.now) pieces.now)) }
-    ensures part { OnErr result (AppendsSome (W.written writer.old) (W.written writer.new)
-        (flat_map (λ piece. piece.now) pieces.now)) }
-    ensures same { OnOk result (W.failures writer.new ≡ W.failures writer.old) }
-    ensures err { OnErr result (IsCounted (W.failures writer.old) (W.failures writer.new)) }
+    ensures { Writes W.Sink writer.old writer.new result
+        (flat_map (λ piece. piece.now) pieces.now) }
 {
     for piece in pieces {
         writer.write(piece)?;

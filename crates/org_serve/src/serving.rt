@@ -13,6 +13,7 @@ ghost use Rattle.org_commands.specs.declared.command.RunFault.{RunFault};
 ghost use Rattle.org_serve.specs.Serving.{IsReadAs, AnswersReadBy, HasBroken, EndsBroken, end_of, Serves};
 ghost use Rattle.org_serve.specs.Crashes.{RunsHonest, RunsLine, HasSettledOver, FinishesOver, Runs, KeepsDisk};
 ghost use Rattle.org_serve.specs.Transcript.{AnswersRest};
+ghost use Rattle.org_serve.specs.Writes.{Writes, exchange};
 
 use crate::end::ServeEnd;
 use crate::fault::LineFault;
@@ -55,19 +56,17 @@ pub fn serve<D: Disk, R: Source, W: Sink>(
     turns: u64,
 ) -> ServeEnd
     ensures did { D.honest store.new.disk → Serves store.old.session result store.new.session
-        (R.left reader.old) (R.left reader.new) (W.written writer.old) (W.written writer.new)
+        (exchange R.Source W.Sink reader.old reader.new writer.old writer.new)
         × KeepsDisk D.files store.old store.new }
-    ensures causes { EndsForCause turns (Ok result) (R.left reader.old) (R.left reader.new)
-        (R.reads reader.old) (R.reads reader.new) (R.failures reader.old)
-        (R.failures reader.new) (W.failures writer.old) (W.failures writer.new) }
-    ensures calls { (run : Runs (RunsLine D.honest D.files D.moment D.left_since)
-        (HasSettledOver D.honest D.files D.moment D.left_since) store.old store.new result
-        (R.left reader.old) (R.left reader.new) (W.written writer.old) (W.written writer.new))
+    ensures causes { EndsForCause turns (Ok result)
+        (exchange R.Source W.Sink reader.old reader.new writer.old writer.new) }
+    ensures calls { (run : Runs (RunsLine D.Disk) (HasSettledOver D.Disk) store.old store.new result
+        (exchange R.Source W.Sink reader.old reader.new writer.old writer.new))
         × (result ≡ ServeEnd.Write → WritesSome run.input run.others run.out
         store.new.session.acknowledged (W.written writer.old) (W.written writer.new)) }
     ensures broken { EndsBroken result store.new.session }
     ensures untouched { IsTrue store.old.session.broken → store.new ≡ store.old }
-    ensures accounts { Accounts D.steady D.honest D.failures store.old.disk store.new.disk
+    ensures accounts { Accounts D.Disk store.old.disk store.new.disk
         (HasBroken store.old.session store.new.session) }
 {
     let mut buffer = [0u8; PIECE];
@@ -95,15 +94,14 @@ fn feed<D: Disk, W: Sink>(
 ) -> Result<(), PipeFault>
     ensures fed { (part : List ℕ) → (cut part).lines ≡ [] → Stands pending.old part
         → MatchResult result
-        (λ _. FeedOk (RunsLine D.honest D.files D.moment D.left_since) store.old (part ++ piece.now)
-        store.new (W.written writer.old) (W.written writer.new) pending.new)
-        (λ _. FeedErr (RunsLine D.honest D.files D.moment D.left_since) store.old (part ++
-        piece.now)
-        store.new (W.written writer.old) (W.written writer.new)) }
+        (λ _. FeedOk (RunsLine D.Disk) store.old (part ++ piece.now) store.new
+        (W.written writer.old) (W.written writer.new) pending.new)
+        (λ _. FeedErr (RunsLine D.Disk) store.old (part ++ piece.now) store.new
+        (W.written writer.old) (W.written writer.new)) }
     ensures same { OnOk result (W.failures writer.new ≡ W.failures writer.old) }
     ensures err { OnErr result (IsCounted (W.failures writer.old) (W.failures writer.new)) }
     ensures untouched { IsTrue store.old.session.broken → store.new ≡ store.old }
-    ensures accounts { Accounts D.steady D.honest D.failures store.old.disk store.new.disk
+    ensures accounts { Accounts D.Disk store.old.disk store.new.disk
         (HasBroken store.old.session store.new.session) }
 {
     let mut rest = piece;
@@ -124,16 +122,13 @@ fn answer<D: Disk, W: Sink>(
     writer: &mut W,
 ) -> Result<(), PipeFault>
     ensures step { (part : List ℕ) → Stands pending.old part
-        → (out : List ℕ) × RunsLine D.honest D.files D.moment D.left_since store.old (part ++
-        last.now) out
-        store.new
-        × OnOk result (Appends (W.written writer.old) (W.written writer.new) out)
-        × OnErr result (AppendsSome (W.written writer.old) (W.written writer.new) out) }
+        → (out : List ℕ) × RunsLine D.Disk store.old (part ++ last.now) out store.new
+        × Writes W.Sink writer.old writer.new result out }
     ensures cleared { Stands pending.new [] }
     ensures same { OnOk result (W.failures writer.new ≡ W.failures writer.old) }
     ensures err { OnErr result (IsCounted (W.failures writer.old) (W.failures writer.new)) }
     ensures untouched { IsTrue store.old.session.broken → store.new ≡ store.old }
-    ensures accounts { Accounts D.steady D.honest D.failures store.old.disk store.new.disk
+    ensures accounts { Accounts D.Disk store.old.disk store.new.disk
         (HasBroken store.old.session store.new.session) }
 {
     // Most lines lie whole in one piece, and are read where they stand.
@@ -158,16 +153,13 @@ fn answer_kept<D: Disk, W: Sink>(
     writer: &mut W,
 ) -> Result<(), PipeFault>
     ensures step { (part : List ℕ) → Stands pending.old part
-        → (out : List ℕ) × RunsLine D.honest D.files D.moment D.left_since store.old (part ++
-        last.now) out
-        store.new
-        × OnOk result (Appends (W.written writer.old) (W.written writer.new) out)
-        × OnErr result (AppendsSome (W.written writer.old) (W.written writer.new) out) }
+        → (out : List ℕ) × RunsLine D.Disk store.old (part ++ last.now) out store.new
+        × Writes W.Sink writer.old writer.new result out }
     ensures cleared { Stands pending.new [] }
     ensures same { OnOk result (W.failures writer.new ≡ W.failures writer.old) }
     ensures err { OnErr result (IsCounted (W.failures writer.old) (W.failures writer.new)) }
     ensures untouched { IsTrue store.old.session.broken → store.new ≡ store.old }
-    ensures accounts { Accounts D.steady D.honest D.failures store.old.disk store.new.disk
+    ensures accounts { Accounts D.Disk store.old.disk store.new.disk
         (HasBroken store.old.session store.new.session) }
 {
     pending.add(last);
@@ -195,15 +187,10 @@ fn answer_read<D: Disk, W: Sink>(
     writer: &mut W,
 ) -> Result<(), PipeFault>
     ensures step { (out : List ℕ)
-        × AnswersReadBy (RunsHonest D.honest D.files D.moment D.left_since) (λ kept. kept.session)
-        store.old
-        read.now out store.new
-        × OnOk result (Appends (W.written writer.old) (W.written writer.new) out)
-        × OnErr result (AppendsSome (W.written writer.old) (W.written writer.new) out) }
-    ensures same { OnOk result (W.failures writer.new ≡ W.failures writer.old) }
-    ensures err { OnErr result (IsCounted (W.failures writer.old) (W.failures writer.new)) }
+        × AnswersReadBy (RunsHonest D.Disk) (λ kept. kept.session) store.old read.now out store.new
+        × Writes W.Sink writer.old writer.new result out }
     ensures untouched { IsTrue store.old.session.broken → store.new ≡ store.old }
-    ensures accounts { Accounts D.steady D.honest D.failures store.old.disk store.new.disk
+    ensures accounts { Accounts D.Disk store.old.disk store.new.disk
         (HasBroken store.old.session store.new.session) }
 {
     match read {
@@ -221,17 +208,17 @@ fn finish<D: Disk, W: Sink>(store: &mut Store<D>, pending: &Pending, writer: &mu
     ensures never { result ≢ ServeEnd.Read }
     ensures told { result ≢ ServeEnd.Write → (W.failures writer.new ≡ W.failures writer.old)
         × ((part : List ℕ) → Stands pending.now part
-        → EndsWith (FinishesOver D.honest D.files D.moment D.left_since)
+        → EndsWith (FinishesOver D.Disk)
         part store.old result store.new (W.written writer.old) (W.written writer.new)) }
     ensures write { result ≡ ServeEnd.Write → ((store.new ≡ store.old)
-        ⊎ HasSettledOver D.honest D.files D.moment D.left_since store.old store.new)
+        ⊎ HasSettledOver D.Disk store.old store.new)
         × IsCounted (W.failures writer.old) (W.failures writer.new)
         × ((part : List ℕ) → Stands pending.now part
         → (text : List ℕ) × EndsText part store.new.session.acknowledged text
         × AppendsSome (W.written writer.old) (W.written writer.new) text) }
     ensures broken { EndsBroken result store.new.session }
     ensures untouched { IsTrue store.old.session.broken → store.new ≡ store.old }
-    ensures accounts { Accounts D.steady D.honest D.failures store.old.disk store.new.disk
+    ensures accounts { Accounts D.Disk store.old.disk store.new.disk
         (HasBroken store.old.session store.new.session) }
 {
     match answer_rest(pending, writer) {
@@ -244,8 +231,7 @@ fn finish<D: Disk, W: Sink>(store: &mut Store<D>, pending: &Pending, writer: &mu
 fn answer_rest<W: Sink>(pending: &Pending, writer: &mut W) -> Result<(), PipeFault>
     ensures rest { (part : List ℕ) → Stands pending.now part
         → (last : List ℕ) × AnswersRest part last
-        × OnOk result (Appends (W.written writer.old) (W.written writer.new) last)
-        × OnErr result (AppendsSome (W.written writer.old) (W.written writer.new) last) }
+        × Writes W.Sink writer.old writer.new result last }
     ensures same { OnOk result (W.failures writer.new ≡ W.failures writer.old) }
     ensures err { OnErr result (IsCounted (W.failures writer.old) (W.failures writer.new)) }
 {
@@ -260,17 +246,17 @@ fn settle<D: Disk, W: Sink>(store: &mut Store<D>, writer: &mut W) -> ServeEnd
     ensures never { result ≢ ServeEnd.Read }
     ensures told { result ≢ ServeEnd.Write → (W.failures writer.new ≡ W.failures writer.old)
         × (tail : List ℕ)
-        × FinishesOver D.honest D.files D.moment D.left_since store.old result tail store.new
+        × FinishesOver D.Disk store.old result tail store.new
         × Appends (W.written writer.old) (W.written writer.new) tail }
     ensures write { result ≡ ServeEnd.Write
-        → HasSettledOver D.honest D.files D.moment D.left_since store.old store.new
+        → HasSettledOver D.Disk store.old store.new
         × IsCounted (W.failures writer.old) (W.failures writer.new)
         × (answer : Result (Unit {0}) RunFault)
         × AppendsSome (W.written writer.old) (W.written writer.new)
         (settled_text answer store.new.session.acknowledged) }
     ensures broken { EndsBroken result store.new.session }
     ensures untouched { IsTrue store.old.session.broken → store.new ≡ store.old }
-    ensures accounts { Accounts D.steady D.honest D.failures store.old.disk store.new.disk
+    ensures accounts { Accounts D.Disk store.old.disk store.new.disk
         (HasBroken store.old.session store.new.session) }
 {
     if store.is_broken() {

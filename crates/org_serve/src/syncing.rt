@@ -25,12 +25,12 @@ pub fn sync_files<D: Disk>(alloc: Global, disk: &mut D, given: &[FileName]) -> R
     requires { All IsOrgFile given.now }
     ensures syncs { D.honest disk.new →
         Syncs (stored given.now) (D.files disk.old) (D.files disk.new) result }
-    ensures any_moment { D.honest disk.new → LeavesOver D.moment D.left_since disk.old disk.new
+    ensures any_moment { D.honest disk.new → LeavesOver D.Disk disk.old disk.new
         (AreImages (D.files disk.old)) }
     ensures few { OnOk result (AreFew given.now) }
     ensures refused { IfErr result (IsSyncFault given.now) }
     ensures unused { result ≡ Err TooManyFiles → disk.new ≡ disk.old }
-    ensures accounts { Accounts D.steady D.honest D.failures disk.old disk.new
+    ensures accounts { Accounts D.Disk disk.old disk.new
         (IsErrOf result Device) }
 {
     let Some(names) = file_names(alloc, given)? else {
@@ -43,9 +43,9 @@ pub fn sync_files<D: Disk>(alloc: Global, disk: &mut D, given: &[FileName]) -> R
 fn sync_each<D: Disk>(disk: &mut D, names: &[FileName]) -> Result<(), DiskFault>
     ensures syncs { D.honest disk.new →
         Syncs names.now (D.files disk.old) (D.files disk.new) result }
-    ensures any_moment { D.honest disk.new → LeavesOver D.moment D.left_since disk.old disk.new
+    ensures any_moment { D.honest disk.new → LeavesOver D.Disk disk.old disk.new
         (AreImages (D.files disk.old)) }
-    ensures accounts { Accounts D.steady D.honest D.failures disk.old disk.new (IsErr result) }
+    ensures accounts { Accounts D.Disk disk.old disk.new (IsErr result) }
 {
     for name in names {
         disk.sync(name)?;

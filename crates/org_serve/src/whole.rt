@@ -1,14 +1,12 @@
 //! A whole run over a disk, from the opening to the end of the input.
 ghost use Rattle.std.specs.Prelude.{◌≡◌, Err, All, IfOk, IfErr};
 ghost use Rattle.org_disk.specs.Accounts.{Accounts};
-ghost use Rattle.org_journal.specs.Recovered.{IsRecoverable};
 ghost use Rattle.org_disk.specs.Names.{IsOrgFile};
 ghost use Rattle.org_fileset.specs.Opening.{IsRefusedFor};
-ghost use Rattle.org_fileset.specs.Recovery.{EachRecovers};
 ghost use Rattle.org_serve.specs.Counts.{EndsForCause};
 ghost use Rattle.org_store.specs.Group.{IsGroup};
-ghost use Rattle.org_serve.specs.Syncing.{OutsideStable, IsAsFound};
-ghost use Rattle.org_serve.specs.Whole.{ServesOver, BreaksByCount, LeavesForeign, Lasts, LastsFrom, HasFailed, GivesBack, GivesBackSynced};
+ghost use Rattle.org_serve.specs.Whole.{ServesDisk, ServesSynced, HasFailed, GivesBack, GivesBackSynced};
+ghost use Rattle.org_serve.specs.Writes.{exchange};
 
 use crate::end::ServeEnd;
 use crate::pipes::{Sink, Source};
@@ -51,10 +49,11 @@ pub struct Served<D> {
 ///
 /// On a disk that is recoverable, of which each image recovers to files, every image at every
 /// moment since the call began, up to a store on the way, recovers to what an image at the start
-/// recovered to, or to the files after one prefix of the commands accepted by then. Every image
-/// since an earlier store on the way that wasn't broken recovers to a prefix that has all commands
-/// that were acknowledged there: so since a reply `safe a` was answered, to one that has the first
-/// a (`laws::safe_tells_acknowledged`). Where it ends with `End`, each image at the end recovers to
+/// recovered to, or to the files after one prefix of the commands accepted by then. Since an
+/// earlier store on the way that wasn't broken, that prefix is the commands that were acknowledged
+/// there, or it has all that were accepted there (`HoldsSince`): so at one moment nothing between
+/// the two is on the disk, and since a reply `safe a` was answered, the first a commands are
+/// (`laws::safe_tells_acknowledged`). Where it ends with `End`, each image at the end recovers to
 /// the files after all of them. The disk is as recoverable at the end, so that all this may be done
 /// again.
 ///
@@ -78,23 +77,17 @@ pub fn serve_disk<D: Disk, R: Source, W: Sink>(
 ) -> Served<D>
     requires names { All IsOrgFile setup.names.items }
     requires group { IsGroup setup.group }
-    ensures served { IfOk result.end (λ end. (served : ServesOver
-        D.honest D.files D.moment D.left_since setup.states setup.group setup.names.items
-        disk result.disk end (R.left reader.old) (R.left reader.new) (W.written writer.old)
-        (W.written writer.new))
-        × BreaksByCount D.failures served
-        × LeavesForeign served
-        × (IsRecoverable (D.files disk) → EachRecovers (D.files disk) → Lasts served)) }
-    ensures disk { D.honest result.disk → GivesBack D.files D.moment D.left_since
-        setup.names.items disk result.disk result.end }
+    ensures served { IfOk result.end (λ end. ServesDisk D.Disk setup disk result.disk end
+        (exchange R.Source W.Sink reader.old reader.new writer.old writer.new)) }
+    ensures disk { D.honest result.disk →
+        GivesBack D.Disk setup disk result.disk result.end }
     ensures refused { IfErr result.end
-        (IsRefusedFor D.honest D.files setup.names.items disk result.disk) }
+        (IsRefusedFor D.Disk setup.names.items disk result.disk) }
     ensures unserved { IfErr result.end (λ _. (reader.new ≡ reader.old)
         × (writer.new ≡ writer.old)) }
-    ensures causes { EndsForCause turns result.end (R.left reader.old) (R.left reader.new)
-        (R.reads reader.old) (R.reads reader.new) (R.failures reader.old)
-        (R.failures reader.new) (W.failures writer.old) (W.failures writer.new) }
-    ensures accounts { Accounts D.steady D.honest D.failures disk result.disk
+    ensures causes { EndsForCause turns result.end
+        (exchange R.Source W.Sink reader.old reader.new writer.old writer.new) }
+    ensures accounts { Accounts D.Disk disk result.disk
         (HasFailed result.end (D.failures disk) (D.failures result.disk)) }
 {
     let Setup {
@@ -141,25 +134,17 @@ pub fn serve_synced<D: Disk, R: Source, W: Sink>(
 ) -> Served<D>
     requires names { All IsOrgFile setup.names.items }
     requires group { IsGroup setup.group }
-    ensures served { IfOk result.end (λ end. (served : ServesOver
-        D.honest D.files D.moment D.left_since setup.states setup.group setup.names.items
-        disk result.disk end (R.left reader.old) (R.left reader.new) (W.written writer.old)
-        (W.written writer.new))
-        × BreaksByCount D.failures served
-        × LeavesForeign served
-        × (IsRecoverable (D.files disk) → EachRecovers (D.files disk) → Lasts served)
-        × (OutsideStable setup.names.items (D.files disk)
-        → LastsFrom (IsAsFound (D.files disk)) served)) }
-    ensures disk { D.honest result.disk → GivesBackSynced D.files D.moment D.left_since
-        setup.names.items disk result.disk result.end }
+    ensures served { IfOk result.end (λ end. ServesSynced D.Disk setup disk result.disk end
+        (exchange R.Source W.Sink reader.old reader.new writer.old writer.new)) }
+    ensures disk { D.honest result.disk →
+        GivesBackSynced D.Disk setup disk result.disk result.end }
     ensures refused { IfErr result.end
-        (IsRefusedFor D.honest D.files setup.names.items disk result.disk) }
+        (IsRefusedFor D.Disk setup.names.items disk result.disk) }
     ensures unserved { IfErr result.end (λ _. (reader.new ≡ reader.old)
         × (writer.new ≡ writer.old)) }
-    ensures causes { EndsForCause turns result.end (R.left reader.old) (R.left reader.new)
-        (R.reads reader.old) (R.reads reader.new) (R.failures reader.old)
-        (R.failures reader.new) (W.failures writer.old) (W.failures writer.new) }
-    ensures accounts { Accounts D.steady D.honest D.failures disk result.disk
+    ensures causes { EndsForCause turns result.end
+        (exchange R.Source W.Sink reader.old reader.new writer.old writer.new) }
+    ensures accounts { Accounts D.Disk disk result.disk
         (HasFailed result.end (D.failures disk) (D.failures result.disk)) }
 {
     let mut disk = disk;

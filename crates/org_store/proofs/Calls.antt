@@ -1,8 +1,9 @@
 -- Runs of all the calls of a store: a settling goes on as the command to settle does.
 use Rattle.std.proofs.Common.{◌≡◌, ◌⊎◌, inl, inr, ⊎_elim, ℕ, ◌≤◌, true, false, List, [], ◌∷◌, Result, Ok, Err, refl, sym, ◌∙◌, ap, subst, arith}
+use Rattle.org_disk.specs.declared.disk.Disk.{Ghosts}
 use Rattle.std.specs.Prelude.{slice_get, Some, IsErrOf}
 use Rattle.std.proofs.lemmas.Bool.{cases_Bool, false≢true}
-use Rattle.org_disk.specs.Disk.{FileState, AreImages, LeavesOnly}
+use Rattle.org_disk.specs.Disk.{AreImages, LeavesOnly}
 use Rattle.org_disk.proofs.Moments.{passes_as}
 use Rattle.org_journal.specs.Recovered.{Image, IsRecoverable, contents}
 use Rattle.org_fileset.specs.Replay.{IsAtRest}
@@ -46,33 +47,33 @@ settle_wrote : (n : ℕ) (answer : Result (Unit {0}) RunFault) → MayHaveWritte
 settle_wrote n (Ok _) wrote = wrote
 settle_wrote n (Err fault) wrote = wrote
 
-module _ {D : Type 0} (files : D → List ℕ → FileState) (moment : D → ℕ) (left_since : D → ℕ → Image → Type 0) where
+module _ {D : Type 0} (g : Ghosts D) where
   abbrev Goes : Kept D → Kept D → (Session → Type 0) → Type 0
-  Goes old new P = Course files moment left_since old new P
+  Goes old new P = Course g old new P
 
   abbrev Made : Past D → Call → Past D → Type 0
-  Made old call new = CallPast files moment left_since old call new
+  Made old call new = CallPast g old call new
 
   abbrev AllMade : Past D → List Call → Past D → Type 0
-  AllMade old calls new = CallsPast files moment left_since old calls new
+  AllMade old calls new = CallsPast g old calls new
 
   waits_settled : (old new : Kept D) (n : ℕ) (answer : Result (Unit {0}) RunFault) → WaitsSettled old.waiting answer new.waiting → Waits old AsksToSettle (reply_of n answer) new
   waits_settled old new n (Ok done) waits = waits
   waits_settled old new n (Err fault) waits = waits
 
-  pub settling_runs : (old new : Kept D) (answer : Result (Unit {0}) RunFault) → SettlesOver files moment left_since old answer new
-      → RunsOver files moment left_since old Settle (reply_of old.session.accepted answer) new
+  pub settling_runs : (old new : Kept D) (answer : Result (Unit {0}) RunFault) → SettlesOver g old answer new
+      → RunsOver g old Settle (reply_of old.session.accepted answer) new
   settling_runs old new answer ran =
       let n = old.session.accepted in
       record {
         step = settle_steps old.session new.session answer ran.step;
         disk = record {
           any_moment = λ rest. leaves_as (ran.disk.any_moment rest)
-              (λ image left. left_as old.session (contents (files old.disk)) AsksToSettle answer (reply_of n answer) new.session.accepted image (settle_wrote n answer) left);
+              (λ image left. left_as old.session (contents (g.files old.disk)) AsksToSettle answer (reply_of n answer) new.session.accepted image (settle_wrote n answer) left);
           others = λ fine. ran.disk.others (λ failed. fine (ap (reply_of n) failed));
           rest = λ fine. ran.disk.rest (λ failed. fine (ap (reply_of n) failed));
           recoverable = ran.disk.recoverable;
-          alone = alone_fewer files moment left_since (IsLeftAlone old.session old.waiting AsksToSettle (reply_of n answer) new.session.accepted) (IsLeftAlone old.session old.waiting AsksToSettle answer new.session.accepted)
+          alone = alone_fewer g (IsLeftAlone old.session old.waiting AsksToSettle (reply_of n answer) new.session.accepted) (IsLeftAlone old.session old.waiting AsksToSettle answer new.session.accepted)
               old.disk new.disk ran.disk.alone (λ name this wrote. this (settle_wrote n answer wrote));
         };
         waits = waits_settled old new n answer ran.waits;
@@ -85,7 +86,7 @@ module _ {D : Type 0} (files : D → List ℕ → FileState) (moment : D → ℕ
 
   -- The list goes on with each call.
 
-  pub call_listed : (old : Past D) (new : Kept D) (call : Call) → CallOver files moment left_since old.store call new → (now : Past D) × (now.store ≡ new) × Made old call now
+  pub call_listed : (old : Past D) (new : Kept D) (call : Call) → CallOver g old.store call new → (now : Past D) × (now.store ≡ new) × Made old call now
   call_listed old new (Ran command answer) ran = (
     record { store = new; texts = texts_after (outcome old.store.session command) old.store.session.accepted new.session.accepted old.texts },
     refl,
@@ -148,31 +149,31 @@ module _ {D : Type 0} (files : D → List ℕ → FileState) (moment : D → ℕ
 
   -- What the disk is after the calls.
 
-  rest_call : (old new : Past D) (call : Call) → new.store.session.broken ≡ false → IsAtRest (files old.store.disk) → Made old call new → IsAtRest (files new.store.disk)
+  rest_call : (old new : Past D) (call : Call) → new.store.session.broken ≡ false → IsAtRest (g.files old.store.disk) → Made old call new → IsAtRest (g.files new.store.disk)
   rest_call old new (Ran command answer) sound rest made =
       made.0.disk.rest
       (λ failed. false≢true (sym sound ∙ falls old.store.session new.store.session command (subst (λ a. Step old.store.session command a new.store.session) failed made.0.step)))
       rest
   rest_call old new (Settled answer) sound rest made = made.0.disk.rest ((settling_ends old.store.session new.store.session answer made.0.step).1 sound).0 rest
-  rest_call old new (Grouped group) sound rest made = subst (λ (k : Kept D). IsAtRest (files k.disk)) (sym made.0) rest
+  rest_call old new (Grouped group) sound rest made = subst (λ (k : Kept D). IsAtRest (g.files k.disk)) (sym made.0) rest
 
-  fit_call : (old new : Past D) (call : Call) → IsAtRest (files old.store.disk) → Made old call new → IsRecoverable (files new.store.disk)
+  fit_call : (old new : Past D) (call : Call) → IsAtRest (g.files old.store.disk) → Made old call new → IsRecoverable (g.files new.store.disk)
   fit_call old new (Ran command answer) rest made = made.0.disk.recoverable rest
   fit_call old new (Settled answer) rest made = made.0.disk.recoverable rest
-  fit_call old new (Grouped group) rest made = subst (λ (k : Kept D). IsRecoverable (files k.disk)) (sym made.0) (inl (λ name not. rest.stable name))
+  fit_call old new (Grouped group) rest made = subst (λ (k : Kept D). IsRecoverable (g.files k.disk)) (sym made.0) (inl (λ name not. rest.stable name))
 
   same_disk : (old new : Past D) → Keeps old new → new.store.disk ≡ old.store.disk
   same_disk old new keeps = ap (λ (k : Kept D). k.disk) keeps.store
 
-  pub calls_recoverable : (old new : Past D) (calls : List Call) → IsAtRest (files old.store.disk) → AllMade old calls new → IsRecoverable (files new.store.disk)
-  calls_recoverable old new [] rest run = subst (λ (p : Past D). IsRecoverable (files p.store.disk)) (sym run) (inl (λ name not. rest.stable name))
+  pub calls_recoverable : (old new : Past D) (calls : List Call) → IsAtRest (g.files old.store.disk) → AllMade old calls new → IsRecoverable (g.files new.store.disk)
+  calls_recoverable old new [] rest run = subst (λ (p : Past D). IsRecoverable (g.files p.store.disk)) (sym run) (inl (λ name not. rest.stable name))
   calls_recoverable old new (call ∷ calls) rest run = ⊎_elim
-      (λ fell. subst (λ d. IsRecoverable (files d)) (sym (same_disk run.0 new (broken_calls run.0 new calls fell run.2))) (fit_call old run.0 call rest run.1))
+      (λ fell. subst (λ d. IsRecoverable (g.files d)) (sym (same_disk run.0 new (broken_calls run.0 new calls fell run.2))) (fit_call old run.0 call rest run.1))
       (λ sound. calls_recoverable run.0 new calls (rest_call old run.0 call sound rest run.1) run.2)
       (cases_Bool run.0.store.session.broken)
 
-  pub calls_rest : (old new : Past D) (calls : List Call) → new.store.session.broken ≡ false → IsAtRest (files old.store.disk) → AllMade old calls new → IsAtRest (files new.store.disk)
-  calls_rest old new [] sound rest run = subst (λ (p : Past D). IsAtRest (files p.store.disk)) (sym run) rest
+  pub calls_rest : (old new : Past D) (calls : List Call) → new.store.session.broken ≡ false → IsAtRest (g.files old.store.disk) → AllMade old calls new → IsAtRest (g.files new.store.disk)
+  calls_rest old new [] sound rest run = subst (λ (p : Past D). IsAtRest (g.files p.store.disk)) (sym run) rest
   calls_rest old new (call ∷ calls) sound rest run = ⊎_elim
       (λ fell. absurd (false≢true (sym sound ∙ kept_broken run.0 new (broken_calls run.0 new calls fell run.2) ∙ fell)))
       (λ still. calls_rest run.0 new calls sound (rest_call old run.0 call still rest run.1) run.2)
@@ -205,7 +206,7 @@ module _ {D : Type 0} (files : D → List ℕ → FileState) (moment : D → ℕ
     course_call : (call : Call) → Made old call mid → CourseTo old new
     course_call (Ran command answer) made = record {
       last = to.last;
-      course = course_run files moment left_since old.store mid.store to.last command answer (Counts new old) (Counts new mid) made.0 to.course (inl refl)
+      course = course_run g old.store mid.store to.last command answer (Counts new old) (Counts new mid) made.0 to.course (inl refl)
           (λ fine s later.
           further old mid new (call_lists old mid (Ran command answer) made lists) ends (same_or_sound old.store.session mid.store.session command answer fine made.0.step) s later)
           (inl refl)
@@ -219,7 +220,7 @@ module _ {D : Type 0} (files : D → List ℕ → FileState) (moment : D → ℕ
         let n = old.store.session.accepted in
         record {
           last = to.last;
-          course = course_run files moment left_since old.store mid.store to.last Settle (reply_of n answer) (Counts new old) (Counts new mid) (settling_runs old.store mid.store answer made.0) to.course (inl refl)
+          course = course_run g old.store mid.store to.last Settle (reply_of n answer) (Counts new old) (Counts new mid) (settling_runs old.store mid.store answer made.0) to.course (inl refl)
               (λ fine s later.
               further old mid new (call_lists old mid (Settled answer) made lists) ends
               (same_or_sound old.store.session mid.store.session Settle (reply_of n answer) fine (settle_steps old.store.session mid.store.session answer made.0.step)) s later)
@@ -239,7 +240,7 @@ module _ {D : Type 0} (files : D → List ℕ → FileState) (moment : D → ℕ
   course_to : (old new : Past D) (calls : List Call) → Lists old.store.session old.texts → AllMade old calls new → CourseTo old new
   course_to old new [] lists run = record {
     last = old.store;
-    course = course_none files moment left_since old.store (Counts new old) (inl refl);
+    course = course_none g old.store (Counts new old) (inl refl);
     disk = ap (λ (p : Past D). p.store.disk) run;
     accepted = ap (λ (p : Past D). p.store.session.accepted) run;
   }
@@ -248,7 +249,7 @@ module _ {D : Type 0} (files : D → List ℕ → FileState) (moment : D → ℕ
       let keeps = broken_calls old new (call ∷ calls) fell run in
       record {
         last = old.store;
-        course = course_none files moment left_since old.store (Counts new old) (inl refl);
+        course = course_none g old.store (Counts new old) (inl refl);
         disk = same_disk old new keeps;
         accepted = ap (λ (k : Kept D). k.session.accepted) keeps.store;
       })
@@ -260,7 +261,7 @@ module _ {D : Type 0} (files : D → List ℕ → FileState) (moment : D → ℕ
   -- What a crash leaves.
   module _ (first last : Past D) (calls : List Call) (lists : Lists first.store.session first.texts) (run : AllMade first calls last) (sound : first.store.session.broken ≡ false) where
     abbrev others : Image
-    others = contents (files first.store.disk)
+    others = contents (g.files first.store.disk)
 
     abbrev IsLeftOf : Image → Type 0
     IsLeftOf image = Holds first.store.session others first.store.session.settled image ⊎ HoldsPrefix first.store.session others last.texts first.store.session.accepted image
@@ -273,12 +274,12 @@ module _ {D : Type 0} (files : D → List ℕ → FileState) (moment : D → ℕ
         (λ more. ⊎_elim (λ is. is) (λ past. absurd (omega (arith, past, within))) more)
         counts
 
-    pub calls_leave : ((image : Image) → left_since first.store.disk (moment first.store.disk) image → AreImages (files first.store.disk) image) → IsAtRest (files first.store.disk)
-        → IsOnDisk first.store.session others → LeavesOnly (moment first.store.disk) (moment last.store.disk) (left_since first.store.disk) (left_since last.store.disk) IsLeftOf
+    pub calls_leave : ((image : Image) → g.left_since first.store.disk (g.moment first.store.disk) image → AreImages (g.files first.store.disk) image) → IsAtRest (g.files first.store.disk)
+        → IsOnDisk first.store.session others → LeavesOnly (g.moment first.store.disk) (g.moment last.store.disk) (g.left_since first.store.disk) (g.left_since last.store.disk) IsLeftOf
     calls_leave start rest disk =
         let to = course_to first last calls lists run in
-        subst (λ d. LeavesOnly (moment first.store.disk) (moment d) (left_since first.store.disk) (left_since d) IsLeftOf) (sym to.disk)
-        (leaves_as (course_leaves files moment left_since first.store to.last (Counts last first) to.course rest disk sound start) (λ image left. ⊎_elim
+        subst (λ d. LeavesOnly (g.moment first.store.disk) (g.moment d) (g.left_since first.store.disk) (g.left_since d) IsLeftOf) (sym to.disk)
+        (leaves_as (course_leaves g first.store to.last (Counts last first) to.course rest disk sound start) (λ image left. ⊎_elim
         (λ held. inl held)
         (λ reached. inr (reached.0.accepted, reached.1.1.no_fewer, rw (stands reached.0 reached.1.0 (omega (arith, reached.1.1.no_more, to.accepted))) reached.2))
         left))

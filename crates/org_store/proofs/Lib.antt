@@ -1,4 +1,5 @@
 pub mod Settled
+pub mod Acted
 pub mod Accepted
 pub mod Follows
 pub mod Own

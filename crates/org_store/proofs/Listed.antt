@@ -1,13 +1,13 @@
 -- What holds of the list of texts, where accepted commands keep it: its texts are within the limit,
 -- and after refiles alone they have the same nodes.
 use Rattle.std.proofs.Common.{◌≡◌, ⊎_elim, ℕ, ◌+◌, false, List, [], ◌∷◌, ◌++◌, Option, Some, None, Result, Ok, Err, refl, sym, ap, ◌∙◌, subst, arith}
+use Rattle.org_disk.specs.declared.disk.Disk.{Ghosts}
 use Rattle.std.specs.Prelude.{slice_get, IsSomeAnd}
 use Rattle.std.specs.List.{All, AllByRecursion, IsDistinct}
 use Rattle.std.specs.Str.{bytes_eq}
 use Rattle.std.proofs.lemmas.Bool.{cases_Bool}
 use Rattle.std.proofs.lemmas.List.Elements.{All-push}
 use Rattle.std.proofs.lemmas.Option.{slice_get_within, get_or_from_slice_get}
-use Rattle.org_disk.specs.Disk.{FileState}
 use Rattle.org_journal.specs.Recovered.{Image}
 use Rattle.org_fileset.specs.Names.{with_archives, AreSorted, AreFew}
 use Rattle.org_commands.specs.declared.command.Command.{Command}
@@ -55,11 +55,11 @@ module _ (names : List (List ℕ)) (P : Texts → Type 0) (Allowed : Call → Ty
     pub lists : Lists s texts
     pub has : P texts
 
-  module _ {D : Type 0} (files : D → List ℕ → FileState) (moment : D → ℕ) (left_since : D → ℕ → Image → Type 0) where
-    has_call : (old new : Past D) (call : Call) → Allowed call → CallPast files moment left_since old call new → Has old.store.session old.texts → Has new.store.session new.texts
+  module _ {D : Type 0} (g : Ghosts D) where
+    has_call : (old new : Past D) (call : Call) → Allowed call → CallPast g old call new → Has old.store.session old.texts → Has new.store.session new.texts
     has_call old new (Ran command answer) allowed made had = record {
       same_names = (step_setting old.store.session new.store.session command answer made.0.step).1 ∙ had.same_names;
-      lists = call_lists files moment left_since old new (Ran command answer) made had.lists;
+      lists = call_lists g old new (Ran command answer) made had.lists;
       has = ⊎_elim
           (λ none. subst P (sym none.1) had.has)
           (λ one. subst P (sym one.1.2) (more one.1.0 one.1.1 one.0))
@@ -79,16 +79,16 @@ module _ (names : List (List ℕ)) (P : Texts → Type 0) (Allowed : Call → Ty
     has_call old new (Settled answer) allowed made had = record {
       same_names = (step_setting old.store.session new.store.session Settle (reply_of old.store.session.accepted answer) (settle_steps old.store.session new.store.session answer made.0.step)).1
           ∙ had.same_names;
-      lists = call_lists files moment left_since old new (Settled answer) made had.lists;
+      lists = call_lists g old new (Settled answer) made had.lists;
       has = subst P (sym made.1) had.has;
     }
     has_call old new (Grouped group) allowed made had = record {
       same_names = ap (λ (k : Kept D). k.session.names) made.0 ∙ had.same_names;
-      lists = call_lists files moment left_since old new (Grouped group) made had.lists;
+      lists = call_lists g old new (Grouped group) made had.lists;
       has = subst P (sym made.1) had.has;
     }
 
-    pub has_calls : (old new : Past D) (calls : List Call) → AllByRecursion Allowed calls → CallsPast files moment left_since old calls new → Has old.store.session old.texts → P new.texts
+    pub has_calls : (old new : Past D) (calls : List Call) → AllByRecursion Allowed calls → CallsPast g old calls new → Has old.store.session old.texts → P new.texts
     has_calls old new [] allowed run had = subst (λ (p : Past D). P p.texts) (sym run) had.has
     has_calls old new (call ∷ calls) allowed run had = has_calls run.0 new calls allowed.1 run.2 (has_call old run.0 call allowed.0 run.1 had)
 
@@ -147,8 +147,8 @@ prefix_same given first others texts least image of all =
     (λ files kept held. nodes_as first.names files first.files image kept.1 (holds_nodes given first of others files image kept.0 held))
 
 -- A run of a store that has such a list as it begins.
-module _ {D : Type 0} (files : D → List ℕ → FileState) (moment : D → ℕ) (left_since : D → ℕ → Image → Type 0) (first last : Past D) (calls : List Call)
-    (run : CallsPast files moment left_since first calls last) (lists : Lists first.store.session first.texts) (small : All (AreSmall first.store.session.names) first.texts) where
+module _ {D : Type 0} (g : Ghosts D) (first last : Past D) (calls : List Call)
+    (run : CallsPast g first calls last) (lists : Lists first.store.session first.texts) (small : All (AreSmall first.store.session.names) first.texts) where
   abbrev names : List (List ℕ)
   names = first.store.session.names
 
@@ -157,7 +157,7 @@ module _ {D : Type 0} (files : D → List ℕ → FileState) (moment : D → ℕ
       has_calls names (All (AreSmall names)) Any
       (λ s command answer texts made same listed sound any may accepts all.
       All-push (AreSmall names) texts made all (keeps_small names s command made same (each_at (AreSmall names) texts s.accepted s.files all (listed.files sound)) accepts))
-      files moment left_since first last calls (any_call calls) run (record { same_names = refl; lists = lists; has = small })
+      g first last calls (any_call calls) run (record { same_names = refl; lists = lists; has = small })
 
   pub calls_same : (base : List (List ℕ)) → IsDistinct bytes_eq names → AllByRecursion MayRefile calls → All (λ texts. HaveSameNodes texts base) first.texts → All (KeptNodes names base) last.texts
   calls_same base apart only same =
@@ -165,4 +165,4 @@ module _ {D : Type 0} (files : D → List ℕ → FileState) (moment : D → ℕ
       (λ s command answer texts made is listed sound may accepted accepts all.
       All-push (KeptNodes names base) texts made all
       (keeps_nodes names base apart s command made is (may accepted) (each_at (KeptNodes names base) texts s.accepted s.files all (listed.files sound)) accepts))
-      files moment left_since first last calls only run (record { same_names = refl; lists = lists; has = λ k d within. (small k d within, same k d within) })
+      g first last calls only run (record { same_names = refl; lists = lists; has = λ k d within. (small k d within, same k d within) })

@@ -1,5 +1,6 @@
 -- What lies on the disk between two parts of a call of a store.
 use Rattle.std.proofs.Common.{⊎_elim, ℕ, List, Result}
+use Rattle.org_disk.specs.declared.disk.Disk.{Ghosts}
 use Rattle.org_disk.specs.Accounts.{LeavesOver}
 use Rattle.org_disk.specs.Disk.{FileState, AreImages}
 use Rattle.org_journal.specs.Recovered.{Image, SameFiles, contents}
@@ -12,13 +13,13 @@ use Rattle.org_commands.specs.Left.{IsLeft, PutsOnDisk}
 use Rattle.org_commands.specs.Outcome.{Outcome}
 use Rattle.org_commands.specs.Session.{Session}
 
-pub left_between : {D : Type 0} (files : D → List ℕ → FileState) (moment : D → ℕ) (left_since : D → ℕ → Image → Type 0) (old mid new : D) {A : Type 0}
+pub left_between : {D : Type 0} (g : Ghosts D) (old mid new : D) {A : Type 0}
     (s : Session) (others : Image) (does : Outcome) (answer : Result A RunFault) (accepted : ℕ)
-    → ((image : Image) → AreImages (files mid) image → left_since mid (moment old) image) → AreImages (files mid) (contents (files mid))
-    → IsBetween moment left_since old mid new → LeavesOver moment left_since old new (IsLeft s others does answer accepted)
-    → IsLeft s others does answer accepted (contents (files mid))
-left_between files moment left_since old mid new s others does answer accepted counts own between leaves =
-    leaves.each (contents (files mid)) (counts_between files moment left_since old mid new counts between (contents (files mid)) own)
+    → ((image : Image) → AreImages (g.files mid) image → g.left_since mid (g.moment old) image) → AreImages (g.files mid) (contents (g.files mid))
+    → IsBetween g old mid new → LeavesOver g old new (IsLeft s others does answer accepted)
+    → IsLeft s others does answer accepted (contents (g.files mid))
+left_between g old mid new s others does answer accepted counts own between leaves =
+    leaves.each (contents (g.files mid)) (counts_between g old mid new counts between (contents (g.files mid)) own)
 
 differs : (held texts : Image) → AreOtherFiles held texts → SameFiles held texts → ⊥
 differs held texts apart same = apart.differs (same apart.name apart.apart)

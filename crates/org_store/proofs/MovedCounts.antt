@@ -1,6 +1,7 @@
 -- Refiles and archivings, one after another, keep how often each node is there over all files of a
 -- store, but for the sections of the entries that are archived and for the headings that are made.
 use Rattle.std.proofs.Common.{◌≡◌, ◌⊎◌, inl, inr, ⊎_elim, ℕ, zero, suc, ◌+◌, ◌≤◌, ◌==◌, false, List, [], ◌∷◌, ◌++◌, length, Option, Some, None, refl, sym, ◌∙◌, ap, subst, if◌then◌else◌, arith, length-append}
+use Rattle.org_disk.specs.declared.disk.Disk.{Ghosts}
 use Rattle.std.specs.List.{All, AllByRecursion, IsDistinct, sum_by}
 use Rattle.std.specs.Prelude.{slice_get}
 use Rattle.std.specs.Str.{bytes_eq}
@@ -8,9 +9,7 @@ use Rattle.std.proofs.lemmas.Bool.{cases_Bool}
 use Rattle.std.proofs.lemmas.List.Elements.{All-push}
 use Rattle.std.proofs.lemmas.List.Sums.{sum_by-append}
 use Rattle.std.proofs.lemmas.Option.{slice_get_within}
-use Rattle.org_disk.specs.Disk.{FileState}
 use Rattle.org_disk.specs.Names.{IsDiskName}
-use Rattle.org_journal.specs.Recovered.{Image}
 use Rattle.org_stamp.specs.Calendar.{CivilMinute}
 use Rattle.org_outline.specs.Tree.{Node, node_at, tree}
 use Rattle.org_move.specs.Archive.{archived_section}
@@ -123,8 +122,8 @@ moved_first n texts size i k one other low at later =
     let texts_same : one ≡ other = cc in
     moved_none k other one (sym texts_same)
 
-module _ {D : Type 0} (files : D → List ℕ → FileState) (moment : D → ℕ) (left_since : D → ℕ → Image → Type 0) (first last : Past D) (calls : List Call)
-    (run : CallsPast files moment left_since first calls last) (lists : Lists first.store.session first.texts) (small : All (AreSmall first.store.session.names) first.texts)
+module _ {D : Type 0} (g : Ghosts D) (first last : Past D) (calls : List Call)
+    (run : CallsPast g first calls last) (lists : Lists first.store.session first.texts) (small : All (AreSmall first.store.session.names) first.texts)
     (apart : IsDistinct bytes_eq first.store.session.names) where
   abbrev names : List (List ℕ)
   names = first.store.session.names
@@ -145,7 +144,7 @@ module _ {D : Type 0} (files : D → List ℕ → FileState) (moment : D → ℕ
         All-push (AreSmall names) texts made had.0 (keeps_small names s command made is fits accepts),
         push_moved base s.accepted texts s.files made listed.size here new had.1,
       ))
-      files moment left_since first last calls only run (record { same_names = refl; lists = lists; has = (small, moved_first base first.texts lists.size) })).1
+      g first last calls only run (record { same_names = refl; lists = lists; has = (small, moved_first base first.texts lists.size) })).1
 
 -- what an archiving adds to the list
 pub archive_moves : {D : Type 0} (first last : Past D) → Lists first.store.session first.texts → IsDistinct bytes_eq first.store.session.names → (it : Archiving)

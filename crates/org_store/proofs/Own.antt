@@ -1,11 +1,10 @@
 -- Calls of a store write no file but its own.
 use Rattle.std.proofs.Common.{◌≡◌, inl, inr, ℕ, List, [], ◌∷◌, ◌++◌, true, Result, Ok, Err, refl, sym, ap, ◌∙◌, subst}
+use Rattle.org_disk.specs.declared.disk.Disk.{Ghosts}
 use Rattle.std.proofs.lemmas.Bool.{cases_Bool, false≢true}
 use Rattle.std.specs.List.{list_any}
 use Rattle.std.specs.Str.{bytes_eq}
-use Rattle.org_disk.specs.Disk.{FileState}
 use Rattle.org_disk.proofs.Names.{name_cases, same_name}
-use Rattle.org_journal.specs.Recovered.{Image}
 use Rattle.org_fileset.specs.Writes.{LeavesAlone, IsOther}
 use Rattle.org_fileset.proofs.Writes.{alone_fewer, alone_none, alone_then}
 use Rattle.org_commands.specs.declared.command.Command.{Command}
@@ -90,51 +89,51 @@ settles_names old new (Err OutOfMemory) step = ap (λ (s : Session). s.names) st
 settles_names old new (Err Device) step = ap (λ (s : Session). s.names) step.1.2
 settles_names old new (Err Broken) step = ap (λ (s : Session). s.names) step.1
 
-module _ {D : Type 0} (files : D → List ℕ → FileState) (moment : D → ℕ) (left_since : D → ℕ → Image → Type 0) where
+module _ {D : Type 0} (g : Ghosts D) where
   -- Calls of a store whose waiting files are its own: they still are, and no other file was
   -- written.
   pub record KeepsToItsOwn (old new : Kept D) : Type 0 where
     pub names : new.session.names ≡ old.session.names
     pub waits : AreNames old.session.names new.waiting
-    pub alone : LeavesAlone files moment left_since (IsApart old.session.names) old.disk new.disk
+    pub alone : LeavesAlone g (IsApart old.session.names) old.disk new.disk
 
   pub own_none : (old new : Kept D) → AreNames old.session.names old.waiting → new ≡ old → KeepsToItsOwn old new
-  own_none old new named same = subst (KeepsToItsOwn old) (sym same) (record { names = refl; waits = named; alone = alone_none files moment left_since (IsApart old.session.names) old.disk })
+  own_none old new named same = subst (KeepsToItsOwn old) (sym same) (record { names = refl; waits = named; alone = alone_none g (IsApart old.session.names) old.disk })
 
   pub own_then : (old mid new : Kept D) → KeepsToItsOwn old mid → (AreNames mid.session.names mid.waiting → KeepsToItsOwn mid new) → KeepsToItsOwn old new
   own_then old mid new first second =
       let more = second (subst (λ (ns : List (List ℕ)). AreNames ns mid.waiting) (sym first.names) first.waits) in record {
         names = more.names ∙ first.names;
         waits = subst (λ (ns : List (List ℕ)). AreNames ns new.waiting) first.names more.waits;
-        alone = alone_then files moment left_since (IsApart old.session.names) old.disk mid.disk new.disk first.alone
-            (subst (λ (ns : List (List ℕ)). LeavesAlone files moment left_since (IsApart ns) mid.disk new.disk) first.names more.alone);
+        alone = alone_then g (IsApart old.session.names) old.disk mid.disk new.disk first.alone
+            (subst (λ (ns : List (List ℕ)). LeavesAlone g (IsApart ns) mid.disk new.disk) first.names more.alone);
       }
 
-  pub own_run : (old new : Kept D) (command : Command) (answer : Result Reply RunFault) → AreNames old.session.names old.waiting → RunsOver files moment left_since old command answer new → KeepsToItsOwn old new
+  pub own_run : (old new : Kept D) (command : Command) (answer : Result Reply RunFault) → AreNames old.session.names old.waiting → RunsOver g old command answer new → KeepsToItsOwn old new
   own_run old new command answer named ran =
       let does = outcome old.session command in
       let gives = written_named old.session command in record {
         names = (step_setting old.session new.session command answer ran.step).1;
         waits = waits_on old new does answer named gives ran.waits;
-        alone = alone_fewer files moment left_since (IsApart old.session.names) (IsLeftAlone old.session old.waiting does answer new.session.accepted) old.disk new.disk ran.disk.alone
+        alone = alone_fewer g (IsApart old.session.names) (IsLeftAlone old.session old.waiting does answer new.session.accepted) old.disk new.disk ran.disk.alone
             (λ name apart wrote. spared old.session old.waiting does new.session.accepted name named gives apart);
       }
 
-  pub own_settling : (old new : Kept D) (answer : Result (Unit {0}) RunFault) → AreNames old.session.names old.waiting → SettlesOver files moment left_since old answer new → KeepsToItsOwn old new
+  pub own_settling : (old new : Kept D) (answer : Result (Unit {0}) RunFault) → AreNames old.session.names old.waiting → SettlesOver g old answer new → KeepsToItsOwn old new
   own_settling old new answer named ran = record {
     names = settles_names old.session new.session answer ran.step;
     waits = waits_settled_on old new answer named ran.waits;
-    alone = alone_fewer files moment left_since (IsApart old.session.names) (IsLeftAlone old.session old.waiting AsksToSettle answer new.session.accepted) old.disk new.disk ran.disk.alone
+    alone = alone_fewer g (IsApart old.session.names) (IsLeftAlone old.session old.waiting AsksToSettle answer new.session.accepted) old.disk new.disk ran.disk.alone
         (λ name apart wrote. spared old.session old.waiting AsksToSettle new.session.accepted name named tt apart);
   }
 
-  own_call : (old new : Past D) (call : Call) → AreNames old.store.session.names old.store.waiting → CallPast files moment left_since old call new → KeepsToItsOwn old.store new.store
+  own_call : (old new : Past D) (call : Call) → AreNames old.store.session.names old.store.waiting → CallPast g old call new → KeepsToItsOwn old.store new.store
   own_call old new (Ran command answer) named made = own_run old.store new.store command answer named made.0
   own_call old new (Settled answer) named made = own_settling old.store new.store answer named made.0
   own_call old new (Grouped group) named made =
-      subst (KeepsToItsOwn old.store) (sym made.0) (record { names = refl; waits = named; alone = alone_none files moment left_since (IsApart old.store.session.names) old.store.disk })
+      subst (KeepsToItsOwn old.store) (sym made.0) (record { names = refl; waits = named; alone = alone_none g (IsApart old.store.session.names) old.store.disk })
 
-  pub own_calls : (old new : Past D) (calls : List Call) → AreNames old.store.session.names old.store.waiting → CallsPast files moment left_since old calls new → KeepsToItsOwn old.store new.store
+  pub own_calls : (old new : Past D) (calls : List Call) → AreNames old.store.session.names old.store.waiting → CallsPast g old calls new → KeepsToItsOwn old.store new.store
   own_calls old new [] named run = own_none old.store new.store named (ap (λ (p : Past D). p.store) run)
   own_calls old new (call ∷ calls) named run =
       own_then old.store run.0.store new.store (own_call old run.0 call named run.1) (λ named. own_calls run.0 new calls named run.2)

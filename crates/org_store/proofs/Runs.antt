@@ -1,9 +1,10 @@
 -- Runs of commands over a disk: what a crash leaves meanwhile, and what the disk is after them.
 use Rattle.std.proofs.Common.{◌≡◌, ◌⊎◌, inl, inr, ⊎_elim, ℕ, ◌+◌, ◌≤◌, true, false, List, [], ◌∷◌, is_some, Result, Ok, Err, refl, sym, ◌∙◌, ap, subst, arith, IsTrue}
+use Rattle.org_disk.specs.declared.disk.Disk.{Ghosts}
 use Rattle.std.specs.Prelude.{IsErrOf}
 use Rattle.std.specs.Str.{bytes_eq}
 use Rattle.std.proofs.lemmas.Bool.{cases_Bool, false≢true}
-use Rattle.org_disk.specs.Disk.{FileState, AreImages, Passes, LeavesOnly}
+use Rattle.org_disk.specs.Disk.{AreImages, Passes, LeavesOnly}
 use Rattle.org_disk.proofs.Moments.{passes_none, passes_as, passes_then, leaves_only}
 use Rattle.org_journal.specs.Recovered.{Image, SameFiles, IsRecoverable, RecoversTo, contents}
 use Rattle.org_fileset.specs.Replay.{IsAtRest}
@@ -230,13 +231,13 @@ abbrev Reached : Session → Session → (Session → Type 0) → Session → Ty
 Reached old new P s = HaveTexts old.names old.files s.files × IsBetween old new s × P s
 
 -- What a run of calls does, from the one store to the other; the sessions that are reached have P.
-pub record Course {D : Type 0} (files : D → List ℕ → FileState) (moment : D → ℕ) (left_since : D → ℕ → Image → Type 0) (old new : Kept D) (P : Session → Type 0) : Type 0 where
-  pub passes : IsAtRest (files old.disk) → IsOnDisk old.session (contents (files old.disk)) → old.session.broken ≡ false
-      → Passes (moment old.disk) (moment new.disk) (left_since old.disk) (left_since new.disk) (IsLeftOf old.session (contents (files old.disk)) (Reached old.session new.session P))
-  pub rest : new.session.broken ≡ false → IsAtRest (files old.disk) → IsAtRest (files new.disk)
-  pub recoverable : IsAtRest (files old.disk) → IsRecoverable (files new.disk)
-  pub others : new.session.broken ≡ false → IsOnDisk old.session (contents (files old.disk))
-      → SameFiles (contents (files new.disk)) (with_texts new.session.names new.session.settled (contents (files old.disk)))
+pub record Course {D : Type 0} (g : Ghosts D) (old new : Kept D) (P : Session → Type 0) : Type 0 where
+  pub passes : IsAtRest (g.files old.disk) → IsOnDisk old.session (contents (g.files old.disk)) → old.session.broken ≡ false
+      → Passes (g.moment old.disk) (g.moment new.disk) (g.left_since old.disk) (g.left_since new.disk) (IsLeftOf old.session (contents (g.files old.disk)) (Reached old.session new.session P))
+  pub rest : new.session.broken ≡ false → IsAtRest (g.files old.disk) → IsAtRest (g.files new.disk)
+  pub recoverable : IsAtRest (g.files old.disk) → IsRecoverable (g.files new.disk)
+  pub others : new.session.broken ≡ false → IsOnDisk old.session (contents (g.files old.disk))
+      → SameFiles (contents (g.files new.disk)) (with_texts new.session.names new.session.settled (contents (g.files old.disk)))
   pub onward : new.session.broken ≡ false → Onward old.session new.session
   pub stays : old.session.broken ≡ true → new ≡ old
   pub rises : old.session.accepted ≤ new.session.accepted
@@ -290,9 +291,9 @@ settling_ends old new (Err Broken) step = (
   λ fell. refl,
 )
 
-module _ {D : Type 0} (files : D → List ℕ → FileState) (moment : D → ℕ) (left_since : D → ℕ → Image → Type 0) where
+module _ {D : Type 0} (g : Ghosts D) where
   abbrev Goes : Kept D → Kept D → (Session → Type 0) → Type 0
-  Goes old new P = Course files moment left_since old new P
+  Goes old new P = Course g old new P
 
   pub course_none : (old : Kept D) (P : Session → Type 0) → P old.session → Goes old old P
   course_none old P self = record {
@@ -324,7 +325,7 @@ module _ {D : Type 0} (files : D → List ℕ → FileState) (moment : D → ℕ
       ⊎_elim (λ fell. absurd (false≢true (sym sound ∙ ap (λ (k : Kept D). k.session.broken) (stays fell) ∙ fell))) (λ f. f) (cases_Bool old.session.broken)
 
   -- one call, and a run after it
-  module _ (old mid new : Kept D) (command : Command) (answer : Result Reply RunFault) (P Later : Session → Type 0) (ran : RunsOver files moment left_since old command answer mid) (course : Goes mid new Later)
+  module _ (old mid new : Kept D) (command : Command) (answer : Result Reply RunFault) (P Later : Session → Type 0) (ran : RunsOver g old command answer mid) (course : Goes mid new Later)
       (self : P old.session) (later : (IsErrOf answer Device → ⊥) → (s : Session) → Later s → P s) (first : Later mid.session)
       (torn : (texts : List (List ℕ)) → IsErrOf answer Device → IsAccepted (outcome old.session command) texts → IsTrue (fills old.session) → P (done old.session texts)) where
     rises : old.session.accepted ≤ new.session.accepted
@@ -352,12 +353,12 @@ module _ {D : Type 0} (files : D → List ℕ → FileState) (moment : D → ℕ
         ) in
         record {
           passes = λ rest disk sound.
-              subst (λ (k : Kept D). Passes (moment old.disk) (moment k.disk) (left_since old.disk) (left_since k.disk) (IsLeftOf old.session (contents (files old.disk)) (Reached old.session new.session P)))
+              subst (λ (k : Kept D). Passes (g.moment old.disk) (g.moment k.disk) (g.left_since old.disk) (g.left_since k.disk) (IsLeftOf old.session (contents (g.files old.disk)) (Reached old.session new.session P)))
               (sym same)
               (passes_as (ran.disk.any_moment rest).passes
-              (λ image left. left_of old.session (contents (files old.disk)) (outcome old.session command) answer mid.session.accepted image (Reached old.session new.session P) self_reached reached left));
+              (λ image left. left_of old.session (contents (g.files old.disk)) (outcome old.session command) answer mid.session.accepted image (Reached old.session new.session P) self_reached reached left));
           rest = λ sound. absurd (false≢true (sym sound ∙ broken));
-          recoverable = λ rest. subst (λ (k : Kept D). IsRecoverable (files k.disk)) (sym same) (ran.disk.recoverable rest);
+          recoverable = λ rest. subst (λ (k : Kept D). IsRecoverable (g.files k.disk)) (sym same) (ran.disk.recoverable rest);
           others = λ sound. absurd (false≢true (sym sound ∙ broken));
           onward = λ sound. absurd (false≢true (sym sound ∙ broken));
           stays = stays;
@@ -366,9 +367,9 @@ module _ {D : Type 0} (files : D → List ℕ → FileState) (moment : D → ℕ
 
     after_answer : (IsErrOf answer Device → ⊥) → Goes old new P
     after_answer fine =
-        let same : SameFiles (contents (files mid.disk)) (with_texts mid.session.names mid.session.settled (contents (files old.disk))) = ran.disk.others fine in
-        let now : IsOnDisk mid.session (contents (files mid.disk)) =
-        on_disk_after mid.session.names mid.session.settled (contents (files old.disk)) (contents (files mid.disk)) same in
+        let same : SameFiles (contents (g.files mid.disk)) (with_texts mid.session.names mid.session.settled (contents (g.files old.disk))) = ran.disk.others fine in
+        let now : IsOnDisk mid.session (contents (g.files mid.disk)) =
+        on_disk_after mid.session.names mid.session.settled (contents (g.files old.disk)) (contents (g.files mid.disk)) same in
         let goes : old.session.broken ≡ false → Onwards old.session mid.session = λ sound. onward old.session mid.session command answer sound fine ran.step in
         let further : old.session.broken ≡ false → (s : Session) → Reached mid.session new.session Later s → Reached old.session new.session P s =
         λ sound s reached. (
@@ -378,19 +379,19 @@ module _ {D : Type 0} (files : D → List ℕ → FileState) (moment : D → ℕ
         ) in
         let here : old.session.broken ≡ false → Reached old.session new.session P mid.session =
         λ sound. further sound mid.session (λ name. refl, self_between mid.session new.session course.rises, first) in
-        let back : old.session.broken ≡ false → IsOnDisk old.session (contents (files old.disk)) → (image : Image) → IsLeftOf mid.session (contents (files mid.disk)) (Reached mid.session new.session Later) image
-        → IsLeftOf old.session (contents (files old.disk)) (Reached old.session new.session P) image =
+        let back : old.session.broken ≡ false → IsOnDisk old.session (contents (g.files old.disk)) → (image : Image) → IsLeftOf mid.session (contents (g.files mid.disk)) (Reached mid.session new.session Later) image
+        → IsLeftOf old.session (contents (g.files old.disk)) (Reached old.session new.session P) image =
         λ sound disk image left. ⊎_elim
         (λ held.
-        let holds = holds_back old.session mid.session (contents (files old.disk)) (contents (files mid.disk)) image (goes sound).0 disk same mid.session.settled (inl refl) held in
+        let holds = holds_back old.session mid.session (contents (g.files old.disk)) (contents (g.files mid.disk)) image (goes sound).0 disk same mid.session.settled (inl refl) held in
         ⊎_elim
-        (λ is. inl (subst (λ texts. Holds old.session (contents (files old.disk)) texts image) is holds))
-        (λ is. inr (mid.session, here sound, subst (λ texts. Holds old.session (contents (files old.disk)) texts image) is holds))
+        (λ is. inl (subst (λ texts. Holds old.session (contents (g.files old.disk)) texts image) is holds))
+        (λ is. inr (mid.session, here sound, subst (λ texts. Holds old.session (contents (g.files old.disk)) texts image) is holds))
         (goes sound).1)
         (λ reached. inr (
           reached.0,
           further sound reached.0 reached.1,
-          holds_back old.session mid.session (contents (files old.disk)) (contents (files mid.disk)) image (goes sound).0 disk same reached.0.files (inr reached.1.0) reached.2,
+          holds_back old.session mid.session (contents (g.files old.disk)) (contents (g.files mid.disk)) image (goes sound).0 disk same reached.0.files (inr reached.1.0) reached.2,
         ))
         left in
         let sound_then : new.session.broken ≡ false → old.session.broken ≡ false = sound_before old new stays in
@@ -398,7 +399,7 @@ module _ {D : Type 0} (files : D → List ℕ → FileState) (moment : D → ℕ
           passes = λ rest disk sound.
               passes_then
               (passes_as (ran.disk.any_moment rest).passes
-              (λ image left. left_of old.session (contents (files old.disk)) (outcome old.session command) answer mid.session.accepted image (Reached old.session new.session P) self_reached
+              (λ image left. left_of old.session (contents (g.files old.disk)) (outcome old.session command) answer mid.session.accepted image (Reached old.session new.session P) self_reached
               (λ texts accepted full counted. subst (Reached old.session new.session P) (is_done old.session mid.session (outcome old.session command) answer texts fine ran.step accepted counted) (here sound)) left))
               (course.passes (ran.disk.rest fine rest) now ((goes sound).0.broken ∙ sound))
               (back sound disk);
@@ -408,7 +409,7 @@ module _ {D : Type 0} (files : D → List ℕ → FileState) (moment : D → ℕ
               let o = (goes (sound_then sound)).0 in
               let l = course.onward sound in
               course.others sound now name not
-              ∙ rw l.names (others_over old.session mid.session (contents (files old.disk)) (contents (files mid.disk)) o disk same new.session.settled l.settled name not);
+              ∙ rw l.names (others_over old.session mid.session (contents (g.files old.disk)) (contents (g.files mid.disk)) o disk same new.session.settled l.settled name not);
           onward = λ sound. onward_then old.session mid.session new.session (goes (sound_then sound)).0 (course.onward sound);
           stays = stays;
           rises = rises;
@@ -418,14 +419,14 @@ module _ {D : Type 0} (files : D → List ℕ → FileState) (moment : D → ℕ
     course_run = ⊎_elim after_failure after_answer (device_or_not answer)
 
   -- a settling
-  module _ (old new : Kept D) (answer : Result (Unit {0}) RunFault) (P : Session → Type 0) (ran : SettlesOver files moment left_since old answer new) (self : P old.session) where
+  module _ (old new : Kept D) (answer : Result (Unit {0}) RunFault) (P : Session → Type 0) (ran : SettlesOver g old answer new) (self : P old.session) where
     pub course_settle : Goes old new P
     course_settle =
         let ends = settling_ends old.session new.session answer ran.step in
         record {
           passes = λ rest disk sound.
               passes_as (ran.disk.any_moment rest).passes
-              (λ image left. left_of old.session (contents (files old.disk)) AsksToSettle answer new.session.accepted image (Reached old.session new.session P) (λ name. refl, self_between old.session new.session ends.0, self)
+              (λ image left. left_of old.session (contents (g.files old.disk)) AsksToSettle answer new.session.accepted image (Reached old.session new.session P) (λ name. refl, self_between old.session new.session ends.0, self)
               (λ texts accepts. no_settling texts accepts) left);
           rest = λ sound rest. ran.disk.rest (ends.1 sound).0 rest;
           recoverable = ran.disk.recoverable;
@@ -436,12 +437,12 @@ module _ {D : Type 0} (files : D → List ℕ → FileState) (moment : D → ℕ
         }
 
   -- what is left of a run, with no word of how it is proved
-  pub course_leaves : (old new : Kept D) (P : Session → Type 0) → Goes old new P → IsAtRest (files old.disk) → IsOnDisk old.session (contents (files old.disk)) → old.session.broken ≡ false
-      → ((image : Image) → left_since old.disk (moment old.disk) image → AreImages (files old.disk) image)
-      → LeavesOnly (moment old.disk) (moment new.disk) (left_since old.disk) (left_since new.disk)
-      (IsLeftOf old.session (contents (files old.disk)) (λ mid. P mid × IsBetween old.session new.session mid))
+  pub course_leaves : (old new : Kept D) (P : Session → Type 0) → Goes old new P → IsAtRest (g.files old.disk) → IsOnDisk old.session (contents (g.files old.disk)) → old.session.broken ≡ false
+      → ((image : Image) → g.left_since old.disk (g.moment old.disk) image → AreImages (g.files old.disk) image)
+      → LeavesOnly (g.moment old.disk) (g.moment new.disk) (g.left_since old.disk) (g.left_since new.disk)
+      (IsLeftOf old.session (contents (g.files old.disk)) (λ mid. P mid × IsBetween old.session new.session mid))
   course_leaves old new P course rest disk sound start =
       leaves_only
       (passes_as (course.passes rest disk sound) (λ image left. ⊎_elim (λ held. inl held) (λ reached. inr (reached.0, (reached.1.2, reached.1.1), reached.2)) left))
-      (λ image left. inl (recovers_as (contents (files old.disk)) (with_texts old.session.names old.session.settled (contents (files old.disk))) image disk
-      (at_rest_recovers (files old.disk) rest image (start image left))))
+      (λ image left. inl (recovers_as (contents (g.files old.disk)) (with_texts old.session.names old.session.settled (contents (g.files old.disk))) image disk
+      (at_rest_recovers (g.files old.disk) rest image (start image left))))

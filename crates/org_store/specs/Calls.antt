@@ -2,8 +2,7 @@
 -- group, told with the list of texts. `files`, `moment` and `left_since` are what is seen of a disk
 -- of the type D.
 use Rattle.std.specs.Prelude.{◌≡◌, ℕ, List, [], ◌∷◌, Result}
-use Rattle.org_disk.specs.Disk.{FileState}
-use Rattle.org_journal.specs.Recovered.{Image}
+use Rattle.org_disk.specs.declared.disk.Disk.{Ghosts}
 use Rattle.org_commands.specs.declared.command.Command.{Command}
 use Rattle.org_commands.specs.declared.command.Reply.{Reply}
 use Rattle.org_commands.specs.declared.command.RunFault.{RunFault}
@@ -27,13 +26,10 @@ grouped group old = record old { session = record old.session { group = group } 
 
 -- A call was made over a disk of the type D that is honest after it: the clauses of the function
 -- that was called.
-abbrev pub CallOver : {D : Type 0} → (D → List ℕ → FileState) → (D → ℕ) → (D → ℕ → Image → Type 0)
-    → Kept D → Call → Kept D → Type 0
-CallOver files moment left_since old (Ran command answer) new =
-    RunsOver files moment left_since old command answer new
-CallOver files moment left_since old (Settled answer) new =
-    SettlesOver files moment left_since old answer new
-CallOver files moment left_since old (Grouped group) new = new ≡ grouped group old
+abbrev pub CallOver : {D : Type 0} → Ghosts D → Kept D → Call → Kept D → Type 0
+CallOver g old (Ran command answer) new = RunsOver g old command answer new
+CallOver g old (Settled answer) new = SettlesOver g old answer new
+CallOver g old (Grouped group) new = new ≡ grouped group old
 
 -- What a call adds to the list: a command that is accepted its texts, and no other call anything.
 abbrev pub CallAdds : Session → Call → Session → List (List (List ℕ)) → List (List (List ℕ))
@@ -44,17 +40,13 @@ CallAdds old (Settled answer) new texts more = more ≡ texts
 CallAdds old (Grouped group) new texts more = more ≡ texts
 
 -- A call was made, and the list goes on with it.
-abbrev pub CallPast : {D : Type 0} → (D → List ℕ → FileState) → (D → ℕ) → (D → ℕ → Image → Type 0)
-    → Past D → Call → Past D → Type 0
-CallPast files moment left_since old call new =
-    CallOver files moment left_since old.store call new.store
+abbrev pub CallPast : {D : Type 0} → Ghosts D → Past D → Call → Past D → Type 0
+CallPast g old call new =
+    CallOver g old.store call new.store
     × CallAdds old.store.session call new.store.session old.texts new.texts
 
 -- These calls were made, one after another.
-abbrev pub CallsPast : {D : Type 0} → (D → List ℕ → FileState) → (D → ℕ) → (D → ℕ → Image → Type 0)
-    → Past D → List Call → Past D → Type 0
-CallsPast files moment left_since old [] new = new ≡ old
-CallsPast {D = D} files moment left_since old (call ∷ calls) new =
-    (mid : Past D)
-    × CallPast files moment left_since old call mid
-    × CallsPast files moment left_since mid calls new
+abbrev pub CallsPast : {D : Type 0} → Ghosts D → Past D → List Call → Past D → Type 0
+CallsPast g old [] new = new ≡ old
+CallsPast {D = D} g old (call ∷ calls) new =
+    (mid : Past D) × CallPast g old call mid × CallsPast g mid calls new

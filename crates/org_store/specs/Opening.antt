@@ -1,9 +1,10 @@
 -- What opening a store answers.
-use Rattle.std.specs.Prelude.{◌≡◌, ◌⊎◌, ℕ, false, List, []}
-use Rattle.org_disk.specs.Disk.{FileState}
+use Rattle.std.specs.Prelude.{◌≡◌, ◌⊎◌, ℕ, false, List, [], Result}
+use Rattle.org_disk.specs.declared.disk.Disk.{Ghosts}
 use Rattle.org_journal.specs.Recovered.{contents}
-use Rattle.org_fileset.specs.Opening.{IsOpenedFor, IsRefusedFor}
+use Rattle.org_fileset.specs.Opening.{IsOpenedFor, IsRefusedFor, disk_in}
 use Rattle.org_fileset.specs.declared.open.OpenFault.{OpenFault}
+use Rattle.org_fileset.specs.declared.open.OpenRefused.{OpenRefused}
 use Rattle.org_fileset.specs.declared.open.OpenFault.TheVariants.{Device, OutOfMemory}
 use Rattle.org_outline.specs.States.{Keywords}
 use Rattle.org_commands.specs.InOrder.{texts_of}
@@ -24,20 +25,24 @@ opened states names texts =
       broken = false;
     }
 
--- A store that was just opened with these states and the given names. `honest` and `files` are what
--- is seen of its disk.
-pub record IsOpened {D : Type 0} (honest : D → Type 0) (files : D → List ℕ → FileState)
-    (states : Keywords) (given : List (List ℕ)) (store : Kept D) : Type 0 where
+-- the disk in the store that was opened, or the one that was handed back
+abbrev pub disk_of : {D : Type 0} → Result (Kept D) (OpenRefused D) → D
+disk_of result = disk_in result (λ store. store.disk)
+
+-- A store that was just opened with these states and the given names.
+pub record IsOpened {D : Type 0} (g : Ghosts D) (states : Keywords) (given : List (List ℕ))
+    (store : Kept D) : Type 0 where
   pub session : store.session
       ≡ opened states store.session.names
-      (texts_of (contents (files store.disk)) store.session.names)
-  pub set : IsOpenedFor given store.session.names (honest store.disk) (contents (files store.disk))
+      (texts_of (contents (g.files store.disk)) store.session.names)
+  pub set : IsOpenedFor given store.session.names (g.honest store.disk)
+      (contents (g.files store.disk))
   pub waits : store.waiting ≡ []
 
 -- An opening over the disk `before` that was refused for this fault, and handed it back as `now`.
-pub record IsRefused {D : Type 0} (honest : D → Type 0) (files : D → List ℕ → FileState)
-    (given : List (List ℕ)) (before now : D) (fault : OpenFault) : Type 0 where
-  pub set : IsRefusedFor honest files given before now fault
+pub record IsRefused {D : Type 0} (g : Ghosts D) (given : List (List ℕ)) (before now : D)
+    (fault : OpenFault) : Type 0 where
+  pub set : IsRefusedFor g given before now fault
   -- what recovers to files of these names is refused as long as memory or the disk fails
-  pub again : honest now → IsOpenable given (contents (files before))
+  pub again : g.honest now → IsOpenable given (contents (g.files before))
       → (fault ≡ OutOfMemory) ⊎ (fault ≡ Device)

@@ -74,11 +74,11 @@ pub fn settled_is_on_disk<D: Disk>()
         → IsOnDisk (opened states names (texts_of files names)) files }
     ensures run { (old new : Kept D) (command : Command) (answer : Result Reply RunFault)
         → (IsErrOf answer run_fault.Device → ⊥)
-        → RunsOver D.files D.moment D.left_since old command answer new
+        → RunsOver D.Disk old command answer new
         → IsOnDisk new.session (contents (D.files new.disk)) }
     ensures settle { (old new : Kept D) (answer : Result (Unit {0}) RunFault)
         → (IsErrOf answer run_fault.Device → ⊥)
-        → SettlesOver D.files D.moment D.left_since old answer new
+        → SettlesOver D.Disk old answer new
         → IsOnDisk new.session (contents (D.files new.disk)) }
 {}
 
@@ -92,13 +92,12 @@ pub fn only_its_own_files_are_written<D: Disk>()
         → AreNames s.names (written (outcome s command)) }
     ensures calls { (first last : Past D) (calls : List Call)
         → AreNames first.store.session.names first.store.waiting
-        → CallsPast D.files D.moment D.left_since first calls last
-        → LeavesAlone D.files D.moment D.left_since (IsApart first.store.session.names)
-        first.store.disk last.store.disk }
+        → CallsPast D.Disk first calls last
+        → LeavesAlone D.Disk (IsApart first.store.session.names) first.store.disk last.store.disk }
     // so it goes on with further calls
     ensures waits { (first last : Past D) (calls : List Call)
         → AreNames first.store.session.names first.store.waiting
-        → CallsPast D.files D.moment D.left_since first calls last
+        → CallsPast D.Disk first calls last
         → (last.store.session.names ≡ first.store.session.names)
         × AreNames last.store.session.names last.store.waiting }
 {}
@@ -119,46 +118,50 @@ pub fn calls_leave_a_prefix<D: Disk>()
         → Lists (opened states names texts) (texts ∷ []) }
     // with each call it goes on
     ensures goes_on { (old : Past D) (new : Kept D) (call : Call)
-        → CallOver D.files D.moment D.left_since old.store call new
+        → CallOver D.Disk old.store call new
         → (now : Past D) × (now.store ≡ new)
-        × CallPast D.files D.moment D.left_since old call now }
+        × CallPast D.Disk old call now }
     ensures lists { (first last : Past D) (calls : List Call)
         → Lists first.store.session first.texts
-        → CallsPast D.files D.moment D.left_since first calls last
+        → CallsPast D.Disk first calls last
         → Lists last.store.session last.texts }
     ensures any_moment { (first last : Past D) (calls : List Call) → D.honest first.store.disk
         → IsAtRest (D.files first.store.disk)
         → IsOnDisk first.store.session (contents (D.files first.store.disk))
         → IsFalse first.store.session.broken → Lists first.store.session first.texts
-        → CallsPast D.files D.moment D.left_since first calls last
+        → CallsPast D.Disk first calls last
         → let begin = first.store.session in let others = contents (D.files first.store.disk) in
-        LeavesOver D.moment D.left_since first.store.disk last.store.disk
+        LeavesOver D.Disk first.store.disk last.store.disk
         (λ image. Holds begin others begin.settled image
         ⊎ HoldsPrefix begin others last.texts begin.accepted image) }
-    // A broken store leaves its disk as it is, and all else but the size of the group.
-    ensures broken { (first last : Past D) (calls : List Call)
-        → IsTrue first.store.session.broken
-        → CallsPast D.files D.moment D.left_since first calls last
-        → (last.store ≡ grouped last.store.session.group first.store)
-        × (last.texts ≡ first.texts) }
-    // the disk is recoverable then, and at rest where the store isn't broken
-    ensures recoverable { (first last : Past D) (calls : List Call)
-        → IsAtRest (D.files first.store.disk)
-        → CallsPast D.files D.moment D.left_since first calls last
-        → IsRecoverable (D.files last.store.disk) }
-    ensures rest { (first last : Past D) (calls : List Call) → IsFalse last.store.session.broken
-        → IsAtRest (D.files first.store.disk)
-        → CallsPast D.files D.moment D.left_since first calls last
-        → IsAtRest (D.files last.store.disk) }
     // what a crash leaves of such a run is opened again, as in `every_image_opens`
     ensures opens { (given : List (List ℕ)) (first last : Past D) (calls : List Call)
         (others image : Image) (least : ℕ) → AreFew given
         → AreSorted (with_archives given) first.store.session.names
         → Lists first.store.session first.texts
         → All (AreSmall first.store.session.names) first.texts
-        → CallsPast D.files D.moment D.left_since first calls last
+        → CallsPast D.Disk first calls last
         → HoldsPrefix first.store.session others last.texts least image
         → IsOpenable given image }
+{}
+
+/// What a run of such calls does to a disk that was at rest when it began: it is recoverable then,
+/// and at rest where the store isn't broken.
+pub fn calls_keep_the_disk_recoverable<D: Disk>()
+    // A broken store leaves its disk as it is, and all else but the size of the group.
+    ensures broken { (first last : Past D) (calls : List Call)
+        → IsTrue first.store.session.broken
+        → CallsPast D.Disk first calls last
+        → (last.store ≡ grouped last.store.session.group first.store)
+        × (last.texts ≡ first.texts) }
+    ensures recoverable { (first last : Past D) (calls : List Call)
+        → IsAtRest (D.files first.store.disk)
+        → CallsPast D.Disk first calls last
+        → IsRecoverable (D.files last.store.disk) }
+    ensures rest { (first last : Past D) (calls : List Call) → IsFalse last.store.session.broken
+        → IsAtRest (D.files first.store.disk)
+        → CallsPast D.Disk first calls last
+        → IsAtRest (D.files last.store.disk) }
 {}
 
 /// The middle of a call counts. What a call of a store promises of a crash at any moment since it
@@ -168,26 +171,26 @@ pub fn calls_leave_a_prefix<D: Disk>()
 pub fn middle_of_a_call_counts<D: Disk>()
     ensures run { (old new : Kept D) (mid : D) (command : Command) (answer : Result Reply RunFault)
         → D.honest mid → IsAtRest (D.files old.disk)
-        → IsBetween D.moment D.left_since old.disk mid new.disk
-        → RunsOver D.files D.moment D.left_since old command answer new
+        → IsBetween D.Disk old.disk mid new.disk
+        → RunsOver D.Disk old command answer new
         → IsLeft old.session (contents (D.files old.disk)) (outcome old.session command) answer
         new.session.accepted (contents (D.files mid)) }
     ensures settle { (old new : Kept D) (mid : D) (answer : Result (Unit {0}) RunFault)
         → D.honest mid → IsAtRest (D.files old.disk)
-        → IsBetween D.moment D.left_since old.disk mid new.disk
-        → SettlesOver D.files D.moment D.left_since old answer new
+        → IsBetween D.Disk old.disk mid new.disk
+        → SettlesOver D.Disk old answer new
         → IsLeft old.session (contents (D.files old.disk)) AsksToSettle answer
         new.session.accepted (contents (D.files mid)) }
     // So the promise is false of a body that puts other files on the disk on its way, as one does
     // that takes an acknowledged subtree away and puts it back.
     ensures apart { (old new : Kept D) (mid : D) (command : Command)
         (answer : Result Reply RunFault) → D.honest mid → IsAtRest (D.files old.disk)
-        → IsAtRest (D.files mid) → IsBetween D.moment D.left_since old.disk mid new.disk
+        → IsAtRest (D.files mid) → IsBetween D.Disk old.disk mid new.disk
         → let s = old.session in let others = contents (D.files old.disk) in
         AreOtherFiles (contents (D.files mid)) (with_texts s.names s.settled others)
         → ((texts : List (List ℕ)) → PutsOnDisk s (outcome s command) new.session.accepted texts
         → AreOtherFiles (contents (D.files mid)) (with_texts s.names texts others))
-        → RunsOver D.files D.moment D.left_since old command answer new → ⊥ }
+        → RunsOver D.Disk old command answer new → ⊥ }
 {}
 
 /// Each node in one place. What a crash leaves of a run of calls (`calls_leave_a_prefix`) has each
@@ -204,14 +207,14 @@ pub fn one_place<D: Disk>()
         (others image : Image) (least : ℕ) → IsSessionOf given first.store.session
         → Lists first.store.session first.texts
         → All (AreSmall first.store.session.names) first.texts
-        → CallsPast D.files D.moment D.left_since first calls last
+        → CallsPast D.Disk first calls last
         → HoldsPrefix first.store.session others last.texts least image
         → HasNodesOfPrefix first.store.session.names last.texts least image }
     ensures refiles { (given : List (List ℕ)) (first last : Past D) (calls : List Call)
         (others image : Image) (least : ℕ) → IsSessionOf given first.store.session
         → Lists first.store.session first.texts
         → All (AreSmall first.store.session.names) first.texts
-        → CallsPast D.files D.moment D.left_since first calls last → All MayRefile calls
+        → CallsPast D.Disk first calls last → All MayRefile calls
         → All (λ texts. HaveSameNodes texts first.store.session.files) first.texts
         → HoldsPrefix first.store.session others last.texts least image
         → HasNodesOf first.store.session.names first.store.session.files image }
@@ -227,7 +230,7 @@ pub fn one_place<D: Disk>()
         (answer : Result Reply RunFault)
         → IsSessionOf given first.store.session → IsFalse first.store.session.broken
         → Lists first.store.session first.texts → IsDiskName it.file
-        → CallPast D.files D.moment D.left_since first (Ran (Archive it) answer) last
+        → CallPast D.Disk first (Ran (Archive it) answer) last
         → (k : ℕ) (texts : List (List ℕ)) → first.store.session.accepted ≤ k
         → slice_get last.texts k ≡ Some texts → (texts ≡ first.store.session.files)
         ⊎ ArchivesOne first.store.session it.file it.path it.moment texts }
@@ -237,7 +240,7 @@ pub fn one_place<D: Disk>()
     ensures moves { (given : List (List ℕ)) (first last : Past D) (calls : List Call)
         → IsSessionOf given first.store.session → Lists first.store.session first.texts
         → All (AreSmall first.store.session.names) first.texts
-        → CallsPast D.files D.moment D.left_since first calls last → All MayMove calls
+        → CallsPast D.Disk first calls last → All MayMove calls
         → (i k : ℕ) (one other : List (List ℕ)) → first.store.session.accepted ≤ i
         → slice_get last.texts i ≡ Some one → slice_get last.texts (i + k) ≡ Some other
         → HaveNodesButFew k other one }

@@ -5,7 +5,6 @@
 //! for `run` and `Settles` for `settle`. What one call after another does is told by `laws`.
 #![tactic(auto)]
 
-mod dispatch;
 pub mod laws;
 mod store;
 

@@ -3,15 +3,14 @@ ghost use Rattle.std.specs.Prelude.{◌≡◌, IfOk, IfErr, IsErrOf};
 ghost use Rattle.std.specs.List.{All};
 ghost use Rattle.org_disk.specs.Accounts.{Accounts};
 ghost use Rattle.org_disk.specs.Names.{IsOrgFile};
-ghost use Rattle.org_fileset.specs.Opening.{IsDeviceRefusal, disk_in};
+ghost use Rattle.org_fileset.specs.Opening.{IsDeviceRefusal};
 ghost use Rattle.org_fileset.specs.Recovery.{Reopens};
 ghost use Rattle.org_store.specs.Group.{IsGroup};
-ghost use Rattle.org_store.specs.Opening.{IsOpened, IsRefused};
-ghost use Rattle.org_commands.specs.Runs.{IsBrokenBy, IsIdle, RunsOver, SettlesOver};
+ghost use Rattle.org_store.specs.Opening.{IsOpened, IsRefused, disk_of};
+ghost use Rattle.org_commands.specs.Runs.{IsBrokenBy, IsIdle, Runs, SettlesAll};
 ghost use Rattle.org_commands.specs.Counts.{Counts, SettledCounts};
 
-use crate::dispatch::act;
-use org_commands::{Command, Files, Reply, RunFault, Tally};
+use org_commands::{Command, Files, Kind, Reply, RunFault, Tally, answer, change};
 use org_disk::{Disk, FileName};
 use org_fileset::OpenRefused;
 use org_outline::States;
@@ -74,14 +73,11 @@ impl<D: Disk> Store<D> {
         states: States,
     ) -> Result<Store<D>, OpenRefused<D>>
         requires { All IsOrgFile names.items }
-        ensures opened { IfOk result (λ store.
-            IsOpened D.honest D.files states names.items store) }
-        ensures reopens { let now = disk_in result (λ store. store.disk) in D.honest now
-            → Reopens D.files D.moment D.left_since disk now result }
+        ensures opened { IfOk result (λ store. IsOpened D.Disk states names.items store) }
+        ensures reopens { Reopens D.Disk disk (disk_of result) result }
         ensures refused { IfErr result (λ refused.
-            IsRefused D.honest D.files names.items disk refused.disk refused.fault) }
-        ensures accounts { Accounts D.steady D.honest D.failures disk
-            (disk_in result (λ store. store.disk)) (IsDeviceRefusal result) }
+            IsRefused D.Disk names.items disk refused.disk refused.fault) }
+        ensures accounts { Accounts D.Disk disk (disk_of result) (IsDeviceRefusal result) }
     {
         match Files::open(alloc, disk, names) {
             Ok(files) => Ok(Store {
@@ -148,12 +144,11 @@ impl<D: Disk> Store<D> {
     /// no accepted command waits to be acknowledged, it does nothing; where no file waits, it makes
     /// no call of the disk.
     pub fn settle(&mut self) -> Result<(), RunFault>
-        ensures did { D.honest self.new.disk
-            → SettlesOver D.files D.moment D.left_since self.old result self.new }
+        ensures did { SettlesAll D.Disk self.old result self.new }
         ensures counts { SettledCounts self.old.session result self.new.session }
         ensures idle { IsIdle (Unit {0}) self.old result self.new }
         ensures broken { IsBrokenBy self.old.session result self.new.session }
-        ensures accounts { Accounts D.steady D.honest D.failures self.old.disk self.new.disk
+        ensures accounts { Accounts D.Disk self.old.disk self.new.disk
             (IsErrOf result RunFault.Device) }
     {
         if self.files.is_broken() {
@@ -181,31 +176,22 @@ impl<D: Disk> Store<D> {
     /// it was broken before. `Settle` does nothing where no accepted command waits to be
     /// acknowledged, and makes no call of the disk where no file waits for a commit.
     pub fn run(&mut self, command: &Command<'_>) -> Result<Reply, RunFault>
-        ensures did { D.honest self.new.disk
-            → RunsOver D.files D.moment D.left_since self.old command.now result self.new }
+        ensures did { Runs D.Disk self.old command.now result self.new }
         ensures counts { Counts self.old.session result self.new.session }
         ensures idle { IsIdle (command.now ≡ Command.Settle) self.old result self.new }
         ensures broken { IsBrokenBy self.old.session result self.new.session }
-        ensures accounts { Accounts D.steady D.honest D.failures self.old.disk self.new.disk
+        ensures accounts { Accounts D.Disk self.old.disk self.new.disk
             (IsErrOf result RunFault.Device) }
     {
         if self.files.is_broken() {
             return Err(RunFault::Broken);
         }
-        match command {
-            Command::Settle => {
+        match command.kind() {
+            Kind::Change(asked) => change(&mut self.files, &self.states, &mut self.tally, &asked),
+            Kind::Question(asked) => answer(&mut self.files, &self.states, &asked),
+            Kind::Settle => {
                 self.settle()?;
                 Ok(Reply::Safe(self.tally.acknowledged))
-            }
-            Command::Capture(_)
-            | Command::Refile(_)
-            | Command::Todo(_)
-            | Command::Archive(_)
-            | Command::ClockIn(_)
-            | Command::ClockOut { .. }
-            | Command::Time { .. }
-            | Command::Show { .. } => {
-                act(&mut self.files, &self.states, &mut self.tally, command)
             }
         }
     }

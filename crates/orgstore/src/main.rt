@@ -3,11 +3,11 @@
 //! fault is a line on standard error and the exit status.
 #![tactic(auto)]
 
-use org_program::run;
+use org_program::{Fault, Ran, Unknown, input, output, run};
 use std::process::ExitCode;
 
 fn main(rt: HostRuntime) -> ExitCode {
-    match run(&rt) {
+    match run_streams(&rt) {
         Ok(()) => ExitCode::SUCCESS,
         Err(fault) => {
             // Where standard error can't be written either, the status alone tells.
@@ -15,4 +15,16 @@ fn main(rt: HostRuntime) -> ExitCode {
             ExitCode::from(fault.status())
         }
     }
+}
+
+// `run` over the standard streams, and a folder of which nothing is known.
+fn run_streams(rt: &HostRuntime) -> Result<(), Fault> {
+    let mut reader = input(rt);
+    let mut writer = output(rt)?;
+    let Ran {
+        arguments: _,
+        disk: _,
+        end,
+    } = run::<Unknown, _, _>(rt, &mut reader, &mut writer)?;
+    end
 }

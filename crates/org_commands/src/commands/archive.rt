@@ -5,14 +5,13 @@ ghost use Rattle.org_texts.specs.Texts.{bytes_or, text_of};
 ghost use Rattle.org_move.specs.Answers.{Gives, GivesPlace};
 ghost use Rattle.org_move.specs.Archive.{archive_across, archive_within};
 ghost use Rattle.org_move.specs.Location.{location};
-ghost use Rattle.org_commands.specs.declared.tally.Tally.{Tally};
 ghost use Rattle.org_commands.specs.Files.{AreBetweenCommands, AreReady, IsPlanFor, IsReady};
 ghost use Rattle.org_commands.specs.InOrder.{is_name, text_at};
 ghost use Rattle.org_commands.specs.Keeping.{Plans};
 ghost use Rattle.org_commands.specs.Outcome.{archive as outcome, archive_to as outcome_to};
 ghost use Rattle.org_commands.specs.Reading.{OnlyReads};
 ghost use Rattle.org_commands.specs.Refile.{MakesDocument, MakesDocuments};
-ghost use Rattle.org_commands.specs.Session.{kept_over};
+ghost use Rattle.org_commands.specs.Session.{BetweenSessions};
 
 use crate::command::{Archive, Refusal, RunFault};
 use crate::commands::edits::{plan_of_two, plan_of_two_edits};
@@ -121,14 +120,11 @@ fn plan_archive_to<'a, D: Disk>(
     requires name { is_name files.old.names command.now.file ≡ true }
     requires ready { AreReady (command.now.file ∷ []) files.old.held }
     ensures plan { IfOk result (λ plan. IsPlanFor files.new.names files.new.held plan) }
-    ensures plans { (tally : Tally) (text : List ℕ) → D.honest files.new.disk
-        → let session = (kept_over D.files states.now files.old tally).session in
-        text_at session.names session.files command.now.file ≡ Some text
-        → Plans session (outcome_to session command.now.file command.now.path command.now.moment
-        text to.now (text_at session.names session.files to.now.file)) result
-        files.new.held (kept_over D.files states.now files.new tally).session }
-    ensures disk { OnlyReads D.steady D.honest D.failures D.files D.moment D.left_since
-        files.old files.new result }
+    ensures plans { BetweenSessions D.Disk states.now files.old files.new
+        (λ old new. (text : List ℕ) → text_at old.names old.files command.now.file ≡ Some text
+        → Plans old (outcome_to old command.now.file command.now.path command.now.moment text
+        to.now (text_at old.names old.files to.now.file)) result files.new.held new) }
+    ensures disk { OnlyReads D.Disk files.old files.new result }
 {
     let to_file = to.file();
     if command.file == *to_file {
@@ -151,13 +147,10 @@ pub(crate) fn plan_archive<'a, D: Disk>(
 ) -> Result<Plan<'a>, RunFault>
     requires between { AreBetweenCommands files.old }
     ensures plan { IfOk result (λ plan. IsPlanFor files.new.names files.new.held plan) }
-    ensures plans { (tally : Tally) → D.honest files.new.disk
-        → let session = (kept_over D.files states.now files.old tally).session in
-        Plans session (outcome session command.now.file command.now.path command.now.moment
-        (text_at session.names session.files command.now.file)) result
-        files.new.held (kept_over D.files states.now files.new tally).session }
-    ensures disk { OnlyReads D.steady D.honest D.failures D.files D.moment D.left_since
-        files.old files.new result }
+    ensures plans { BetweenSessions D.Disk states.now files.old files.new
+        (λ old new. Plans old (outcome old command.now.file command.now.path command.now.moment
+        (text_at old.names old.files command.now.file)) result files.new.held new) }
+    ensures disk { OnlyReads D.Disk files.old files.new result }
 {
     if !files.has(&command.file) {
         return Err(RunFault::Refused(Refusal::NoSuchFile));

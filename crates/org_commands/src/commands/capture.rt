@@ -5,14 +5,13 @@ ghost use Rattle.org_outline.specs.Tree.{Node, tree};
 ghost use Rattle.org_capture.specs.Answers.{AnswersEdit};
 ghost use Rattle.org_capture.specs.Capture.{captured};
 ghost use Rattle.org_capture.specs.Entry.{IsEntry};
-ghost use Rattle.org_commands.specs.declared.tally.Tally.{Tally};
 ghost use Rattle.org_commands.specs.Capture.{MakesEntry, new_entry};
 ghost use Rattle.org_commands.specs.Files.{AreBetweenCommands, IsPlanFor};
 ghost use Rattle.org_commands.specs.InOrder.{is_name, text_at};
 ghost use Rattle.org_commands.specs.Keeping.{Plans};
 ghost use Rattle.org_commands.specs.Outcome.{capture as outcome, with_entry};
 ghost use Rattle.org_commands.specs.Reading.{OnlyReads};
-ghost use Rattle.org_commands.specs.Session.{kept_over};
+ghost use Rattle.org_commands.specs.Session.{BetweenSessions};
 
 use crate::command::{Capture, Refusal, RunFault};
 use crate::commands::edits::plan_of_one;
@@ -71,15 +70,12 @@ fn plan_entry<'a, D: Disk>(
     requires between { AreBetweenCommands files.old }
     requires entry { (node : Node) × IsEntry entry.items node }
     ensures plan { IfOk result (λ plan. IsPlanFor files.new.names files.new.held plan) }
-    ensures plans { (tally : Tally) (node : Node) → IsEntry entry.items node
-        → D.honest files.new.disk
-        → let session = (kept_over D.files states.now files.old tally).session in
-        let text = unwrap_or (text_at session.names session.files command.now.file) [] in
-        Plans session (with_entry session command.now.file command.now.target
-        command.now.place command.now.moment (Ok node) text) result
-        files.new.held (kept_over D.files states.now files.new tally).session }
-    ensures disk { OnlyReads D.steady D.honest D.failures D.files D.moment D.left_since
-        files.old files.new result }
+    ensures plans { BetweenSessions D.Disk states.now files.old files.new
+        (λ old new. (node : Node) → IsEntry entry.items node
+        → let text = unwrap_or (text_at old.names old.files command.now.file) [] in
+        Plans old (with_entry old command.now.file command.now.target command.now.place
+        command.now.moment (Ok node) text) result files.new.held new) }
+    ensures disk { OnlyReads D.Disk files.old files.new result }
 {
     files.ready(&command.file)?;
     let held = files.held(&command.file);
@@ -96,16 +92,11 @@ pub(crate) fn plan_capture<'a, D: Disk>(
 ) -> Result<Plan<'a>, RunFault>
     requires between { AreBetweenCommands files.old }
     ensures plan { IfOk result (λ plan. IsPlanFor files.new.names files.new.held plan) }
-    ensures plans { (tally : Tally) → D.honest files.new.disk
-        → Plans (kept_over D.files states.now files.old tally).session
-        (outcome (kept_over D.files states.now files.old tally).session command.now.file
-        command.now.target command.now.place command.now.moment command.now.template
-        command.now.initial
-        (text_at (kept_over D.files states.now files.old tally).session.names
-        (kept_over D.files states.now files.old tally).session.files command.now.file)) result
-        files.new.held (kept_over D.files states.now files.new tally).session }
-    ensures disk { OnlyReads D.steady D.honest D.failures D.files D.moment D.left_since
-        files.old files.new result }
+    ensures plans { BetweenSessions D.Disk states.now files.old files.new
+        (λ old new. Plans old (outcome old command.now.file command.now.target command.now.place
+        command.now.moment command.now.template command.now.initial
+        (text_at old.names old.files command.now.file)) result files.new.held new) }
+    ensures disk { OnlyReads D.Disk files.old files.new result }
 {
     if !files.has(&command.file) {
         return Err(RunFault::Refused(Refusal::NoSuchFile));

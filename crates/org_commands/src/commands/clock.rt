@@ -6,7 +6,6 @@ ghost use Rattle.org_outline.specs.Paths.{find_path};
 ghost use Rattle.org_outline.specs.Tree.{tree};
 ghost use Rattle.org_state.specs.Clock.{running_in};
 ghost use Rattle.org_state.specs.Todo.{fault_of_path};
-ghost use Rattle.org_commands.specs.declared.tally.Tally.{Tally};
 ghost use Rattle.org_commands.specs.Clocking.{PlansClocks, clock_moved, clocked_in, clocked_out};
 ghost use Rattle.org_commands.specs.Clocks.{RunsHeld, running_over};
 ghost use Rattle.org_commands.specs.Files.{AreBetweenCommands, IsPlanFor};
@@ -14,7 +13,7 @@ ghost use Rattle.org_commands.specs.InOrder.{is_name, text_at};
 ghost use Rattle.org_commands.specs.Keeping.{LooksUp, PlansOrStays};
 ghost use Rattle.org_commands.specs.Outcome.{clock_in as outcome_in, clock_out as outcome_out, with_clock_moved, with_state};
 ghost use Rattle.org_commands.specs.Reading.{OnlyReads};
-ghost use Rattle.org_commands.specs.Session.{kept_over};
+ghost use Rattle.org_commands.specs.Session.{BetweenSessions};
 ghost use Rattle.org_commands.specs.Todo.{PlansState};
 
 use crate::command::{ClockIn, Refusal, RunFault};
@@ -173,14 +172,11 @@ fn look_up_in<D: Disk>(
 ) -> Result<(), RunFault>
     requires file { is_name files.old.names command.now.file ≡ true }
     requires between { AreBetweenCommands files.old }
-    ensures finds { (tally : Tally) → D.honest files.new.disk
-        → let session = (kept_over D.files states.now files.old tally).session in
-        let text = unwrap_or (text_at session.names session.files command.now.file) [] in
-        LooksUp session (find_path states.now (tree text) command.now.path) result
-        (kept_over D.files states.now files.new tally).session }
+    ensures finds { BetweenSessions D.Disk states.now files.old files.new
+        (λ old new. let text = unwrap_or (text_at old.names old.files command.now.file) [] in
+        LooksUp old (find_path states.now (tree text) command.now.path) result new) }
     ensures begun { OnOk result (files.new.held.now ≡ files.new.held.before) }
-    ensures disk { OnlyReads D.steady D.honest D.failures D.files D.moment D.left_since
-        files.old files.new result }
+    ensures disk { OnlyReads D.Disk files.old files.new result }
 {
     files.ready(&command.file)?;
     look_up(states, files.held(&command.file), command)?;
@@ -202,14 +198,12 @@ fn start_in_one<'a, D: Disk>(
         (λ running. RunsHeld files.old.held command.now.file running) }
     ensures plan { IfOk result (λ plan. ForSome plan
         (λ plan. IsPlanFor files.new.names files.new.held plan)) }
-    ensures plans { (tally : Tally) → D.honest files.new.disk
-        → let session = (kept_over D.files states.now files.old tally).session in
-        let d = tree (unwrap_or (text_at session.names session.files command.now.file) []) in
-        PlansOrStays session (with_state session command.now.file
-        (clocked_in command.now.moment running d (find_path states.now d command.now.path))) result
-        files.new.held (kept_over D.files states.now files.new tally).session }
-    ensures disk { OnlyReads D.steady D.honest D.failures D.files D.moment D.left_since
-        files.old files.new result }
+    ensures plans { BetweenSessions D.Disk states.now files.old files.new
+        (λ old new. let d = tree (unwrap_or (text_at old.names old.files command.now.file) []) in
+        PlansOrStays old (with_state old command.now.file
+        (clocked_in command.now.moment running d (find_path states.now d command.now.path)))
+        result files.new.held new) }
+    ensures disk { OnlyReads D.Disk files.old files.new result }
 {
     files.ready(&command.file)?;
     let held = files.held(&command.file);
@@ -231,16 +225,13 @@ fn start_beside<'a, D: Disk>(
     requires runs { RunsHeld files.old.held clock.now.file clock.now.running }
     ensures plan { IfOk result (λ plan. ForSome plan
         (λ plan. IsPlanFor files.new.names files.new.held plan)) }
-    ensures plans { (tally : Tally) → D.honest files.new.disk
-        → let session = (kept_over D.files states.now files.old tally).session in
-        let d = tree (unwrap_or (text_at session.names session.files command.now.file) []) in
-        let other = tree (unwrap_or (text_at session.names session.files clock.now.file) []) in
-        PlansOrStays session (with_clock_moved session clock.now.file command.now.file
+    ensures plans { BetweenSessions D.Disk states.now files.old files.new
+        (λ old new. let d = tree (unwrap_or (text_at old.names old.files command.now.file) []) in
+        let other = tree (unwrap_or (text_at old.names old.files clock.now.file) []) in
+        PlansOrStays old (with_clock_moved old clock.now.file command.now.file
         (clock_moved command.now.moment clock.now.running other d
-        (find_path states.now d command.now.path))) result
-        files.new.held (kept_over D.files states.now files.new tally).session }
-    ensures disk { OnlyReads D.steady D.honest D.failures D.files D.moment D.left_since
-        files.old files.new result }
+        (find_path states.now d command.now.path))) result files.new.held new) }
+    ensures disk { OnlyReads D.Disk files.old files.new result }
 {
     both_ready(files, &clock.file, &command.file)?;
     let other = files.held(&clock.file);
@@ -260,13 +251,11 @@ pub(crate) fn plan_clock_in<'a, D: Disk>(
     requires between { AreBetweenCommands files.old }
     ensures plan { IfOk result (λ plan. ForSome plan
         (λ plan. IsPlanFor files.new.names files.new.held plan)) }
-    ensures plans { (tally : Tally) → D.honest files.new.disk
-        → let session = (kept_over D.files states.now files.old tally).session in
-        PlansOrStays session (outcome_in session command.now.file command.now.path
-        command.now.moment (text_at session.names session.files command.now.file)) result
-        files.new.held (kept_over D.files states.now files.new tally).session }
-    ensures disk { OnlyReads D.steady D.honest D.failures D.files D.moment D.left_since
-        files.old files.new result }
+    ensures plans { BetweenSessions D.Disk states.now files.old files.new
+        (λ old new. PlansOrStays old (outcome_in old command.now.file command.now.path
+        command.now.moment (text_at old.names old.files command.now.file))
+        result files.new.held new) }
+    ensures disk { OnlyReads D.Disk files.old files.new result }
 {
     if !files.has(&command.file) {
         return Err(RunFault::Refused(Refusal::NoSuchFile));
@@ -293,14 +282,11 @@ fn stop_running<'a, D: Disk>(
     requires runs { RunsHeld files.old.held clock.now.file clock.now.running }
     ensures plan { IfOk result (λ plan. ForSome plan
         (λ plan. IsPlanFor files.new.names files.new.held plan)) }
-    ensures plans { (tally : Tally) → D.honest files.new.disk
-        → let session = (kept_over D.files states.now files.old tally).session in
-        let d = tree (unwrap_or (text_at session.names session.files clock.now.file) []) in
-        PlansOrStays session (with_state session clock.now.file
-        (clocked_out moment clock.now.running d)) result
-        files.new.held (kept_over D.files states.now files.new tally).session }
-    ensures disk { OnlyReads D.steady D.honest D.failures D.files D.moment D.left_since
-        files.old files.new result }
+    ensures plans { BetweenSessions D.Disk states.now files.old files.new
+        (λ old new. let d = tree (unwrap_or (text_at old.names old.files clock.now.file) []) in
+        PlansOrStays old (with_state old clock.now.file (clocked_out moment clock.now.running d))
+        result files.new.held new) }
+    ensures disk { OnlyReads D.Disk files.old files.new result }
 {
     files.ready(&clock.file)?;
     let held = files.held(&clock.file);
@@ -317,13 +303,10 @@ pub(crate) fn plan_clock_out<'a, D: Disk>(
     requires between { AreBetweenCommands files.old }
     ensures plan { IfOk result (λ plan. ForSome plan
         (λ plan. IsPlanFor files.new.names files.new.held plan)) }
-    ensures plans { (tally : Tally) → D.honest files.new.disk
-        → let session = (kept_over D.files states.now files.old tally).session in
-        PlansOrStays session (outcome_out session moment
-        (running_over session.names session.files)) result
-        files.new.held (kept_over D.files states.now files.new tally).session }
-    ensures disk { OnlyReads D.steady D.honest D.failures D.files D.moment D.left_since
-        files.old files.new result }
+    ensures plans { BetweenSessions D.Disk states.now files.old files.new
+        (λ old new. PlansOrStays old (outcome_out old moment (running_over old.names old.files))
+        result files.new.held new) }
+    ensures disk { OnlyReads D.Disk files.old files.new result }
 {
     let Some(clock) = running_clock(files, states)? else {
         return Err(RunFault::Refused(Refusal::NoClock));

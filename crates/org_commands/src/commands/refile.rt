@@ -4,14 +4,13 @@ ghost use Rattle.org_outline.specs.States.{Keywords};
 ghost use Rattle.org_outline.specs.Tree.{tree};
 ghost use Rattle.org_move.specs.Answers.{Gives};
 ghost use Rattle.org_move.specs.Refile.{refile_across, refile_within};
-ghost use Rattle.org_commands.specs.declared.tally.Tally.{Tally};
 ghost use Rattle.org_commands.specs.Files.{AreBetweenCommands, AreReady, IsPlanFor, KeepsHeld};
 ghost use Rattle.org_commands.specs.InOrder.{is_name, text_at};
 ghost use Rattle.org_commands.specs.Keeping.{Plans, Reads};
 ghost use Rattle.org_commands.specs.Outcome.{refile as outcome};
 ghost use Rattle.org_commands.specs.Reading.{OnlyReads};
 ghost use Rattle.org_commands.specs.Refile.{MakesDocument, MakesDocuments};
-ghost use Rattle.org_commands.specs.Session.{kept_over};
+ghost use Rattle.org_commands.specs.Session.{BetweenSessions};
 
 use crate::command::{Refile, Refusal, RunFault};
 use crate::commands::edits::{plan_of_two, plan_of_two_edits};
@@ -89,11 +88,9 @@ pub(crate) fn both_ready<D: Disk>(
     ensures ready { OnOk result ((names : List (List ℕ)) → AreReady names files.old.held
         → AreReady (to_file.now ∷ file.now ∷ names) files.new.held) }
     ensures keeps { KeepsHeld files.old.held files.new.held }
-    ensures reads { (states : Keywords) (tally : Tally) → D.honest files.new.disk
-        → Reads (kept_over D.files states files.old tally).session result
-        (kept_over D.files states files.new tally).session }
-    ensures disk { OnlyReads D.steady D.honest D.failures D.files D.moment D.left_since
-        files.old files.new result }
+    ensures reads { (states : Keywords) → BetweenSessions D.Disk states files.old files.new
+        (λ old new. Reads old result new) }
+    ensures disk { OnlyReads D.Disk files.old files.new result }
 {
     files.ready(file)?;
     files.ready(to_file)
@@ -108,14 +105,11 @@ fn refile_in_one<'a, D: Disk>(
     requires file { is_name files.old.names command.now.file ≡ true }
     requires between { AreBetweenCommands files.old }
     ensures plan { IfOk result (λ plan. IsPlanFor files.new.names files.new.held plan) }
-    ensures plans { (tally : Tally) → D.honest files.new.disk
-        → let session = (kept_over D.files states.now files.old tally).session in
-        let text = text_at session.names session.files command.now.file in
-        Plans session (outcome session command.now.file command.now.path command.now.file
-        command.now.to_path command.now.place text text) result
-        files.new.held (kept_over D.files states.now files.new tally).session }
-    ensures disk { OnlyReads D.steady D.honest D.failures D.files D.moment D.left_since
-        files.old files.new result }
+    ensures plans { BetweenSessions D.Disk states.now files.old files.new
+        (λ old new. let text = text_at old.names old.files command.now.file in
+        Plans old (outcome old command.now.file command.now.path command.now.file
+        command.now.to_path command.now.place text text) result files.new.held new) }
+    ensures disk { OnlyReads D.Disk files.old files.new result }
 {
     files.ready(&command.file)?;
     let held = files.held(&command.file);
@@ -133,15 +127,11 @@ fn refile_in_two<'a, D: Disk>(
     requires apart { command.now.file ≢ command.now.to_file }
     requires between { AreBetweenCommands files.old }
     ensures plan { IfOk result (λ plan. IsPlanFor files.new.names files.new.held plan) }
-    ensures plans { (tally : Tally) → D.honest files.new.disk
-        → let session = (kept_over D.files states.now files.old tally).session in
-        Plans session (outcome session command.now.file command.now.path command.now.to_file
-        command.now.to_path command.now.place
-        (text_at session.names session.files command.now.file)
-        (text_at session.names session.files command.now.to_file)) result
-        files.new.held (kept_over D.files states.now files.new tally).session }
-    ensures disk { OnlyReads D.steady D.honest D.failures D.files D.moment D.left_since
-        files.old files.new result }
+    ensures plans { BetweenSessions D.Disk states.now files.old files.new
+        (λ old new. Plans old (outcome old command.now.file command.now.path command.now.to_file
+        command.now.to_path command.now.place (text_at old.names old.files command.now.file)
+        (text_at old.names old.files command.now.to_file)) result files.new.held new) }
+    ensures disk { OnlyReads D.Disk files.old files.new result }
 {
     both_ready(files, &command.file, &command.to_file)?;
     let source = files.held(&command.file);
@@ -159,15 +149,11 @@ pub(crate) fn plan_refile<'a, D: Disk>(
 ) -> Result<Plan<'a>, RunFault>
     requires between { AreBetweenCommands files.old }
     ensures plan { IfOk result (λ plan. IsPlanFor files.new.names files.new.held plan) }
-    ensures plans { (tally : Tally) → D.honest files.new.disk
-        → let session = (kept_over D.files states.now files.old tally).session in
-        Plans session (outcome session command.now.file command.now.path command.now.to_file
-        command.now.to_path command.now.place
-        (text_at session.names session.files command.now.file)
-        (text_at session.names session.files command.now.to_file)) result
-        files.new.held (kept_over D.files states.now files.new tally).session }
-    ensures disk { OnlyReads D.steady D.honest D.failures D.files D.moment D.left_since
-        files.old files.new result }
+    ensures plans { BetweenSessions D.Disk states.now files.old files.new
+        (λ old new. Plans old (outcome old command.now.file command.now.path command.now.to_file
+        command.now.to_path command.now.place (text_at old.names old.files command.now.file)
+        (text_at old.names old.files command.now.to_file)) result files.new.held new) }
+    ensures disk { OnlyReads D.Disk files.old files.new result }
 {
     if !files.has(&command.file) || !files.has(&command.to_file) {
         return Err(RunFault::Refused(Refusal::NoSuchFile));

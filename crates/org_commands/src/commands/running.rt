@@ -1,13 +1,12 @@
 //! The clock that runs over all files.
 ghost use Rattle.std.specs.Prelude.{◌≡◌, IfOk, OnOk, true};
 ghost use Rattle.std.specs.Option.{ForSome, option_map};
-ghost use Rattle.org_commands.specs.declared.tally.Tally.{Tally};
 ghost use Rattle.org_commands.specs.Clocks.{RunsHeld, RunsIn, running_over};
 ghost use Rattle.org_commands.specs.Files.{AreBetweenCommands, KeepsHeld};
 ghost use Rattle.org_commands.specs.InOrder.{is_name};
 ghost use Rattle.org_commands.specs.Keeping.{Reads};
 ghost use Rattle.org_commands.specs.Reading.{OnlyReads};
-ghost use Rattle.org_commands.specs.Session.{kept_over};
+ghost use Rattle.org_commands.specs.Session.{BetweenSessions};
 
 use crate::command::RunFault;
 use crate::commands::outline::outline_of;
@@ -32,13 +31,11 @@ fn running_in_file<D: Disk>(
     requires name { is_name files.old.names file.now ≡ true }
     requires between { AreBetweenCommands files.old }
     ensures runs { IfOk result (λ found. RunsIn files.new.held.before file.now found) }
-    ensures reads { (tally : Tally) → D.honest files.new.disk
-        → Reads (kept_over D.files states.now files.old tally).session result
-        (kept_over D.files states.now files.new tally).session }
+    ensures reads { BetweenSessions D.Disk states.now files.old files.new
+        (λ old new. Reads old result new) }
     ensures begun { OnOk result (files.new.held.now ≡ files.new.held.before) }
     ensures keeps { KeepsHeld files.old.held files.new.held }
-    ensures disk { OnlyReads D.steady D.honest D.failures D.files D.moment D.left_since
-        files.old files.new result }
+    ensures disk { OnlyReads D.Disk files.old files.new result }
 {
     files.ready(file)?;
     let found = running(&outline_of(files.held(file), states));
@@ -54,20 +51,17 @@ pub(crate) fn running_clock<D: Disk>(
     states: &States,
 ) -> Result<Option<Clock>, RunFault>
     requires between { AreBetweenCommands files.old }
-    ensures clock { (tally : Tally) → D.honest files.new.disk
-        → let session = (kept_over D.files states.now files.old tally).session in
-        IfOk result (λ found. option_map (λ clock. (clock.file, clock.running)) found
-        ≡ running_over session.names session.files) }
-    ensures reads { (tally : Tally) → D.honest files.new.disk
-        → Reads (kept_over D.files states.now files.old tally).session result
-        (kept_over D.files states.now files.new tally).session }
+    ensures clock { BetweenSessions D.Disk states.now files.old files.new
+        (λ old new. IfOk result (λ found. option_map (λ clock. (clock.file, clock.running)) found
+        ≡ running_over old.names old.files)) }
+    ensures reads { BetweenSessions D.Disk states.now files.old files.new
+        (λ old new. Reads old result new) }
     ensures found { IfOk result (λ found. ForSome found
         (λ clock. RunsHeld files.new.held clock.file clock.running
         × (is_name files.new.names clock.file ≡ true))) }
     ensures begun { OnOk result (files.new.held.now ≡ files.new.held.before) }
     ensures keeps { KeepsHeld files.old.held files.new.held }
-    ensures disk { OnlyReads D.steady D.honest D.failures D.files D.moment D.left_since
-        files.old files.new result }
+    ensures disk { OnlyReads D.Disk files.old files.new result }
 {
     for index in 0..files.count() {
         if files.is_quiet(index) {

@@ -16,12 +16,12 @@ use org_disk::{Disk, FileName};
 use org_splice::Bytes;
 
 /// Answers the text of a file, as it is. `NoSuchFile` where it is none of the store's. `Device`,
-/// which leaves the files broken, comes only where reading it failed, and `OutOfMemory` where memory
-/// ran out.
-pub fn show<D: Disk>(files: &mut Files<D>, file: &FileName) -> Result<Reply, RunFault>
+/// which leaves the files broken, comes only where reading it failed, and `OutOfMemory` where
+/// memory ran out.
+pub(crate) fn show<D: Disk>(files: &mut Files<D>, file: &FileName) -> Result<Reply, RunFault>
     requires between { AreBetweenCommands files.old }
     ensures acts { (states : Keywords) → (tally : Tally)
-        → Acts D.files D.moment D.left_since D.honest (kept_over D.files states files.old tally)
+        → Acts D.Disk (kept_over D.files states files.old tally)
         (show (text_at files.old.names (kept_over D.files states files.old tally).session.files
         file.now)) result (kept_over D.files states files.new tally) }
     ensures waits { (states : Keywords) → (tally : Tally)
@@ -29,7 +29,7 @@ pub fn show<D: Disk>(files: &mut Files<D>, file: &FileName) -> Result<Reply, Run
         (show (text_at files.old.names (kept_over D.files states files.old tally).session.files
         file.now)) result (kept_over D.files states files.new tally) }
     ensures begun { files.new.held.now ≡ files.new.held.before }
-    ensures accounts { Accounts D.steady D.honest D.failures files.old.disk files.new.disk
+    ensures accounts { Accounts D.Disk files.old.disk files.new.disk
         (IsErrOf result RunFault.Device) }
 {
     if !files.has(file) {

@@ -8,7 +8,7 @@ ghost use Rattle.org_commands.specs.InOrder.{is_name, text_at};
 ghost use Rattle.org_commands.specs.Keeping.{Acts};
 ghost use Rattle.org_commands.specs.Outcome.{time};
 ghost use Rattle.org_commands.specs.Reading.{OnlyReads};
-ghost use Rattle.org_commands.specs.Session.{kept_over};
+ghost use Rattle.org_commands.specs.Session.{BetweenSessions, kept_over};
 ghost use Rattle.org_commands.specs.Step.{Does};
 ghost use Rattle.org_commands.specs.Waiting.{Waits};
 
@@ -29,13 +29,10 @@ fn clocked_in_file<D: Disk>(
 ) -> Result<u64, RunFault>
     requires name { is_name files.old.names file.now ≡ true }
     requires between { AreBetweenCommands files.old }
-    ensures does { (tally : Tally) → D.honest files.new.disk
-        → let session = (kept_over D.files states.now files.old tally).session in
-        Does session (time session path.now (text_at session.names session.files file.now))
-        (result_map_both Reply.Time (λ fault. fault) result)
-        (kept_over D.files states.now files.new tally).session }
-    ensures disk { OnlyReads D.steady D.honest D.failures D.files D.moment D.left_since
-        files.old files.new result }
+    ensures does { BetweenSessions D.Disk states.now files.old files.new
+        (λ old new. Does old (time old path.now (text_at old.names old.files file.now))
+        (result_map_both Reply.Time (λ fault. fault) result) new) }
+    ensures disk { OnlyReads D.Disk files.old files.new result }
 {
     files.ready(file)?;
     let held = files.held(file);
@@ -46,7 +43,7 @@ fn clocked_in_file<D: Disk>(
 /// store's; then `NotFound` or `NotUnique` of the path. `Device`, which leaves the files broken,
 /// comes only where reading the file failed, and `OutOfMemory` where memory ran out. All texts stay
 /// as they are.
-pub fn time<D: Disk>(
+pub(crate) fn time<D: Disk>(
     files: &mut Files<D>,
     states: &States,
     file: &FileName,
@@ -55,7 +52,7 @@ pub fn time<D: Disk>(
     requires between { AreBetweenCommands files.old }
     ensures acts { (tally : Tally)
         → let old = kept_over D.files states.now files.old tally in
-        Acts D.files D.moment D.left_since D.honest old
+        Acts D.Disk old
         (time old.session path.now (text_at old.session.names old.session.files file.now)) result
         (kept_over D.files states.now files.new tally) }
     ensures waits { (tally : Tally)
@@ -64,7 +61,7 @@ pub fn time<D: Disk>(
         (time old.session path.now (text_at old.session.names old.session.files file.now)) result
         (kept_over D.files states.now files.new tally) }
     ensures begun { files.new.held.now ≡ files.new.held.before }
-    ensures accounts { Accounts D.steady D.honest D.failures files.old.disk files.new.disk
+    ensures accounts { Accounts D.Disk files.old.disk files.new.disk
         (IsErrOf result RunFault.Device) }
 {
     if !files.has(file) {

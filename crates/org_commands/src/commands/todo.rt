@@ -3,13 +3,12 @@ ghost use Rattle.std.specs.Prelude.{◌≡◌, IfOk, true};
 ghost use Rattle.std.specs.Option.{ForSome};
 ghost use Rattle.org_outline.specs.Tree.{tree};
 ghost use Rattle.org_state.specs.Todo.{todo};
-ghost use Rattle.org_commands.specs.declared.tally.Tally.{Tally};
 ghost use Rattle.org_commands.specs.Files.{AreBetweenCommands, IsPlanFor};
 ghost use Rattle.org_commands.specs.InOrder.{text_at};
 ghost use Rattle.org_commands.specs.Keeping.{PlansOrStays};
 ghost use Rattle.org_commands.specs.Outcome.{todo as outcome};
 ghost use Rattle.org_commands.specs.Reading.{OnlyReads};
-ghost use Rattle.org_commands.specs.Session.{kept_over};
+ghost use Rattle.org_commands.specs.Session.{BetweenSessions};
 ghost use Rattle.org_commands.specs.Todo.{PlansState};
 
 use crate::command::{Refusal, RunFault, Todo};
@@ -55,14 +54,11 @@ pub(crate) fn plan_todo<'a, D: Disk>(
     requires between { AreBetweenCommands files.old }
     ensures plan { IfOk result (λ plan. ForSome plan
         (λ plan. IsPlanFor files.new.names files.new.held plan)) }
-    ensures plans { (tally : Tally) → D.honest files.new.disk
-        → let session = (kept_over D.files states.now files.old tally).session in
-        PlansOrStays session (outcome session command.now.file command.now.path
-        command.now.state command.now.moment
-        (text_at session.names session.files command.now.file)) result
-        files.new.held (kept_over D.files states.now files.new tally).session }
-    ensures disk { OnlyReads D.steady D.honest D.failures D.files D.moment D.left_since
-        files.old files.new result }
+    ensures plans { BetweenSessions D.Disk states.now files.old files.new
+        (λ old new. PlansOrStays old (outcome old command.now.file command.now.path
+        command.now.state command.now.moment (text_at old.names old.files command.now.file))
+        result files.new.held new) }
+    ensures disk { OnlyReads D.Disk files.old files.new result }
 {
     if !files.has(&command.file) {
         return Err(RunFault::Refused(Refusal::NoSuchFile));

@@ -37,7 +37,8 @@ where
     R::File: FileExt,
 {
     pub(crate) fn new(rt: R, alloc: Global, path: &str) -> Result<SystemCalls<R, S>, AllocError>
-        ensures { IfOk result (λ calls. calls.log.events ≡ []) }
+        ensures empty { IfOk result (λ calls. calls.log.events ≡ []) }
+        ensures path { IfOk result (λ calls. string_bytes calls.path ≡ path.now) }
     {
         Ok(SystemCalls {
             rt,

@@ -27,7 +27,7 @@ returns-in_err-put-clause-acts g c states =
     let old = kept_over d.files states c.args.files.now c.args.tally.now in
     let new = kept_over d.files states c.put.new.self c.args.tally.now in
     let given : c.from_residual.result ≡ Err c.in_err-put.field-0.0 = handed_on c.from_residual.result _ c.from_residual.ensures.1 in
-    acts_put d.files d.moment d.left_since d.honest old (λ honest image left. g.met.D.Disk.only_now old.disk image honest left) refl new
+    acts_put d old (λ honest image left. g.met.D.Disk.only_now old.disk image honest left) refl new
     (kept_same d.files states c.args.files.now c.put.new.self c.args.tally.now put.memory put.before)
     c.args.plan c.args.files.now.held c.put.new.self.held c.requires.unbroken c.put.result c.in_err-put.field-0.0 c.from_residual.result c.in_err-put.was given put.puts
 
@@ -47,8 +47,8 @@ returns-clause-acts g c states =
     let same : mid ≡ old = kept_same d.files states files edited tally put.memory put.before in
     let joins : Joins edited.held.before.waiting (files_of c.args.plan) edited.held.now.waiting =
     rw (puts.1, put.before) (joins_planned c.args.plan files.held c.requires.plan.ready) in
-    subst (λ (o : Outcome). Acts d.files d.moment d.left_since d.honest old o c.count.result new) (sym told)
-    (subst (λ (k : Kept g.row.D.Denot). Acts d.files d.moment d.left_since d.honest k (counted k.session (files_of c.args.plan) texts) c.count.result new) same (c.count.ensures.acts states (files_of c.args.plan) joins))
+    subst (λ (o : Outcome). Acts d old o c.count.result new) (sym told)
+    (subst (λ (k : Kept g.row.D.Denot). Acts d k (counted k.session (files_of c.args.plan) texts) c.count.result new) same (c.count.ensures.acts states (files_of c.args.plan) joins))
 
 pub returns-in_err-put-clause-waits : goal.returns-in_err-put-clause-waits
 returns-in_err-put-clause-waits g c states =
@@ -72,21 +72,12 @@ count-requires-clause-unbroken g c = c.put.ensures.memory.broken ∙ c.requires.
 pub count-requires-clause-small : goal.count-requires-clause-small
 count-requires-clause-small g c = c.in_ok-put.ensures.puts.2
 
-pub count-requires-clause-counted : goal.count-requires-clause-counted
-count-requires-clause-counted g c = c.requires.counted
-
 pub returns-clause-begun : goal.returns-clause-begun
 returns-clause-begun g c = c.count.ensures.begun
 
-pub returns-clause-counted : goal.returns-clause-counted
-returns-clause-counted g c = c.count.ensures.counted
-
 pub returns-clause-accounts : goal.returns-clause-accounts
 returns-clause-accounts g c =
-    subst (λ disk. Accounts g.D.Disk.steady g.D.Disk.honest g.D.Disk.failures disk c.count.new.files.disk (IsErrOf c.count.result Device)) c.put.ensures.memory.disk c.count.ensures.accounts
-
-pub returns-in_err-put-clause-counted : goal.returns-in_err-put-clause-counted
-returns-in_err-put-clause-counted g c = c.requires.counted
+    subst (λ disk. Accounts g.D.Disk disk c.count.new.files.disk (IsErrOf c.count.result Device)) c.put.ensures.memory.disk c.count.ensures.accounts
 
 pub returns-in_err-put-clause-accounts : goal.returns-in_err-put-clause-accounts
 returns-in_err-put-clause-accounts g c =

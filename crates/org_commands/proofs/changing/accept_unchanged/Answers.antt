@@ -28,8 +28,8 @@ returns-clause-acts g c states =
     ∙ ap (λ disk. texts_of (held_over files.held.before (contents (d.files disk))) after.names) undone.memory.disk
     ∙ ap (λ (ns : List (List ℕ)). texts_of (held_over files.held.before (contents (d.files files.disk))) ns) undone.memory.names in
     let joins : Joins after.held.before.waiting [] after.held.now.waiting = rw (undone.now, undone.before) (joins_same files.held.before.waiting []) in
-    subst (λ (t : List (List ℕ)). Acts d.files d.moment d.left_since d.honest old (counted old.session [] t) c.count.result new) back
-    (subst (λ (k : Kept g.row.D.Denot). Acts d.files d.moment d.left_since d.honest k (counted k.session [] texts) c.count.result new) same (c.count.ensures.acts states [] joins))
+    subst (λ (t : List (List ℕ)). Acts d old (counted old.session [] t) c.count.result new) back
+    (subst (λ (k : Kept g.row.D.Denot). Acts d k (counted k.session [] texts) c.count.result new) same (c.count.ensures.acts states [] joins))
 
 pub returns-clause-waits : goal.returns-clause-waits
 returns-clause-waits g c states =

@@ -23,7 +23,7 @@ returns-then-tally-clause-acts g c states names joins =
     let new = kept_over d.files states c.undo.new.self c.args.tally.now in
     let texts = texts_of (held_over files.held.now (contents (d.files files.disk))) files.names in
     let full : (c.args.tally.now.accepted == 2 ^ 64 - 1) ≡ true = search rules in
-    acts_refused d.files d.moment d.left_since d.honest old (λ honest image left. g.met.D.Disk.only_now old.disk image honest left) refl new
+    acts_refused d old (λ honest image left. g.met.D.Disk.only_now old.disk image honest left) refl new
     (kept_same d.files states files c.undo.new.self c.args.tally.now undone.memory undone.before)
     c.requires.unbroken (counted old.session names texts) TooLarge (ap (λ t. if t then Refuses TooLarge else Accepts names texts) full)
 
@@ -38,8 +38,8 @@ returns-in_err-keep_or_settle-clause-acts g c states names joins =
     let fault = c.in_err-keep_or_settle.field-0.0 in
     let countable : (c.args.tally.now.accepted == 2 ^ 64 - 1) ≡ false = search rules in
     let given : c.from_residual.result ≡ Err fault = handed_on c.from_residual.result _ c.from_residual.ensures.1 in
-    subst (λ (r : Result Reply RunFault). Acts d.files d.moment d.left_since d.honest old (counted old.session names texts) r new) (sym given)
-    (acts_fault d.files d.moment d.left_since d.honest old (λ honest image left. g.met.D.Disk.only_now old.disk image honest left) refl new (counted old.session names texts)
+    subst (λ (r : Result Reply RunFault). Acts d old (counted old.session names texts) r new) (sym given)
+    (acts_fault d old (λ honest image left. g.met.D.Disk.only_now old.disk image honest left) refl new (counted old.session names texts)
     names files.held.now.waiting texts c.keep_or_settle.result joins (ap (λ t. if t then Refuses TooLarge else Accepts names texts) countable) c.requires.unbroken
     (λ honest. (kept.did states honest).0) (λ honest. (kept.did states honest).1) (kept.counts states) kept.breaks fault c.in_err-keep_or_settle.was)
 
@@ -52,7 +52,7 @@ returns-clause-acts g c states names joins =
     let new = kept_over d.files states c.keep_or_settle.new.files c.keep_or_settle.new.tally in
     let texts = texts_of (held_over files.held.now (contents (d.files files.disk))) files.names in
     let countable : (c.args.tally.now.accepted == 2 ^ 64 - 1) ≡ false = search rules in
-    acts_done d.files d.moment d.left_since d.honest old (λ honest image left. g.met.D.Disk.only_now old.disk image honest left) refl new (counted old.session names texts)
+    acts_done d old (λ honest image left. g.met.D.Disk.only_now old.disk image honest left) refl new (counted old.session names texts)
     names files.held.now.waiting texts c.keep_or_settle.result joins (ap (λ t. if t then Refuses TooLarge else Accepts names texts) countable) c.requires.unbroken
     (λ honest. (kept.did states honest).0) (λ honest. (kept.did states honest).1) (kept.counts states) kept.breaks c.keep_or_settle.new.tally.accepted c.in_ok-keep_or_settle.was refl
 

@@ -42,7 +42,7 @@ returns-then-not-fills-clause-did g c states honest =
     let room : fills old.session ≡ false = sym c.fills.ensures ∙ c.if-not-fills.true in
     let was = subst d.honest c.keep.ensures.memory.disk honest in (
       rw (kept.memory.disk, kept.memory.names, kept.memory.broken, kept.before, room) refl,
-      leaves_unwritten d.files d.moment d.left_since old (IsLeft old.session files (Accepts c.args.files.now.held.now.waiting texts) (Ok (tt {0})) (c.args.tally.now.accepted + 1))
+      leaves_unwritten d old (IsLeft old.session files (Accepts c.args.files.now.held.now.waiting texts) (Ok (tt {0})) (c.args.tally.now.accepted + 1))
           (IsLeftAlone old.session [] (Accepts c.args.files.now.held.now.waiting texts) (Ok (tt {0})) (c.args.tally.now.accepted + 1)) _
           (λ image left. g.met.D.Disk.only_now c.args.files.now.disk image was left) refl (λ image holds. inl holds) _ c.keep.ensures.memory.disk refl,
     )
@@ -55,9 +55,9 @@ returns-in-Ok-clause-did g c states honest =
     let d = g.D.Disk in
     let files = c.args.files.now in
     let was = c.args.tally.now in
-    let now : Tally = record { accepted = was.accepted + 1; acknowledged = was.accepted + 1; group = was.group } in (
+    let now : Tally = record { accepted = was.accepted + 1; acknowledged = was.accepted + 1; group = was.group; ordered = as_many (was.accepted + 1) } in (
       rw (c.commit.ensures.set.names, whole, full, c.in-Ok.ensures.texts honest, (c.in-Ok.ensures.commits honest).texts) refl,
-      leaves_filled d.files d.moment d.left_since states files c.commit.new.self was now files.held.now.waiting (texts_of (held_over files.held.now (contents (d.files files.disk))) files.names)
+      leaves_filled d states files c.commit.new.self was now files.held.now.waiting (texts_of (held_over files.held.now (contents (d.files files.disk))) files.names)
           (sym c.fills.ensures ∙ c.if-not-fills.false) refl c.commit.ensures.set.names (c.in-Ok.ensures.commits honest),
     )
 
@@ -71,7 +71,7 @@ returns-in-Err-Device-clause-did g c states honest =
     let taken = c.undo.ensures in
     let files = c.args.files.now in
     let was = c.args.tally.now in
-    let now : Tally = record { accepted = was.accepted + 1; acknowledged = was.acknowledged; group = was.group } in
+    let now : Tally = record { accepted = was.accepted + 1; acknowledged = was.acknowledged; group = was.group; ordered = one_more _ _ was.ordered } in
     let texts = texts_of (held_over files.held.now (contents (d.files files.disk))) files.names in
     let same = c.undo.ensures.memory.disk in (
       (
@@ -82,8 +82,8 @@ returns-in-Err-Device-clause-did g c states honest =
           rw (taken.memory.names, c.commit.ensures.set.names, taken.memory.broken, fell) refl,
         ),
       ),
-      leaves_torn d.files d.moment d.left_since states files c.undo.new.self was now files.held.now.waiting texts (sym c.fills.ensures ∙ c.if-not-fills.false) refl c.in-Err-Device.field-0
-          (subst (λ disk. CommitsTexts {A = Unit {0}} {E = SetFault} d.files d.moment d.left_since files.names files.held.now.waiting texts files.disk disk (Err c.in-Err-Device.field-0)) (sym same) (c.in-Err-Device.ensures.commits (subst d.honest same honest))),
+      leaves_torn d states files c.undo.new.self was now files.held.now.waiting texts (sym c.fills.ensures ∙ c.if-not-fills.false) refl c.in-Err-Device.field-0
+          (subst (λ disk. CommitsTexts {A = Unit {0}} {E = SetFault} d files.names files.held.now.waiting texts files.disk disk (Err c.in-Err-Device.field-0)) (sym same) (c.in-Err-Device.ensures.commits (subst d.honest same honest))),
     )
 
 pub returns-in-Err-OutOfMemory-clause-did : goal.returns-in-Err-OutOfMemory-clause-did
@@ -97,16 +97,13 @@ returns-in-Err-OutOfMemory-clause-did g c states honest =
     let same = c.undo-in-Err-OutOfMemory.ensures.memory.disk ∙ ap (λ (f : OpenFiles g.row.D.Denot). f.disk) unwritten in
     let was = subst d.honest same honest in (
       rw (taken.memory.disk, taken.memory.names, taken.memory.broken, taken.before, unwritten) refl,
-      leaves_unwritten d.files d.moment d.left_since old (IsLeft {A = Unit {0}} old.session files (Accepts c.args.files.now.held.now.waiting texts) (Err OutOfMemory) c.args.tally.now.accepted)
+      leaves_unwritten d old (IsLeft {A = Unit {0}} old.session files (Accepts c.args.files.now.held.now.waiting texts) (Err OutOfMemory) c.args.tally.now.accepted)
           (IsLeftAlone {A = Unit {0}} old.session [] (Accepts c.args.files.now.held.now.waiting texts) (Err OutOfMemory) c.args.tally.now.accepted) _
           (λ image left. g.met.D.Disk.only_now c.args.files.now.disk image was left) refl (λ image holds. inl holds) _ same refl,
     )
 
-pub fills-requires-clause-counted : goal.fills-requires-clause-counted
-fills-requires-clause-counted g c = c.requires.counted
-
-pub fills-requires-clause-countable : goal.fills-requires-clause-countable
-fills-requires-clause-countable g c = c.requires.countable
+pub fills-requires : goal.fills-requires
+fills-requires g c = c.requires.countable
 
 pub keep-requires : goal.keep-requires
 keep-requires g c = c.requires.small
@@ -130,7 +127,7 @@ returns-then-not-fills-clause-waits g c states =
     rw room (ap (λ (s : TextSet). s.waiting) c.keep.ensures.before)
 
 pub returns-then-not-fills-clause-kept : goal.returns-then-not-fills-clause-kept
-returns-then-not-fills-clause-kept g c = (c.keep.ensures.now ∙ sym c.keep.ensures.before, one_more _ _ c.requires.counted)
+returns-then-not-fills-clause-kept g c = (c.keep.ensures.now ∙ sym c.keep.ensures.before)
 
 pub returns-then-not-fills-clause-breaks : goal.returns-then-not-fills-clause-breaks
 returns-then-not-fills-clause-breaks g c = stays_whole (Ok tt) c.keep.new.self.broken (c.keep.ensures.memory.broken ∙ c.requires.unbroken) (fine_is_no_fault (Ok tt) tt Device refl)
@@ -151,7 +148,7 @@ returns-in-Ok-clause-waits g c states =
     rw full (ap (λ (s : TextSet). s.waiting) (sym c.in-Ok.ensures.held.0) ∙ c.in-Ok.ensures.held.1)
 
 pub returns-in-Ok-clause-kept : goal.returns-in-Ok-clause-kept
-returns-in-Ok-clause-kept g c = (c.in-Ok.ensures.held.0, as_many _)
+returns-in-Ok-clause-kept g c = c.in-Ok.ensures.held.0
 
 pub returns-in-Ok-clause-breaks : goal.returns-in-Ok-clause-breaks
 returns-in-Ok-clause-breaks g c = stays_whole (Ok tt) c.commit.new.self.broken (whole_behind c.commit.result c.in-Ok.field-0 set.Device c.commit.new.self.broken c.in-Ok.is c.commit.ensures.set.breaks) (fine_is_no_fault (Ok tt) tt Device refl)
@@ -166,7 +163,7 @@ pub returns-in-Err-Device-clause-waits : goal.returns-in-Err-Device-clause-waits
 returns-in-Err-Device-clause-waits g c states = ap (λ (s : TextSet). s.waiting) c.undo.ensures.before ∙ ap (λ (h : Holding). h.before.waiting) c.in-Err-Device.ensures.held
 
 pub returns-in-Err-Device-clause-kept : goal.returns-in-Err-Device-clause-kept
-returns-in-Err-Device-clause-kept g c = (c.undo.ensures.now ∙ sym c.undo.ensures.before, one_more _ _ c.requires.counted)
+returns-in-Err-Device-clause-kept g c = (c.undo.ensures.now ∙ sym c.undo.ensures.before)
 
 pub returns-in-Err-Device-clause-breaks : goal.returns-in-Err-Device-clause-breaks
 returns-in-Err-Device-clause-breaks g c = (λ fell. c.undo.ensures.memory.broken ∙ c.commit.ensures.set.breaks.0 (c.in-Err-Device.is ∙ ap (λ (f : SetFault). Err f) c.in-Err-Device.field-0-is), λ fell. refl)
@@ -181,7 +178,7 @@ pub returns-in-Err-OutOfMemory-clause-waits : goal.returns-in-Err-OutOfMemory-cl
 returns-in-Err-OutOfMemory-clause-waits g c states = ap (λ (s : TextSet). s.waiting) c.undo-in-Err-OutOfMemory.ensures.before ∙ ap (λ (h : Holding). h.before.waiting) c.in-Err-OutOfMemory.ensures.held
 
 pub returns-in-Err-OutOfMemory-clause-kept : goal.returns-in-Err-OutOfMemory-clause-kept
-returns-in-Err-OutOfMemory-clause-kept g c = (c.undo-in-Err-OutOfMemory.ensures.now ∙ sym c.undo-in-Err-OutOfMemory.ensures.before, c.requires.counted)
+returns-in-Err-OutOfMemory-clause-kept g c = (c.undo-in-Err-OutOfMemory.ensures.now ∙ sym c.undo-in-Err-OutOfMemory.ensures.before)
 
 pub returns-in-Err-OutOfMemory-clause-breaks : goal.returns-in-Err-OutOfMemory-clause-breaks
 returns-in-Err-OutOfMemory-clause-breaks g c =

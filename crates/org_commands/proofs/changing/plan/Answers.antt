@@ -1,15 +1,16 @@
-use Rattle.std.proofs.Common.{◌≡◌, ◌∙◌, ℕ, List, Option, Some, Result, Ok, Err, refl, sym, subst}
+use Rattle.std.proofs.Common.{◌≡◌, ◌∙◌, Option, Some, Result, Ok, Err, refl, sym, subst}
+use Rattle.org_disk.specs.declared.disk.Disk.{Ghosts}
 use Rattle.std.specs.Prelude.{IfOk, IsOkAnd, MatchResult}
 use Rattle.std.specs.Option.{ForSome}
-use Rattle.org_disk.specs.Disk.{FileState}
 use Rattle.org_journal.specs.Recovered.{Image, contents}
-use Rattle.org_commands.specs.declared.command.Command.{Command}
+use Rattle.org_commands.specs.declared.kind.Change.{Change}
 use Rattle.org_commands.specs.declared.command.RunFault.{RunFault}
 use Rattle.org_commands.specs.declared.command.RunFault.TheVariants.{Device, Broken}
 use Rattle.org_texts.specs.declared.plan.Plan.{Plan}
 use Rattle.org_commands.specs.Files.{OpenFiles}
 use Rattle.org_commands.specs.Reading.{OnlyReads}
 use Rattle.org_commands.specs.Keeping.{PlansOrStays}
+use Rattle.org_commands.specs.Kinds.{changing}
 use Rattle.org_commands.specs.Outcome.{outcome}
 use Rattle.org_commands.specs.Session.{session_over}
 use Rattle.org_commands.proofs.Faults.{fine_is_no_fault}
@@ -25,8 +26,8 @@ some_fits P (Ok plan) (Err fault) is fits = absurd is
 some_fits P (Err fault) answer is fits = subst (λ (r : Result (Option Plan) RunFault). IfOk r (λ given. ForSome given P)) (sym is) tt
 
 -- .. and it only reads
-some_reads : {D : Type 0} {steady : Type 0} {honest : D → Type 0} {failures : D → ℕ} {files : D → List ℕ → FileState} {moment : D → ℕ} {left_since : D → ℕ → Image → Type 0} {old new : OpenFiles D} (first : Result Plan RunFault) (answer : Result (Option Plan) RunFault)
-    → MatchResult first (λ plan. IsOkAnd answer (λ given. given ≡ Some plan)) (λ fault. answer ≡ Err fault) → OnlyReads steady honest failures files moment left_since old new first → OnlyReads steady honest failures files moment left_since old new answer
+some_reads : {D : Type 0} {g : Ghosts D} {old new : OpenFiles D} (first : Result Plan RunFault) (answer : Result (Option Plan) RunFault)
+    → MatchResult first (λ plan. IsOkAnd answer (λ given. given ≡ Some plan)) (λ fault. answer ≡ Err fault) → OnlyReads g old new first → OnlyReads g old new answer
 some_reads (Ok plan) (Ok given) is call = only_reads_fine (fine_is_no_fault (Ok given) given Broken refl) (fine_is_no_fault (Ok given) given Device refl) call
 some_reads (Ok plan) (Err fault) is call = absurd is
 some_reads (Err fault) answer is call = only_reads_fault is call
@@ -37,7 +38,7 @@ returns-in-Capture-clause-plans g c tally honest =
     let s = session_over texts c.args.states.now c.args.files.now tally in
     let new = session_over texts c.args.states.now c.plan_capture.new.files tally in
     let told = some_planned s _ c.plan_capture.result c.plan_capture.new.files.held new c.map.result c.map.ensures.cases (c.plan_capture.ensures.plans tally honest) in
-    subst (λ (command : Command). PlansOrStays s (outcome s command) c.map.result c.plan_capture.new.files.held new) (sym c.in-Capture.is) told
+    subst (λ (change : Change). PlansOrStays s (outcome s (changing change)) c.map.result c.plan_capture.new.files.held new) (sym c.in-Capture.is) told
 
 pub returns-in-Refile-clause-plans : goal.returns-in-Refile-clause-plans
 returns-in-Refile-clause-plans g c tally honest =
@@ -45,7 +46,7 @@ returns-in-Refile-clause-plans g c tally honest =
     let s = session_over texts c.args.states.now c.args.files.now tally in
     let new = session_over texts c.args.states.now c.plan_refile.new.files tally in
     let told = some_planned s _ c.plan_refile.result c.plan_refile.new.files.held new c.map-in-Refile.result c.map-in-Refile.ensures.cases (c.plan_refile.ensures.plans tally honest) in
-    subst (λ (command : Command). PlansOrStays s (outcome s command) c.map-in-Refile.result c.plan_refile.new.files.held new) (sym c.in-Refile.is) told
+    subst (λ (change : Change). PlansOrStays s (outcome s (changing change)) c.map-in-Refile.result c.plan_refile.new.files.held new) (sym c.in-Refile.is) told
 
 pub returns-in-Archive-clause-plans : goal.returns-in-Archive-clause-plans
 returns-in-Archive-clause-plans g c tally honest =
@@ -53,28 +54,28 @@ returns-in-Archive-clause-plans g c tally honest =
     let s = session_over texts c.args.states.now c.args.files.now tally in
     let new = session_over texts c.args.states.now c.plan_archive.new.files tally in
     let told = some_planned s _ c.plan_archive.result c.plan_archive.new.files.held new c.map-in-Archive.result c.map-in-Archive.ensures.cases (c.plan_archive.ensures.plans tally honest) in
-    subst (λ (command : Command). PlansOrStays s (outcome s command) c.map-in-Archive.result c.plan_archive.new.files.held new) (sym c.in-Archive.is) told
+    subst (λ (change : Change). PlansOrStays s (outcome s (changing change)) c.map-in-Archive.result c.plan_archive.new.files.held new) (sym c.in-Archive.is) told
 
 pub returns-in-Todo-clause-plans : goal.returns-in-Todo-clause-plans
 returns-in-Todo-clause-plans g c tally honest =
     let texts : g.row.D.Denot → Image = λ disk. contents (g.D.Disk.files disk) in
     let s = session_over texts c.args.states.now c.args.files.now tally in
     let new = session_over texts c.args.states.now c.plan_todo.new.files tally in
-    subst (λ (command : Command). PlansOrStays s (outcome s command) c.plan_todo.result c.plan_todo.new.files.held new) (sym c.in-Todo.is) (c.plan_todo.ensures.plans tally honest)
+    subst (λ (change : Change). PlansOrStays s (outcome s (changing change)) c.plan_todo.result c.plan_todo.new.files.held new) (sym c.in-Todo.is) (c.plan_todo.ensures.plans tally honest)
 
 pub returns-in-ClockIn-clause-plans : goal.returns-in-ClockIn-clause-plans
 returns-in-ClockIn-clause-plans g c tally honest =
     let texts : g.row.D.Denot → Image = λ disk. contents (g.D.Disk.files disk) in
     let s = session_over texts c.args.states.now c.args.files.now tally in
     let new = session_over texts c.args.states.now c.plan_clock_in.new.files tally in
-    subst (λ (command : Command). PlansOrStays s (outcome s command) c.plan_clock_in.result c.plan_clock_in.new.files.held new) (sym c.in-ClockIn.is) (c.plan_clock_in.ensures.plans tally honest)
+    subst (λ (change : Change). PlansOrStays s (outcome s (changing change)) c.plan_clock_in.result c.plan_clock_in.new.files.held new) (sym c.in-ClockIn.is) (c.plan_clock_in.ensures.plans tally honest)
 
 pub returns-in-ClockOut-clause-plans : goal.returns-in-ClockOut-clause-plans
 returns-in-ClockOut-clause-plans g c tally honest =
     let texts : g.row.D.Denot → Image = λ disk. contents (g.D.Disk.files disk) in
     let s = session_over texts c.args.states.now c.args.files.now tally in
     let new = session_over texts c.args.states.now c.plan_clock_out.new.files tally in
-    subst (λ (command : Command). PlansOrStays s (outcome s command) c.plan_clock_out.result c.plan_clock_out.new.files.held new) (sym c.in-ClockOut.is) (c.plan_clock_out.ensures.plans tally honest)
+    subst (λ (change : Change). PlansOrStays s (outcome s (changing change)) c.plan_clock_out.result c.plan_clock_out.new.files.held new) (sym c.in-ClockOut.is) (c.plan_clock_out.ensures.plans tally honest)
 
 pub returns-in-Todo-clause-plan : goal.returns-in-Todo-clause-plan
 returns-in-Todo-clause-plan g c = c.plan_todo.ensures.plan

@@ -15,11 +15,11 @@ use Rattle.org_fileset.proofs.apply.apply_all.Goals as goal
 
 pub loop-entry-init : goal.loop-entry-init
 loop-entry-init g c = record {
-  accounts = accounts_none g.D.Disk.steady g.D.Disk.honest g.D.Disk.failures c.args.disk.now;
+  accounts = accounts_none g.D.Disk c.args.disk.now;
   replays = λ honest stable texts takes. replays_none (g.D.Disk.moment c.args.disk.now) (g.D.Disk.left_since c.args.disk.now) (g.D.Disk.files c.args.disk.now) takes;
   have = λ honest j entry none is. absurd (omega arith);
   untouched = λ honest j entry le is. refl;
-  alone = λ honest. alone_none g.D.Disk.files g.D.Disk.moment g.D.Disk.left_since (λ name. IsFalse (is_named name c.args.entries.now)) c.args.disk.now;
+  alone = λ honest. alone_none g.D.Disk (λ name. IsFalse (is_named name c.args.entries.now)) c.args.disk.now;
 }
 
 pub apply_entry-requires-clause-formed : goal.apply_entry-requires-clause-formed
@@ -67,7 +67,7 @@ returns-in_err-apply_entry-clause-alone g c ended =
     let i = c.loop-entry.entry-index in
     let entry = c.entry-item.result in
     let is = slice_get_read c.args.entries.now (length c.args.entries.now) i entry refl c.loop-entry-test.true c.entry-item.is in
-    alone_entry g.D.Disk.files g.D.Disk.moment g.D.Disk.left_since c.args.entries.now i entry c.args.disk.now c.loop-entry.disk c.apply_entry.new.disk is
+    alone_entry g.D.Disk c.args.entries.now i entry c.args.disk.now c.loop-entry.disk c.apply_entry.new.disk is
     (c.loop-entry.invariant.alone (c.apply_entry.ensures.accounts.was_honest ended)) (c.apply_entry.ensures.alone ended)
 
 pub loop-entry-preserved : goal.loop-entry-preserved
@@ -93,7 +93,7 @@ loop-entry-preserved g c =
       untouched = λ ended.
           untouched_more c.args.entries.now i entry old mid (g.D.Disk.files c.apply_entry.new.disk) (c.requires.applicable (sofar.accounts.was_honest (back ended))) is (c.apply_entry.ensures.alone ended).same (sofar.untouched (back ended));
       alone = λ ended.
-          alone_entry g.D.Disk.files g.D.Disk.moment g.D.Disk.left_since c.args.entries.now i entry c.args.disk.now c.loop-entry.disk c.apply_entry.new.disk is (sofar.alone (back ended))
+          alone_entry g.D.Disk c.args.entries.now i entry c.args.disk.now c.loop-entry.disk c.apply_entry.new.disk is (sofar.alone (back ended))
           (c.apply_entry.ensures.alone ended);
     }
 

@@ -14,10 +14,10 @@ abbrev pub invariant-loop-entry : goal.invariant-loop-entry
 invariant-loop-entry g l =
     let disk = g.D.Disk in
     record {
-      accounts : Accounts disk.steady disk.honest disk.failures l.fn.disk l.disk ⊥;
+      accounts : Accounts disk l.fn.disk l.disk ⊥;
       replays : disk.honest l.disk → IsStable (disk.files l.fn.disk journal_name) → (texts : Image) → EachTakes l.entries texts (disk.files l.fn.disk)
           → Replays l.entries texts (disk.moment l.fn.disk) (disk.moment l.disk) (disk.left_since l.fn.disk) (disk.left_since l.disk) (disk.files l.fn.disk) (disk.files l.disk);
       have : disk.honest l.disk → HaveTexts l.entries (replayed l.entries (contents (disk.files l.fn.disk))) l.entry-index (disk.files l.disk);
       untouched : disk.honest l.disk → AreUntouched l.entries l.entry-index (disk.files l.fn.disk) (disk.files l.disk);
-      alone : disk.honest l.disk → LeavesAlone disk.files disk.moment disk.left_since (λ name. IsFalse (is_named name l.entries)) l.fn.disk l.disk;
+      alone : disk.honest l.disk → LeavesAlone disk (λ name. IsFalse (is_named name l.entries)) l.fn.disk l.disk;
     }

@@ -12,9 +12,9 @@ use Rattle.org_fileset.proofs.apply.apply_entry.Goals as goal
 
 pub loop-patch-init : goal.loop-patch-init
 loop-patch-init g c = record {
-  accounts = accounts_none g.D.Disk.steady g.D.Disk.honest g.D.Disk.failures c.args.disk.now;
+  accounts = accounts_none g.D.Disk c.args.disk.now;
   content = λ honest. refl;
-  alone = λ honest. alone_none g.D.Disk.files g.D.Disk.moment g.D.Disk.left_since (λ other. other ≢ c.args.entry.now.name) c.args.disk.now;
+  alone = λ honest. alone_none g.D.Disk (λ other. other ≢ c.args.entry.now.name) c.args.disk.now;
   applies = λ honest to takes. applies_none (g.D.Disk.moment c.args.disk.now) (g.D.Disk.left_since c.args.disk.now) (g.D.Disk.files c.args.disk.now) takes;
 }
 
@@ -77,8 +77,8 @@ loop-patch-preserved g c =
           ap (λ (f : FileState). f.content) done
           ∙ ap (λ (t : List ℕ). (write from bytes (record (mid name) { content = t })).content) (sofar.content (back ended))
           ∙ sym (patched_each-more patches c.loop-patch.patch-index from bytes (g.D.Disk.files c.args.disk.now name).content is);
-      alone = λ ended. alone_then g.D.Disk.files g.D.Disk.moment g.D.Disk.left_since (λ other. other ≢ name) c.args.disk.now c.loop-patch.disk c.write_at.new.self (sofar.alone (back ended))
-          (alone_call g.D.Disk.files g.D.Disk.moment g.D.Disk.left_since (write from bytes) name c.loop-patch.disk c.write_at.new.self c.write_at.result (c.write_at.ensures.effect ended) (c.write_at.ensures.time ended));
+      alone = λ ended. alone_then g.D.Disk (λ other. other ≢ name) c.args.disk.now c.loop-patch.disk c.write_at.new.self (sofar.alone (back ended))
+          (alone_call g.D.Disk (write from bytes) name c.loop-patch.disk c.write_at.new.self c.write_at.result (c.write_at.ensures.effect ended) (c.write_at.ensures.time ended));
       applies = λ ended to takes.
           let le = next_within patches c.args.entry.now.length c.loop-patch.patch-index from bytes (g.D.Disk.files c.args.disk.now name).content
           (mid name).content (c.requires.formed (sofar.accounts.was_honest (back ended))) (c.requires.fits (sofar.accounts.was_honest (back ended))) is (sofar.content (back ended)) in
@@ -142,41 +142,41 @@ pub returns-in_err-write_at-clause-alone : goal.returns-in_err-write_at-clause-a
 returns-in_err-write_at-clause-alone g c ended =
     let name = c.args.entry.now.name in
     let mid = c.loop-patch.disk in
-    alone_then g.D.Disk.files g.D.Disk.moment g.D.Disk.left_since (λ other. other ≢ name) c.args.disk.now mid c.write_at.new.self (c.loop-patch.invariant.alone (c.write_at.ensures.accounts.was_honest ended))
-    (alone_call g.D.Disk.files g.D.Disk.moment g.D.Disk.left_since (write c.patch-item.result.from c.as_slice.result.now) name mid c.write_at.new.self c.write_at.result
+    alone_then g.D.Disk (λ other. other ≢ name) c.args.disk.now mid c.write_at.new.self (c.loop-patch.invariant.alone (c.write_at.ensures.accounts.was_honest ended))
+    (alone_call g.D.Disk (write c.patch-item.result.from c.as_slice.result.now) name mid c.write_at.new.self c.write_at.result
     (c.write_at.ensures.effect ended) (c.write_at.ensures.time ended))
 
 pub returns-in_err-length-clause-alone : goal.returns-in_err-length-clause-alone
 returns-in_err-length-clause-alone g c ended =
     let Mine : List ℕ → Type 0 = λ other. other ≢ c.args.entry.now.name in
-    alone_then g.D.Disk.files g.D.Disk.moment g.D.Disk.left_since Mine c.args.disk.now c.loop-patch.disk c.length.new.self (c.loop-patch.invariant.alone (c.length.ensures.accounts.was_honest ended))
-    (alone_looks g.D.Disk.files g.D.Disk.moment g.D.Disk.left_since Mine c.loop-patch.disk c.length.new.self (c.length.ensures.looks ended))
+    alone_then g.D.Disk Mine c.args.disk.now c.loop-patch.disk c.length.new.self (c.loop-patch.invariant.alone (c.length.ensures.accounts.was_honest ended))
+    (alone_looks g.D.Disk Mine c.loop-patch.disk c.length.new.self (c.length.ensures.looks ended))
 
 pub returns-in_err-cut-clause-alone : goal.returns-in_err-cut-clause-alone
 returns-in_err-cut-clause-alone g c ended =
     let name = c.args.entry.now.name in
     let h1 = c.cut.ensures.accounts.was_honest ended in
     let Mine : List ℕ → Type 0 = λ other. other ≢ name in
-    let looked = alone_then g.D.Disk.files g.D.Disk.moment g.D.Disk.left_since Mine c.args.disk.now c.loop-patch.disk c.length.new.self (c.loop-patch.invariant.alone (c.length.ensures.accounts.was_honest h1))
-    (alone_looks g.D.Disk.files g.D.Disk.moment g.D.Disk.left_since Mine c.loop-patch.disk c.length.new.self (c.length.ensures.looks h1)) in
-    alone_then g.D.Disk.files g.D.Disk.moment g.D.Disk.left_since Mine c.args.disk.now c.length.new.self c.cut.new.self looked
-    (alone_call g.D.Disk.files g.D.Disk.moment g.D.Disk.left_since (cut c.args.entry.now.length) name c.length.new.self c.cut.new.self c.cut.result (c.cut.ensures.effect ended) (c.cut.ensures.time ended))
+    let looked = alone_then g.D.Disk Mine c.args.disk.now c.loop-patch.disk c.length.new.self (c.loop-patch.invariant.alone (c.length.ensures.accounts.was_honest h1))
+    (alone_looks g.D.Disk Mine c.loop-patch.disk c.length.new.self (c.length.ensures.looks h1)) in
+    alone_then g.D.Disk Mine c.args.disk.now c.length.new.self c.cut.new.self looked
+    (alone_call g.D.Disk (cut c.args.entry.now.length) name c.length.new.self c.cut.new.self c.cut.result (c.cut.ensures.effect ended) (c.cut.ensures.time ended))
 
 pub returns-in_ok-cut-clause-alone : goal.returns-in_ok-cut-clause-alone
 returns-in_ok-cut-clause-alone g c ended =
     let name = c.args.entry.now.name in
     let h1 = c.cut.ensures.accounts.was_honest ended in
     let Mine : List ℕ → Type 0 = λ other. other ≢ name in
-    let looked = alone_then g.D.Disk.files g.D.Disk.moment g.D.Disk.left_since Mine c.args.disk.now c.loop-patch.disk c.length.new.self (c.loop-patch.invariant.alone (c.length.ensures.accounts.was_honest h1))
-    (alone_looks g.D.Disk.files g.D.Disk.moment g.D.Disk.left_since Mine c.loop-patch.disk c.length.new.self (c.length.ensures.looks h1)) in
-    alone_then g.D.Disk.files g.D.Disk.moment g.D.Disk.left_since Mine c.args.disk.now c.length.new.self c.cut.new.self looked
-    (alone_call g.D.Disk.files g.D.Disk.moment g.D.Disk.left_since (cut c.args.entry.now.length) name c.length.new.self c.cut.new.self c.cut.result (c.cut.ensures.effect ended) (c.cut.ensures.time ended))
+    let looked = alone_then g.D.Disk Mine c.args.disk.now c.loop-patch.disk c.length.new.self (c.loop-patch.invariant.alone (c.length.ensures.accounts.was_honest h1))
+    (alone_looks g.D.Disk Mine c.loop-patch.disk c.length.new.self (c.length.ensures.looks h1)) in
+    alone_then g.D.Disk Mine c.args.disk.now c.length.new.self c.cut.new.self looked
+    (alone_call g.D.Disk (cut c.args.entry.now.length) name c.length.new.self c.cut.new.self c.cut.result (c.cut.ensures.effect ended) (c.cut.ensures.time ended))
 
 pub returns-else-length-entry-clause-alone : goal.returns-else-length-entry-clause-alone
 returns-else-length-entry-clause-alone g c ended =
     let Mine : List ℕ → Type 0 = λ other. other ≢ c.args.entry.now.name in
-    alone_then g.D.Disk.files g.D.Disk.moment g.D.Disk.left_since Mine c.args.disk.now c.loop-patch.disk c.length.new.self (c.loop-patch.invariant.alone (c.length.ensures.accounts.was_honest ended))
-    (alone_looks g.D.Disk.files g.D.Disk.moment g.D.Disk.left_since Mine c.loop-patch.disk c.length.new.self (c.length.ensures.looks ended))
+    alone_then g.D.Disk Mine c.args.disk.now c.loop-patch.disk c.length.new.self (c.loop-patch.invariant.alone (c.length.ensures.accounts.was_honest ended))
+    (alone_looks g.D.Disk Mine c.loop-patch.disk c.length.new.self (c.length.ensures.looks ended))
 
 pub returns-in_err-write_at-clause-accounts : goal.returns-in_err-write_at-clause-accounts
 returns-in_err-write_at-clause-accounts g c =

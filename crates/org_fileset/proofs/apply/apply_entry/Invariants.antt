@@ -12,9 +12,9 @@ invariant-loop-patch g l =
     let disk = g.D.Disk in
     let patches = pairs_of l.entry.patches in
     record {
-      accounts : Accounts disk.steady disk.honest disk.failures l.fn.disk l.disk ⊥;
+      accounts : Accounts disk l.fn.disk l.disk ⊥;
       content : disk.honest l.disk → (disk.files l.disk l.entry.name).content ≡ patched_each (take l.patch-index patches) (disk.files l.fn.disk l.entry.name).content;
-      alone : disk.honest l.disk → LeavesAlone disk.files disk.moment disk.left_since (λ other. other ≢ l.entry.name) l.fn.disk l.disk;
+      alone : disk.honest l.disk → LeavesAlone disk (λ other. other ≢ l.entry.name) l.fn.disk l.disk;
       applies : disk.honest l.disk → (to : List ℕ) → EachPatchedTo patches l.entry.length to (disk.files l.fn.disk l.entry.name)
           → AppliesPatches patches l.entry.length l.entry.name to (disk.moment l.fn.disk) (disk.moment l.disk) (disk.left_since l.fn.disk) (disk.left_since l.disk) (disk.files l.fn.disk) (disk.files l.disk);
     }

@@ -12,10 +12,10 @@ use Rattle.org_fileset.proofs.apply.sync_all.Goals as goal
 
 pub loop-entry-init : goal.loop-entry-init
 loop-entry-init g c = record {
-  accounts = accounts_none g.D.Disk.steady g.D.Disk.honest g.D.Disk.failures c.args.disk.now;
+  accounts = accounts_none g.D.Disk c.args.disk.now;
   replays = λ honest stable texts takes. replays_none (g.D.Disk.moment c.args.disk.now) (g.D.Disk.left_since c.args.disk.now) (g.D.Disk.files c.args.disk.now) takes;
   contents = λ honest name. refl;
-  alone = λ honest. alone_none g.D.Disk.files g.D.Disk.moment g.D.Disk.left_since (λ name. IsFalse (is_named name c.args.entries.now)) c.args.disk.now;
+  alone = λ honest. alone_none g.D.Disk (λ name. IsFalse (is_named name c.args.entries.now)) c.args.disk.now;
   stable = λ honest j entry none is. absurd (omega arith);
 }
 
@@ -54,8 +54,8 @@ loop-entry-preserved g c =
             | inr other ↦ ap (λ (f : FileState). f.content) ((c.sync.ensures.effect ended).others name other.0) ∙ sofar.contents (back ended) name
           ];
       alone = λ ended.
-          alone_entry g.D.Disk.files g.D.Disk.moment g.D.Disk.left_since c.args.entries.now i entry c.args.disk.now c.loop-entry.disk c.sync.new.self is (sofar.alone (back ended))
-          (alone_call g.D.Disk.files g.D.Disk.moment g.D.Disk.left_since sync entry.name c.loop-entry.disk c.sync.new.self c.sync.result (c.sync.ensures.effect ended) (c.sync.ensures.time ended));
+          alone_entry g.D.Disk c.args.entries.now i entry c.args.disk.now c.loop-entry.disk c.sync.new.self is (sofar.alone (back ended))
+          (alone_call g.D.Disk sync entry.name c.loop-entry.disk c.sync.new.self c.sync.result (c.sync.ensures.effect ended) (c.sync.ensures.time ended));
       stable = λ ended.
           stable_more c.args.entries.now i entry mid (g.D.Disk.files c.sync.new.self) is (is_stable _ (mid entry.name).content (c.in_ok-sync.ensures.effect ended).ok)
           (c.sync.ensures.effect ended).others (sofar.stable (back ended));
@@ -72,6 +72,6 @@ returns-in_err-sync-clause-alone g c ended =
     let i = c.loop-entry.entry-index in
     let entry = c.entry-item.result in
     let is = slice_get_read c.args.entries.now (length c.args.entries.now) i entry refl c.loop-entry-test.true c.entry-item.is in
-    alone_entry g.D.Disk.files g.D.Disk.moment g.D.Disk.left_since c.args.entries.now i entry c.args.disk.now c.loop-entry.disk c.sync.new.self is
+    alone_entry g.D.Disk c.args.entries.now i entry c.args.disk.now c.loop-entry.disk c.sync.new.self is
     (c.loop-entry.invariant.alone (c.sync.ensures.accounts.was_honest ended))
-    (alone_call g.D.Disk.files g.D.Disk.moment g.D.Disk.left_since sync entry.name c.loop-entry.disk c.sync.new.self c.sync.result (c.sync.ensures.effect ended) (c.sync.ensures.time ended))
+    (alone_call g.D.Disk sync entry.name c.loop-entry.disk c.sync.new.self c.sync.result (c.sync.ensures.effect ended) (c.sync.ensures.time ended))

@@ -75,7 +75,7 @@ returns-clause-commits g c ended =
       any_moment = λ rest. since_start (passes_then (written.any_moment rest) (replays.any_moment (can rest)) (λ image stands. inr stands)) files
           (g.met.D.Disk.only_now c.args.disk.now) honest (λ image left. inl (at_rest_recovers files rest image left));
       recoverable = λ rest. replays.recoverable (can rest);
-      alone = alone_then d.files d.moment d.left_since (IsUnwritten entries) c.args.disk.now c.write_record.new.disk c.replay.new.disk written.alone replays.alone;
+      alone = alone_then d (IsUnwritten entries) c.args.disk.now c.write_record.new.disk c.replay.new.disk written.alone replays.alone;
     }
 
 pub returns-in_err-write_record-clause-accounts : goal.returns-in_err-write_record-clause-accounts

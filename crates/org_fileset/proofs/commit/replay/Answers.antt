@@ -29,7 +29,7 @@ returns-in_err-apply_all-clause-replays g c ended =
       any_moment = λ can. passes_as (applied can).any_moment (taking_recovers entries can.texts (files journal_name).content applicable is.opened is.found);
       recoverable = λ can. inr (replayable_armed entries new applicable (still_open entries files new applicable is (c.apply_all.ensures.alone ended).same) (still_replayable can (applied can)));
       done = on_ok_never _ c.from_residual.result failed;
-      alone = alone_applied g.D.Disk.files g.D.Disk.moment g.D.Disk.left_since entries c.args.disk.now c.apply_all.new.disk (c.apply_all.ensures.alone ended);
+      alone = alone_applied g.D.Disk entries c.args.disk.now c.apply_all.new.disk (c.apply_all.ensures.alone ended);
     }
 
 pub returns-in_err-sync_all-clause-replays : goal.returns-in_err-sync_all-clause-replays
@@ -51,9 +51,9 @@ returns-in_err-sync_all-clause-replays g c ended =
       any_moment = λ can. passes_as (synced can).any_moment (taking_recovers entries can.texts (files journal_name).content applicable is.opened is.found);
       recoverable = λ can. inr (replayable_armed entries last applicable is2 (still_replayable can (synced can)));
       done = on_ok_never _ c.from_residual-in_err-sync_all.result failed;
-      alone = alone_then g.D.Disk.files g.D.Disk.moment g.D.Disk.left_since (IsUnwritten entries) c.args.disk.now c.apply_all.new.disk c.sync_all.new.disk
-          (alone_applied g.D.Disk.files g.D.Disk.moment g.D.Disk.left_since entries c.args.disk.now c.apply_all.new.disk (c.apply_all.ensures.alone h1))
-          (alone_applied g.D.Disk.files g.D.Disk.moment g.D.Disk.left_since entries c.apply_all.new.disk c.sync_all.new.disk (c.sync_all.ensures.alone ended));
+      alone = alone_then g.D.Disk (IsUnwritten entries) c.args.disk.now c.apply_all.new.disk c.sync_all.new.disk
+          (alone_applied g.D.Disk entries c.args.disk.now c.apply_all.new.disk (c.apply_all.ensures.alone h1))
+          (alone_applied g.D.Disk entries c.apply_all.new.disk c.sync_all.new.disk (c.sync_all.ensures.alone ended));
     }
 
 pub close_gate-requires-clause-nonempty : goal.close_gate-requires-clause-nonempty
@@ -108,11 +108,11 @@ returns-clause-replays g c ended =
         made = λ name not. ap (λ (f : FileState). f.content) (puts.others name not) ∙ made name;
         rest = λ can. rest_after last after (drop 1 (last journal_name).content) only zero puts.others (λ name apart. stable can name);
       });
-      alone = alone_then g.D.Disk.files g.D.Disk.moment g.D.Disk.left_since (IsUnwritten entries) c.args.disk.now c.sync_all.new.disk c.close_gate.new.disk
-          (alone_then g.D.Disk.files g.D.Disk.moment g.D.Disk.left_since (IsUnwritten entries) c.args.disk.now c.apply_all.new.disk c.sync_all.new.disk
-          (alone_applied g.D.Disk.files g.D.Disk.moment g.D.Disk.left_since entries c.args.disk.now c.apply_all.new.disk (c.apply_all.ensures.alone h1))
-          (alone_applied g.D.Disk.files g.D.Disk.moment g.D.Disk.left_since entries c.apply_all.new.disk c.sync_all.new.disk (c.sync_all.ensures.alone h2)))
-          (alone_journal g.D.Disk.files g.D.Disk.moment g.D.Disk.left_since c.args.journal.now (IsUnwritten entries) (LeavesBody c.args.journal.now last) c.sync_all.new.disk c.close_gate.new.disk
+      alone = alone_then g.D.Disk (IsUnwritten entries) c.args.disk.now c.sync_all.new.disk c.close_gate.new.disk
+          (alone_then g.D.Disk (IsUnwritten entries) c.args.disk.now c.apply_all.new.disk c.sync_all.new.disk
+          (alone_applied g.D.Disk entries c.args.disk.now c.apply_all.new.disk (c.apply_all.ensures.alone h1))
+          (alone_applied g.D.Disk entries c.apply_all.new.disk c.sync_all.new.disk (c.sync_all.ensures.alone h2)))
+          (alone_journal g.D.Disk c.args.journal.now (IsUnwritten entries) (LeavesBody c.args.journal.now last) c.sync_all.new.disk c.close_gate.new.disk
           c.requires.journal (λ name is. is.apart) (c.close_gate.ensures.puts ended).others (c.close_gate.ensures.any_moment ended) (λ image left. left.others));
     }
 

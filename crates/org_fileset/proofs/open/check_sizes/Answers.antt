@@ -96,7 +96,7 @@ pub loop-name-init : goal.loop-name-init
 loop-name-init g c = record {
   sizes = λ ended. refl;
   looks = λ ended. looks_none _ _ _ _;
-  accounts = accounts_none _ _ _ _;
+  accounts = accounts_none _ _;
 }
 
 pub returns-then-branch-clause-sizes : goal.returns-then-branch-clause-sizes

@@ -1,5 +1,5 @@
 use Rattle.std.proofs.Common.{◌≡◌, drop}
-use Rattle.org_disk.specs.Accounts.{Accounts, Looks}
+use Rattle.org_disk.specs.Accounts.{Accounts, LooksOver}
 use Rattle.org_journal.specs.Recovered.{contents}
 use Rattle.org_fileset.specs.Names.{first_large}
 use Rattle.org_fileset.proofs.open.check_sizes.Given as goal
@@ -9,6 +9,6 @@ invariant-loop-name g l =
     let disk = g.D.Disk in
     record {
       sizes : disk.honest l.disk → first_large (contents (disk.files l.fn.disk)) (drop l.name-index l.names) ≡ first_large (contents (disk.files l.fn.disk)) l.names;
-      looks : disk.honest l.disk → Looks disk.files disk.moment disk.left_since l.fn.disk l.disk;
-      accounts : Accounts disk.steady disk.honest disk.failures l.fn.disk l.disk ⊥;
+      looks : disk.honest l.disk → LooksOver disk l.fn.disk l.disk;
+      accounts : Accounts disk l.fn.disk l.disk ⊥;
     }

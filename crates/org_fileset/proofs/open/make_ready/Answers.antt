@@ -40,8 +40,8 @@ returns-clause-reopens g c ended =
           let leaves = made.idle closed in
           since_start (passes_then leaves.passes looks.time (λ image left. leaves.each image (g.met.D.Disk.counts_now c.recover.new.disk (g.D.Disk.moment c.args.disk.now) image h1 leaves.passes.later left)))
           old (g.met.D.Disk.only_now c.args.disk.now) honest (λ image left. left);
-      alone = alone_then g.D.Disk.files g.D.Disk.moment g.D.Disk.left_since (IsUnconcerned (contents old journal_name)) c.args.disk.now c.recover.new.disk c.check_sizes.new.disk made.alone
-          (alone_looks g.D.Disk.files g.D.Disk.moment g.D.Disk.left_since (IsUnconcerned (contents old journal_name)) c.recover.new.disk c.check_sizes.new.disk looks);
+      alone = alone_then g.D.Disk (IsUnconcerned (contents old journal_name)) c.args.disk.now c.recover.new.disk c.check_sizes.new.disk made.alone
+          (alone_looks g.D.Disk (IsUnconcerned (contents old journal_name)) c.recover.new.disk c.check_sizes.new.disk looks);
     }
 
 pub returns-in_err-recover-clause-accounts : goal.returns-in_err-recover-clause-accounts

@@ -43,7 +43,7 @@ returns-in-Armed-clause-reopens g c ended =
     let entries = c.entries.result.now in
     let is = armed_as c.in-Armed.is c.entries.ensures in
     let over = open_over (d.files old) c.args.found.now entries (c.requires.stable honest) is (c.requires.found honest) in
-    replayed_reopens d.files d.moment d.left_since old (λ image left. g.met.D.Disk.only_now old image honest left) (λ name. g.met.D.Disk.content_is_image old name honest) entries c.replay.new.disk c.replay.result
+    replayed_reopens d old (λ image left. g.met.D.Disk.only_now old image honest left) (λ name. g.met.D.Disk.content_is_image old name honest) entries c.replay.new.disk c.replay.result
     (armed_applicable c.args.found.now entries is c.requires.writable) over.0 over.1 (c.replay.ensures.replays ended)
 
 pub returns-in-Closed-clause-reopens : goal.returns-in-Closed-clause-reopens

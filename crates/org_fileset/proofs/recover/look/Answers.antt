@@ -13,7 +13,7 @@ use Rattle.org_fileset.proofs.recover.look.Goals as goal
 pub returns-in_err-sync-clause-looked : goal.returns-in_err-sync-clause-looked
 returns-in_err-sync-clause-looked g c ended =
     let d = g.D.Disk in
-    looked_sync d.files d.moment d.left_since c.args.journal.now c.args.disk.now c.sync.new.self c.sync.result c.requires
+    looked_sync d c.args.journal.now c.args.disk.now c.sync.new.self c.sync.result c.requires
     (g.met.D.Disk.content_is_image c.args.disk.now journal_name (c.sync.ensures.accounts.was_honest ended)) (λ name. g.met.D.Disk.content_is_image c.sync.new.self name ended)
     (c.sync.ensures.effect ended) (c.sync.ensures.time ended)
 
@@ -21,8 +21,8 @@ pub returns-clause-looked : goal.returns-clause-looked
 returns-clause-looked g c ended =
     let d = g.D.Disk in
     let mid = c.find.ensures.accounts.was_honest ended in
-    looked_on d.files d.moment d.left_since c.args.disk.now c.sync.new.self c.find.new.disk
-    (looked_sync d.files d.moment d.left_since c.args.journal.now c.args.disk.now c.sync.new.self c.sync.result c.requires
+    looked_on d c.args.disk.now c.sync.new.self c.find.new.disk
+    (looked_sync d c.args.journal.now c.args.disk.now c.sync.new.self c.sync.result c.requires
     (g.met.D.Disk.content_is_image c.args.disk.now journal_name (c.sync.ensures.accounts.was_honest mid)) (λ name. g.met.D.Disk.content_is_image c.sync.new.self name mid)
     (c.sync.ensures.effect mid) (c.sync.ensures.time mid))
     (c.find.ensures.looks ended)

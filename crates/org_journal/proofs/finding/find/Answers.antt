@@ -20,7 +20,7 @@ returns-in_err-size-clause-accounts g c =
     accounts_passed c.from_residual.ensures.1 c.in_err-size.ensures.accounts
 
 pub returns-in_default-clause-accounts : goal.returns-in_default-clause-accounts
-returns-in_default-clause-accounts g c = accounts_after c.in_ok-size.ensures.accounts (accounts_answered (accounts_none _ _ _ _))
+returns-in_default-clause-accounts g c = accounts_after c.in_ok-size.ensures.accounts (accounts_answered (accounts_none _ _))
 
 pub returns-in_err-record-clause-looks : goal.returns-in_err-record-clause-looks
 returns-in_err-record-clause-looks g c ended =

@@ -1,4 +1,4 @@
-use Rattle.std.proofs.Common.{◌≡◌, ◌∙◌, ◌++◌, ap, ap₂, subst, sym, ℕ, List, None, IsTrue, map, string_bytes}
+use Rattle.std.proofs.Common.{◌≡◌, ◌∙◌, ◌++◌, ap, ap₂, refl, subst, sym, ℕ, List, None, IsTrue, map, string_bytes}
 use Rattle.std.proofs.lemmas.List.Elements.{All-append}
 use Rattle.org_disk.specs.Names.{IsOrgFile}
 use Rattle.org_outline.specs.States.{Keywords, are_states}
@@ -73,10 +73,13 @@ pub returns-clause-names : goal.returns-clause-names
 returns-clause-names c =
     rw c.in_ok-append.ensures.items (All-append IsOrgFile _ _ c.in_ok-names.ensures.openable c.in_ok-org_files.ensures)
 
-pub returns-clause-new : goal.returns-clause-new
-returns-clause-new c =
+pub returns-clause-is_set_up : goal.returns-clause-is_set_up
+returns-clause-is_set_up c =
     let names = c.in_ok-names.ensures.names ∙ ap (map string_bytes) c.deref.ensures.value in
-    (c.in_ok-org_files.field-0.items, c.in_ok-append.ensures.items ∙ ap (λ (l : List (List ℕ)). l ++ c.in_ok-org_files.field-0.items) names)
-
-pub returns-clause-states : goal.returns-clause-states
-returns-clause-states c = states (goal.at.returns-clause-states c).In_ok-states
+    record {
+      listed = c.in_ok-org_files.field-0.items;
+      org_files = c.in_ok-org_files.ensures;
+      names = c.in_ok-append.ensures.items ∙ ap (λ (l : List (List ℕ)). l ++ c.in_ok-org_files.field-0.items) names;
+      states = states (goal.at.returns-clause-is_set_up c).In_ok-states;
+      group = refl;
+    }

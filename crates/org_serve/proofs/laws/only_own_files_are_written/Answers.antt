@@ -5,11 +5,11 @@ use Rattle.org_serve.proofs.Honest.{past_runs}
 use Rattle.org_serve.proofs.laws.only_own_files_are_written.Goals as goal
 
 pub returns-clause-alone : goal.returns-clause-alone
-returns-clause-alone g c = λ first last end left left' written written' named honest run.
-    let d = g.D.Disk in (own_runs d.honest d.files d.moment d.left_since (past_runs d.honest d.files d.moment d.left_since run honest).0 named).alone
+returns-clause-alone g c = λ first last end io named honest run.
+    let d = g.D.Disk in (own_runs d (past_runs d run honest).0 named).alone
 
 pub returns-clause-waits : goal.returns-clause-waits
-returns-clause-waits g c = λ first last end left left' written written' named honest run.
+returns-clause-waits g c = λ first last end io named honest run.
     let d = g.D.Disk in
-    let own = own_runs d.honest d.files d.moment d.left_since (past_runs d.honest d.files d.moment d.left_since run honest).0 named in
+    let own = own_runs d (past_runs d run honest).0 named in
     (own.names, subst (λ (ns : List (List ℕ)). AreNames ns last.store.waiting) (sym own.names) own.waits)

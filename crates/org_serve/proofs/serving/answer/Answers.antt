@@ -19,10 +19,10 @@ pub returns-then-not-is_whole-clause-accounts : goal.returns-then-not-is_whole-c
 returns-then-not-is_whole-clause-accounts g c = c.answer_kept.ensures.accounts
 
 pub returns-clause-same : goal.returns-clause-same
-returns-clause-same g c = c.answer_read-answered.ensures.same
+returns-clause-same g c = c.answer_read-answered.ensures.step.2.same
 
 pub returns-clause-err : goal.returns-clause-err
-returns-clause-err g c = c.answer_read-answered.ensures.err
+returns-clause-err g c = c.answer_read-answered.ensures.step.2.counted
 
 pub returns-clause-untouched : goal.returns-clause-untouched
 returns-clause-untouched g c = c.answer_read-answered.ensures.untouched

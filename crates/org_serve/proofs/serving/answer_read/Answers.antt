@@ -10,6 +10,5 @@ returns-in-Ok-clause-step g c =
     rw c.in-Ok.is (
       answer_text c.run-answer.result c.args.store.now.session.acknowledged new.session.acknowledged,
       (c.run-answer.result, record { before = e.accounts.was_honest; did = e.did }, refl),
-      rw (c.acknowledged-before.ensures, c.acknowledged.ensures) at c.write_answer.ensures.ok,
-      rw (c.acknowledged-before.ensures, c.acknowledged.ensures) at c.write_answer.ensures.part,
+      rw (c.acknowledged-before.ensures, c.acknowledged.ensures) at c.write_answer.ensures,
     )

@@ -11,14 +11,14 @@ returns-in_err-answer-clause-fed g c = λ part free stands.
     let p = err_from_is_err_and c.from_residual.result c.from_residual.ensures.1 in
     let f = c.loop-line.invariant.0 part free stands in
     let s = c.in_err-answer.ensures.step f.part f.stands in
-    rw p.1 (Fed-err f c.in-Some.line.now c.in-Some.more.now c.in-Some.ensures.whole c.in-Some.ensures.free c.answer.new.store (g.W.Sink.written c.answer.new.writer) s.0 s.1 s.3)
+    rw p.1 (Fed-err f c.in-Some.line.now c.in-Some.more.now c.in-Some.ensures.whole c.in-Some.ensures.free c.answer.new.store (g.W.Sink.written c.answer.new.writer) s.0 s.1 s.2.part)
 
 pub loop-line-preserved : goal.loop-line-preserved
 loop-line-preserved g c = (
   λ part free stands.
       Fed-step (c.loop-line.invariant.0 part free stands) c.in-Some.line.now c.in-Some.more.now c.in-Some.ensures.whole c.in-Some.ensures.free
       c.answer.new.store (g.W.Sink.written c.answer.new.writer) c.answer.new.pending
-      (λ had stood. let s = c.in_ok-answer.ensures.step had stood in (s.0, s.1, s.2)) c.in_ok-answer.ensures.cleared,
+      (λ had stood. let s = c.in_ok-answer.ensures.step had stood in (s.0, s.1, s.2.ok)) c.in_ok-answer.ensures.cleared,
   untouched_then c.loop-line.invariant.1 c.in_ok-answer.ensures.untouched,
   breaks_then c.loop-line.invariant.1 c.in_ok-answer.ensures.untouched c.loop-line.invariant.2 c.in_ok-answer.ensures.accounts,
   c.in_ok-answer.ensures.same ∙ c.loop-line.invariant.3,

@@ -12,10 +12,10 @@ use Rattle.org_serve.proofs.serving.feed.Given as goal
 abbrev pub invariant-loop-line : goal.invariant-loop-line
 invariant-loop-line g l =
     ((part : List ℕ) → (cut part).lines ≡ [] → Stands l.initial.pending part
-    → Fed (RunsLine g.D.Disk.honest g.D.Disk.files g.D.Disk.moment g.D.Disk.left_since) l.initial.store (part ++ l.piece) l.rest l.store
+    → Fed (RunsLine g.D.Disk) l.initial.store (part ++ l.piece) l.rest l.store
     (g.W.Sink.written l.initial.writer) (g.W.Sink.written l.writer) l.pending)
     × (IsTrue l.initial.store.session.broken → l.store ≡ l.initial.store)
-    × Accounts g.D.Disk.steady g.D.Disk.honest g.D.Disk.failures l.initial.store.disk l.store.disk (HasBroken l.initial.store.session l.store.session)
+    × Accounts g.D.Disk l.initial.store.disk l.store.disk (HasBroken l.initial.store.session l.store.session)
     × (g.W.Sink.failures l.writer ≡ g.W.Sink.failures l.initial.writer)
 
 abbrev pub decreases-loop-line : goal.decreases-loop-line

@@ -7,7 +7,7 @@ pub returns-in-Ok-clause-told : goal.returns-in-Ok-clause-told
 returns-in-Ok-clause-told g c = λ not.
     let told = c.settle.ensures.told not in (
       told.0 ∙ c.in-Ok.ensures.same,
-      λ part stands. let rest = c.in-Ok.ensures.rest part stands in (rest.0, told.1, rest.1, told.2, Appends-append _ _ _ rest.0 told.1 rest.2 told.3),
+      λ part stands. let rest = c.in-Ok.ensures.rest part stands in (rest.0, told.1, rest.1, told.2, Appends-append _ _ _ rest.0 told.1 rest.2.ok told.3),
     )
 
 pub returns-in-Ok-clause-write : goal.returns-in-Ok-clause-write
@@ -18,7 +18,7 @@ returns-in-Ok-clause-write g c = λ is.
       rw c.in-Ok.ensures.same at some.1,
       λ part stands.
           let rest = c.in-Ok.ensures.rest part stands in
-          (rest.0 ++ tail, (rest.0, some.2, rest.1, refl), some_then _ _ _ rest.0 tail rest.2 some.3),
+          (rest.0 ++ tail, (rest.0, some.2, rest.1, refl), some_then _ _ _ rest.0 tail rest.2.ok some.3),
     )
 
 pub returns-in-Err-clause-told : goal.returns-in-Err-clause-told
@@ -31,5 +31,5 @@ returns-in-Err-clause-write g c = λ is.
       c.in-Err.ensures.err,
       λ part stands.
           let rest = c.in-Err.ensures.rest part stands in
-          (rest.0 ++ tail, (rest.0, Ok tt, rest.1, refl), some_first _ _ rest.0 tail rest.3),
+          (rest.0 ++ tail, (rest.0, Ok tt, rest.1, refl), some_first _ _ rest.0 tail rest.2.part),
     )

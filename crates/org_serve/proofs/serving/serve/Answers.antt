@@ -3,6 +3,7 @@ use Rattle.org_serve.specs.declared.end.ServeEnd.TheVariants.{Write}
 use Rattle.org_serve.specs.Counts.{HasRisenBy, HasRead}
 use Rattle.org_serve.specs.Lines.{cut}
 use Rattle.org_serve.specs.Crashes.{HasSettledOver}
+use Rattle.org_serve.specs.Writes.{exchange}
 use Rattle.org_serve.proofs.Cuts.{rest-free}
 use Rattle.org_serve.proofs.Inputs.{Served-none, Served-more, Served-some, Served-some_wrote, Served-no_more, serves_read, serves_some, serves_end}
 use Rattle.org_serve.proofs.Joins.{Consumes-kept}
@@ -14,7 +15,7 @@ use Rattle.org_serve.proofs.serving.serve.Goals as goal
 
 pub returns-in-Ok-eq0-clause-causes : goal.returns-in-Ok-eq0-clause-causes
 returns-in-Ok-eq0-clause-causes g c =
-    ended_otherwise c.finish.result c.finish.ensures.never
+    ended_otherwise (exchange g.R.Source g.W.Sink c.args.reader.now c.read.new.self c.args.writer.now c.finish.new.writer) c.finish.result c.finish.ensures.never
     (within_all c.args.turns c.loop.counter (g.R.Source.reads c.args.reader.now) (g.R.Source.reads c.read.new.self) (within_counted c.loop.counter (g.R.Source.reads c.args.reader.now) (g.R.Source.reads c.loop.reader) (g.R.Source.reads c.read.new.self) c.loop.invariant.6 c.in-Ok-eq0.ensures.counted) (omega arith))
     (c.in-Ok-eq0.ensures.ok ∙ c.loop.invariant.4) c.loop.invariant.5 (λ is. (c.finish.ensures.write is).1) (λ not. (c.finish.ensures.told not).0)
 
@@ -24,7 +25,7 @@ returns-in-Ok-eq0-clause-calls g c =
     let zero : c.in-Ok-eq0.field-0 ≡ 0 = omega arith in
     let read = rw zero at c.in-Ok-eq0.ensures.bytes in
     let s = Served-no_more c.loop.invariant.0 (g.R.Source.left c.read.new.self) read.0 in
-    runs_finish d.honest d.files d.moment d.left_since s c.finish.new.store c.finish.result (g.W.Sink.written c.finish.new.writer)
+    runs_finish d (exchange g.R.Source g.W.Sink c.args.reader.now c.read.new.self c.args.writer.now c.finish.new.writer) s c.finish.new.store c.finish.result
     (λ not. (c.finish.ensures.told not).1 (cut s.input).rest s.stands) (λ is. (c.finish.ensures.write is).0) (λ is. (c.finish.ensures.write is).2 (cut s.input).rest s.stands)
 
 pub returns-in-Ok-eq0-clause-did : goal.returns-in-Ok-eq0-clause-did
@@ -32,22 +33,22 @@ returns-in-Ok-eq0-clause-did g c = λ honest.
     let d = g.D.Disk in
     let zero : c.in-Ok-eq0.field-0 ≡ 0 = omega arith in
     let read = rw zero at c.in-Ok-eq0.ensures.bytes in
-    let s = kept_served d.honest d.files d.moment d.left_since (Served-no_more c.loop.invariant.0 (g.R.Source.left c.read.new.self) read.0) (c.finish.ensures.accounts.was_honest honest) in
+    let s = kept_served d (Served-no_more c.loop.invariant.0 (g.R.Source.left c.read.new.self) read.0) (c.finish.ensures.accounts.was_honest honest) in
     let room : 0 < length c.read.new.into = omega (arith, c.read.auto.into) in (
-      serves_end (session_of_served d.honest d.files d.moment d.left_since s) c.finish.result c.finish.new.store.session (g.W.Sink.written c.finish.new.writer) (c.in-Ok-eq0.ensures.bytes.1 zero room) c.finish.ensures.never
-          (λ no_write. session_of_ends d.honest d.files d.moment d.left_since (cut s.input).rest c.loop.store c.finish.result c.finish.new.store (g.W.Sink.written c.loop.writer) (g.W.Sink.written c.finish.new.writer)
-          (kept_end d.honest d.files d.moment d.left_since (cut s.input).rest c.loop.store c.finish.result c.finish.new.store (g.W.Sink.written c.loop.writer) (g.W.Sink.written c.finish.new.writer)
+      serves_end (exchange g.R.Source g.W.Sink c.args.reader.now c.read.new.self c.args.writer.now c.finish.new.writer) (session_of_served d s) c.finish.result c.finish.new.store.session (c.in-Ok-eq0.ensures.bytes.1 zero room) c.finish.ensures.never
+          (λ no_write. session_of_ends d (cut s.input).rest c.loop.store c.finish.result c.finish.new.store (g.W.Sink.written c.loop.writer) (g.W.Sink.written c.finish.new.writer)
+          (kept_end d (cut s.input).rest c.loop.store c.finish.result c.finish.new.store (g.W.Sink.written c.loop.writer) (g.W.Sink.written c.finish.new.writer)
           ((c.finish.ensures.told no_write).1 (cut s.input).rest s.stands) honest))
           (λ e. elim ((c.finish.ensures.write e).0) [
             | inl same ↦ inl (rw same refl)
-            | inr settled ↦ inr (session_of_settled d.honest d.files d.moment d.left_since c.loop.store c.finish.new.store (kept_settled d.honest d.files d.moment d.left_since c.loop.store c.finish.new.store settled honest))
+            | inr settled ↦ inr (session_of_settled d c.loop.store c.finish.new.store (kept_settled d c.loop.store c.finish.new.store settled honest))
           ]),
-      runs_keep d.honest d.files d.moment d.left_since (kept_runs d.honest d.files d.moment d.left_since (returns-in-Ok-eq0-clause-calls g c).0 honest),
+      runs_keep d (kept_runs d (returns-in-Ok-eq0-clause-calls g c).0 honest),
     )
 
 pub returns-in-Err-feed-clause-causes : goal.returns-in-Err-feed-clause-causes
 returns-in-Err-feed-clause-causes g c =
-    ended_otherwise Write (λ e. absurd (cc))
+    ended_otherwise (exchange g.R.Source g.W.Sink c.args.reader.now c.read.new.self c.args.writer.now c.feed.new.writer) Write (λ e. absurd (cc))
     (within_all c.args.turns c.loop.counter (g.R.Source.reads c.args.reader.now) (g.R.Source.reads c.read.new.self) (within_counted c.loop.counter (g.R.Source.reads c.args.reader.now) (g.R.Source.reads c.loop.reader) (g.R.Source.reads c.read.new.self) c.loop.invariant.6 c.in-Ok.ensures.counted) (omega arith))
     (c.in-Ok.ensures.ok ∙ c.loop.invariant.4) c.loop.invariant.5 (λ e. c.in-Err-feed.ensures.err) (λ not. absurd (not refl))
 
@@ -58,7 +59,7 @@ returns-in-Err-feed-clause-calls g c =
     let piece = take c.in-Ok.n c.read.new.into in
     let left = g.R.Source.left c.read.new.self in
     let fed = c.in-Err-feed.ensures.fed (cut s.input).rest (rest-free s.input) s.stands in
-    runs_some (HasSettledOver d.honest d.files d.moment d.left_since) (g.W.Sink.written c.args.writer.now) (g.W.Sink.written c.feed.new.writer) c.feed.new.store.session.acknowledged
+    runs_some (HasSettledOver d) (exchange g.R.Source g.W.Sink c.args.reader.now c.read.new.self c.args.writer.now c.feed.new.writer) c.feed.new.store.session.acknowledged
     (Served-some s piece c.feed.new.store left (g.W.Sink.written c.feed.new.writer) c.in-Ok.ensures.bytes.0 fed)
     (Served-some_wrote s piece c.feed.new.store left (g.W.Sink.written c.feed.new.writer) c.in-Ok.ensures.bytes.0 fed)
 
@@ -66,31 +67,31 @@ pub returns-in-Err-feed-clause-did : goal.returns-in-Err-feed-clause-did
 returns-in-Err-feed-clause-did g c = λ honest.
     let d = g.D.Disk in
     let s = c.loop.invariant.0 in (
-      serves_some (g.W.Sink.written c.args.writer.now) (g.W.Sink.written c.feed.new.writer)
-          (session_of_some d.honest d.files d.moment d.left_since c.args.store.now c.feed.new.store _ _ (kept_some d.honest d.files d.moment d.left_since c.args.store.now c.feed.new.store _ _
+      serves_some (exchange g.R.Source g.W.Sink c.args.reader.now c.read.new.self c.args.writer.now c.feed.new.writer)
+          (session_of_some d c.args.store.now c.feed.new.store _ _ (kept_some d c.args.store.now c.feed.new.store _ _
           (Served-some s (take c.in-Ok.n c.read.new.into) c.feed.new.store (g.R.Source.left c.read.new.self) (g.W.Sink.written c.feed.new.writer) c.in-Ok.ensures.bytes.0
           (c.in-Err-feed.ensures.fed (cut s.input).rest (rest-free s.input) s.stands)) honest)),
-      runs_keep d.honest d.files d.moment d.left_since (kept_runs d.honest d.files d.moment d.left_since (returns-in-Err-feed-clause-calls g c).0 honest),
+      runs_keep d (kept_runs d (returns-in-Err-feed-clause-calls g c).0 honest),
     )
 
 pub returns-in-Err-clause-causes : goal.returns-in-Err-clause-causes
 returns-in-Err-clause-causes g c =
-    ended_read c.loop.invariant.4 (inl c.in-Err.ensures.err)
+    ended_read (exchange g.R.Source g.W.Sink c.args.reader.now c.read.new.self c.args.writer.now c.loop.writer) c.loop.invariant.4 (inl c.in-Err.ensures.err)
     (within_all c.args.turns c.loop.counter (g.R.Source.reads c.args.reader.now) (g.R.Source.reads c.read.new.self) (within_counted c.loop.counter (g.R.Source.reads c.args.reader.now) (g.R.Source.reads c.loop.reader) (g.R.Source.reads c.read.new.self) c.loop.invariant.6 c.in-Err.ensures.counted) (omega arith))
     c.loop.invariant.5
 
 pub returns-in-Err-clause-calls : goal.returns-in-Err-clause-calls
 returns-in-Err-clause-calls g c =
     let d = g.D.Disk in
-    runs_read (HasSettledOver d.honest d.files d.moment d.left_since) c.loop.store.session.acknowledged
+    runs_read (HasSettledOver d) (exchange g.R.Source g.W.Sink c.args.reader.now c.read.new.self c.args.writer.now c.loop.writer) c.loop.store.session.acknowledged
     (Served-no_more c.loop.invariant.0 (g.R.Source.left c.read.new.self) (Consumes-kept _ _ c.in-Err.ensures.bytes))
 
 pub returns-in-Err-clause-did : goal.returns-in-Err-clause-did
 returns-in-Err-clause-did g c = λ honest.
     let d = g.D.Disk in (
-      serves_read (session_of_served d.honest d.files d.moment d.left_since
-          (kept_served d.honest d.files d.moment d.left_since (Served-no_more c.loop.invariant.0 (g.R.Source.left c.read.new.self) (Consumes-kept _ _ c.in-Err.ensures.bytes)) honest)),
-      runs_keep d.honest d.files d.moment d.left_since (kept_runs d.honest d.files d.moment d.left_since (returns-in-Err-clause-calls g c).0 honest),
+      serves_read (exchange g.R.Source g.W.Sink c.args.reader.now c.read.new.self c.args.writer.now c.loop.writer) (session_of_served d
+          (kept_served d (Served-no_more c.loop.invariant.0 (g.R.Source.left c.read.new.self) (Consumes-kept _ _ c.in-Err.ensures.bytes)) honest)),
+      runs_keep d (kept_runs d (returns-in-Err-clause-calls g c).0 honest),
     )
 
 pub returns-in-Err-clause-broken : goal.returns-in-Err-clause-broken
@@ -101,18 +102,18 @@ returns-clause-causes g c =
     let all : c.loop.counter ≡ c.args.turns = omega arith in
     let risen = subst (λ n. HasRisenBy n (g.R.Source.reads c.args.reader.now) (g.R.Source.reads c.loop.reader)) all c.loop.invariant.3 in
     let had = subst (λ n. HasRead n (g.R.Source.left c.args.reader.now) (g.R.Source.left c.loop.reader)) all c.loop.invariant.7 in
-    ended_read c.loop.invariant.4 (inr (risen, had)) (omega (arith, c.loop.invariant.6)) c.loop.invariant.5
+    ended_read (exchange g.R.Source g.W.Sink c.args.reader.now c.loop.reader c.args.writer.now c.loop.writer) c.loop.invariant.4 (inr (risen, had)) (omega (arith, c.loop.invariant.6)) c.loop.invariant.5
 
 pub returns-clause-calls : goal.returns-clause-calls
 returns-clause-calls g c =
     let d = g.D.Disk in
-    runs_read (HasSettledOver d.honest d.files d.moment d.left_since) c.loop.store.session.acknowledged c.loop.invariant.0
+    runs_read (HasSettledOver d) (exchange g.R.Source g.W.Sink c.args.reader.now c.loop.reader c.args.writer.now c.loop.writer) c.loop.store.session.acknowledged c.loop.invariant.0
 
 pub returns-clause-did : goal.returns-clause-did
 returns-clause-did g c = λ honest.
     let d = g.D.Disk in (
-      serves_read (session_of_served d.honest d.files d.moment d.left_since (kept_served d.honest d.files d.moment d.left_since c.loop.invariant.0 honest)),
-      runs_keep d.honest d.files d.moment d.left_since (kept_runs d.honest d.files d.moment d.left_since (returns-clause-calls g c).0 honest),
+      serves_read (exchange g.R.Source g.W.Sink c.args.reader.now c.loop.reader c.args.writer.now c.loop.writer) (session_of_served d (kept_served d c.loop.invariant.0 honest)),
+      runs_keep d (kept_runs d (returns-clause-calls g c).0 honest),
     )
 
 pub loop-preserved : goal.loop-preserved

@@ -11,10 +11,10 @@ use Rattle.org_serve.proofs.serving.serve.Given as goal
 -- reader or the writer has failed
 abbrev pub invariant-loop : goal.invariant-loop
 invariant-loop g l =
-    (Served (RunsLine g.D.Disk.honest g.D.Disk.files g.D.Disk.moment g.D.Disk.left_since) l.initial.store l.store
+    (Served (RunsLine g.D.Disk) l.initial.store l.store
     (g.R.Source.left l.initial.reader) (g.R.Source.left l.reader) (g.W.Sink.written l.initial.writer) (g.W.Sink.written l.writer) l.pending)
     × (IsTrue l.initial.store.session.broken → l.store ≡ l.initial.store)
-    × Accounts g.D.Disk.steady g.D.Disk.honest g.D.Disk.failures l.initial.store.disk l.store.disk (HasBroken l.initial.store.session l.store.session)
+    × Accounts g.D.Disk l.initial.store.disk l.store.disk (HasBroken l.initial.store.session l.store.session)
     × HasRisenBy l.counter (g.R.Source.reads l.initial.reader) (g.R.Source.reads l.reader)
     × (g.R.Source.failures l.reader ≡ g.R.Source.failures l.initial.reader)
     × (g.W.Sink.failures l.writer ≡ g.W.Sink.failures l.initial.writer)

@@ -16,7 +16,7 @@ returns-in-Ok-clause-told g c = λ not.
     let pending : old.session.acknowledged < old.session.accepted = omega (arith, c.acknowledged.ensures, c.accepted.ensures, c.if-acknowledged-accepted.false) in (
       c.in-Ok.ensures.same,
       settled_text c.settle-answer.result new.session.acknowledged,
-      finishes_settling d.honest d.files d.moment d.left_since old c.settle-answer.result new c.end_of.result sound pending (record { before = e.accounts.was_honest; did = e.did }) c.end_of.ensures.value,
+      finishes_settling d old c.settle-answer.result new c.end_of.result sound pending (record { before = e.accounts.was_honest; did = e.did }) c.end_of.ensures.value,
       rw c.acknowledged-2.ensures at c.in-Ok.ensures.ok,
     )
 
@@ -30,7 +30,7 @@ returns-in-Ok-clause-broken g c =
 pub returns-in-Err-clause-write : goal.returns-in-Err-clause-write
 returns-in-Err-clause-write g c is =
     let e = c.settle-answer.ensures in
-    ((c.settle-answer.result, record { before = e.accounts.was_honest; did = e.did }), c.in-Err.ensures.err, c.settle-answer.result, rw c.acknowledged-2.ensures at c.in-Err.ensures.part)
+    ((c.settle-answer.result, record { before = e.accounts.was_honest; did = e.did }), c.in-Err.ensures.counted, c.settle-answer.result, rw c.acknowledged-2.ensures at c.in-Err.ensures.part)
 
 pub returns-then-is_broken-clause-never : goal.returns-then-is_broken-clause-never
 returns-then-is_broken-clause-never g c = device_unread
@@ -86,14 +86,14 @@ returns-in-Ok-clause-untouched g c broke = c.settle-answer.ensures.idle.untouche
 pub returns-then-is_broken-clause-told : goal.returns-then-is_broken-clause-told
 returns-then-is_broken-clause-told g c not =
     let d = g.D.Disk in
-    (refl, [], finishes_broken d.honest d.files d.moment d.left_since c.args.store.now (sym c.is_broken.ensures ∙ c.if-is_broken.true), Appends-none (g.W.Sink.written c.args.writer.now))
+    (refl, [], finishes_broken d c.args.store.now (sym c.is_broken.ensures ∙ c.if-is_broken.true), Appends-none (g.W.Sink.written c.args.writer.now))
 
 pub returns-then-acknowledged-accepted-clause-told : goal.returns-then-acknowledged-accepted-clause-told
 returns-then-acknowledged-accepted-clause-told g c not =
     let d = g.D.Disk in
     let store = c.args.store.now in
     let settled : store.session.accepted ≤ store.session.acknowledged = omega (arith, c.acknowledged.ensures, c.accepted.ensures, c.if-acknowledged-accepted.true) in
-    (refl, [], finishes_settled d.honest d.files d.moment d.left_since store (sym c.is_broken.ensures ∙ c.if-is_broken.false) settled, Appends-none (g.W.Sink.written c.args.writer.now))
+    (refl, [], finishes_settled d store (sym c.is_broken.ensures ∙ c.if-is_broken.false) settled, Appends-none (g.W.Sink.written c.args.writer.now))
 
 pub returns-in-Err-clause-accounts : goal.returns-in-Err-clause-accounts
 returns-in-Err-clause-accounts g c =

@@ -10,7 +10,7 @@ use Rattle.org_serve.proofs.syncing.sync_each.Goals as goal
 
 pub loop-name-init : goal.loop-name-init
 loop-name-init g c = record {
-  accounts = accounts_none g.D.Disk.steady g.D.Disk.honest g.D.Disk.failures c.args.disk.now;
+  accounts = accounts_none g.D.Disk c.args.disk.now;
   same = λ honest. refl;
   stable = λ honest name there. absurd (no_member name there);
   images = λ honest name bytes image. image;

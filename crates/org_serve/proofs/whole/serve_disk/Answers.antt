@@ -8,6 +8,7 @@ use Rattle.org_fileset.specs.Recovery.{IsReopened, RecoversAsBefore}
 use Rattle.org_fileset.specs.Writes.{LeavesAlone, IsUnconcerned}
 use Rattle.org_fileset.proofs.Writes.{alone_fewer}
 use Rattle.org_serve.specs.Whole.{IsForeign}
+use Rattle.org_serve.specs.Writes.{pipes}
 use Rattle.org_serve.proofs.Foreign.{given_back_alone}
 use Rattle.org_serve.proofs.Breaking.{breaks_by_count, served_accounts}
 use Rattle.org_serve.proofs.Counting.{ended_unserved}
@@ -22,19 +23,18 @@ returns-in-Ok-clause-served g c =
     let begun = c.set_group.new.self in
     let setup = c.args.setup in
     let opens = c.in-Ok.ensures.opened.session in
-    let here = of_disk d.files setup.states setup.group setup.names.items c.args.disk store begun c.set_group.ensures opens in
+    let here = of_disk d setup c.args.disk store begun c.set_group.ensures opens in
     let reopens = c.in-Ok.ensures.reopens in
-    serves_lasting d.honest d.files d.moment d.left_since laws.only_now laws.counts_now setup.states setup.group setup.names.items c.args.disk store begun c.set_group.ensures opens
+    serves_lasting d laws.only_now laws.counts_now setup c.args.disk store begun c.set_group.ensures opens
     c.in-Ok.ensures.opened.set.few c.in-Ok.ensures.opened.set.sorted c.in-Ok.ensures.opened.set.sizes (here (λ k. d.honest k → d.honest c.args.disk) c.in-Ok.ensures.accounts.was_honest)
     (here (λ k. d.honest k → IsReopened (d.files c.args.disk) (d.files k)) (λ honestly. (reopens honestly).done))
     c.in-Ok.ensures.opened.waits
-    (here (λ k. d.honest k → LeavesAlone d.files d.moment d.left_since (IsUnconcerned (contents (d.files c.args.disk) journal_name)) c.args.disk k) (λ honestly. (reopens honestly).alone))
+    (here (λ k. d.honest k → LeavesAlone d (IsUnconcerned (contents (d.files c.args.disk) journal_name)) c.args.disk k) (λ honestly. (reopens honestly).alone))
     c.serve-end.new.store c.into_disk.result c.into_disk.ensures c.serve-end.ensures.calls.0 c.serve-end.ensures.calls.1
     (λ honest. (c.serve-end.ensures.did (rw (← c.into_disk.ensures) honest)).0)
-    (λ fit each. here (λ k. d.honest k → LeavesOver d.moment d.left_since c.args.disk k (RecoversAsBefore (d.files c.args.disk))) (λ honestly. (reopens honestly).any_moment fit each))
-    d.failures
-    (breaks_by_count begun c.serve-end.new.store (here (λ k. Accounts d.steady d.honest d.failures c.args.disk k ⊥) c.in-Ok.ensures.accounts) c.serve-end.ensures.accounts
-    (is_sound d.files setup.states setup.group setup.names.items c.args.disk store begun c.set_group.ensures opens) c.into_disk.ensures)
+    (λ fit each. here (λ k. d.honest k → LeavesOver d c.args.disk k (RecoversAsBefore (d.files c.args.disk))) (λ honestly. (reopens honestly).any_moment fit each))
+    (breaks_by_count begun c.serve-end.new.store (here (λ k. Accounts d c.args.disk k ⊥) c.in-Ok.ensures.accounts) c.serve-end.ensures.accounts
+    (is_sound d setup c.args.disk store begun c.set_group.ensures opens) c.into_disk.ensures)
 
 pub returns-in-Ok-clause-disk : goal.returns-in-Ok-clause-disk
 returns-in-Ok-clause-disk g c honest =
@@ -44,7 +44,7 @@ returns-in-Ok-clause-disk g c honest =
     let begun = c.set_group.new.self in
     let setup = c.args.setup in
     let opens = c.in-Ok.ensures.opened.session in
-    let here = of_disk d.files setup.states setup.group setup.names.items c.args.disk store begun c.set_group.ensures opens in
+    let here = of_disk d setup c.args.disk store begun c.set_group.ensures opens in
     let now : d.honest c.serve-end.new.store.disk = rw (← c.into_disk.ensures) honest in
     let then = here (λ k. d.honest k → d.honest store.disk) (λ h. h) (c.serve-end.ensures.accounts.was_honest now) in
     let reopened = (c.in-Ok.ensures.reopens then).done in
@@ -55,8 +55,8 @@ returns-in-Ok-clause-disk g c honest =
       unopened_closed = λ closed. tt;
       recoverable = λ fit each.
           let rest = here (λ k. IsAtRest (d.files k)) (reopened.rest fit each) in
-          (rw c.into_disk.ensures ((c.serve-end.ensures.did now).1.recoverable rest), left_recovers laws.only_now laws.counts_now served.0 honest (served.3 fit each));
-      alone = given_back_alone served.0 honest;
+          (rw c.into_disk.ensures ((c.serve-end.ensures.did now).1.recoverable rest), left_recovers laws.only_now laws.counts_now served.served honest (served.lasts fit each));
+      alone = given_back_alone served.served honest;
     }
 
 pub returns-in-Ok-clause-accounts : goal.returns-in-Ok-clause-accounts
@@ -65,9 +65,9 @@ returns-in-Ok-clause-accounts g c =
     let setup = c.args.setup in
     let begun = c.set_group.new.self in
     let opens = c.in-Ok.ensures.opened.session in
-    let here = of_disk d.files setup.states setup.group setup.names.items c.args.disk c.in-Ok.store begun c.set_group.ensures opens in
-    let opened = here (λ k. Accounts d.steady d.honest d.failures c.args.disk k ⊥) c.in-Ok.ensures.accounts in
-    let sound = is_sound d.files setup.states setup.group setup.names.items c.args.disk c.in-Ok.store begun c.set_group.ensures opens in
+    let here = of_disk d setup c.args.disk c.in-Ok.store begun c.set_group.ensures opens in
+    let opened = here (λ k. Accounts d c.args.disk k ⊥) c.in-Ok.ensures.accounts in
+    let sound = is_sound d setup c.args.disk c.in-Ok.store begun c.set_group.ensures opens in
     served_accounts c.serve-end.result begun c.serve-end.new.store opened c.serve-end.ensures.accounts sound c.serve-end.ensures.broken c.into_disk.ensures
 
 pub returns-in-Err-clause-disk : goal.returns-in-Err-clause-disk
@@ -83,15 +83,15 @@ returns-in-Err-clause-disk g c honest =
       recoverable = λ fit each.
           let leaves = reopens.any_moment fit each in (
             reopens.recoverable fit each,
-            each_recovers d.files d.moment d.left_since disk now (RecoversAsBefore (d.files disk))
+            each_recovers d disk now (RecoversAsBefore (d.files disk))
                 (λ image left. g.met.D.Disk.counts_now now (d.moment disk) image honest leaves.passes.later left) leaves (λ image left. (left.texts, left.recovers_now)),
           );
-      alone = alone_fewer d.files d.moment d.left_since (IsForeign c.args.setup.names.items (contents (d.files disk) journal_name)) (IsUnconcerned (contents (d.files disk) journal_name)) disk now reopens.alone
+      alone = alone_fewer d (IsForeign c.args.setup.names.items (contents (d.files disk) journal_name)) (IsUnconcerned (contents (d.files disk) journal_name)) disk now reopens.alone
           (λ name foreign. foreign.unconcerned);
     }
 
 pub returns-in-Err-clause-causes : goal.returns-in-Err-clause-causes
-returns-in-Err-clause-causes g c = ended_unserved
+returns-in-Err-clause-causes g c = ended_unserved (pipes g.R.Source g.W.Sink c.args.reader.now c.args.writer.now)
 
 pub returns-in-Ok-clause-refused : goal.returns-in-Ok-clause-refused
 returns-in-Ok-clause-refused g c = tt

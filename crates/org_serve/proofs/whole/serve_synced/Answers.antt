@@ -8,6 +8,7 @@ use Rattle.org_fileset.specs.Opening.{IsReason, IsRefusedFor}
 use Rattle.org_store.proofs.Sortings.{few_or_many}
 use Rattle.org_serve.specs.Syncing.{AreSynced, IsNotStored, stored}
 use Rattle.org_serve.specs.Whole.{HasFailed}
+use Rattle.org_serve.specs.Writes.{pipes}
 use Rattle.org_serve.proofs.Counting.{ended_unserved}
 use Rattle.org_serve.proofs.Syncs.{ok_apart}
 use Rattle.org_serve.proofs.Foreign.{leaves_foreign}
@@ -19,20 +20,22 @@ returns-in-Ok-clause-served g c =
     let d = g.D.Disk in
     let disk = c.args.disk in
     let mid = c.sync_files.new.disk in
-    let given = c.args.setup.names.items in
+    let setup = c.args.setup in
     let began = c.sync_files.ensures.accounts.was_honest in
     let own = λ (h : d.honest mid) (name : List ℕ). g.met.D.Disk.content_is_image mid name h in
     let synced = λ (h : d.honest mid). subst (λ (names : List (List ℕ)). AreSynced (stored names) (d.files disk) (d.files mid)) c.deref.ensures.value (c.in-Ok.ensures.syncs h).done in
     let images = λ (h : d.honest mid). (c.sync_files.ensures.syncs h).images in
     let others = λ (h : d.honest mid). subst (λ (names : List (List ℕ)). (name : List ℕ) → IsNotStored names name → d.files mid name ≡ d.files disk name) c.deref.ensures.value (c.sync_files.ensures.syncs h).others in
     let time = c.sync_files.ensures.any_moment in
-    IfOk-weaker c.serve_disk.result.end _ _ (λ end had. (
-      served_from d.honest d.files d.moment d.left_since given disk mid began own synced images others time had.0,
-      breaks_from d.honest d.files d.moment d.left_since given disk mid began own synced images others time had.0 d.failures (c.in-Ok.ensures.accounts.equal (λ failed. absurd (cc))) had.1,
-      leaves_foreign (served_from d.honest d.files d.moment d.left_since given disk mid began own synced images others time had.0),
-      lasts_recoverable d.honest d.files d.moment d.left_since given disk mid began own synced images others time had.0 had.3,
-      lasts_found d.honest d.files d.moment d.left_since given disk mid began own synced images others time had.0 had.3,
-    )) c.serve_disk.ensures.served
+    IfOk-weaker c.serve_disk.result.end _ _ (λ end had. record {
+      serves = record {
+        served = served_from d setup disk mid began own synced images others time had.served;
+        breaks = breaks_from d setup disk mid began own synced images others time had.served (c.in-Ok.ensures.accounts.equal (λ failed. absurd (cc))) had.breaks;
+        alone = leaves_foreign (served_from d setup disk mid began own synced images others time had.served);
+        lasts = lasts_recoverable d setup disk mid began own synced images others time had.served had.lasts;
+      };
+      lasts_found = lasts_found d setup disk mid began own synced images others time had.served had.lasts;
+    }) c.serve_disk.ensures.served
 
 pub returns-in-Ok-clause-disk : goal.returns-in-Ok-clause-disk
 returns-in-Ok-clause-disk g c honest =
@@ -41,12 +44,12 @@ returns-in-Ok-clause-disk g c honest =
     let disk = c.args.disk in
     let mid = c.sync_files.new.disk in
     let last = c.serve_disk.result.disk in
-    let given = c.args.setup.names.items in
+    let setup = c.args.setup in
     let own = λ (h : d.honest mid) (name : List ℕ). laws.content_is_image mid name h in
     let synced = λ (h : d.honest mid). subst (λ (names : List (List ℕ)). AreSynced (stored names) (d.files disk) (d.files mid)) c.deref.ensures.value (c.in-Ok.ensures.syncs h).done in
     let images = λ (h : d.honest mid). (c.sync_files.ensures.syncs h).images in
     let others = λ (h : d.honest mid). subst (λ (names : List (List ℕ)). (name : List ℕ) → IsNotStored names name → d.files mid name ≡ d.files disk name) c.deref.ensures.value (c.sync_files.ensures.syncs h).others in
-    synced_gives_back d.honest d.files d.moment d.left_since given disk mid c.sync_files.ensures.accounts.was_honest own synced images others c.sync_files.ensures.any_moment
+    synced_gives_back d setup disk mid c.sync_files.ensures.accounts.was_honest own synced images others c.sync_files.ensures.any_moment
     (c.serve_disk.ensures.accounts.was_honest honest) (c.serve_disk.ensures.disk honest)
     (λ name. laws.content_is_image last name honest) (λ t image within left. laws.counts_now last t image honest within left)
 
@@ -58,7 +61,7 @@ returns-in-Ok-clause-refused g c =
     let now = c.serve_disk.result.disk in
     let same = λ (h : d.honest now). (c.in-Ok.ensures.syncs (c.serve_disk.ensures.accounts.was_honest h)).done.same in
     let few : AreFew given = subst AreFew c.deref.ensures.value c.in-Ok.ensures.few in
-    if_err c.serve_disk.result.end (λ fault (had : IsRefusedFor d.honest d.files given mid now fault). record {
+    if_err c.serve_disk.result.end (λ fault (had : IsRefusedFor d given mid now fault). record {
       reason = reason_before given (d.honest now) (contents (d.files c.args.disk)) (contents (d.files mid)) (contents (d.files now)) same fault had.reason;
       unused = λ is. absurd (few_or_many given few (subst (IsReason given (d.honest now) (contents (d.files mid)) (contents (d.files now))) is had.reason));
     }) c.serve_disk.ensures.refused
@@ -67,12 +70,12 @@ pub returns-in-Err-clause-disk : goal.returns-in-Err-clause-disk
 returns-in-Err-clause-disk g c honest =
     let d = g.D.Disk in
     let now = c.sync_files.new.disk in
-    unsynced_gives_back d.files d.moment d.left_since c.args.setup.names.items c.args.disk now
+    unsynced_gives_back d c.args.setup c.args.disk now
     (λ name. g.met.D.Disk.content_is_image now name honest) (c.sync_files.ensures.syncs honest).images
     (subst (λ (names : List (List ℕ)). (name : List ℕ) → IsNotStored names name → d.files now name ≡ d.files c.args.disk name) c.deref.ensures.value (c.sync_files.ensures.syncs honest).others) (c.sync_files.ensures.any_moment honest)
 
 pub returns-in-Err-clause-causes : goal.returns-in-Err-clause-causes
-returns-in-Err-clause-causes g c = ended_unserved
+returns-in-Err-clause-causes g c = ended_unserved (pipes g.R.Source g.W.Sink c.args.reader.now c.args.writer.now)
 
 pub returns-in-Ok-clause-unserved : goal.returns-in-Ok-clause-unserved
 returns-in-Ok-clause-unserved g c = c.serve_disk.ensures.unserved
@@ -89,7 +92,7 @@ returns-in-Ok-clause-accounts g c =
     let mid = c.sync_files.new.disk in
     let last = c.serve_disk.result.disk in
     let synced = c.in-Ok.ensures.accounts in
-    accounts_after synced (subst (λ (n : ℕ). Accounts d.steady d.honest d.failures mid last (HasFailed c.serve_disk.result.end n (d.failures last))) (synced.equal ok_apart) c.serve_disk.ensures.accounts)
+    accounts_after synced (subst (λ (n : ℕ). Accounts d mid last (HasFailed c.serve_disk.result.end n (d.failures last))) (synced.equal ok_apart) c.serve_disk.ensures.accounts)
 
 pub returns-in-Err-clause-unserved : goal.returns-in-Err-clause-unserved
 returns-in-Err-clause-unserved g c = (refl, refl)

@@ -1,5 +1,5 @@
 use Rattle.std.proofs.Common.{refl, arith}
-use Rattle.org_store.proofs.Calls.{broken_calls, call_listed, calls_recoverable, calls_leave, calls_list, calls_rest}
+use Rattle.org_store.proofs.Calls.{call_listed, calls_leave, calls_list}
 use Rattle.org_store.proofs.Listed.{calls_small, prefix_opens}
 use Rattle.org_store.proofs.laws.calls_leave_a_prefix.Goals as goal
 
@@ -7,27 +7,17 @@ pub returns-clause-opened : goal.returns-clause-opened
 returns-clause-opened g c = λ states names texts. record { size = refl; order = omega arith; files = λ sound. refl; settled = λ sound. refl }
 
 pub returns-clause-goes_on : goal.returns-clause-goes_on
-returns-clause-goes_on g c = λ old new call made. call_listed g.D.Disk.files g.D.Disk.moment g.D.Disk.left_since old new call made
+returns-clause-goes_on g c = λ old new call made. call_listed g.D.Disk old new call made
 
 pub returns-clause-lists : goal.returns-clause-lists
-returns-clause-lists g c = λ first last calls lists run. calls_list g.D.Disk.files g.D.Disk.moment g.D.Disk.left_since first last calls lists run
+returns-clause-lists g c = λ first last calls lists run. calls_list g.D.Disk first last calls lists run
 
 pub returns-clause-any_moment : goal.returns-clause-any_moment
 returns-clause-any_moment g c = λ first last calls honest rest disk sound lists run.
     let d = g.D.Disk in
-    calls_leave d.files d.moment d.left_since first last calls lists run sound (λ image left. g.met.D.Disk.only_now first.store.disk image honest left) rest disk
-
-pub returns-clause-broken : goal.returns-clause-broken
-returns-clause-broken g c = λ first last calls fell run.
-    let keeps = broken_calls g.D.Disk.files g.D.Disk.moment g.D.Disk.left_since first last calls fell run in (keeps.store, keeps.texts)
-
-pub returns-clause-recoverable : goal.returns-clause-recoverable
-returns-clause-recoverable g c = λ first last calls rest run. calls_recoverable g.D.Disk.files g.D.Disk.moment g.D.Disk.left_since first last calls rest run
-
-pub returns-clause-rest : goal.returns-clause-rest
-returns-clause-rest g c = λ first last calls sound rest run. calls_rest g.D.Disk.files g.D.Disk.moment g.D.Disk.left_since first last calls sound rest run
+    calls_leave d first last calls lists run sound (λ image left. g.met.D.Disk.only_now first.store.disk image honest left) rest disk
 
 pub returns-clause-opens : goal.returns-clause-opens
 returns-clause-opens g c = λ given first last calls others image least few sorted lists small run.
     let d = g.D.Disk in
-    prefix_opens given first.store.session others last.texts least image few sorted (calls_small d.files d.moment d.left_since first last calls run lists small)
+    prefix_opens given first.store.session others last.texts least image few sorted (calls_small d first last calls run lists small)

@@ -11,14 +11,14 @@ returns-clause-held g c = λ given s others image texts of small held. holds_nod
 pub returns-clause-any_moment : goal.returns-clause-any_moment
 returns-clause-any_moment g c = λ given first last calls others image least of lists small run.
     let d = g.D.Disk in
-    prefix_nodes given first.store.session others last.texts least image of (calls_small d.files d.moment d.left_since first last calls run lists small)
+    prefix_nodes given first.store.session others last.texts least image of (calls_small d first last calls run lists small)
 
 pub returns-clause-refiles : goal.returns-clause-refiles
 returns-clause-refiles g c = λ given first last calls others image least of lists small run only same.
     let d = g.D.Disk in
     let s = first.store.session in
     prefix_same given s others last.texts least image of
-    (calls_same d.files d.moment d.left_since first last calls run lists small s.files (names_apart given s of) (recursion_from_All MayRefile calls only) same)
+    (calls_same d first last calls run lists small s.files (names_apart given s of) (recursion_from_All MayRefile calls only) same)
 
 pub returns-clause-kept : goal.returns-clause-kept
 returns-clause-kept g c = λ given old new commands answers of run whole only. run_keeps old new commands answers (names_apart given old of) of.files only whole run
@@ -32,4 +32,4 @@ returns-clause-archive g c = λ given first last it answer of sound lists named 
 pub returns-clause-moves : goal.returns-clause-moves
 returns-clause-moves g c = λ given first last calls of lists small run only.
     let d = g.D.Disk in
-    calls_move d.files d.moment d.left_since first last calls run lists small (names_apart given first.store.session of) (recursion_from_All MayMove calls only)
+    calls_move d first last calls run lists small (names_apart given first.store.session of) (recursion_from_All MayMove calls only)

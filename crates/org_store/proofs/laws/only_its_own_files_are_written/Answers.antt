@@ -8,10 +8,10 @@ pub returns-clause-written : goal.returns-clause-written
 returns-clause-written g c = λ s command. written_named s command
 
 pub returns-clause-calls : goal.returns-clause-calls
-returns-clause-calls g c = λ first last calls named run. let d = g.D.Disk in (own_calls d.files d.moment d.left_since first last calls named run).alone
+returns-clause-calls g c = λ first last calls named run. let d = g.D.Disk in (own_calls d first last calls named run).alone
 
 pub returns-clause-waits : goal.returns-clause-waits
 returns-clause-waits g c = λ first last calls named run.
     let d = g.D.Disk in
-    let own = own_calls d.files d.moment d.left_since first last calls named run in
+    let own = own_calls d first last calls named run in
     (own.names, subst (λ (ns : List (List ℕ)). AreNames ns last.store.waiting) (sym own.names) own.waits)

@@ -91,7 +91,7 @@ returns-clause-plans g c tally honest =
     let seen = held_bytes files.held file in
     let place = c.in_ok-to.ensures in
     let found = place_found s file a.command.now.path a.command.now.moment own.0 seen to own.1 own.2 place in
-    let plans = subst (λ (t : Session). text_at t.names t.files file ≡ Some own.0 → Plans t (archive_to t file a.command.now.path a.command.now.moment own.0 to (text_at t.names t.files to.file)) c.plan_archive_to.result later.held new) read (c.plan_archive_to.ensures.plans tally own.0 honest) own.1 in
+    let plans = subst (λ (t : Session). text_at t.names t.files file ≡ Some own.0 → Plans t (archive_to t file a.command.now.path a.command.now.moment own.0 to (text_at t.names t.files to.file)) c.plan_archive_to.result later.held new) read (c.plan_archive_to.ensures.plans tally honest own.0) own.1 in
     subst (λ (o : Outcome). Plans s o c.plan_archive_to.result later.held new) (sym found) plans
 
 pub returns-clause-disk : goal.returns-clause-disk

@@ -51,7 +51,7 @@ pub plan_within-requires : goal.plan_within-requires
 plan_within-requires g c = is_ready (c.args.command.now.file ∷ []) c.args.files.now.held c.args.command.now.file c.requires.ready (one_name c.args.command.now.file)
 
 pub returns-in_err-plan_within-clause-plans : goal.returns-in_err-plan_within-clause-plans
-returns-in_err-plan_within-clause-plans g c tally text honest at =
+returns-in_err-plan_within-clause-plans g c tally honest text at =
     let a = c.args in
     let texts : g.row.D.Denot → Image = λ disk. contents (g.D.Disk.files disk) in
     let files = a.files.now in
@@ -81,7 +81,7 @@ returns-then-eq-clause-plan g c =
     within_fits plan files.held file made.0 made.2 c.requires.ready files.names c.requires.name
 
 pub returns-then-eq-clause-plans : goal.returns-then-eq-clause-plans
-returns-then-eq-clause-plans g c tally text honest at =
+returns-then-eq-clause-plans g c tally honest text at =
     let a = c.args in
     let texts : g.row.D.Denot → Image = λ disk. contents (g.D.Disk.files disk) in
     let files = a.files.now in
@@ -100,7 +100,7 @@ returns-then-eq-clause-plans g c tally text honest at =
     )
 
 pub returns-then-not-has-clause-plans : goal.returns-then-not-has-clause-plans
-returns-then-not-has-clause-plans g c tally text honest at =
+returns-then-not-has-clause-plans g c tally honest text at =
     let a = c.args in
     let texts : g.row.D.Denot → Image = λ disk. contents (g.D.Disk.files disk) in
     let files = a.files.now in
@@ -111,7 +111,7 @@ returns-then-not-has-clause-plans g c tally text honest at =
     (c.requires.unbroken, no_place s file a.command.now.path a.command.now.moment text to (no_text texts a.states.now files tally s to.file refl missing), refl)
 
 pub returns-in_err-ready-clause-plans : goal.returns-in_err-ready-clause-plans
-returns-in_err-ready-clause-plans g c tally text honest at =
+returns-in_err-ready-clause-plans g c tally honest text at =
     let a = c.args in
     let texts : g.row.D.Denot → Image = λ disk. contents (g.D.Disk.files disk) in
     let files = a.files.now in
@@ -148,7 +148,7 @@ plan_across-requires-clause-target g c =
     subst (λ (n : List ℕ). IsReady n held) c.file-to_file.ensures (is_ready (to_file ∷ file ∷ []) held to_file ready (first_name to_file (file ∷ [])))
 
 pub returns-in_err-plan_across-clause-plans : goal.returns-in_err-plan_across-clause-plans
-returns-in_err-plan_across-clause-plans g c tally text honest at =
+returns-in_err-plan_across-clause-plans g c tally honest text at =
     let a = c.args in
     let texts : g.row.D.Denot → Image = λ disk. contents (g.D.Disk.files disk) in
     let files = a.files.now in
@@ -206,7 +206,7 @@ returns-clause-plan g c =
     across_fits plan later.held file to.file made.0 apart made.2 both later.names still also
 
 pub returns-clause-plans : goal.returns-clause-plans
-returns-clause-plans g c tally text honest at =
+returns-clause-plans g c tally honest text at =
     let a = c.args in
     let texts : g.row.D.Denot → Image = λ disk. contents (g.D.Disk.files disk) in
     let files = a.files.now in

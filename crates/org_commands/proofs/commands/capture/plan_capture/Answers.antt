@@ -62,7 +62,7 @@ returns-clause-plans g c tally honest =
     let made : MakesEntry (new_entry a.command.now.moment a.command.now.template a.command.now.initial) (Ok c.in_ok-entry.entry) = c.in_ok-entry.ensures in
     let entry : IsEntry c.in_ok-entry.entry.items made.0 = made.2 in
     subst (λ (o : Outcome). Plans s o c.plan_entry.result c.plan_entry.new.files.held new)
-    (sym (entry_is s file a.command.now.target a.command.now.place a.command.now.moment a.command.now.template a.command.now.initial old made.0 some made.1)) (c.plan_entry.ensures.plans tally made.0 entry honest)
+    (sym (entry_is s file a.command.now.target a.command.now.place a.command.now.moment a.command.now.template a.command.now.initial old made.0 some made.1)) (c.plan_entry.ensures.plans tally honest made.0 entry)
 
 pub returns-clause-disk : goal.returns-clause-disk
 returns-clause-disk g c = c.plan_entry.ensures.disk

@@ -21,7 +21,7 @@ use Rattle.org_commands.proofs.Handing.{handed_on}
 use Rattle.org_commands.proofs.commands.capture.plan_entry.Goals as goal
 
 pub returns-in_err-ready-clause-plans : goal.returns-in_err-ready-clause-plans
-returns-in_err-ready-clause-plans g c tally node entry honest =
+returns-in_err-ready-clause-plans g c tally honest node entry =
     let a = c.args in
     let texts : g.row.D.Denot → Image = λ disk. contents (g.D.Disk.files disk) in
     let s = session_over texts a.states.now a.files.now tally in
@@ -40,7 +40,7 @@ held-held-requires g c =
     is_ready (file ∷ []) held file ready (one_name file)
 
 pub returns-in_err-edit-clause-plans : goal.returns-in_err-edit-clause-plans
-returns-in_err-edit-clause-plans g c tally node entry honest =
+returns-in_err-edit-clause-plans g c tally honest node entry =
     let a = c.args in
     let texts : g.row.D.Denot → Image = λ disk. contents (g.D.Disk.files disk) in
     let s = session_over texts a.states.now a.files.now tally in
@@ -78,7 +78,7 @@ returns-clause-plan g c =
     plan_of_one c.plan_of_one.result c.ready.new.self.names held file text (print answers.0) (made.0 ∙ c.given.ensures) made.1 at edits named ready
 
 pub returns-clause-plans : goal.returns-clause-plans
-returns-clause-plans g c tally node entry honest =
+returns-clause-plans g c tally honest node entry =
     let a = c.args in
     let texts : g.row.D.Denot → Image = λ disk. contents (g.D.Disk.files disk) in
     let s = session_over texts a.states.now a.files.now tally in

@@ -98,7 +98,7 @@ loop-index-preserved g c =
       reads = only_reads_then sofar.reads (only_reads_fine (fine_is_no_fault (Ok tt) tt Broken refl) (fine_is_no_fault (Ok tt) tt Device refl) looked.disk);
       same = λ tally h. looked.reads tally h ∙ sofar.same tally (back h);
       passed = λ h.
-          let tally : Tally = record { accepted = 0; acknowledged = 0; group = 1 } in
+          let tally : Tally = record { accepted = 0; acknowledged = 0; group = 1; ordered = omega arith } in
           let files = held_over old.held.before (texts old.disk) in
           let now = held_over new.held.before (texts new.disk) in
           let read : session_over texts states new tally ≡ session_over texts states old tally = looked.reads tally h ∙ sofar.same tally (back h) in
@@ -128,7 +128,7 @@ loop-index-preserved-then-is_quiet g c =
       reads = sofar.reads;
       same = sofar.same;
       passed = λ h.
-          let tally : Tally = record { accepted = 0; acknowledged = 0; group = 1 } in
+          let tally : Tally = record { accepted = 0; acknowledged = 0; group = 1; ordered = omega arith } in
           let files = held_over old.held.before (texts old.disk) in
           let now = held_over new.held.before (texts new.disk) in
           let read : session_over texts c.args.states.now new tally ≡ session_over texts c.args.states.now old tally = sofar.same tally h in

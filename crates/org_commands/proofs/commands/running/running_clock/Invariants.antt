@@ -16,7 +16,7 @@ invariant-loop-index g l =
       unbroken : l.files.broken ≡ false;
       begun : l.files.held.now ≡ l.files.held.before;
       keeps : KeepsHeld l.fn.files.held l.files.held;
-      reads : OnlyReads {A = Unit {0}} disk.steady disk.honest disk.failures disk.files disk.moment disk.left_since l.fn.files l.files (Ok tt);
+      reads : OnlyReads {A = Unit {0}} disk l.fn.files l.files (Ok tt);
       same : (tally : Tally) → disk.honest l.files.disk → session_over (λ d. contents (disk.files d)) l.fn.states l.files tally ≡ session_over (λ d. contents (disk.files d)) l.fn.states l.fn.files tally;
       passed : disk.honest l.files.disk → let files = held_over l.fn.files.held.before (contents (disk.files l.fn.files.disk)) in first_from files l.fn.files.names l.index ≡ first_from files l.fn.files.names 0;
     }

@@ -24,7 +24,7 @@ returns-then-not-has-clause-acts g c states tally =
     let files = c.args.files.now in
     let missing : is_name files.names c.args.file.now ≡ false = sym c.if-not-has.ensures in
     let none = none_at (held_over files.held.before (contents (d.files files.disk))) files.names c.args.file.now missing in
-    acts_refused d.files d.moment d.left_since d.honest old (λ honest image left. g.met.D.Disk.only_now old.disk image honest left) refl old refl c.requires.between.unbroken
+    acts_refused d old (λ honest image left. g.met.D.Disk.only_now old.disk image honest left) refl old refl c.requires.between.unbroken
     (show (text_at files.names old.session.files c.args.file.now)) NoSuchFile (ap show none)
 
 pub returns-in_err-load-clause-acts : goal.returns-in_err-load-clause-acts
@@ -34,7 +34,7 @@ returns-in_err-load-clause-acts g c states tally =
     let new = kept_over d.files states c.load.new.self tally in
     let load = c.load.ensures in
     let given : c.from_residual.result ≡ Err c.in_err-load.field-0.0 = handed_on c.from_residual.result _ c.from_residual.ensures.1 in
-    acts_read d.files d.moment d.left_since d.honest old (λ honest image left. g.met.D.Disk.only_now old.disk image honest left) refl new
+    acts_read d old (λ honest image left. g.met.D.Disk.only_now old.disk image honest left) refl new
     (show (text_at c.args.files.now.names old.session.files c.args.file.now)) c.load.result c.in_err-load.field-0.0 c.from_residual.result c.in_err-load.was given c.requires.between.unbroken load.disk.accounts.was_honest
     (load.reads states tally) load.disk.looks refl (record { accepted = refl; acknowledged = refl; group = refl }) load.disk.works load.disk.breaks
 
@@ -47,8 +47,8 @@ returns-in_err-to_vec-in-Some-clause-acts g c states tally =
     let told = show (text_at c.args.files.now.names old.session.files c.args.file.now) in
     let given : c.from_residual-in_err-to_vec-in-Some.result ≡ Err OutOfMemory = handed_on c.from_residual-in_err-to_vec-in-Some.result _ c.from_residual-in_err-to_vec-in-Some.ensures.1 in
     let whole : c.load.new.self.broken ≡ false = search rules in
-    subst (λ (a : Result Reply RunFault). Acts d.files d.moment d.left_since d.honest old told a new) (sym given)
-    (acts_quiet d.files d.moment d.left_since d.honest old (λ honest image left. g.met.D.Disk.only_now old.disk image honest left) refl new told (Err OutOfMemory) tt load.disk.accounts.was_honest
+    subst (λ (a : Result Reply RunFault). Acts d old told a new) (sym given)
+    (acts_quiet d old (λ honest image left. g.met.D.Disk.only_now old.disk image honest left) refl new told (Err OutOfMemory) tt load.disk.accounts.was_honest
     (λ honest. (c.requires.between.unbroken, c.in_ok-load.ensures.reads states tally honest)) load.disk.looks refl (record { accepted = refl; acknowledged = refl; group = refl })
     (λ broken. absurd (cc)) (λ fell. absurd (cc), λ broken. absurd (false≢true (sym whole ∙ broken))))
 
@@ -67,7 +67,7 @@ returns-clause-acts g c states tally =
     let now : text_of c.load.new.self.held.now file ≡ Some held.text = search rules in
     let before : text_of c.load.new.self.held.before file ≡ Some held.text = ap (λ (s : TextSet). text_of s file) (sym (load.begun c.requires.between.begun)) ∙ now in
     let bytes : c.new.result ≡ held.text.bytes = search rules in
-    acts_quiet d.files d.moment d.left_since d.honest old (λ honest image left. g.met.D.Disk.only_now old.disk image honest left) refl new told (Ok (Text c.new.result)) tt load.disk.accounts.was_honest
+    acts_quiet d old (λ honest image left. g.met.D.Disk.only_now old.disk image honest left) refl new told (Ok (Text c.new.result)) tt load.disk.accounts.was_honest
     (λ honest.
     let read : new.session ≡ old.session = c.in_ok-load.ensures.reads states tally honest in
     let seen : text_at new.session.names new.session.files file ≡ Some held.text.bytes = text_held c.load.new.self.names c.load.new.self.held (contents (d.files c.load.new.self.disk)) file held.text named before in

@@ -9,21 +9,18 @@ use Rattle.org_commands.proofs.Quiet.{noted_settled, noted_still}
 use Rattle.org_commands.proofs.Handing.{handed_on}
 use Rattle.org_commands.proofs.files.Files.commit.Goals as goal
 
-pub commit-requires-clause-named : goal.commit-requires-clause-named
-commit-requires-clause-named g c =
+pub commit-requires : goal.commit-requires
+commit-requires g c =
     let inside = c.self.inside in
-    pairs_named inside.set.names ((inside.set.broken ≡ false) × g.D.Disk.honest inside.set.disk) (contents (g.D.Disk.files inside.set.disk)) inside.texts.now c.self.invariant.0.now
-
-pub commit-requires-clause-small : goal.commit-requires-clause-small
-commit-requires-clause-small g c =
-    let texts = c.self.inside.texts in
+    let texts = inside.texts in
+    let live = (inside.set.broken ≡ false) × g.D.Disk.honest inside.set.disk in
+    let files = contents (g.D.Disk.files inside.set.disk) in
     let may : (texts.now ≡ texts.before) ⊎ AreSmallToWrite texts.now = rw (← c.self.view_is) at c.requires.small in
-    pairs_small texts.now (⊎_elim (λ same. subst AreSmallToWrite (sym same) c.self.invariant.0.small) (λ small. small) may)
-
-pub commit-requires-clause-edits : goal.commit-requires-clause-edits
-commit-requires-clause-edits g c unbroken honest =
-    let inside = c.self.inside in
-    pairs_edits inside.set.names ((inside.set.broken ≡ false) × g.D.Disk.honest inside.set.disk) (contents (g.D.Disk.files inside.set.disk)) inside.texts.now c.self.invariant.0.now (unbroken, honest)
+    record {
+      named = pairs_named inside.set.names live files texts.now c.self.invariant.0.now;
+      small = pairs_small texts.now (⊎_elim (λ same. subst AreSmallToWrite (sym same) c.self.invariant.0.small) (λ small. small) may);
+      edits = λ unbroken honest. pairs_edits inside.set.names live files texts.now c.self.invariant.0.now (unbroken, honest);
+    }
 
 pub invariant_of-self : goal.invariant_of-self
 invariant_of-self g c =
@@ -47,8 +44,8 @@ returns-in_err-commit-clause-commits g c =
     let unbroken : inside.set.broken ≡ false = rw (← c.self.view_is) at c.requires.unbroken in
     let given : c.from_residual.result ≡ Err fault = handed_on c.from_residual.result _ c.from_residual.ensures.1 in
     rw (← c.self.view_is) (λ honest.
-    subst (λ r. CommitsTexts d.files d.moment d.left_since inside.set.names inside.texts.now.waiting (texts_of (held_over inside.texts.now (contents (d.files inside.set.disk))) inside.set.names) inside.set.disk c.commit.new.self.disk r) (sym given)
-    (commit_failed d.files d.moment d.left_since inside.set.names ((inside.set.broken ≡ false) × d.honest inside.set.disk) inside.set.disk c.commit.new.self.disk inside.texts.now c.self.invariant.0.apart c.self.invariant.0.now
+    subst (λ r. CommitsTexts d inside.set.names inside.texts.now.waiting (texts_of (held_over inside.texts.now (contents (d.files inside.set.disk))) inside.set.names) inside.set.disk c.commit.new.self.disk r) (sym given)
+    (commit_failed d inside.set.names ((inside.set.broken ≡ false) × d.honest inside.set.disk) inside.set.disk c.commit.new.self.disk inside.texts.now c.self.invariant.0.apart c.self.invariant.0.now
     (unbroken, c.commit.ensures.accounts.was_honest honest) c.commit.result fault (c.commit.ensures.commits honest)))
 
 pub invariant_of-self-2 : goal.invariant_of-self-2
@@ -60,7 +57,7 @@ invariant_of-self-2 g c =
     let unbroken : inside.set.broken ≡ false = rw (← c.self.view_is) at c.requires.unbroken in (
       sound_settled inside.set.names c.commit.new.self.names live now (contents (d.files inside.set.disk)) (contents (d.files c.commit.new.self.disk)) inside.texts c.settle.new.self
           c.commit.ensures.set.same_names c.settle.ensures.now c.settle.ensures.before
-          (λ n. made_held d.files d.moment d.left_since inside.set.names live inside.set.disk c.commit.new.self.disk inside.texts.now c.self.invariant.0.apart c.self.invariant.0.now
+          (λ n. made_held d inside.set.names live inside.set.disk c.commit.new.self.disk inside.texts.now c.self.invariant.0.apart c.self.invariant.0.now
           (unbroken, c.commit.ensures.accounts.was_honest n.1) (c.in_ok-commit.ensures.commits n.1).done.made)
           c.self.invariant.0,
       noted_settled c.commit.new.self.names inside.quiet.items inside.texts c.settle.new.self c.settle.ensures.now c.settle.ensures.before
@@ -73,7 +70,7 @@ returns-clause-commits g c =
     let inside = c.self.inside in
     let unbroken : inside.set.broken ≡ false = rw (← c.self.view_is) at c.requires.unbroken in
     rw (← c.self.view_is) (λ honest.
-    commit_done d.files d.moment d.left_since inside.set.names ((inside.set.broken ≡ false) × d.honest inside.set.disk) inside.set.disk c.commit.new.self.disk inside.texts.now c.self.invariant.0.apart c.self.invariant.0.now
+    commit_done d inside.set.names ((inside.set.broken ≡ false) × d.honest inside.set.disk) inside.set.disk c.commit.new.self.disk inside.texts.now c.self.invariant.0.apart c.self.invariant.0.now
     (unbroken, c.commit.ensures.accounts.was_honest honest) tt (c.in_ok-commit.ensures.commits honest))
 
 pub returns-clause-texts : goal.returns-clause-texts
@@ -86,5 +83,5 @@ returns-clause-texts g c =
     rw (← c.self.view_is) (λ honest.
     ap (λ (s : TextSet). texts_of (held_over s left) inside.set.names) c.settle.ensures.before
     ∙ texts_settled_are inside.set.names files left inside.texts.now c.self.invariant.0.apart
-    (made_held d.files d.moment d.left_since inside.set.names ((inside.set.broken ≡ false) × d.honest inside.set.disk) inside.set.disk c.commit.new.self.disk inside.texts.now c.self.invariant.0.apart c.self.invariant.0.now
+    (made_held d inside.set.names ((inside.set.broken ≡ false) × d.honest inside.set.disk) inside.set.disk c.commit.new.self.disk inside.texts.now c.self.invariant.0.apart c.self.invariant.0.now
     (unbroken, c.commit.ensures.accounts.was_honest honest) (c.in_ok-commit.ensures.commits honest).done.made))

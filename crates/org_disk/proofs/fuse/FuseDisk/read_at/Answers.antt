@@ -1,5 +1,5 @@
 use Rattle.std.proofs.Common.{refl, sym, ◌∙◌, subst, true≢false, ◌≡◌, OnOk, length, take, drop, ◌≤◌, ◌+◌}
-use Rattle.org_disk.specs.Accounts.{Looks}
+use Rattle.org_disk.specs.Calls.{LooksInCall}
 use Rattle.org_disk.proofs.Fuses.{accounts_blown, accounts_passed, burns_blown, burns_passed, looks_blown}
 use Rattle.org_disk.proofs.fuse.FuseDisk.read_at.Goals as goal
 
@@ -8,7 +8,7 @@ returns-then-not-burn-clause-looks g c = λ honest. looks_blown g.D.Disk.files g
 
 pub returns-clause-looks : goal.returns-clause-looks
 returns-clause-looks g c =
-    subst (λ d. g.D.Disk.honest c.read_at.new.self → Looks g.D.Disk.files g.D.Disk.moment g.D.Disk.left_since d c.read_at.new.self) c.burn.ensures.disk c.read_at.ensures.looks
+    subst (λ d. g.D.Disk.honest c.read_at.new.self → LooksInCall g.D.Disk.files g.D.Disk.moment g.D.Disk.left_since d c.read_at.new.self) c.burn.ensures.disk c.read_at.ensures.looks
 
 pub returns-then-not-burn-clause-accounts : goal.returns-then-not-burn-clause-accounts
 returns-then-not-burn-clause-accounts g c = accounts_blown g.D.Disk.honest g.D.Disk.failures c.args.self.now c.burn.new.self _ c.burn.ensures.disk (c.burn.ensures.failed c.if-not-burn.true)

@@ -1,5 +1,5 @@
 use Rattle.std.proofs.Common.{refl, sym, ◌∙◌, subst, true≢false, length, ◌≤◌, ◌<◌, ◌+◌, ◌^◌}
-use Rattle.org_disk.specs.Accounts.{PassesOver}
+use Rattle.org_disk.specs.Calls.{PassesInCall}
 use Rattle.org_disk.specs.Disk.{AreLeftBy, Changes, write}
 use Rattle.org_disk.proofs.Fuses.{accounts_blown, accounts_passed, burns_blown, burns_passed, changes_blown, passes_blown}
 use Rattle.org_disk.proofs.fuse.FuseDisk.write_at.Goals as goal
@@ -16,7 +16,7 @@ returns-clause-effect g c =
 
 pub returns-clause-time : goal.returns-clause-time
 returns-clause-time g c =
-    subst (λ d. g.D.Disk.honest c.write_at.new.self → PassesOver g.D.Disk.moment g.D.Disk.left_since d c.write_at.new.self (AreLeftBy (write c.args.from c.args.bytes.now) c.args.name.now (g.D.Disk.files d))) c.burn.ensures.disk c.write_at.ensures.time
+    subst (λ d. g.D.Disk.honest c.write_at.new.self → PassesInCall g.D.Disk.moment g.D.Disk.left_since d c.write_at.new.self (AreLeftBy (write c.args.from c.args.bytes.now) c.args.name.now (g.D.Disk.files d))) c.burn.ensures.disk c.write_at.ensures.time
 
 pub returns-then-not-burn-clause-accounts : goal.returns-then-not-burn-clause-accounts
 returns-then-not-burn-clause-accounts g c = accounts_blown g.D.Disk.honest g.D.Disk.failures c.args.self.now c.burn.new.self _ c.burn.ensures.disk (c.burn.ensures.failed c.if-not-burn.true)

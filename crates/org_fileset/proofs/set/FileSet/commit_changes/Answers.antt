@@ -9,7 +9,7 @@ use Rattle.org_journal.specs.declared.record.Version.TheVariants.{Two}
 use Rattle.org_journal.specs.Record.{IsWellFormed}
 use Rattle.org_journal.specs.Recovered.{contents, all_fit, replayed}
 use Rattle.org_fileset.specs.Entries.{changed}
-use Rattle.org_fileset.specs.Replay.{AreApplicable, Commits}
+use Rattle.org_fileset.specs.Replay.{AreApplicable, CommitsOver}
 use Rattle.org_fileset.specs.Writes.{IsOther, IsUnwritten}
 use Rattle.org_fileset.specs.declared.fault.SetFault.TheVariants.{Device}
 use Rattle.org_fileset.proofs.Accounted.{accounts_other}
@@ -22,21 +22,21 @@ use Rattle.org_fileset.proofs.set.FileSet.commit_changes.Goals as goal
 
 pub encode-requires : goal.encode-requires
 encode-requires g c =
-    let named = rw (← c.self.view_is) at c.requires.named in
+    let named = rw (← c.self.view_is) at c.requires.can.named in
     subst (λ (l : List Entry). IsWellFormed Two l) (sym c.new-record.ensures)
     (changes_formed c.self.inside.names.items (g.C.Changes.pairs c.args.changes.now) c.in_ok-entries_of.field-0.items c.in_ok-entries_of.ensures.entries c.in_ok-entries_of.ensures.distinct
-    c.requires.some c.self.invariant.each c.self.invariant.few named c.requires.small)
+    c.requires.some c.self.invariant.each c.self.invariant.few named c.requires.can.small)
 
 pub commit_entries-requires-clause-applicable : goal.commit_entries-requires-clause-applicable
 commit_entries-requires-clause-applicable g c honest =
-    let named = rw (← c.self.view_is) at c.requires.named in
+    let named = rw (← c.self.view_is) at c.requires.can.named in
     subst AreApplicable (sym (c.entries.ensures ∙ c.new-record.ensures))
     (changes_applicable (g.C.Changes.pairs c.args.changes.now) c.in_ok-entries_of.field-0.items c.in_ok-entries_of.ensures.entries c.in_ok-entries_of.ensures.distinct
-    (committable c.self.inside.names.items (g.C.Changes.pairs c.args.changes.now) c.self.invariant.each named c.requires.small))
+    (committable c.self.inside.names.items (g.C.Changes.pairs c.args.changes.now) c.self.invariant.each named c.requires.can.small))
 
 pub commit_entries-requires-clause-fits : goal.commit_entries-requires-clause-fits
 commit_entries-requires-clause-fits g c honest =
-    let edits = rw (← c.self.view_is) at c.requires.edits in
+    let edits = (rw (← c.self.view_is) at c.requires.can.edits) (rw (← c.self.view_is) at c.requires.whole) in
     let files = contents (g.D.Disk.files c.self.inside.disk) in
     subst (λ (l : List Entry). IsTrue (all_fit l files)) (sym (c.entries.ensures ∙ c.new-record.ensures))
     (changes_fit (g.C.Changes.pairs c.args.changes.now) c.in_ok-entries_of.field-0.items files c.in_ok-entries_of.ensures.entries (all_edits files (g.C.Changes.pairs c.args.changes.now) (edits honest)))
@@ -46,41 +46,41 @@ returns-in_err-entries_of-clause-commits g c honest =
     let d = g.D.Disk in
     let disk = c.args.self.now.disk in
     let after = changed (g.C.Changes.pairs c.args.changes.now) (contents (d.files disk)) in
-    commits_none d.files d.moment d.left_since after (IsOther (keys_of (g.C.Changes.pairs c.args.changes.now))) disk c.from_residual.result (λ image left. g.met.D.Disk.only_now disk image honest left) (passed_never _ _ c.from_residual.result c.from_residual.ensures.1)
+    commits_none d after (IsOther (keys_of (g.C.Changes.pairs c.args.changes.now))) disk c.from_residual.result (λ image left. g.met.D.Disk.only_now disk image honest left) (passed_never _ _ c.from_residual.result c.from_residual.ensures.1)
 
 pub returns-in_err-body-clause-commits : goal.returns-in_err-body-clause-commits
 returns-in_err-body-clause-commits g c honest =
     let d = g.D.Disk in
     let disk = c.args.self.now.disk in
     let after = changed (g.C.Changes.pairs c.args.changes.now) (contents (d.files disk)) in
-    commits_none d.files d.moment d.left_since after (IsOther (keys_of (g.C.Changes.pairs c.args.changes.now))) disk c.from_residual-in_err-body.result (λ image left. g.met.D.Disk.only_now disk image honest left) (passed_never _ _ c.from_residual-in_err-body.result c.from_residual-in_err-body.ensures.1)
+    commits_none d after (IsOther (keys_of (g.C.Changes.pairs c.args.changes.now))) disk c.from_residual-in_err-body.result (λ image left. g.met.D.Disk.only_now disk image honest left) (passed_never _ _ c.from_residual-in_err-body.result c.from_residual-in_err-body.ensures.1)
 
 pub returns-in-Ok-clause-commits : goal.returns-in-Ok-clause-commits
 returns-in-Ok-clause-commits g c = rw (← c.self.view_is) (λ ended.
     let honest = c.commit_entries.ensures.accounts.was_honest ended in
-    let edits = rw (← c.self.view_is) at c.requires.edits in
+    let edits = (rw (← c.self.view_is) at c.requires.can.edits) (rw (← c.self.view_is) at c.requires.whole) in
     let d = g.D.Disk in
     let disk = c.self.inside.disk in
     let after = c.commit_entries.new.disk in
     let entries = c.in_ok-entries_of.field-0.items in
     let files = contents (d.files disk) in
-    let made : Commits {A = Unit {0}} {E = DiskFault} d.files d.moment d.left_since (replayed entries files) (IsUnwritten entries) disk after (Ok tt) =
-    subst (λ (l : List Entry). Commits {A = Unit {0}} {E = DiskFault} d.files d.moment d.left_since (replayed l files) (IsUnwritten l) disk after (Ok tt)) (c.entries.ensures ∙ c.new-record.ensures) (c.in-Ok.ensures.commits ended) in
-    commits_changes d.files d.moment d.left_since (g.C.Changes.pairs c.args.changes.now) entries disk after (Ok tt) (Ok tt) c.requires.some c.in_ok-entries_of.ensures.entries
+    let made : CommitsOver {A = Unit {0}} {E = DiskFault} d (replayed entries files) (IsUnwritten entries) disk after (Ok tt) =
+    subst (λ (l : List Entry). CommitsOver {A = Unit {0}} {E = DiskFault} d (replayed l files) (IsUnwritten l) disk after (Ok tt)) (c.entries.ensures ∙ c.new-record.ensures) (c.in-Ok.ensures.commits ended) in
+    commits_changes d (g.C.Changes.pairs c.args.changes.now) entries disk after (Ok tt) (Ok tt) c.requires.some c.in_ok-entries_of.ensures.entries
     (all_edits files (g.C.Changes.pairs c.args.changes.now) (edits honest)) made made.done)
 
 pub returns-clause-commits : goal.returns-clause-commits
 returns-clause-commits g c = rw (← c.self.view_is) (λ ended.
     let honest = c.commit_entries.ensures.accounts.was_honest ended in
-    let edits = rw (← c.self.view_is) at c.requires.edits in
+    let edits = (rw (← c.self.view_is) at c.requires.can.edits) (rw (← c.self.view_is) at c.requires.whole) in
     let d = g.D.Disk in
     let disk = c.self.inside.disk in
     let after = c.commit_entries.new.disk in
     let entries = c.in_ok-entries_of.field-0.items in
     let files = contents (d.files disk) in
-    let made : Commits {A = Unit {0}} {E = DiskFault} d.files d.moment d.left_since (replayed entries files) (IsUnwritten entries) disk after c.commit_entries.result =
-    subst (λ (l : List Entry). Commits {A = Unit {0}} {E = DiskFault} d.files d.moment d.left_since (replayed l files) (IsUnwritten l) disk after c.commit_entries.result) (c.entries.ensures ∙ c.new-record.ensures) (c.commit_entries.ensures.commits ended) in
-    commits_changes d.files d.moment d.left_since (g.C.Changes.pairs c.args.changes.now) entries disk after c.commit_entries.result (Err Device) c.requires.some c.in_ok-entries_of.ensures.entries
+    let made : CommitsOver {A = Unit {0}} {E = DiskFault} d (replayed entries files) (IsUnwritten entries) disk after c.commit_entries.result =
+    subst (λ (l : List Entry). CommitsOver {A = Unit {0}} {E = DiskFault} d (replayed l files) (IsUnwritten l) disk after c.commit_entries.result) (c.entries.ensures ∙ c.new-record.ensures) (c.commit_entries.ensures.commits ended) in
+    commits_changes d (g.C.Changes.pairs c.args.changes.now) entries disk after c.commit_entries.result (Err Device) c.requires.some c.in_ok-entries_of.ensures.entries
     (all_edits files (g.C.Changes.pairs c.args.changes.now) (edits honest)) made tt)
 
 -- the record of the changes
@@ -95,23 +95,23 @@ pub returns-in_err-entries_of-clause-set : goal.returns-in_err-entries_of-clause
 returns-in_err-entries_of-clause-set g c =
     let whole = rw (← c.self.view_is) at c.requires.whole in
     let p = err_from_is_err_and c.from_residual.result c.from_residual.ensures.1 in
-    rw (← c.self.view_is) (keeps_whole _ _ _ _ refl whole whole c.from_residual.result (λ e. cc (e, p.1, p.2)) (λ e. cc (e, p.1, p.2)))
+    rw (← c.self.view_is) (keeps_whole _ _ refl whole whole c.from_residual.result (λ e. cc (e, p.1, p.2)) (λ e. cc (e, p.1, p.2)))
 
 pub returns-in_err-body-clause-set : goal.returns-in_err-body-clause-set
 returns-in_err-body-clause-set g c =
     let whole = rw (← c.self.view_is) at c.requires.whole in
     let p = err_from_is_err_and c.from_residual-in_err-body.result c.from_residual-in_err-body.ensures.1 in
-    rw (← c.self.view_is) (keeps_whole _ _ _ _ refl whole whole c.from_residual-in_err-body.result (λ e. cc (e, p.1, p.2)) (λ e. cc (e, p.1, p.2)))
+    rw (← c.self.view_is) (keeps_whole _ _ refl whole whole c.from_residual-in_err-body.result (λ e. cc (e, p.1, p.2)) (λ e. cc (e, p.1, p.2)))
 
 pub returns-in-Ok-clause-set : goal.returns-in-Ok-clause-set
 returns-in-Ok-clause-set g c =
     let whole = rw (← c.self.view_is) at c.requires.whole in
-    rw (← c.self.view_is) (keeps_whole _ _ _ _ refl whole whole (Ok (tt {0})) (λ e. cc e) (λ e. cc e))
+    rw (← c.self.view_is) (keeps_whole _ _ refl whole whole (Ok (tt {0})) (λ e. cc e) (λ e. cc e))
 
 pub returns-clause-set : goal.returns-clause-set
 returns-clause-set g c =
     let whole = rw (← c.self.view_is) at c.requires.whole in
-    rw (← c.self.view_is) (keeps_broken _ _ _ _ refl whole refl)
+    rw (← c.self.view_is) (keeps_broken _ _ refl whole refl)
 
 pub returns-in-Ok-clause-accounts : goal.returns-in-Ok-clause-accounts
 returns-in-Ok-clause-accounts g c = rw (← c.self.view_is) (accounts_answered (accounts_ok c.in-Ok.ensures.accounts))
@@ -144,7 +144,7 @@ pub returns-in_err-entries_of-clause-memory : goal.returns-in_err-entries_of-cla
 returns-in_err-entries_of-clause-memory g c e = refl
 
 pub returns-in_err-entries_of-clause-accounts : goal.returns-in_err-entries_of-clause-accounts
-returns-in_err-entries_of-clause-accounts g c = accounts_other c.from_residual.ensures.1 memory_apart (accounts_none _ _ _ _)
+returns-in_err-entries_of-clause-accounts g c = accounts_other c.from_residual.ensures.1 memory_apart (accounts_none _ _)
 
 pub returns-in_err-body-clause-record : goal.returns-in_err-body-clause-record
 returns-in_err-body-clause-record g c honest = passed_never _ _ c.from_residual-in_err-body.result c.from_residual-in_err-body.ensures.1
@@ -153,7 +153,7 @@ pub returns-in_err-body-clause-memory : goal.returns-in_err-body-clause-memory
 returns-in_err-body-clause-memory g c e = refl
 
 pub returns-in_err-body-clause-accounts : goal.returns-in_err-body-clause-accounts
-returns-in_err-body-clause-accounts g c = accounts_other c.from_residual-in_err-body.ensures.1 memory_apart (accounts_none _ _ _ _)
+returns-in_err-body-clause-accounts g c = accounts_other c.from_residual-in_err-body.ensures.1 memory_apart (accounts_none _ _)
 
 pub returns-in-Ok-clause-memory : goal.returns-in-Ok-clause-memory
 returns-in-Ok-clause-memory g c e = absurd (ok_apart e)

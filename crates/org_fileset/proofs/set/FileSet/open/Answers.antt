@@ -26,7 +26,7 @@ returns-in-Err-clause-reopens g c honest =
       recoverable = λ fit each. fit;
       bad = λ none. same;
       idle = λ closed. same;
-      alone = alone_none g.D.Disk.files g.D.Disk.moment g.D.Disk.left_since (IsUnconcerned (contents old journal_name)) c.args.disk;
+      alone = alone_none g.D.Disk (IsUnconcerned (contents old journal_name)) c.args.disk;
     }
 
 pub returns-in-Ok-make_ready-clause-reopens : goal.returns-in-Ok-make_ready-clause-reopens
@@ -60,7 +60,7 @@ pub returns-in-Err-make_ready-clause-refused : goal.returns-in-Err-make_ready-cl
 returns-in-Err-make_ready-clause-refused g c = record { reason = search rules; unused = λ is. absurd (c.in-Err-make_ready.ensures.not_too_many (ap (λ e. Err e) is)) }
 
 pub returns-in-Err-clause-accounts : goal.returns-in-Err-clause-accounts
-returns-in-Err-clause-accounts g c = accounts_quiet (names_apart _ c.in-Err.fault c.in-Err.ensures.refused) (accounts_none _ _ _ _)
+returns-in-Err-clause-accounts g c = accounts_quiet (names_apart _ c.in-Err.fault c.in-Err.ensures.refused) (accounts_none _ _)
 
 pub returns-in-Err-make_ready-clause-accounts : goal.returns-in-Err-make_ready-clause-accounts
 returns-in-Err-make_ready-clause-accounts g c = accounts_fault c.in-Err-make_ready.ensures.accounts

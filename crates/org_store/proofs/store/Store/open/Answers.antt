@@ -47,7 +47,10 @@ pub returns-in-Err-clause-accounts : goal.returns-in-Err-clause-accounts
 returns-in-Err-clause-accounts g c = c.in-Err.ensures.accounts
 
 pub invariant_of-result : goal.invariant_of-result
-invariant_of-result g c =
+invariant_of-result g c = record { ordered = none_counted }
+
+pub invariant_of-result-in-Ok : goal.invariant_of-result-in-Ok
+invariant_of-result-in-Ok g c =
     let files = c.in-Ok.files in
     let opened = c.in-Ok.ensures.opened in
-    (none_counted, opened.1 ∙ sym opened.2, λ honest. settled_new g.D.Disk.files c.args.states files (record { accepted = 0; acknowledged = 0; group = 1 }) opened.2)
+    (none_counted, opened.1 ∙ sym opened.2, λ honest. settled_new g.D.Disk.files c.args.states files (record { accepted = 0; acknowledged = 0; group = 1; ordered = none_counted }) opened.2)

@@ -1,5 +1,4 @@
-use Rattle.std.proofs.Common.{◌≡◌, ◌∙◌, ⊎_elim, inl, inr, false, Err, Result, refl, sym, subst, ap, rules}
-use Rattle.std.proofs.lemmas.Bool.{false≢true}
+use Rattle.std.proofs.Common.{◌≡◌, ◌∙◌, inl, false, Err, Result, refl, sym, subst, ap, rules}
 use Rattle.org_journal.specs.Recovered.{contents}
 use Rattle.org_commands.specs.declared.command.RunFault.{RunFault}
 use Rattle.org_commands.specs.declared.command.RunFault.TheVariants.{Broken}
@@ -7,12 +6,17 @@ use Rattle.org_commands.specs.declared.command.Command.{Command}
 use Rattle.org_commands.specs.declared.command.Command.TheVariants.{Settle}
 use Rattle.org_commands.specs.declared.command.Reply.{Reply}
 use Rattle.org_commands.specs.InOrder.{texts_of}
+use Rattle.org_commands.specs.Kinds.{asking, changing, command_of}
 use Rattle.org_commands.specs.Left.{IsLeft, IsLeftAlone}
 use Rattle.org_commands.specs.Outcome.{outcome}
 use Rattle.org_commands.specs.Runs.{RunsOver}
+use Rattle.org_commands.specs.Session.{kept_over}
 use Rattle.org_commands.specs.Step.{Step}
+use Rattle.org_store.proofs.Acted.{no_settling_asks, no_settling_changes, ran, runs_broken, runs_idle}
 use Rattle.org_store.proofs.Calls.{reply_of, settling_runs}
+use Rattle.org_store.proofs.Settled.{settled_on}
 use Rattle.org_commands.proofs.Leaving.{leaves_unwritten}
+use Rattle.org_commands.proofs.Waiting.{none_waits_on}
 use Rattle.org_store.proofs.store.Store.run.Goals as goal
 
 pub returns-then-is_broken-clause-did : goal.returns-then-is_broken-clause-did
@@ -26,7 +30,7 @@ returns-then-is_broken-clause-did g c = λ honest.
     let step : Step s c.args.command.now (Err Broken) s = search rules in
     record {
       step = step;
-      disk = leaves_unwritten d.files d.moment d.left_since old (IsLeft {A = Reply} s files does (Err Broken) s.accepted) (IsLeftAlone {A = Reply} s old.waiting does (Err Broken) s.accepted) _
+      disk = leaves_unwritten d old (IsLeft {A = Reply} s files does (Err Broken) s.accepted) (IsLeftAlone {A = Reply} s old.waiting does (Err Broken) s.accepted) _
           (λ image left. g.met.D.Disk.only_now old.disk image honest left) own (λ image holds. inl holds) old refl own;
       waits = refl;
       idle = record { untouched = λ broken. refl; nothing = λ asks none. refl; unneeded = λ asks none. refl };
@@ -39,36 +43,67 @@ returns-in_err-settle-in-Settle-clause-did g c = λ honest.
     let new = c.settle.new.self in
     let why = c.in_err-settle-in-Settle.field-0.0 in
     let given : c.from_residual.result ≡ Err why = search rules in
-    subst (λ (command : Command). RunsOver d.files d.moment d.left_since old command c.from_residual.result new) (sym c.in-Settle.is)
-    (subst (λ (answer : Result Reply RunFault). RunsOver d.files d.moment d.left_since old Settle answer new)
-    (ap (reply_of old.session.accepted) c.in_err-settle-in-Settle.was ∙ sym given) (settling_runs d.files d.moment d.left_since old new c.settle.result (c.settle.ensures.did honest)))
+    subst (λ (command : Command). RunsOver d old command c.from_residual.result new) (ap command_of (sym c.in-Settle.is) ∙ c.kind.ensures)
+    (subst (λ (answer : Result Reply RunFault). RunsOver d old Settle answer new)
+    (ap (reply_of old.session.accepted) c.in_err-settle-in-Settle.was ∙ sym given) (settling_runs d old new c.settle.result (c.settle.ensures.did honest)))
 
-pub returns-in-Capture-clause-did : goal.returns-in-Capture-clause-did
-returns-in-Capture-clause-did g c =
-    let acts = c.act.ensures.acts in
-    rw (← c.self.view_is) (λ honest. record {
-      step = acts.does honest;
-      disk = acts.disk honest;
-      waits = c.act.ensures.waits honest;
-      idle = record { untouched = λ broken. absurd (acts.works broken); nothing = search rules; unneeded = search rules };
-    })
+pub returns-in-Change-clause-did : goal.returns-in-Change-clause-did
+returns-in-Change-clause-did g c =
+    let acts = c.change.ensures.acts in
+    let is : changing c.in-Change.asked ≡ c.args.command.now = ap command_of (sym c.in-Change.is) ∙ c.kind.ensures in
+    rw (← c.self.view_is, ← is) (λ honest. ran g.D.Disk _ _ _ _ (no_settling_changes c.in-Change.asked) (acts) c.change.ensures.waits honest)
 
-pub returns-in-Capture-clause-counts : goal.returns-in-Capture-clause-counts
-returns-in-Capture-clause-counts g c = rw (← c.self.view_is) c.act.ensures.acts.counts
+pub returns-in-Change-clause-counts : goal.returns-in-Change-clause-counts
+returns-in-Change-clause-counts g c = rw (← c.self.view_is) (c.change.ensures.acts).counts
 
-pub returns-in-Capture-clause-idle : goal.returns-in-Capture-clause-idle
-returns-in-Capture-clause-idle g c =
-    let acts = c.act.ensures.acts in
-    rw (← c.self.view_is) (record { untouched = λ broken. absurd (acts.works broken); nothing = search rules; unneeded = search rules })
+pub returns-in-Change-clause-idle : goal.returns-in-Change-clause-idle
+returns-in-Change-clause-idle g c =
+    let is : changing c.in-Change.asked ≡ c.args.command.now = ap command_of (sym c.in-Change.is) ∙ c.kind.ensures in
+    rw (← c.self.view_is, ← is) (runs_idle g.D.Disk _ _ _ _ (no_settling_changes c.in-Change.asked) (c.change.ensures.acts))
 
-pub returns-in-Capture-clause-broken : goal.returns-in-Capture-clause-broken
-returns-in-Capture-clause-broken g c =
-    let acts = c.act.ensures.acts in
+pub returns-in-Change-clause-broken : goal.returns-in-Change-clause-broken
+returns-in-Change-clause-broken g c =
     let unbroken : c.self.inside.files.broken ≡ false = search rules in
-    rw (← c.self.view_is) (record {
-      before = (λ broken. absurd (acts.works broken), λ broken. absurd (false≢true (sym unbroken ∙ broken)));
-      behind = (λ broken. inr (acts.breaks.1 broken), ⊎_elim (λ broken. absurd (false≢true (sym unbroken ∙ broken))) acts.breaks.0);
-    })
+    rw (← c.self.view_is) (runs_broken g.D.Disk _ _ _ _ unbroken (c.change.ensures.acts))
 
-pub returns-in-Capture-clause-accounts : goal.returns-in-Capture-clause-accounts
-returns-in-Capture-clause-accounts g c = rw (← c.self.view_is) c.act.ensures.accounts
+pub returns-in-Change-clause-accounts : goal.returns-in-Change-clause-accounts
+returns-in-Change-clause-accounts g c = rw (← c.self.view_is) c.change.ensures.accounts
+
+pub returns-in-Question-clause-did : goal.returns-in-Question-clause-did
+returns-in-Question-clause-did g c =
+    let acts = c.answer.ensures.acts c.self.inside.tally in
+    let is : asking c.in-Question.asked ≡ c.args.command.now = ap command_of (sym c.in-Question.is) ∙ c.kind.ensures in
+    rw (← c.self.view_is, ← is) (λ honest. ran g.D.Disk _ _ _ _ (no_settling_asks c.in-Question.asked) (acts) (λ honest. c.answer.ensures.waits c.self.inside.tally) honest)
+
+pub returns-in-Question-clause-counts : goal.returns-in-Question-clause-counts
+returns-in-Question-clause-counts g c = rw (← c.self.view_is) (c.answer.ensures.acts c.self.inside.tally).counts
+
+pub returns-in-Question-clause-idle : goal.returns-in-Question-clause-idle
+returns-in-Question-clause-idle g c =
+    let is : asking c.in-Question.asked ≡ c.args.command.now = ap command_of (sym c.in-Question.is) ∙ c.kind.ensures in
+    rw (← c.self.view_is, ← is) (runs_idle g.D.Disk _ _ _ _ (no_settling_asks c.in-Question.asked) (c.answer.ensures.acts c.self.inside.tally))
+
+pub returns-in-Question-clause-broken : goal.returns-in-Question-clause-broken
+returns-in-Question-clause-broken g c =
+    let unbroken : c.self.inside.files.broken ≡ false = search rules in
+    rw (← c.self.view_is) (runs_broken g.D.Disk _ _ _ _ unbroken (c.answer.ensures.acts c.self.inside.tally))
+
+pub returns-in-Question-clause-accounts : goal.returns-in-Question-clause-accounts
+returns-in-Question-clause-accounts g c = rw (← c.self.view_is) c.answer.ensures.accounts
+
+pub invariant_of-self-in-Question : goal.invariant_of-self-in-Question
+invariant_of-self-in-Question g c =
+    let tally = c.self.inside.tally in
+    let old = kept_over g.D.Disk.files c.self.inside.states c.self.inside.files tally in
+    let new = kept_over g.D.Disk.files c.self.inside.states c.answer.new.files tally in
+    let told = outcome old.session (asking c.in-Question.asked) in
+    let acts = c.answer.ensures.acts tally in (
+      c.self.invariant.0,
+      c.answer.ensures.begun,
+      λ honest.
+          let was = c.self.invariant.2 (c.answer.ensures.accounts.was_honest honest) in
+          let does = acts.does honest in (
+            settled_on old.session new.session told c.answer.result does c.self.invariant.0 was.0,
+            none_waits_on old new told c.answer.result does (c.answer.ensures.waits tally) c.self.invariant.0 was.1,
+          ),
+    )

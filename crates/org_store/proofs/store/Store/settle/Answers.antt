@@ -23,7 +23,7 @@ returns-then-is_broken-clause-did g c = λ honest.
     let step : Settles s (Err Broken) s = search rules in
     record {
       step = step;
-      disk = leaves_unwritten d.files d.moment d.left_since old (IsLeft {A = Unit {0}} s files AsksToSettle (Err Broken) s.accepted)
+      disk = leaves_unwritten d old (IsLeft {A = Unit {0}} s files AsksToSettle (Err Broken) s.accepted)
           (IsLeftAlone {A = Unit {0}} s old.waiting AsksToSettle (Err Broken) s.accepted) _ (λ image left. g.met.D.Disk.only_now old.disk image honest left) own (λ image holds. inl holds) old refl own;
       waits = refl;
       idle = record { untouched = λ broken. refl; nothing = λ asks none. refl; unneeded = λ asks none. refl };
@@ -44,7 +44,7 @@ returns-then-self-clause-did g c = λ honest.
     let waits : d.honest old.disk → old.waiting ≡ [] = rw (← c.self.view_is) (λ honest. (c.self.invariant.2 honest).1 done) in
     record {
       step = step honest;
-      disk = leaves_unwritten d.files d.moment d.left_since old (IsLeft s files AsksToSettle (Ok (tt {0})) s.accepted) (IsLeftAlone s old.waiting AsksToSettle (Ok (tt {0})) s.accepted) _
+      disk = leaves_unwritten d old (IsLeft s files AsksToSettle (Ok (tt {0})) s.accepted) (IsLeftAlone s old.waiting AsksToSettle (Ok (tt {0})) s.accepted) _
           (λ image left. g.met.D.Disk.only_now old.disk image honest left) own (λ image holds. inl holds) old refl own;
       waits = waits honest;
       idle = record { untouched = λ broken. refl; nothing = λ asks none. refl; unneeded = λ asks none. refl };
@@ -63,11 +63,11 @@ returns-in_err-commit-clause-did g c =
     let files = contents (d.files inside.files.disk) in
     rw (← c.self.view_is, given) (λ ended. record {
       step = settle_failed (λ disk. contents (d.files disk)) inside.states inside.files c.commit.new.self inside.tally c.commit.result fault fails;
-      disk = settle_leaves d.files d.moment d.left_since inside.states inside.files c.commit.new.self inside.tally
+      disk = settle_leaves d inside.states inside.files c.commit.new.self inside.tally
           (λ image left. g.met.D.Disk.only_now inside.files.disk image (made.accounts.was_honest ended) left) c.commit.result fault fails
-          (λ rest. subst (λ (s : TextSet). LeavesOver d.moment d.left_since inside.files.disk c.commit.new.self.disk (HoldsEither inside.files.names files (texts_of (held_over s files) inside.files.names))) c.self.invariant.1
+          (λ rest. subst (λ (s : TextSet). LeavesOver d inside.files.disk c.commit.new.self.disk (HoldsEither inside.files.names files (texts_of (held_over s files) inside.files.names))) c.self.invariant.1
           ((made.commits ended).any_moment rest)) (made.commits ended).recoverable
-          (subst (λ (s : TextSet). LeavesAlone d.files d.moment d.left_since (IsOther s.waiting) inside.files.disk c.commit.new.self.disk) c.self.invariant.1 (made.commits ended).alone);
+          (subst (λ (s : TextSet). LeavesAlone d (IsOther s.waiting) inside.files.disk c.commit.new.self.disk) c.self.invariant.1 (made.commits ended).alone);
       waits = ap (λ (held : Holding). held.before.waiting) c.in_err-commit.ensures.held;
       idle = search rules;
     })

@@ -1,0 +1,44 @@
+-- What a command did, as a call of the store tells it.
+use Rattle.std.proofs.Common.{◌≡◌, ⊎_elim, inr, false, Result, sym, ◌∙◌}
+use Rattle.std.proofs.lemmas.Bool.{false≢true}
+use Rattle.org_disk.specs.declared.disk.Disk.{Ghosts}
+use Rattle.org_commands.specs.declared.command.Command.{Command}
+use Rattle.org_commands.specs.declared.command.Command.TheVariants.{Settle}
+use Rattle.org_commands.specs.declared.command.Reply.{Reply}
+use Rattle.org_commands.specs.declared.command.RunFault.{RunFault}
+use Rattle.org_commands.specs.declared.kind.Change.{Change}
+use Rattle.org_commands.specs.declared.kind.Change.TheVariants as change
+use Rattle.org_commands.specs.declared.kind.Question.{Question}
+use Rattle.org_commands.specs.declared.kind.Question.TheVariants as question
+use Rattle.org_commands.specs.Keeping.{Acts}
+use Rattle.org_commands.specs.Kinds.{asking, changing}
+use Rattle.org_commands.specs.Outcome.{outcome}
+use Rattle.org_commands.specs.Runs.{IsBrokenBy, IsIdle, RunsOver}
+use Rattle.org_commands.specs.Session.{Kept}
+use Rattle.org_commands.specs.Waiting.{Waits}
+
+-- no change and no question is the settling
+pub no_settling_changes : (asked : Change) → changing asked ≡ Settle → ⊥
+no_settling_changes (change.Capture c) is = absurd (cc)
+no_settling_changes (change.Refile c) is = absurd (cc)
+no_settling_changes (change.Todo c) is = absurd (cc)
+no_settling_changes (change.Archive c) is = absurd (cc)
+no_settling_changes (change.ClockIn c) is = absurd (cc)
+no_settling_changes (change.ClockOut moment) is = absurd (cc)
+
+pub no_settling_asks : (asked : Question) → asking asked ≡ Settle → ⊥
+no_settling_asks (question.Time file path) is = absurd (cc)
+no_settling_asks (question.Show file) is = absurd (cc)
+
+module _ {D : Type 0} (g : Ghosts D) (old new : Kept D) (command : Command) (answer : Result Reply RunFault) where
+  pub runs_idle : (command ≡ Settle → ⊥) → Acts g old (outcome old.session command) answer new → IsIdle (command ≡ Settle) old answer new
+  runs_idle apart acts = record { untouched = λ broken. absurd (acts.works broken); nothing = λ asks none. absurd (apart asks); unneeded = λ asks none. absurd (apart asks) }
+
+  pub ran : (command ≡ Settle → ⊥) → Acts g old (outcome old.session command) answer new → (g.honest new.disk → Waits old (outcome old.session command) answer new) → g.honest new.disk → RunsOver g old command answer new
+  ran apart acts waits honest = record { step = acts.does honest; disk = acts.disk honest; waits = waits honest; idle = runs_idle apart acts }
+
+  pub runs_broken : old.session.broken ≡ false → Acts g old (outcome old.session command) answer new → IsBrokenBy old.session answer new.session
+  runs_broken unbroken acts = record {
+    before = (λ broken. absurd (acts.works broken), λ broken. absurd (false≢true (sym unbroken ∙ broken)));
+    behind = (λ broken. inr (acts.breaks.1 broken), ⊎_elim (λ broken. absurd (false≢true (sym unbroken ∙ broken))) acts.breaks.0);
+  }
