@@ -1,0 +1,212 @@
+;;; orgstore-agenda.el --- The agenda's commands -*- lexical-binding: t; -*-
+
+;; SPDX-License-Identifier: MIT OR Apache-2.0
+
+;; This file is not part of GNU Emacs.
+
+;;; Commentary:
+
+;; Each command is done at the entry of the agenda's line, through the store
+;; where its file belongs to one, else by Org.  A bulk action is one run of the
+;; store for each file.
+
+;;; Code:
+
+(require 'cl-lib)
+(require 'seq)
+(require 'org)
+(require 'org-agenda)
+(require 'orgstore-files)
+(require 'orgstore-paths)
+(require 'orgstore-buffers)
+(require 'orgstore-step)
+(require 'orgstore-clock)
+(require 'orgstore-todo)
+(require 'orgstore-archive)
+(require 'orgstore-refile)
+(require 'orgstore-capture)
+
+;;;; At one line
+
+(defun orgstore--agenda-markers (begin end)
+  "Return the markers of the entries of the agenda's lines from BEGIN to END."
+  (let (markers)
+    (save-excursion
+      (goto-char begin)
+      (while (< (point) end)
+        (let ((marker (or (org-get-at-bol 'org-hd-marker)
+                          (org-get-at-bol 'org-marker))))
+          (when marker (cl-pushnew marker markers :test #'equal)))
+        (forward-line 1)))
+    markers))
+
+(defun orgstore--all-in-store-p (markers)
+  "Whether MARKERS, one or more, are all in files of a store."
+  (and markers
+       (seq-every-p (lambda (it)
+                      (and (marker-buffer it)
+                           (with-current-buffer (marker-buffer it)
+                             (orgstore--here))))
+                    markers)))
+
+(defun orgstore--agenda (command original bulk)
+  "Call COMMAND at the entry of this agenda line.
+In an active region call BULK, if it isn't nil, for the entries of its lines.
+Where one of them is in no store, call ORIGINAL."
+  (let* ((region (and bulk (use-region-p)
+                      org-agenda-loop-over-headlines-in-active-region))
+         (markers (if region
+                      (orgstore--agenda-markers (region-beginning)
+                                                (region-end))
+                    (orgstore--agenda-markers (line-beginning-position)
+                                              (line-end-position)))))
+    (cond
+     ((not (orgstore--all-in-store-p markers)) (call-interactively original))
+     (region
+      (let ((org-agenda-bulk-marked-entries markers)) (funcall bulk))
+      (org-agenda-redo))
+     (t
+      (with-current-buffer (marker-buffer (car markers))
+        (org-with-wide-buffer
+         (goto-char (car markers))
+         (let ((org-loop-over-headlines-in-active-region nil))
+           (call-interactively command))))
+      (org-agenda-redo)))))
+
+(defmacro orgstore--define-agenda (name command original &optional bulk)
+  "Define the agenda command NAME: COMMAND in a store, else ORIGINAL.
+BULK, if it is given, is a function for a region of the agenda."
+  `(defun ,name ()
+     ,(format "Do `%s' at this line's entry." command)
+     (interactive)
+     (orgstore--agenda #',command #',original ,(and bulk `#',bulk))))
+
+(defun orgstore--todo-nextset ()
+  "Go to the next set of states."
+  (interactive)
+  (orgstore-todo 'nextset))
+
+(defun orgstore--todo-previousset ()
+  "Go to the previous set of states."
+  (interactive)
+  (orgstore-todo 'previousset))
+
+(orgstore--define-agenda orgstore-agenda-todo orgstore-todo org-agenda-todo
+                         orgstore--bulk-todo)
+(orgstore--define-agenda orgstore-agenda-todo-nextset orgstore--todo-nextset
+                         org-agenda-todo-nextset)
+(orgstore--define-agenda orgstore-agenda-todo-previousset
+                         orgstore--todo-previousset
+                         org-agenda-todo-previousset)
+(orgstore--define-agenda orgstore-agenda-archive orgstore-archive-subtree
+                         org-agenda-archive orgstore--bulk-archive)
+(orgstore--define-agenda orgstore-agenda-archive-default
+                         orgstore-archive-default org-agenda-archive-default)
+(orgstore--define-agenda orgstore-agenda-archive-default-with-confirmation
+                         orgstore-archive-default-with-confirmation
+                         org-agenda-archive-default-with-confirmation)
+(orgstore--define-agenda orgstore-agenda-refile orgstore-refile
+                         org-agenda-refile orgstore--bulk-refile)
+(orgstore--define-agenda orgstore-agenda-clock-in orgstore-clock-in
+                         org-agenda-clock-in)
+(orgstore--define-agenda orgstore-agenda-clock-out orgstore-clock-out
+                         org-agenda-clock-out)
+
+(defun orgstore-agenda-capture (&optional with-time)
+  "Do `orgstore-capture' with the date at point, as `org-agenda-capture' does.
+WITH-TIME is as there."
+  (interactive "P")
+  (unless (eq major-mode 'org-agenda-mode)
+    (user-error "You cannot do this outside of agenda buffers"))
+  (let ((org-overriding-default-time
+         (org-get-cursor-date (equal with-time 1))))
+    (call-interactively #'orgstore-capture)))
+
+;;;; Bulk actions
+
+(defun orgstore--topmost (markers)
+  "Return those of MARKERS, of one buffer, that lie in no other's subtree.
+They are in order."
+  (let ((end 0) found)
+    (dolist (marker (sort (copy-sequence markers) #'<))
+      (when (>= marker end)
+        (push marker found)
+        (setq end (orgstore--subtree-end marker))))
+    (nreverse found)))
+
+(defun orgstore--bulk-files (function)
+  "Call FUNCTION for each file with marked entries, in its buffer.
+Its arguments are the file's ROOT and NAME, and the markers in order."
+  (pcase-dolist (`(,buffer . ,markers)
+                 (seq-group-by #'orgstore--base-of
+                               org-agenda-bulk-marked-entries))
+    (with-current-buffer buffer
+      (org-with-wide-buffer
+       (pcase-let ((`(,root . ,name) (orgstore--here)))
+         (orgstore--prepare root (list name))
+         (funcall function root name
+                  (mapcar #'copy-marker
+                          (sort (copy-sequence markers) #'<))))))))
+
+(defun orgstore--bulk-todo ()
+  "Give all marked entries one TODO state."
+  (let* ((buffer (marker-buffer (car org-agenda-bulk-marked-entries)))
+         (state (completing-read
+                 "Todo state: "
+                 (with-current-buffer buffer org-todo-keywords-1)))
+         (org-inhibit-blocking t))
+    (orgstore--bulk-files
+     (lambda (root name markers)
+       (orgstore--change-states
+        root name
+        (mapcar (lambda (it) (orgstore--change it state 'ask)) markers))))))
+
+(defun orgstore--bulk-archive ()
+  "Archive all marked entries."
+  (orgstore--bulk-files
+   (lambda (root name markers)
+     (let ((words (orgstore--words (orgstore--states)))
+           (tops (orgstore--topmost markers)))
+       (orgstore--summary
+        "Archived"
+        (orgstore--archive
+         root name
+         (mapcar (lambda (it) (list it (orgstore--path it words))) tops)
+         (orgstore--progress "Archiving..." (length tops))
+         orgstore--archive-group)
+        tops)))))
+
+(defun orgstore--bulk-refile ()
+  "Refile all marked entries below one heading."
+  (let* ((first (car org-agenda-bulk-marked-entries))
+         (target (with-current-buffer (marker-buffer first)
+                   (orgstore--ask-target (list first)))))
+    (orgstore--bulk-files
+     (lambda (root name markers)
+       (orgstore--refile root name (orgstore--topmost markers) target)))))
+
+(defun orgstore-agenda-bulk-action (&optional arg)
+  "Do a bulk action on the marked entries, as `org-agenda-bulk-action' does.
+Where all of them are in a store, those that archive, refile and change the
+state are one run of it for each file.  ARG is as there."
+  (interactive "P")
+  (unless org-agenda-bulk-marked-entries
+    (save-excursion (org-agenda-bulk-mark)))
+  (let* ((key (and (orgstore--all-in-store-p org-agenda-bulk-marked-entries)
+                   (read-char-exclusive
+                    "Bulk: [t]odo [$]archive [r]efile by the store; \
+[p]ersist [A]rch->sib [+/-]tag [s]chd [d]eadline [S]catter [f]unction by Org")))
+         (action (pcase key
+                   (?t #'orgstore--bulk-todo)
+                   (?$ #'orgstore--bulk-archive)
+                   ((or ?r ?w) #'orgstore--bulk-refile))))
+    (if (null action)
+        (progn
+          (when key (push key unread-command-events))
+          (org-agenda-bulk-action arg))
+      (funcall action)
+      (unless org-agenda-persistent-marks (org-agenda-bulk-unmark-all))
+      (org-agenda-redo))))
+
+(provide 'orgstore-agenda)
+;;; orgstore-agenda.el ends here
