@@ -79,9 +79,9 @@ found_level states d up kind key wanted i is =
 pub dated_before : (states : Keywords) (text : List ℕ) (up : Option ℕ) (kind : DateKind) (key : List ℕ) (i k : ℕ) (node : Node) → terminated text ≡ text → i < node_count (tree text)
     → first_dated states (tree text) up kind key Greater ≡ Some i → k ≡ (node_at (tree text) i).at
     → Inserts text (print (put_dated (first_dated states (tree text) up kind key Greater) up node (tree text))) k (print_node (shift_node (level_below up (tree text)) node))
-dated_before states text up kind key i k node shut lt found at =
+dated_before states text up kind key i k node stays_terminated lt found at =
     let d : Document = tree text in
-    let prints : print d ≡ text = (tree-is text).prints ∙ shut in
+    let prints : print d ≡ text = (tree-is text).prints ∙ stays_terminated in
     let level : (node_at d i).node.level ≡ level_below up d = found_level states d up kind key Greater i found in
     let local = insert_before_local i node d lt in
     let A : List ℕ → Type 0 = λ t. Inserts t (print (insert_before i node d)) (node_at d i).at (print_node (shift_node (node_at d i).node.level node)) in

@@ -22,8 +22,8 @@ use Rattle.org_outline.specs.Text.{heading_line}
 
 -- bytes put in where an insertion puts them
 pub makes : (text : List ℕ) (new : Document) (e : Edit) (added : List ℕ) → terminated text ≡ text → e.removed ≡ 0 → e.bytes ≡ added → Inserts text (print new) e.at added → Makes e text new
-makes text new e added shut none is puts =
-    let prints : print (tree text) ≡ text = (tree-is text).prints ∙ shut in
+makes text new e added stays_terminated none is puts =
+    let prints : print (tree text) ≡ text = (tree-is text).prints ∙ stays_terminated in
     let edit = inserts_edit text (print new) e.at added puts in
     let same : print new ≡ applied e text = edit.1 ∙ ap (λ b. edited e.at 0 b text) (sym is) ∙ ap (λ n. edited e.at n e.bytes text) (sym none) in
     let P : List ℕ → Type 0 = λ t. AreEdits (e ∷ []) t (print new) in
@@ -51,23 +51,23 @@ at_the_end text new added is = record {
 -- the heading that is made at the end, with the entry below it
 pub makes_head : (text title : List ℕ) (place : Place) (node : Node) (e : Edit) → terminated text ≡ text → e.at ≡ length text → e.removed ≡ 0
     → e.bytes ≡ (heading_line 1 (rest_of title) ++ 10 ∷ []) ++ print_node (shift_node 2 node) → Makes e text (below_made place node title (tree text))
-makes_head text title place node e shut at none is =
-    let prints : print (tree text) ≡ text = (tree-is text).prints ∙ shut in
+makes_head text title place node e stays_terminated at none is =
+    let prints : print (tree text) ≡ text = (tree-is text).prints ∙ stays_terminated in
     let line = heading_line 1 (rest_of title) in
     let over = print_node (heading_over 1 (rest_of title) (shift_node 2 node)) in
     let bytes : e.bytes ≡ over = is ∙ append_assoc line (10 ∷ []) (print_node (shift_node 2 node)) ∙ sym (made_print 1 (rest_of title) (shift_node 2 node)) in
     let new = below_made place node title (tree text) in
     let put : print new ≡ text ++ over = made_end place 1 (rest_of title) node (tree text) ∙ ap (λ t. t ++ over) prints in
     let P : ℕ → Type 0 = λ k. Inserts text (print new) k over in
-    makes text new e over shut none bytes (subst P (sym at) (at_the_end text (print new) over put))
+    makes text new e over stays_terminated none bytes (subst P (sym at) (at_the_end text (print new) over put))
 
 -- a heading's line is longer than its level
 pub level_room : (text : List ℕ) (i : ℕ) → terminated text ≡ text → i < node_count (tree text) → (node_at (tree text) i).node.level < length text
-level_room text i shut lt =
+level_room text i stays_terminated lt =
     let d : Document = tree text in
     let node : Node = (node_at d i).node in
     let whole = take_local i d lt in
-    let prints : print d ≡ text = (tree-is text).prints ∙ shut in
+    let prints : print d ≡ text = (tree-is text).prints ∙ stays_terminated in
     let line = heading_line node.level node.rest in
     let more = print_lines (node.section ++ lines node.children) in
     omega (

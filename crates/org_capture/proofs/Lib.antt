@@ -6,6 +6,7 @@ pub mod DateTrees
 pub mod Fillings
 pub mod Counting
 pub mod Rows
+pub mod NoDigit
 pub mod Numbers
 pub mod OneByOne
 pub mod Kept

@@ -26,7 +26,7 @@ root_prints (l ∷ ls) f k node is = absurd (cc)
 pub entry_printed : (t : List ℕ) (node : Node) → IsEntry t node → IsPrinted t
 entry_printed t node entry =
     let prints = root_prints (tree t).preamble (tree t).forest (length (print_lines (tree t).preamble)) node entry.one in
-    (prints.0, prints.1 ∙ ((tree-is t).prints ∙ entry.shut))
+    (prints.0, prints.1 ∙ ((tree-is t).prints ∙ entry.stays_terminated))
 
 -- the node that an entry is, is its first
 pub entry_node : (t : List ℕ) (node : Node) → IsEntry t node → node ≡ (node_at (tree t) 0).node
@@ -46,15 +46,15 @@ first_line t line rest behind r e found is is_line is_rest is_behind =
 
 -- a terminated text without a newline is empty
 pub no_first_line : (t : List ℕ) (r : Option ℕ) → terminated t ≡ t → IsFirstByte (is_byte 10) t r → r ≡ None → t ≡ []
-no_first_line t r shut found is =
+no_first_line t r stays_terminated found is =
     let Found : Option ℕ → Type 0 = λ r. IsFirstByte (is_byte 10) t r in
     let none = subst Found is found in
-    no_line t (λ k lt same. none k (omega arith) lt (eq-eqb (get_or t k 0) 10 same)) shut
+    no_line t (λ k lt same. none k (omega arith) lt (eq-eqb (get_or t k 0) 10 same)) stays_terminated
 
 pub behind_terminated : (t rest behind : List ℕ) (e : ℕ) → terminated t ≡ t → rest ≡ drop e t → behind ≡ drop 1 rest → terminated behind ≡ behind
-behind_terminated t rest behind e shut is_rest is_behind =
+behind_terminated t rest behind e stays_terminated is_rest is_behind =
     let Shut : List ℕ → Type 0 = λ t. terminated t ≡ t in
-    subst Shut (sym is_behind) (terminated-drop 1 rest (subst Shut (sym is_rest) (terminated-drop e t shut)))
+    subst Shut (sym is_behind) (terminated-drop 1 rest (subst Shut (sym is_rest) (terminated-drop e t stays_terminated)))
 
 -- trees that lie deeper than m lie deeper than n as well, so that leaving them out first changes
 -- nothing
@@ -78,12 +78,12 @@ higher_line n (Some m) l d high none = let some = rw high at none in absurd (cc)
 
 -- a pass over the lines of a text that has come to `rest`, and has found deeper levels than n alone
 pub record Deeper (n : ℕ) (t rest : List ℕ) : Type 0 where
-  pub shut : terminated rest ≡ rest
+  pub stays_terminated : terminated rest ≡ rest
   pub same : others n (tree rest).forest ≡ others n (tree t).forest
 
 pub deeper_on : (n : ℕ) (t rest l behind : List ℕ) → Deeper n t rest → lines_of rest ≡ l ∷ lines_of behind → terminated behind ≡ behind → option_map_or (ltb n) (level_of l) true ≡ true → Deeper n t behind
-deeper_on n t rest l behind so_far is shut deep = record {
-  shut = shut;
+deeper_on n t rest l behind so_far is stays_terminated deep = record {
+  stays_terminated = stays_terminated;
   same = sym (ap (λ ls. others n (tree_of_lines ls).forest) is ∙ deeper_line n (level_of l) l (tree behind) deep) ∙ so_far.same;
 }
 
@@ -131,17 +131,17 @@ one_line_of (Some n) t l is level = sym (one_if_none_left t l [] n true is level
 
 -- a terminated text is what stands before its last byte, and a newline
 newline_last : (t : List ℕ) → terminated t ≡ t → 1 ≤ length t → t ≡ take (length t - 1) t ++ 10 ∷ []
-newline_last t shut some =
+newline_last t stays_terminated some =
     let k = length t - 1 in
     let within : k < length t = omega arith in
     let last : drop k t ≡ get_or t k 0 ∷ drop (suc k) t = drop-cons t k 0 within in
     let none : drop (suc k) t ≡ [] = drop_all (suc k) t (omega arith) in
-    sym (take-append-drop k t) ∙ ap (λ (u : List ℕ). take k t ++ u) (last ∙ ap (λ (u : List ℕ). get_or t k 0 ∷ u) none ∙ ap (λ b. b ∷ []) (last-terminated t shut (omega arith)))
+    sym (take-append-drop k t) ∙ ap (λ (u : List ℕ). take k t ++ u) (last ∙ ap (λ (u : List ℕ). get_or t k 0 ∷ u) none ∙ ap (λ b. b ∷ []) (last-terminated t stays_terminated (omega arith)))
 
 -- a text of one line is an entry where that is a heading line
 pub one_line : (t l : List ℕ) → terminated t ≡ t → 1 ≤ length t → l ≡ take (length t - 1) t → list_any (λ b. eqb b 10) l ≡ false → is_some (level_of l) ≡ is_some (entry_in t)
-one_line t l shut some is none =
-    let parts : t ≡ l ++ 10 ∷ [] = newline_last t shut some ∙ ap (λ (u : List ℕ). u ++ 10 ∷ []) (sym is) in
+one_line t l stays_terminated some is none =
+    let parts : t ≡ l ++ 10 ∷ [] = newline_last t stays_terminated some ∙ ap (λ (u : List ℕ). u ++ 10 ∷ []) (sym is) in
     one_line_of (level_of l) t l (ap lines_of parts ∙ lines_of-append l [] (line_if_none l none)) refl
 
 -- ---- the terminated text
@@ -157,14 +157,14 @@ some_node : (o : Option Node) → is_some o ≡ true → (node : Node) × (o ≡
 some_node None some = absurd (cc)
 some_node (Some node) some = (node, refl)
 
-pub entry_bad : (text shut : List ℕ) → shut ≡ terminated text → is_some (entry_in shut) ≡ false → entry_text text ≡ Err BadEntry
-entry_bad text shut is none = not_one (entry_in text) text (ap is_some (sym (ap entry_in is ∙ terminated_same text)) ∙ none)
+pub entry_bad : (text stays_terminated : List ℕ) → stays_terminated ≡ terminated text → is_some (entry_in stays_terminated) ≡ false → entry_text text ≡ Err BadEntry
+entry_bad text stays_terminated is none = not_one (entry_in text) text (ap is_some (sym (ap entry_in is ∙ terminated_same text)) ∙ none)
 
-pub entry_good : (text shut : List ℕ) → shut ≡ terminated text → is_some (entry_in shut) ≡ true → (entry_text text ≡ Ok shut) × ((node : Node) × IsEntry shut node)
-entry_good text shut is some =
-    let one = some_node (entry_in shut) some in
+pub entry_good : (text stays_terminated : List ℕ) → stays_terminated ≡ terminated text → is_some (entry_in stays_terminated) ≡ true → (entry_text text ≡ Ok stays_terminated) × ((node : Node) × IsEntry stays_terminated node)
+entry_good text stays_terminated is some =
+    let one = some_node (entry_in stays_terminated) some in
     let found : entry_in text ≡ Some one.0 = sym (terminated_same text) ∙ ap entry_in (sym is) ∙ one.1 in
-    (rw found (ap Ok (sym is)), (one.0, record { shut = ap terminated is ∙ terminated_twice text ∙ sym is; one = one.1 }))
+    (rw found (ap Ok (sym is)), (one.0, record { stays_terminated = ap terminated is ∙ terminated_twice text ∙ sym is; one = one.1 }))
 
 -- a text that isn't terminated lacks a newline
 pub terminated_ends : (t : List ℕ) → (terminated t ≡ t → ⊥) → terminated t ≡ t ++ 10 ∷ []
@@ -174,4 +174,4 @@ terminated_ends (b ∷ []) unshut =
       | inl e ↦ absurd (unshut (rw e refl))
       | inr e ↦ rw e refl
     ]
-terminated_ends (b ∷ c ∷ t) unshut = ap (λ (l : List ℕ). b ∷ l) (terminated_ends (c ∷ t) (λ shut. unshut (ap (λ (l : List ℕ). b ∷ l) shut)))
+terminated_ends (b ∷ c ∷ t) unshut = ap (λ (l : List ℕ). b ∷ l) (terminated_ends (c ∷ t) (λ stays_terminated. unshut (ap (λ (l : List ℕ). b ∷ l) stays_terminated)))

@@ -32,5 +32,5 @@ entry_text text = terminated_if_one (entry_in text) text
 
 -- a terminated text that is this entry
 pub record IsEntry (text : List ℕ) (node : Node) : Type 0 where
-  pub shut : terminated text ≡ text
+  pub stays_terminated : terminated text ≡ text
   pub one : entry_in text ≡ Some node

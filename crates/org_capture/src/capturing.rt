@@ -1,4 +1,6 @@
-//! Entries put into a text.
+//! Entries put into a text: one insertion for each target, which removes nothing.
+//!
+//! The entry is one that `entry` answered, so it is one tree. The text isn't changed here.
 ghost use Rattle.std.specs.Prelude.{◌≡◌, ◌<◌, IfOk};
 ghost use Rattle.std.specs.Option.{ForSome};
 ghost use Rattle.org_outline.specs.Tree.{Node as NodeOf, node_count, tree};
@@ -60,8 +62,12 @@ fn below_head(
 /// it: it removes nothing (Org manual, "Template elements"). The entry is one that `entry` answers;
 /// it goes one level below the target, and its descendants move with it.
 ///
-/// NotFound where no heading is at the path, or a heading made with the title would read back with
-/// another title, a keyword, a priority or tags. NotUnique where several headings have a title.
+/// # Errors
+///
+/// - `NotFound`: no heading is at the path, or a heading made with the title would read back with
+///   another title, a keyword, a priority or tags.
+/// - `NotUnique`: several headings have a title.
+/// - `OutOfMemory`.
 pub fn capture(
     alloc: Global,
     outline: &Outline<'_>,

@@ -1,4 +1,7 @@
-//! Entries put below the headings of a day.
+//! Entries put below the headings of a day, those that are missing made.
+//!
+//! From the first missing one on, all headings are made in one insertion. Headings that are there
+//! are never moved.
 ghost use Rattle.std.specs.Prelude.{◌≡◌, ◌<◌, ◌≤◌, ◌+◌, ◌^◌, ◌++◌, ◌∷◌, List, length, IfOk, OnOk, Ok};
 ghost use Rattle.std.specs.Option.{ForSome};
 ghost use Rattle.std.specs.declared.cmp.Ordering.TheVariants.{Greater};

@@ -1,5 +1,7 @@
 //! Date trees: a heading for each year, for each month below its year, and for each day below its
 //! month.
+//!
+//! A heading is known by the key of its title, compared byte by byte; no calendar is asked.
 ghost use Rattle.std.specs.Prelude.{◌≡◌, ◌<◌, ◌≤◌, ◌+◌, ◌^◌, ◌++◌, IfOk, IfSome, MatchOption, length};
 ghost use Rattle.std.specs.Option.{ForSome};
 ghost use Rattle.org_outline.specs.Tree.{node_count, node_at, tree};
@@ -156,6 +158,10 @@ fn is_dated(
         (node_at (tree outline.now.text) node).node }
 {
     if outline.level(node) != level {
+        return false;
+    }
+    // Each key begins with a digit.
+    if !outline.can_begin_with_digit(node) {
         return false;
     }
     match key_of(kind, outline.parts(node).title) {

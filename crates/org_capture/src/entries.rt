@@ -1,4 +1,6 @@
-//! Entries.
+//! Entries: texts of one heading with what lies below it.
+//!
+//! What a template gave is looked at line by line; nothing is changed but for the last newline.
 ghost use Rattle.std.specs.Prelude.{◌≡◌, ◌↔◌, ◌<◌, ◌∷◌, [], true, nat_lt, is_some, length, IsTrue, IfOk, IfSome, MatchOption, OnOk};
 ghost use Rattle.std.specs.Option.{option_map_or};
 ghost use Rattle.org_splice.specs.Lines.{lines_of, terminated};
@@ -89,8 +91,12 @@ fn terminate(text: &mut Vec<u8>) -> Result<(), AllocError>
 }
 
 /// The terminated text of an entry: one heading, of any level, with what lies below it (Org manual,
-/// "Template elements": type `entry`). BadEntry where the text has something before its first
-/// heading, or not exactly one root. The text is terminated in place.
+/// "Template elements": type `entry`). The text is terminated in place.
+///
+/// # Errors
+///
+/// - `BadEntry`: the text has something before its first heading, or not exactly one root.
+/// - `OutOfMemory`.
 pub fn entry(mut text: Vec<u8>) -> Result<Vec<u8>, CaptureFault>
     ensures value { AnswersBytes (entry_text text.items) result }
     ensures one { IfOk result (λ entry. (node : NodeOf) × IsEntry entry.items node) }

@@ -1,4 +1,6 @@
-//! Entries put below a heading that is there.
+//! Entries put below a heading that is there, or at top level.
+//!
+//! The entry's levels are shifted as a whole. The place is the outline's (`Outline::place`).
 ghost use Rattle.std.specs.Prelude.{◌≡◌, ◌<◌, ◌≤◌, ◌^◌, ◌++◌, ◌∷◌, [], IfOk, OnOk, Ok};
 ghost use Rattle.std.specs.Option.{ForSome};
 ghost use Rattle.org_outline.specs.Text.{heading_line};

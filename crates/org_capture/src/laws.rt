@@ -1,5 +1,6 @@
-//! What the definitions of templates and of captures say, for all values: each law is the contract
-//! of a function with nothing to do.
+//! What the definitions of templates and of captures say, for all values.
+//!
+//! Each law is the contract of a function with nothing to do.
 ghost use Rattle.std.specs.Prelude.{◌≡◌, ℕ, ◌<◌, ◌+◌, List, [], ◌∷◌, ◌++◌, Option, Some, IsTrue, not, ◌==◌, Ok, slice_get, slice_set};
 ghost use Rattle.std.specs.List.{list_all, sum_by};
 ghost use Rattle.std.specs.Option.{ForSome};

@@ -1,4 +1,7 @@
-//! How long a filled template would be.
+//! How long a filled template would be, asked before it is filled.
+//!
+//! So a template that would fill the memory is refused as too large. No bytes are made, but for one
+//! timestamp.
 ghost use Rattle.std.specs.Prelude.{◌≡◌, ℕ, List, ◌++◌, ◌==◌, count_by};
 ghost use Rattle.org_capture.specs.Template.{expanded, last_line, text_of, with_prefix};
 ghost use Rattle.org_capture.specs.Lengths.{AnswersLength, Grows, sizes_of};
@@ -78,7 +81,12 @@ fn with_piece(
 
 /// How many bytes a template stands for, 2^64 - 1 where there are more. It takes memory for one
 /// timestamp at most, where `expand` can ask for far more than template and initial text have
-/// together. BadTemplate where `expand` answers it.
+/// together.
+///
+/// # Errors
+///
+/// - `BadTemplate`: `expand` would answer it.
+/// - `OutOfMemory`.
 pub fn expanded_length(
     alloc: Global,
     template: &[u8],

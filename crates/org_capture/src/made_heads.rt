@@ -1,4 +1,6 @@
-//! Entries put below a heading of level 1 that is made.
+//! Entries put below a heading of level 1 that is made, at the end of the text.
+//!
+//! It is made only where its line reads back as that title and nothing else.
 ghost use Rattle.std.specs.Prelude.{◌≡◌, ◌&&◌, ◌==◌, not, IfOk};
 ghost use Rattle.std.specs.List.{list_any};
 ghost use Rattle.org_outline.specs.Parts.{AreParts, Parts};

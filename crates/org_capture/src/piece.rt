@@ -1,4 +1,4 @@
-//! The pieces that templates are read as.
+//! The pieces that templates are read as: bytes, escapes, and escapes that aren't served.
 ghost use Rattle.std.specs.Prelude.{◌≡◌, ◌∷◌, ◌<◌, [], length, MatchOption};
 ghost use Rattle.org_capture.specs.Template.{escape_of, pieces_of};
 

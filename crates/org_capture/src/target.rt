@@ -1,4 +1,4 @@
-//! Where entries go.
+//! Where entries go, as a value: titles and paths, no places.
 use org_outline::Titles;
 use org_splice::Bytes;
 

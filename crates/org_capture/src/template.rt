@@ -1,4 +1,6 @@
-//! Templates filled in.
+//! Templates filled in (Org manual, "Template expansion").
+//!
+//! What was put in isn't read for escapes again.
 ghost use Rattle.std.specs.Prelude.{◌≡◌, ℕ, List, ◌++◌, ◌≤◌, length, not, ◌==◌, OnOk};
 ghost use Rattle.std.specs.List.{suffix_len};
 ghost use Rattle.org_stamp.specs.Calendar.{CivilMinute};
@@ -86,8 +88,13 @@ fn push_piece(
 /// What a template stands for at a moment (Org manual, "Template expansion"): `%t` and `%T` are the
 /// moment's active timestamp without and with the time, `%u` and `%U` the inactive one, `%i` is the
 /// initial text, with what stands before it on its line repeated before each further line, and
-/// `%?`, the place of the cursor, is left out. A percent sign before another letter, or before one
-/// of `( [ < ^ : * \`, is BadTemplate; any other stays. What was put in isn't read for escapes.
+/// `%?`, the place of the cursor, is left out. A percent sign before another byte stays, but for
+/// those below. What was put in isn't read for escapes.
+///
+/// # Errors
+///
+/// - `BadTemplate`: a percent sign before another letter, or before one of `( [ < ^ : * \`.
+/// - `OutOfMemory`.
 pub fn expand(
     alloc: Global,
     template: &[u8],

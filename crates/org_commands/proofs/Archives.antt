@@ -31,7 +31,7 @@ use Rattle.org_commands.specs.Keeping.{fault_of_move}
 use Rattle.org_commands.specs.Outcome.{Outcome, Refuses, archive, archive_at, archive_to, refusal_of_move, with_moved}
 use Rattle.org_commands.specs.Refile.{MakesDocument, MakesDocuments, text_within, texts_across}
 use Rattle.org_commands.specs.Session.{Session, session_over}
-use Rattle.org_commands.specs.Step.{Does}
+use Rattle.org_commands.specs.Step.{Steps}
 use Rattle.org_commands.proofs.InOrder.{none_at}
 use Rattle.org_commands.proofs.Plans.{first_name, now_held, one_name, one_text, plan_of_one, plan_of_two, ready_text, second_name, text_held, two_texts}
 
@@ -59,8 +59,8 @@ no_text texts states files tally s file is missing =
     subst (λ (t : Session). text_at t.names t.files file ≡ None) is (none_at (held_over files.held.before (texts files.disk)) files.names file missing)
 
 -- a text that is found twice is one
-pub same_shut : (text other seen : List ℕ) → Some text ≡ Some other → seen ≡ terminated other → seen ≡ terminated text
-same_shut text other seen is shut = let same : text ≡ other = cc in shut ∙ ap terminated (sym same)
+pub same_terminated : (text other seen : List ℕ) → Some text ≡ Some other → seen ≡ terminated other → seen ≡ terminated text
+same_terminated text other seen is stays_terminated = let same : text ≡ other = cc in stays_terminated ∙ ap terminated (sym same)
 
 -- ---- the plans
 
@@ -113,22 +113,22 @@ module _ (s : Session) (file : List ℕ) (path : List (List ℕ)) (moment : Civi
 
   -- the planner sees the text terminated
   told_at : (text seen : List ℕ) → text_at s.names s.files file ≡ Some text → seen ≡ terminated text → told ≡ archive_at s file path moment text (location s.states file path seen)
-  told_at text seen at shut =
+  told_at text seen at stays_terminated =
       ap (archive s file path moment) at
-      ∙ ap (archive_at s file path moment text) (sym (ap (location s.states file path) shut ∙ location_terminated s.states file path text))
+      ∙ ap (archive_at s file path moment text) (sym (ap (location s.states file path) stays_terminated ∙ location_terminated s.states file path text))
 
   -- an archiving without a location
   pub place_refused : (text seen : List ℕ) (result : Result Destination MoveFault) (why : MoveFault) → s.broken ≡ false → text_at s.names s.files file ≡ Some text → seen ≡ terminated text → result ≡ Err why
-      → GivesPlace (location s.states file path seen) result → Does s told (Err (fault_of_move why)) s
-  place_refused text seen result why unbroken at shut was gives = go why (subst (GivesPlace said) was gives)
+      → GivesPlace (location s.states file path seen) result → Steps s told (Err (fault_of_move why)) s
+  place_refused text seen result why unbroken at stays_terminated was gives = go why (subst (GivesPlace said) was gives)
     where
       said : Result Destination MoveFault
       said = location s.states file path seen
 
       refuses : (w : MoveFault) → said ≡ Err w → told ≡ Refuses (refusal_of_move w)
-      refuses w none = told_at text seen at shut ∙ ap (archive_at s file path moment text) none
+      refuses w none = told_at text seen at stays_terminated ∙ ap (archive_at s file path moment text) none
 
-      go : (w : MoveFault) → GivesPlace said (Err w) → Does s told (Err (fault_of_move w)) s
+      go : (w : MoveFault) → GivesPlace said (Err w) → Steps s told (Err (fault_of_move w)) s
       go fault.OutOfMemory gives = (unbroken, refl)
       go fault.NotFound gives = (unbroken, refuses fault.NotFound gives, refl)
       go fault.NotUnique gives = (unbroken, refuses fault.NotUnique gives, refl)
@@ -139,7 +139,7 @@ module _ (s : Session) (file : List ℕ) (path : List (List ℕ)) (moment : Civi
 
   -- .. and one with a location
   pub place_found : (text seen : List ℕ) (to : Destination) → text_at s.names s.files file ≡ Some text → seen ≡ terminated text → GivesPlace (location s.states file path seen) (Ok to) → told ≡ told_to text to
-  place_found text seen to at shut found = told_at text seen at shut ∙ ap (archive_at s file path moment text) found
+  place_found text seen to at stays_terminated found = told_at text seen at stays_terminated ∙ ap (archive_at s file path moment text) found
 
   -- its file is none of the store's
   pub no_place : (text : List ℕ) (to : Destination) → text_at s.names s.files to.file ≡ None → told_to text to ≡ Refuses NoSuchFile
@@ -148,19 +148,19 @@ module _ (s : Session) (file : List ℕ) (path : List (List ℕ)) (moment : Civi
   -- it is the file itself
   pub within_is : (text seen : List ℕ) (to : Destination) → text_at s.names s.files file ≡ Some text → seen ≡ terminated text → file ≡ to.file
       → told_to text to ≡ with_moved s (text_within file) (archive_within s.states file path moment to (tree seen))
-  within_is text seen to at shut own =
+  within_is text seen to at stays_terminated own =
       let there : text_at s.names s.files to.file ≡ Some text = subst (λ (n : List ℕ). text_at s.names s.files n ≡ Some text) own at in
       let t : bytes_eq file to.file ≡ true = (bytes_eq-Decides file to.file).1 own in
       let here : archive_to s file path moment text to (Some text) ≡ with_moved s (text_within file) (archive_within s.states file path moment to (tree text)) = rw t refl in
       ap (archive_to s file path moment text to) there ∙ here
-      ∙ ap (λ (d : Document). with_moved s (text_within file) (archive_within s.states file path moment to d)) (sym (ap tree shut ∙ tree-terminated text))
+      ∙ ap (λ (d : Document). with_moved s (text_within file) (archive_within s.states file path moment to d)) (sym (ap tree stays_terminated ∙ tree-terminated text))
 
   -- it is another one
   pub across_is : (text seen target found : List ℕ) (to : Destination) → text_at s.names s.files to.file ≡ Some target → seen ≡ terminated text → found ≡ terminated target → file ≢ to.file
       → told_to text to ≡ with_moved s (texts_across file to.file) (archive_across s.states file path moment (tree seen) s.states to (tree found))
-  across_is text seen target found to there shut closes apart =
+  across_is text seen target found to there stays_terminated closes apart =
       let f : bytes_eq file to.file ≡ false = not_equal file to.file apart in
       let other : archive_to s file path moment text to (Some target) ≡ with_moved s (texts_across file to.file) (archive_across s.states file path moment (tree text) s.states to (tree target)) = rw f refl in
       ap (archive_to s file path moment text to) there ∙ other
-      ∙ ap (λ (d : Document). with_moved s (texts_across file to.file) (archive_across s.states file path moment d s.states to (tree target))) (sym (ap tree shut ∙ tree-terminated text))
+      ∙ ap (λ (d : Document). with_moved s (texts_across file to.file) (archive_across s.states file path moment d s.states to (tree target))) (sym (ap tree stays_terminated ∙ tree-terminated text))
       ∙ ap (λ (d : Document). with_moved s (texts_across file to.file) (archive_across s.states file path moment (tree seen) s.states to d)) (sym (ap tree closes ∙ tree-terminated target))

@@ -20,7 +20,7 @@ use Rattle.org_commands.specs.Capture.{MakesEntry, entry_of_text, new_entry, one
 use Rattle.org_commands.specs.Keeping.{fault_of_capture}
 use Rattle.org_commands.specs.Outcome.{Outcome, Refuses, capture, changed, refusal_of, with_document, with_entry}
 use Rattle.org_commands.specs.Session.{Session}
-use Rattle.org_commands.specs.Step.{Does}
+use Rattle.org_commands.specs.Step.{Steps}
 
 -- ---- the entry
 
@@ -31,7 +31,7 @@ one_made : (bytes made : List ℕ) (found : Option Node) → entry_in bytes ≡ 
 one_made bytes made None is text = absurd (cc)
 one_made bytes made (Some node) is text =
     let same : terminated bytes ≡ made = cc in
-    (node, refl, subst (λ (t : List ℕ). IsEntry t node) same (record { shut = terminated_twice bytes; one = entry_terminated bytes ∙ is }))
+    (node, refl, subst (λ (t : List ℕ). IsEntry t node) same (record { stays_terminated = terminated_twice bytes; one = entry_terminated bytes ∙ is }))
 
 no_one : (bytes : List ℕ) (found : Option Node) (why : CaptureFault) → terminated_if_one found bytes ≡ Err why → one_entry found ≡ Err why
 no_one bytes None why is = cc
@@ -70,14 +70,14 @@ no_entry_made said result given why was is answers =
 
 -- what is refused before the text is looked at
 pub entry_refused : (s : Session) (name : List ℕ) (target : Target) (place : Place) (moment : CivilMinute) (template initial : List ℕ) (old : Option (List ℕ)) (result : Result (Vec ℕ Global) CaptureFault) (why : CaptureFault)
-    → IsSome old → s.broken ≡ false → result ≡ Err why → MakesEntry (new_entry moment template initial) result → Does s (capture s name target place moment template initial old) (Err (fault_of_capture why)) s
+    → IsSome old → s.broken ≡ false → result ≡ Err why → MakesEntry (new_entry moment template initial) result → Steps s (capture s name target place moment template initial old) (Err (fault_of_capture why)) s
 entry_refused s name target place moment template initial None result why some unbroken was makes = absurd (false≢true some)
 entry_refused s name target place moment template initial (Some text) result why some unbroken was makes = go why (subst (MakesEntry (new_entry moment template initial)) was makes)
   where
     refuses : (w : CaptureFault) → new_entry moment template initial ≡ Err w → capture s name target place moment template initial (Some text) ≡ Refuses (refusal_of w)
     refuses w none = ap (λ entry. with_entry s name target place moment entry text) none
 
-    go : (w : CaptureFault) → MakesEntry (new_entry moment template initial) (Err w) → Does s (capture s name target place moment template initial (Some text)) (Err (fault_of_capture w)) s
+    go : (w : CaptureFault) → MakesEntry (new_entry moment template initial) (Err w) → Steps s (capture s name target place moment template initial (Some text)) (Err (fault_of_capture w)) s
     go fault.OutOfMemory makes = (unbroken, refl)
     go fault.BadTemplate makes = (unbroken, refuses fault.BadTemplate makes, refl)
     go fault.BadEntry makes = (unbroken, refuses fault.BadEntry makes, refl)
@@ -90,7 +90,7 @@ pub entry_is : (s : Session) (name : List ℕ) (target : Target) (place : Place)
 entry_is s name target place moment template initial None node some made = absurd (false≢true some)
 entry_is s name target place moment template initial (Some text) node some made = ap (λ entry. with_entry s name target place moment entry text) made
 
-module _ (s : Session) (name : List ℕ) (target : Target) (place : Place) (moment : CivilMinute) (text seen : List ℕ) (node : Node) (shut : seen ≡ terminated text) where
+module _ (s : Session) (name : List ℕ) (target : Target) (place : Place) (moment : CivilMinute) (text seen : List ℕ) (node : Node) (stays_terminated : seen ≡ terminated text) where
   abbrev pub told : Outcome
   told = with_entry s name target place moment (Ok node) text
 
@@ -100,17 +100,17 @@ module _ (s : Session) (name : List ℕ) (target : Target) (place : Place) (mome
   -- what is to be done with the text, which the planner sees terminated
   document_is : (made : Result Document CaptureFault) → captured s.states target place moment node (tree seen) ≡ made → told ≡ with_document s name made
   document_is made is =
-      ap (λ (d : Document). with_document s name (captured s.states target place moment node d)) (sym (ap tree shut ∙ tree-terminated text)) ∙ ap (with_document s name) is
+      ap (λ (d : Document). with_document s name (captured s.states target place moment node d)) (sym (ap tree stays_terminated ∙ tree-terminated text)) ∙ ap (with_document s name) is
 
   -- what is refused for its target
   pub target_refused : (result : Result Edit CaptureFault) (why : CaptureFault) → s.broken ≡ false → result ≡ Err why → AnswersEdit (captured s.states target place moment node (tree seen)) seen result
-      → Does s told (Err (fault_of_capture why)) s
+      → Steps s told (Err (fault_of_capture why)) s
   target_refused result why unbroken was answers = go why (subst (AnswersEdit said seen) was answers)
     where
       refuses : (w : CaptureFault) → said ≡ Err w → told ≡ Refuses (refusal_of w)
       refuses w is = document_is (Err w) is
 
-      go : (w : CaptureFault) → AnswersEdit said seen (Err w) → Does s told (Err (fault_of_capture w)) s
+      go : (w : CaptureFault) → AnswersEdit said seen (Err w) → Steps s told (Err (fault_of_capture w)) s
       go fault.OutOfMemory answers = (unbroken, refl)
       go fault.BadTemplate answers = (unbroken, refuses fault.BadTemplate answers, refl)
       go fault.BadEntry answers = (unbroken, refuses fault.BadEntry answers, refl)

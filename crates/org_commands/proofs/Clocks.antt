@@ -36,7 +36,7 @@ use Rattle.org_commands.specs.Keeping.{LooksUp, Reads, fault_of_state}
 use Rattle.org_commands.specs.Outcome.{Outcome, Refuses, clock_in, clock_in_beside, refusal_of_path, refusal_of_state, with_clock_moved, with_state}
 use Rattle.org_commands.specs.Refile.{MakesDocuments}
 use Rattle.org_commands.specs.Session.{Session, session_over}
-use Rattle.org_commands.specs.Step.{Does}
+use Rattle.org_commands.specs.Step.{Steps}
 use Rattle.org_commands.specs.Todo.{PlansState}
 use Rattle.org_commands.proofs.Plans.{ready_text, text_held}
 
@@ -253,7 +253,7 @@ path_fails s file moment d found (Some clock) why is = elim (name_cases clock.0 
 ]
 
 pub look_up_fails : (s new : Session) (found : Result ℕ PathFault) (told : Outcome) (why : RunFault) → s.broken ≡ false → ((none : PathFault) → found ≡ Err none → told ≡ Refuses (refusal_of_path none))
-    → LooksUp {A = Unit {0}} s found (Err why) new → Does s told (Err why) new
+    → LooksUp {A = Unit {0}} s found (Err why) new → Steps s told (Err why) new
 look_up_fails s new found told (Refused why) unbroken is ((none, failed, named), same) = (unbroken, is none failed ∙ ap (λ r. Refuses r) (sym named), same)
 look_up_fails s new found told OutOfMemory unbroken is same = (unbroken, same)
 look_up_fails s new found told Device unbroken is same = (unbroken, inl same)
@@ -288,13 +288,13 @@ beside_other s file moment d found clock apart = elim (name_cases clock.0 file) 
 
 -- two files that aren't changed
 pub move_not_made : (s : Session) (other file text target : List ℕ) (told : Outcome) (said : Result Moved StateFault) (result : Result Plan StateFault) (why : StateFault) → s.broken ≡ false → told ≡ with_clock_moved s other file said
-    → result ≡ Err why → PlansClocks other file text target said result → Does s told (Err (fault_of_state why)) s
+    → result ≡ Err why → PlansClocks other file text target said result → Steps s told (Err (fault_of_state why)) s
 move_not_made s other file text target told said result why unbroken is was plans = go why (subst (PlansClocks other file text target said) was plans)
   where
     refuses : (w : StateFault) → said ≡ Err w → told ≡ Refuses (refusal_of_state w)
     refuses w none = is ∙ ap (with_clock_moved s other file) none
 
-    go : (w : StateFault) → PlansClocks other file text target said (Err w) → Does s told (Err (fault_of_state w)) s
+    go : (w : StateFault) → PlansClocks other file text target said (Err w) → Steps s told (Err (fault_of_state w)) s
     go fault.OutOfMemory plans = (unbroken, refl)
     go fault.NotFound plans = (unbroken, refuses fault.NotFound plans, refl)
     go fault.NotUnique plans = (unbroken, refuses fault.NotUnique plans, refl)

@@ -19,7 +19,7 @@ use Rattle.org_fileset.specs.declared.fault.SetFault.TheVariants as set_fault
 use Rattle.org_fileset.specs.Names.{limit}
 use Rattle.org_fileset.specs.Replay.{CommitsOver, IsAtRest}
 use Rattle.org_fileset.specs.Writes.{LeavesAlone, IsOther}
-use Rattle.org_texts.specs.Files.{waits}
+use Rattle.org_texts.specs.Files.{is_dirty}
 use Rattle.org_texts.specs.Texts.{Holding, TextSet, bytes_or, held_over, pairs, settled_set, text_of, text_or_none}
 use Rattle.org_texts.proofs.Looking.{held_over-settled, text_of-settled}
 use Rattle.org_texts.proofs.Standing.{StandOver-settled}
@@ -49,11 +49,11 @@ each_pair P set (one ∷ names) each =
     more : (one : List ℕ) (names : List (List ℕ)) (name : List ℕ) → list_any (bytes_eq name) names ≡ true → list_any (bytes_eq name) (one ∷ names) ≡ true
     more one names name there = elim (cases_Bool (bytes_eq name one)) [ inl t ↦ rw t refl | inr f ↦ rw f there ]
 
-all_pairs : (P : Change → Type 0) (set : TextSet) → ((name : List ℕ) → waits set name ≡ true → P (pair_in set name)) → All P (pairs set)
-all_pairs P set each = All-from_recursion P (pairs set) (each_pair P set set.waiting each)
+all_pairs : (P : Change → Type 0) (set : TextSet) → ((name : List ℕ) → is_dirty set name ≡ true → P (pair_in set name)) → All P (pairs set)
+all_pairs P set each = All-from_recursion P (pairs set) (each_pair P set set.dirty each)
 
 pub pairs_named : (names : List (List ℕ)) (live : Type 0) (files : Image) (set : TextSet) → AreTextsOf names live files set → All (λ (change : Change). Contains names change.0) (pairs set)
-pairs_named names live files set are = all_pairs (λ (change : Change). Contains names change.0) set (λ name there. named names name (are.named name (are.waiting name there)))
+pairs_named names live files set are = all_pairs (λ (change : Change). Contains names change.0) set (λ name there. named names name (are.named name (are.dirty name there)))
 
 pub pairs_small : (set : TextSet) → AreSmallToWrite set → All (λ (change : Change). length change.1.bytes ≤ limit) (pairs set)
 pairs_small set small = all_pairs (λ (change : Change). length change.1.bytes ≤ limit) set small
@@ -64,7 +64,7 @@ the_text (Some text) some = refl
 
 pub pairs_edits : (names : List (List ℕ)) (live : Type 0) (files : Image) (set : TextSet) → AreTextsOf names live files set → live → All (λ (change : Change). IsEditOf (files change.0) change.1) (pairs set)
 pairs_edits names live files set are l = all_pairs (λ (change : Change). IsEditOf (files change.0) change.1) set
-    (λ name there. ((are.stand l).each name (text_or_none (text_of set name)) (the_text (text_of set name) (are.waiting name there))).edit)
+    (λ name there. ((are.stand l).each name (text_or_none (text_of set name)) (the_text (text_of set name) (are.dirty name there))).edit)
 
 -- the files that a commit makes are those with the held texts
 changed_by : (files : Image) (set : TextSet) (names : List (List ℕ)) (name : List ℕ) → changed (map (pair_in set) names) files name ≡ (if is_name names name then (text_or_none (text_of set name)).bytes else files name)
@@ -76,7 +76,7 @@ changed_by files set (one ∷ names) name = elim (name_cases one name) [
 
 pub changed_is_held : (names : List (List ℕ)) (live : Type 0) (files : Image) (set : TextSet) → AreTextsOf names live files set → live → (name : List ℕ) → changed (pairs set) files name ≡ held_over set files name
 changed_is_held names live files set are l name =
-    changed_by files set set.waiting name ∙ ap (λ b. if b then (text_or_none (text_of set name)).bytes else files name) (sym (named_any set.waiting name)) ∙ go (waits set name) refl
+    changed_by files set set.dirty name ∙ ap (λ b. if b then (text_or_none (text_of set name)).bytes else files name) (sym (named_any set.dirty name)) ∙ go (is_dirty set name) refl
   where
     settled_one : (o : Option EditedText) → ((text : EditedText) → o ≡ Some text → text.bytes ≡ files name) → files name ≡ bytes_or (files name) o
     settled_one None same = refl
@@ -86,8 +86,8 @@ changed_is_held names live files set are l name =
     there_one None some = absurd (false≢true some)
     there_one (Some text) some = refl
 
-    go : (b : Bool) → waits set name ≡ b → (if b then (text_or_none (text_of set name)).bytes else files name) ≡ held_over set files name
-    go true is = there_one (text_of set name) (are.waiting name is)
+    go : (b : Bool) → is_dirty set name ≡ b → (if b then (text_or_none (text_of set name)).bytes else files name) ≡ held_over set files name
+    go true is = there_one (text_of set name) (are.dirty name is)
     go false is = settled_one (text_of set name) (λ text at. ((are.stand l).each name text at).same is)
 
 -- what isn't one of the names is as it was
@@ -108,7 +108,7 @@ texts_settled : (names : List (List ℕ)) (live now : Type 0) (old new : Image) 
     → (now → SameFiles new (held_over set old)) → AreTextsOf names now new (settled_set set)
 texts_settled names live now old new set apart are alike = record {
   named = λ name some. are.named name (sym (mapped_some (λ (t : EditedText). settled t.bytes) (text_of set name)) ∙ sym (ap is_some (text_of-settled set name)) ∙ some);
-  waiting = λ name there. absurd (false≢true there);
+  dirty = λ name there. absurd (false≢true there);
   stand = λ n. StandOver-settled new set (λ name text at. alike n name (apart_from names apart name (are.named name (ap is_some at))) ∙ ap (bytes_or (old name)) at);
 }
 
@@ -156,17 +156,17 @@ module _ {D : Type 0} (g : Ghosts D) (names : List (List ℕ)) (live : Type 0) (
   any_moment result commits rest = leaves_as (commits.any_moment rest) (λ image left. subst (λ (texts : List (List ℕ)). HoldsEither names before texts image) told
       (left_by_commit names before (changed (pairs set) before) outside image left))
 
-  alone_waiting : LeavesAlone g (IsOther (keys_of (pairs set))) old new → LeavesAlone g (IsOther set.waiting) old new
-  alone_waiting alone = subst (λ (ns : List (List ℕ)). LeavesAlone g (IsOther ns) old new) (pairs_keys set set.waiting) alone
+  alone_dirty : LeavesAlone g (IsOther (keys_of (pairs set))) old new → LeavesAlone g (IsOther set.dirty) old new
+  alone_dirty alone = subst (λ (ns : List (List ℕ)). LeavesAlone g (IsOther ns) old new) (pairs_keys set set.dirty) alone
 
   pub commit_failed : {A E : Type 0} (result : Result A E) (fault : E) → CommitsOver g (changed (pairs set) before) (IsOther (keys_of (pairs set))) old new result
-      → CommitsTexts {A = A} g names set.waiting after old new (Err fault)
-  commit_failed result fault commits = record { texts = tt; others = tt; rest = tt; any_moment = any_moment result commits; recoverable = commits.recoverable; alone = alone_waiting commits.alone }
+      → CommitsTexts {A = A} g names set.dirty after old new (Err fault)
+  commit_failed result fault commits = record { texts = tt; others = tt; rest = tt; any_moment = any_moment result commits; recoverable = commits.recoverable; alone = alone_dirty commits.alone }
 
   pub made_held : SameFiles (contents (g.files new)) (changed (pairs set) before) → SameFiles (contents (g.files new)) (held_over set before)
   made_held made name not = made name not ∙ is_held name
 
-  pub commit_done : {A E : Type 0} (a : A) → CommitsOver {A = A} {E = E} g (changed (pairs set) before) (IsOther (keys_of (pairs set))) old new (Ok a) → CommitsTexts {A = A} {E = E} g names set.waiting after old new (Ok a)
+  pub commit_done : {A E : Type 0} (a : A) → CommitsOver {A = A} {E = E} g (changed (pairs set) before) (IsOther (keys_of (pairs set))) old new (Ok a) → CommitsTexts {A = A} {E = E} g names set.dirty after old new (Ok a)
   commit_done a commits =
       let now : texts_of (contents (g.files new)) names ≡ after = texts_same (contents (g.files new)) (held_over set before) names
       (λ name there. made_held commits.done.made name (apart_from names apart name there)) in
@@ -176,7 +176,7 @@ module _ {D : Type 0} (g : Ghosts D) (names : List (List ℕ)) (live : Type 0) (
         rest = commits.done.rest;
         any_moment = any_moment (Ok a) commits;
         recoverable = commits.recoverable;
-        alone = alone_waiting commits.alone;
+        alone = alone_dirty commits.alone;
       }
 
 -- where a commit failed and broke nothing, memory was refused

@@ -17,7 +17,7 @@ use Rattle.org_journal.specs.Recovered.{Image}
 use Rattle.org_fileset.specs.Names.{limit}
 use Rattle.org_texts.specs.declared.plan.FileEdits.{FileEdits}
 use Rattle.org_texts.specs.declared.plan.Plan.{Plan}
-use Rattle.org_texts.specs.Files.{StandOver, waits}
+use Rattle.org_texts.specs.Files.{StandOver, is_dirty}
 use Rattle.org_texts.specs.Plan.{CanEdit, IsPlan, planned, with_edits, with_second}
 use Rattle.org_texts.specs.Texts.{Holding, TextSet, bytes_or, terminated_in, held_over, text_of, text_or_none, with_change, with_name, with_text}
 use Rattle.org_splice.proofs.Lines.{terminated_twice}
@@ -50,8 +50,8 @@ not_one one names name none = elim (name_cases one name) [
 ]
 
 -- a name that waits where one more does
-pub waits_more : (own : List ℕ) (names : List (List ℕ)) (name : List ℕ) → list_any (bytes_eq name) (with_name own names) ≡ true → own ≢ name → list_any (bytes_eq name) names ≡ true
-waits_more own names name there apart = elim (cases_Bool (list_any (bytes_eq own) names)) [
+pub dirty_more : (own : List ℕ) (names : List (List ℕ)) (name : List ℕ) → list_any (bytes_eq name) (with_name own names) ≡ true → own ≢ name → list_any (bytes_eq name) names ≡ true
+dirty_more own names name there apart = elim (cases_Bool (list_any (bytes_eq own) names)) [
   | inl t ↦ rw t at there
   | inr f ↦ last names (rw f at there)
 ]
@@ -113,7 +113,7 @@ ready_held own bytes names old new none none_before now before ready are =
     record {
       held = λ name there. subst (λ o. IsSome o) (sym (before_other name (apart name there))) (are.held name there);
       ready = λ name there has at. are.ready name there has (sym (ap (λ (l : List (List ℕ × Bool)). lookup (bytes_eq name) l) ready ∙ lookup_more old.ready own false name (apart name there)) ∙ at);
-      shut = λ name there. now_other name (apart name there) ∙ are.shut name there ∙ ap (option_map terminated_text) (sym (before_other name (apart name there)));
+      stays_terminated = λ name there. now_other name (apart name there) ∙ are.stays_terminated name there ∙ ap (option_map terminated_text) (sym (before_other name (apart name there)));
       others = λ name out. elim (name_cases own name) [
         | inl is ↦
             let one : text_of new.now own ≡ Some (settled bytes) = ap (λ (s : TextSet). text_of s own) now ∙ held_this own bytes old.now none in
@@ -121,16 +121,16 @@ ready_held own bytes names old new none none_before now before ready are =
             subst (λ (n : List ℕ). text_of new.now n ≡ text_of new.before n) is.0 (one ∙ sym other)
         | inr not ↦ now_other name not.0 ∙ are.others name out ∙ sym (before_other name not.0)
       ];
-      waiting = λ name out there.
-          let was : waits old.now name ≡ true = sym (ap (λ (s : TextSet). waits s name) now) ∙ there in
-          ap (λ (s : TextSet). waits s name) before ∙ are.waiting name out was;
+      dirty = λ name out there.
+          let was : is_dirty old.now name ≡ true = sym (ap (λ (s : TextSet). is_dirty s name) now) ∙ there in
+          ap (λ (s : TextSet). is_dirty s name) before ∙ are.dirty name out was;
     }
 
 -- the texts of files that are as they were
 pub texts_still : (names more : List (List ℕ)) (live now : Type 0) (old new : Image) (set : TextSet) → AreTextsOf names live old set → more ≡ names → (now → live × (new ≡ old)) → AreTextsOf more now new set
 texts_still names more live now old new set are same alike = record {
   named = λ name some. ap (λ (ns : List (List ℕ)). is_name ns name) same ∙ are.named name some;
-  waiting = are.waiting;
+  dirty = are.dirty;
   stand = λ n. subst (λ (f : Image). StandOver f set) (sym (alike n).1) (are.stand (alike n).0);
 }
 
@@ -150,7 +150,7 @@ texts_held own bytes names live files set none there is are = record {
     | inl same ↦ subst (λ (n : List ℕ). is_name names n ≡ true) same.0 there
     | inr apart ↦ are.named name (subst (λ o. IsSome o) (held_other own bytes set name apart.0) some)
   ];
-  waiting = λ name waits. let was = are.waiting name waits in
+  dirty = λ name is_dirty. let was = are.dirty name is_dirty in
       subst (λ o. IsSome o) (sym (held_other own bytes set name (λ same. some_not_none (text_of set name) (subst (λ (n : List ℕ). text_of set n ≡ None) same none) was))) was;
   stand = λ l. subst (λ (b : List ℕ). StandOver files (with_text own b set)) (sym (is l)) (StandOver-held own files set none (are.stand l));
 }
@@ -161,9 +161,9 @@ sound_held own bytes names live files held next none none_before there is now be
   apart = sound.apart;
   now = subst (AreTextsOf names live files) (sym now) (texts_held own bytes names live files held.now none there is sound.now);
   before = subst (AreTextsOf names live files) (sym before) (texts_held own bytes names live files held.before none_before there is sound.before);
-  small = λ name waiting.
-      let was : waits held.before name ≡ true = sym (ap (λ (s : TextSet). waits s name) before) ∙ waiting in
-      let apart : own ≢ name = λ same. some_not_none (text_of held.before name) (subst (λ (n : List ℕ). text_of held.before n ≡ None) same none_before) (sound.before.waiting name was) in
+  small = λ name dirty.
+      let was : is_dirty held.before name ≡ true = sym (ap (λ (s : TextSet). is_dirty s name) before) ∙ dirty in
+      let apart : own ≢ name = λ same. some_not_none (text_of held.before name) (subst (λ (n : List ℕ). text_of held.before n ≡ None) same none_before) (sound.before.dirty name was) in
       let is : text_of next.before name ≡ text_of held.before name = ap (λ (s : TextSet). text_of s name) before ∙ held_other own bytes held.before name apart in
       subst (λ o. length (text_or_none o).bytes ≤ limit) (sym is) (sound.small name was);
 }
@@ -183,9 +183,9 @@ some_change own f es name = elim (name_cases own name) [
 pub texts_terminated : (own : List ℕ) (names : List (List ℕ)) (live : Type 0) (files : Image) (set : TextSet) → IsSome (text_of set own) → AreTextsOf names live files set → AreTextsOf names live files (terminated_in own set)
 texts_terminated own names live files set some are = record {
   named = λ name there. are.named name (sym (some_change own terminated_text set.texts name) ∙ there);
-  waiting = λ name waits. some_change own terminated_text set.texts name ∙ elim (name_cases own name) [
+  dirty = λ name is_dirty. some_change own terminated_text set.texts name ∙ elim (name_cases own name) [
     | inl is ↦ subst (λ (n : List ℕ). IsSome (text_of set n)) is.0 some
-    | inr apart ↦ are.waiting name (waits_more own set.waiting name waits apart.0)
+    | inr apart ↦ are.dirty name (dirty_more own set.dirty name is_dirty apart.0)
   ];
   stand = λ l. StandOver-terminated own files set some (are.stand l);
 }
@@ -221,8 +221,8 @@ sound_kept names live files held next now before small sound = record {
 terminated_again : (text : EditedText) → terminated_text (terminated_text text) ≡ terminated_text text
 terminated_again text =
     let bytes = terminated_text-bytes text in
-    let shut : terminated (terminated_text text).bytes ≡ (terminated_text text).bytes = ap terminated bytes ∙ terminated_twice text.bytes ∙ sym bytes in
-    let t = is_terminated-terminated (terminated_text text).bytes shut in
+    let stays_terminated : terminated (terminated_text text).bytes ≡ (terminated_text text).bytes = ap terminated bytes ∙ terminated_twice text.bytes ∙ sym bytes in
+    let t = is_terminated-terminated (terminated_text text).bytes stays_terminated in
     rw t refl
 
 pub ready_terminated : (own : List ℕ) (names : List (List ℕ)) (old new : Holding) → IsSome (text_of old.now own) → new.now ≡ terminated_in own old.now → new.before ≡ old.before
@@ -235,20 +235,20 @@ ready_terminated own names old new some now before ready are = record {
         | inl is ↦ all_true (lookup (bytes_eq own) old.ready) has (sym (change_this own (λ (b : Bool). true) old.ready) ∙ subst (λ (n : List ℕ). lookup (bytes_eq n) (with_change own (λ (b : Bool). true) old.ready) ≡ Some has) (sym is.0) was)
         | inr apart ↦ are.ready name (later name apart.0 there) has (sym (change_other own name (λ (b : Bool). true) old.ready apart.0) ∙ was)
       ];
-  shut = λ name there.
+  stays_terminated = λ name there.
       ap (λ (s : TextSet). text_of s name) now
       ∙ elim (name_cases own name) [
         | inl is ↦ subst (λ (n : List ℕ). text_of (terminated_in own old.now) n ≡ option_map terminated_text (text_of old.before n)) is.0 (change_this own terminated_text old.now.texts ∙ own_terminated)
-        | inr apart ↦ change_other own name terminated_text old.now.texts apart.0 ∙ are.shut name (later name apart.0 there)
+        | inr apart ↦ change_other own name terminated_text old.now.texts apart.0 ∙ are.stays_terminated name (later name apart.0 there)
       ]
       ∙ ap (λ (s : TextSet). option_map terminated_text (text_of s name)) (sym before);
   others = λ name out.
       let no = not_one own names name out in
       ap (λ (s : TextSet). text_of s name) now ∙ change_other own name terminated_text old.now.texts no.0 ∙ are.others name no.1 ∙ ap (λ (s : TextSet). text_of s name) (sym before);
-  waiting = λ name out there.
+  dirty = λ name out there.
       let no = not_one own names name out in
-      let was : waits (terminated_in own old.now) name ≡ true = sym (ap (λ (s : TextSet). waits s name) now) ∙ there in
-      ap (λ (s : TextSet). waits s name) before ∙ are.waiting name no.1 (waits_more own old.now.waiting name was no.0);
+      let was : is_dirty (terminated_in own old.now) name ≡ true = sym (ap (λ (s : TextSet). is_dirty s name) now) ∙ there in
+      ap (λ (s : TextSet). is_dirty s name) before ∙ are.dirty name no.1 (dirty_more own old.now.dirty name was no.0);
 }
   where
     later : (name : List ℕ) → own ≢ name → is_name (own ∷ names) name ≡ true → is_name names name ≡ true
@@ -267,7 +267,7 @@ ready_terminated own names old new some now before ready are = record {
 
     own_terminated : option_map terminated_text (text_of old.now own) ≡ option_map terminated_text (text_of old.before own)
     own_terminated = elim (cases_Bool (is_name names own)) [
-      | inl t ↦ ap (option_map terminated_text) (are.shut own t) ∙ both (text_of old.before own)
+      | inl t ↦ ap (option_map terminated_text) (are.stays_terminated own t) ∙ both (text_of old.before own)
       | inr f ↦ ap (option_map terminated_text) (are.others own f)
     ]
 
@@ -288,9 +288,9 @@ pub none_ready : (held : Holding) → held.now ≡ held.before → AreReady [] h
 none_ready held same = record {
   held = λ name there. absurd (false≢true there);
   ready = λ name there. absurd (false≢true there);
-  shut = λ name there. absurd (false≢true there);
+  stays_terminated = λ name there. absurd (false≢true there);
   others = λ name out. ap (λ (s : TextSet). text_of s name) same;
-  waiting = λ name out there. sym (ap (λ (s : TextSet). waits s name) same) ∙ there;
+  dirty = λ name out there. sym (ap (λ (s : TextSet). is_dirty s name) same) ∙ there;
 }
 
 -- ---- a plan is put
@@ -301,9 +301,9 @@ can_held change set can = let is = the_value (λ (t : EditedText). CanApply chan
 pub texts_edited : (change : FileEdits) (names : List (List ℕ)) (live : Type 0) (files : Image) (set : TextSet) → CanEdit change set → AreTextsOf names live files set → AreTextsOf names live files (with_edits change set)
 texts_edited change names live files set can are = record {
   named = λ name there. are.named name (sym (some_change change.file (spliced_each change.edits.items) set.texts name) ∙ there);
-  waiting = λ name waits. some_change change.file (spliced_each change.edits.items) set.texts name ∙ elim (name_cases change.file name) [
+  dirty = λ name is_dirty. some_change change.file (spliced_each change.edits.items) set.texts name ∙ elim (name_cases change.file name) [
     | inl is ↦ subst (λ (n : List ℕ). IsSome (text_of set n)) is.0 (can_held change set can)
-    | inr apart ↦ are.waiting name (waits_more change.file set.waiting name waits apart.0)
+    | inr apart ↦ are.dirty name (dirty_more change.file set.dirty name is_dirty apart.0)
   ];
   stand = λ l. StandOver-edits change files set can (are.stand l);
 }
@@ -362,18 +362,18 @@ edited_other : (change : FileEdits) (set : TextSet) (name : List ℕ) → change
 edited_other change set name apart = change_other change.file name (spliced_each change.edits.items) set.texts apart
 
 second_other : (second : Option FileEdits) (set : TextSet) (name : List ℕ) → is_name (second_file second) name ≡ false
-    → (text_of (with_second second set) name ≡ text_of set name) × (waits (with_second second set) name ≡ true → waits set name ≡ true)
+    → (text_of (with_second second set) name ≡ text_of set name) × (is_dirty (with_second second set) name ≡ true → is_dirty set name ≡ true)
 second_other None set name out = (refl, λ there. there)
 second_other (Some change) set name out =
     let no = not_one change.file [] name out in
-    (edited_other change set name no.0, λ there. waits_more change.file set.waiting name there no.0)
+    (edited_other change set name no.0, λ there. dirty_more change.file set.dirty name there no.0)
 
 pub plan_other : (plan : Plan) (set : TextSet) (name : List ℕ) → is_name (files_of plan) name ≡ false
-    → (text_of (planned plan set) name ≡ text_of set name) × (waits (planned plan set) name ≡ true → waits set name ≡ true)
+    → (text_of (planned plan set) name ≡ text_of set name) × (is_dirty (planned plan set) name ≡ true → is_dirty set name ≡ true)
 plan_other plan set name out =
     let no = not_one plan.first.file (second_file plan.second) name out in
     let later = second_other plan.second (with_edits plan.first set) name no.1 in
-    (later.0 ∙ edited_other plan.first set name no.0, λ there. waits_more plan.first.file set.waiting name (later.1 there) no.0)
+    (later.0 ∙ edited_other plan.first set name no.0, λ there. dirty_more plan.first.file set.dirty name (later.1 there) no.0)
 
 -- none of the texts of these names is past the limit
 none_large : (set : TextSet) (names : List (List ℕ)) (name : List ℕ) → has_large (texts_in set names) ≡ false → is_name names name ≡ true → length (bytes_or [] (text_of set name)) ≤ limit
@@ -395,7 +395,7 @@ small_put plan held ready small none name there = elim (cases_Bool (is_name (fil
   | inl t ↦ subst (λ (b : List ℕ). length b ≤ limit) (sym (same_bytes (text_of (planned plan held.now) name))) (none_large (planned plan held.now) (files_of plan) name none t)
   | inr f ↦
       let other = plan_other plan held.now name f in
-      let was = ready.waiting name f (other.1 there) in
+      let was = ready.dirty name f (other.1 there) in
       subst (λ o. length (text_or_none o).bytes ≤ limit) (sym (other.0 ∙ ready.others name f)) (small name was)
 ]
 

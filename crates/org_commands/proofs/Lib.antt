@@ -2,8 +2,8 @@ mod Rows
 pub mod InOrder
 pub mod Committing
 pub mod Held
-pub mod Waiting
-pub mod Quiet
+pub mod Dirty
+pub mod Clockless
 pub mod Commits
 pub mod Handing
 pub mod Faults

@@ -66,7 +66,7 @@ the_held (Some old) seen is = let same : seen ≡ terminated_text old = cc in (o
 pub ready_text : (names : List (List ℕ)) (held : Holding) (file : List ℕ) (seen : EditedText) → AreReady names held → is_name names file ≡ true → text_of held.now file ≡ Some seen
     → (old : EditedText) × (text_of held.before file ≡ Some old) × (seen.bytes ≡ terminated old.bytes)
 ready_text names held file seen ready there at =
-    let old = the_held (text_of held.before file) seen (sym at ∙ ready.shut file there) in
+    let old = the_held (text_of held.before file) seen (sym at ∙ ready.stays_terminated file there) in
     (old.0, old.1, ap (λ (t : EditedText). t.bytes) old.2 ∙ terminated_text-bytes old.0)
 
 -- .. is the store's text of it
@@ -78,7 +78,7 @@ pub one_name : (file : List ℕ) → is_name (file ∷ []) file ≡ true
 one_name file = let t = same_name file in rw t refl
 
 pub now_held : (names : List (List ℕ)) (held : Holding) (file : List ℕ) → AreReady names held → is_name names file ≡ true → IsSome (text_of held.now file)
-now_held names held file ready there = subst (λ (o : Option EditedText). IsSome o) (sym (ready.shut file there)) (mapped (text_of held.before file) (ready.held file there))
+now_held names held file ready there = subst (λ (o : Option EditedText). IsSome o) (sym (ready.stays_terminated file there)) (mapped (text_of held.before file) (ready.held file there))
   where
     mapped : (o : Option EditedText) → IsSome o → IsSome (option_map terminated_text o)
     mapped None some = absurd (false≢true some)
@@ -152,9 +152,9 @@ pub ready_swapped : (one two : List ℕ) (held : Holding) → AreReady (one ∷ 
 ready_swapped one two held are = record {
   held = λ name there. are.held name (swapped one two name ∙ there);
   ready = λ name there has at. are.ready name (swapped one two name ∙ there) has at;
-  shut = λ name there. are.shut name (swapped one two name ∙ there);
+  stays_terminated = λ name there. are.stays_terminated name (swapped one two name ∙ there);
   others = λ name out. are.others name (swapped one two name ∙ out);
-  waiting = λ name out there. are.waiting name (swapped one two name ∙ out) there;
+  dirty = λ name out there. are.dirty name (swapped one two name ∙ out) there;
 }
 
 pub plan_of_two : (plan : Plan) (second : FileEdits) (names : List (List ℕ)) (held : Holding) (file to_file : List ℕ) (text target : EditedText) (new other : List ℕ) → file ≢ to_file → plan.first.file ≡ file → plan.second ≡ Some second

@@ -30,7 +30,7 @@ pub only_reads_none : {D A : Type 0} {g : Ghosts D} {old : OpenFiles D} {answer 
 only_reads_none {g = g} {old = old} unbroken works stays = record {
   looks = λ h. looks_none g.files g.moment g.left_since old.disk;
   names = refl;
-  waits = refl;
+  dirty_files = refl;
   works = works;
   breaks = (λ fell. absurd (stays fell), λ broken. absurd (false≢true (sym unbroken ∙ broken)));
   accounts = accounts_as stays (λ no. absurd no) (accounts_none g old.disk);
@@ -40,13 +40,13 @@ only_reads_none {g = g} {old = old} unbroken works stays = record {
 -- just where the set's is
 pub only_reads_set : {D X A : Type 0} {g : Ghosts D} {old new : OpenFiles D} {answer : Result A RunFault}
     (result : Result X SetFault) → (IsErrOf answer Broken → ⊥) → (IsErrOf answer Device → IsErrOf result set.Device) → (IsErrOf result set.Device → IsErrOf answer Device)
-    → old.broken ≡ false → new.names ≡ old.names → new.held.before.waiting ≡ old.held.before.waiting → (g.honest new.disk → LooksOver g old.disk new.disk)
+    → old.broken ≡ false → new.names ≡ old.names → new.held.before.dirty ≡ old.held.before.dirty → (g.honest new.disk → LooksOver g old.disk new.disk)
     → IsTrue new.broken ↔ (IsTrue old.broken ⊎ IsErrOf result set.Device) → Accounts g old.disk new.disk (IsErrOf result set.Device)
     → OnlyReads g old new answer
-only_reads_set result works back on unbroken names waits looks breaks accounts = record {
+only_reads_set result works back on unbroken names dirty_files looks breaks accounts = record {
   looks = looks;
   names = names;
-  waits = waits;
+  dirty_files = dirty_files;
   works = works;
   breaks = (λ fell. breaks.1 (inr (back fell)), λ broken. ⊎_elim (λ was. absurd (false≢true (sym unbroken ∙ was))) on (breaks.0 broken));
   accounts = accounts_as back on accounts;
@@ -80,7 +80,7 @@ module _ {D : Type 0} {g : Ghosts D} {A B : Type 0} where
   only_reads_as broken back on call = record {
     looks = call.looks;
     names = call.names;
-    waits = call.waits;
+    dirty_files = call.dirty_files;
     works = λ was. call.works (broken was);
     breaks = (λ fell. call.breaks.0 (back fell), λ fell. on (call.breaks.1 fell));
     accounts = accounts_as back on call.accounts;
@@ -103,7 +103,7 @@ module _ {D : Type 0} {g : Ghosts D} {A B : Type 0} where
   only_reads_then first second = record {
     looks = λ h. looks_then (first.looks (second.accounts.was_honest h)) (second.looks h);
     names = second.names ∙ first.names;
-    waits = second.waits ∙ first.waits;
+    dirty_files = second.dirty_files ∙ first.dirty_files;
     works = second.works;
     breaks = second.breaks;
     accounts = accounts_then (accounts_fine (λ fell. absurd (cc)) first.accounts) second.accounts;

@@ -19,34 +19,34 @@ use Rattle.org_commands.specs.Keeping.{fault_of_move}
 use Rattle.org_commands.specs.Outcome.{Outcome, Refuses, changed, refile, refusal_of_move, with_moved}
 use Rattle.org_commands.specs.Refile.{MakesDocuments, text_within, texts_across}
 use Rattle.org_commands.specs.Session.{Session}
-use Rattle.org_commands.specs.Step.{Does}
+use Rattle.org_commands.specs.Step.{Steps}
 
 -- what a refile is to do with the texts, which the planner sees terminated
 pub within_is : (s : Session) (file : List ℕ) (path to : List (List ℕ)) (place : Place) (text seen : List ℕ) → seen ≡ terminated text
     → refile s file path file to place (Some text) (Some text) ≡ with_moved s (text_within file) (refile_within s.states path to place (tree seen))
-within_is s file path to place text seen shut =
+within_is s file path to place text seen stays_terminated =
     let t = same_name file in
-    rw t (ap (λ (d : Document). with_moved s (text_within file) (refile_within s.states path to place d)) (sym (ap tree shut ∙ tree-terminated text)))
+    rw t (ap (λ (d : Document). with_moved s (text_within file) (refile_within s.states path to place d)) (sym (ap tree stays_terminated ∙ tree-terminated text)))
 
 pub across_is : (s : Session) (file : List ℕ) (path : List (List ℕ)) (to_file : List ℕ) (to : List (List ℕ)) (place : Place) (text seen target found : List ℕ) → file ≢ to_file → seen ≡ terminated text → found ≡ terminated target
     → refile s file path to_file to place (Some text) (Some target) ≡ with_moved s (texts_across file to_file) (refile_across s.states path (tree seen) s.states to (tree found) place)
-across_is s file path to_file to place text seen target found apart shut closes = elim (name_cases file to_file) [
+across_is s file path to_file to place text seen target found apart stays_terminated closes = elim (name_cases file to_file) [
   | inl same ↦ absurd (apart same.0)
   | inr not ↦
       let f = not.1 in
-      rw f (ap (λ (d : Document). with_moved s (texts_across file to_file) (refile_across s.states path d s.states to (tree target) place)) (sym (ap tree shut ∙ tree-terminated text))
+      rw f (ap (λ (d : Document). with_moved s (texts_across file to_file) (refile_across s.states path d s.states to (tree target) place)) (sym (ap tree stays_terminated ∙ tree-terminated text))
       ∙ ap (λ (d : Document). with_moved s (texts_across file to_file) (refile_across s.states path (tree seen) s.states to d place)) (sym (ap tree closes ∙ tree-terminated target)))
 ]
 
 -- a subtree that isn't moved
 pub move_refused : {A B : Type 0} (s : Session) (texts : B → List (List ℕ × List ℕ)) (told : Outcome) (said : Result B MoveFault) (Fits : B → A → Type 0) (result : Result A MoveFault) (why : MoveFault)
-    → s.broken ≡ false → told ≡ with_moved s texts said → result ≡ Err why → Gives said Fits result → Does s told (Err (fault_of_move why)) s
+    → s.broken ≡ false → told ≡ with_moved s texts said → result ≡ Err why → Gives said Fits result → Steps s told (Err (fault_of_move why)) s
 move_refused {A} {B} s texts told said Fits result why unbroken is was gives = go why (subst (Gives said Fits) was gives)
   where
     refuses : (w : MoveFault) → said ≡ Err w → told ≡ Refuses (refusal_of_move w)
     refuses w none = is ∙ ap (with_moved s texts) none
 
-    go : (w : MoveFault) → Gives said Fits (Err w) → Does s told (Err (fault_of_move w)) s
+    go : (w : MoveFault) → Gives said Fits (Err w) → Steps s told (Err (fault_of_move w)) s
     go fault.OutOfMemory gives = (unbroken, refl)
     go fault.NotFound gives = (unbroken, refuses fault.NotFound gives, refl)
     go fault.NotUnique gives = (unbroken, refuses fault.NotUnique gives, refl)

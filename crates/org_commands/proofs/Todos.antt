@@ -23,7 +23,7 @@ use Rattle.org_commands.specs.InOrder.{is_name}
 use Rattle.org_commands.specs.Keeping.{PlansOrStays, fault_of_state}
 use Rattle.org_commands.specs.Outcome.{Outcome, Refuses, changed, refusal_of_state, todo, with_state}
 use Rattle.org_commands.specs.Session.{Session}
-use Rattle.org_commands.specs.Step.{Does}
+use Rattle.org_commands.specs.Step.{Steps}
 use Rattle.org_commands.specs.Todo.{PlansState}
 use Rattle.org_commands.proofs.Plans.{one_text, plan_of_one}
 
@@ -77,17 +77,17 @@ plan_made file text said edits (Some plan) none (changes, named, alone, are) sta
 -- what is to be done with the text, which the planner sees terminated
 pub todo_is : (s : Session) (file : List ℕ) (path : List (List ℕ)) (state : List ℕ) (moment : CivilMinute) (text seen : List ℕ) → seen ≡ terminated text
     → todo s file path state moment (Some text) ≡ with_state s file (in_state s.states path state moment (tree seen))
-todo_is s file path state moment text seen shut = ap (λ (d : Document). with_state s file (in_state s.states path state moment d)) (sym (ap tree shut ∙ tree-terminated text))
+todo_is s file path state moment text seen stays_terminated = ap (λ (d : Document). with_state s file (in_state s.states path state moment d)) (sym (ap tree stays_terminated ∙ tree-terminated text))
 
 -- what is refused
 pub state_not_made : (s : Session) (file : List ℕ) (seen : List ℕ) (told : Outcome) (said : Result (Option Document) StateFault) (result : Result (Option Plan) StateFault) (why : StateFault) → s.broken ≡ false → told ≡ with_state s file said
-    → result ≡ Err why → PlansState file seen said result → Does s told (Err (fault_of_state why)) s
+    → result ≡ Err why → PlansState file seen said result → Steps s told (Err (fault_of_state why)) s
 state_not_made s file seen told said result why unbroken is was plans = go why (subst (PlansState file seen said) was plans)
   where
     refuses : (w : StateFault) → said ≡ Err w → told ≡ Refuses (refusal_of_state w)
     refuses w none = is ∙ ap (with_state s file) none
 
-    go : (w : StateFault) → PlansState file seen said (Err w) → Does s told (Err (fault_of_state w)) s
+    go : (w : StateFault) → PlansState file seen said (Err w) → Steps s told (Err (fault_of_state w)) s
     go fault.OutOfMemory plans = (unbroken, refl)
     go fault.NotFound plans = (unbroken, refuses fault.NotFound plans, refl)
     go fault.NotUnique plans = (unbroken, refuses fault.NotUnique plans, refl)
@@ -98,9 +98,9 @@ state_not_made s file seen told said result why unbroken is was plans = go why (
     go fault.ClockBackwards plans = (unbroken, refuses fault.ClockBackwards plans, refl)
 
 pub todo_refused : (s : Session) (file : List ℕ) (path : List (List ℕ)) (state : List ℕ) (moment : CivilMinute) (text seen : List ℕ) (result : Result (Option Plan) StateFault) (why : StateFault) → s.broken ≡ false → seen ≡ terminated text
-    → result ≡ Err why → PlansState file seen (in_state s.states path state moment (tree seen)) result → Does s (todo s file path state moment (Some text)) (Err (fault_of_state why)) s
-todo_refused s file path state moment text seen result why unbroken shut was plans =
-    state_not_made s file seen (todo s file path state moment (Some text)) (in_state s.states path state moment (tree seen)) result why unbroken (todo_is s file path state moment text seen shut) was plans
+    → result ≡ Err why → PlansState file seen (in_state s.states path state moment (tree seen)) result → Steps s (todo s file path state moment (Some text)) (Err (fault_of_state why)) s
+todo_refused s file path state moment text seen result why unbroken stays_terminated was plans =
+    state_not_made s file seen (todo s file path state moment (Some text)) (in_state s.states path state moment (tree seen)) result why unbroken (todo_is s file path state moment text seen stays_terminated) was plans
 
 -- ---- the plan
 

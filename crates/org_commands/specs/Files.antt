@@ -18,7 +18,7 @@ use Rattle.org_fileset.specs.Replay.{IsAtRest}
 use Rattle.org_fileset.specs.Writes.{LeavesAlone, IsOther}
 use Rattle.org_texts.specs.declared.plan.FileEdits.{FileEdits}
 use Rattle.org_texts.specs.declared.plan.Plan.{Plan}
-use Rattle.org_texts.specs.Files.{StandOver, waits}
+use Rattle.org_texts.specs.Files.{StandOver, is_dirty}
 use Rattle.org_texts.specs.Plan.{IsPlan, planned}
 use Rattle.org_texts.specs.Texts.{Holding, TextSet, bytes_or, held_over, nothing_held, text_of, text_or_none}
 use Rattle.org_commands.specs.declared.command.RunFault.{RunFault}
@@ -48,7 +48,7 @@ AreOpened g given files = (files.broken ≡ false)
 -- command left them.
 pub record AreBetweenCommands {D : Type 0} (files : OpenFiles D) : Type 0 where
   pub unbroken : files.broken ≡ false
-  pub begun : files.held.now ≡ files.held.before
+  pub unedited : files.held.now ≡ files.held.before
 
 -- A call in memory alone, at the texts that are held.
 pub record StaysInMemory {D : Type 0} (old new : OpenFiles D) : Type 0 where
@@ -61,13 +61,13 @@ pub record StaysInMemory {D : Type 0} (old new : OpenFiles D) : Type 0 where
 pub record AreTextsOf (names : List (List ℕ)) (live : Type 0) (files : Image) (set : TextSet)
     : Type 0 where
   pub named : (name : List ℕ) → IsSome (text_of set name) → is_name names name ≡ true
-  pub waiting : (name : List ℕ) → waits set name ≡ true → IsSome (text_of set name)
+  pub dirty : (name : List ℕ) → is_dirty set name ≡ true → IsSome (text_of set name)
   pub stand : live → StandOver files set
 
--- no text that waits for a commit is past the limit
+-- no text that is dirty is past the limit
 abbrev pub AreSmallToWrite : TextSet → Type 0
 AreSmallToWrite set =
-    (name : List ℕ) → waits set name ≡ true → length (text_or_none (text_of set name)).bytes ≤ limit
+    (name : List ℕ) → is_dirty set name ≡ true → length (text_or_none (text_of set name)).bytes ≤ limit
 
 -- What always holds: no name is the journal's, the texts are the files', and what waited before the
 -- command that runs can be committed.
@@ -84,12 +84,12 @@ pub record AreReady (names : List (List ℕ)) (holding : Holding) : Type 0 where
   pub held : (name : List ℕ) → is_name names name ≡ true → IsSome (text_of holding.before name)
   pub ready : (name : List ℕ) → is_name names name ≡ true → (has : Bool)
       → lookup (bytes_eq name) holding.ready ≡ Some has → has ≡ true
-  pub shut : (name : List ℕ) → is_name names name ≡ true
+  pub stays_terminated : (name : List ℕ) → is_name names name ≡ true
       → text_of holding.now name ≡ option_map terminated_text (text_of holding.before name)
   pub others : (name : List ℕ) → is_name names name ≡ false
       → text_of holding.now name ≡ text_of holding.before name
-  pub waiting : (name : List ℕ) → is_name names name ≡ false → waits holding.now name ≡ true
-      → waits holding.before name ≡ true
+  pub dirty : (name : List ℕ) → is_name names name ≡ false → is_dirty holding.now name ≡ true
+      → is_dirty holding.before name ≡ true
 
 -- the text of this name is held, with its headings
 pub record IsReady (name : List ℕ) (holding : Holding) : Type 0 where
@@ -152,7 +152,7 @@ pub record KeepsFiles {D A : Type 0} (old new : OpenFiles D) (result : Result A 
 -- What a commit does that is to give files of these names these texts, where the disk is honest
 -- after it. It writes those that wait, and the journal.
 pub record CommitsTexts {D A E : Type 0} (g : Ghosts D)
-    (names waiting after : List (List ℕ)) (old new : D) (result : Result A E) : Type 0 where
+    (names dirty after : List (List ℕ)) (old new : D) (result : Result A E) : Type 0 where
   pub texts : OnOk result (texts_of (contents (g.files new)) names ≡ after)
   pub others : OnOk result
       (SameFiles (contents (g.files new)) (with_texts names after (contents (g.files old))))
@@ -162,7 +162,7 @@ pub record CommitsTexts {D A E : Type 0} (g : Ghosts D)
       → LeavesOver g old new (HoldsEither names (contents (g.files old)) after)
   -- after a failure too, it may be opened again
   pub recoverable : IsAtRest (g.files old) → IsRecoverable (g.files new)
-  pub alone : LeavesAlone g (IsOther waiting) old new
+  pub alone : LeavesAlone g (IsOther dirty) old new
 
 -- the texts of all files as they are held, in the order of their names
 abbrev pub texts_now : {D : Type 0} → Ghosts D → OpenFiles D → List (List ℕ)
@@ -172,7 +172,7 @@ texts_now g files = texts_of (held_over files.held.now (contents (g.files files.
 abbrev pub CommitsHeld : {D A E : Type 0} → Ghosts D → OpenFiles D → OpenFiles D → Result A E
     → Type 0
 CommitsHeld g old new result = g.honest new.disk
-    → CommitsTexts g old.names old.held.now.waiting (texts_now g old) old.disk new.disk result
+    → CommitsTexts g old.names old.held.now.dirty (texts_now g old) old.disk new.disk result
 
 -- Where it is done, the texts as they were before the next command are those that were held.
 abbrev pub HoldsCommitted : {D A E : Type 0} → Ghosts D → OpenFiles D → OpenFiles D → Result A E

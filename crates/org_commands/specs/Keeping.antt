@@ -17,9 +17,9 @@ use Rattle.org_commands.specs.declared.command.Reply.{Reply}
 use Rattle.org_commands.specs.declared.command.RunFault.{RunFault}
 use Rattle.org_commands.specs.declared.command.RunFault.TheVariants.{Refused, OutOfMemory, Device, Broken}
 use Rattle.org_commands.specs.Files.{new_texts}
-use Rattle.org_commands.specs.Session.{Session, Kept}
+use Rattle.org_commands.specs.Session.{Session, StoreView}
 use Rattle.org_commands.specs.Outcome.{Accepts, Outcome, changed, refusal_of, refusal_of_move, refusal_of_path, refusal_of_state}
-use Rattle.org_commands.specs.Step.{Does, done, failed_in_read, torn_in, fills}
+use Rattle.org_commands.specs.Step.{Steps, done, failed_in_read, torn_in, fills}
 use Rattle.org_commands.specs.Left.{IsLeft, IsLeftAlone}
 use Rattle.org_commands.specs.Counts.{Counts, SameCounts}
 use Rattle.org_commands.specs.Runs.{LeavesDisk}
@@ -29,7 +29,7 @@ use Rattle.org_commands.specs.Runs.{LeavesDisk}
 abbrev pub Plans : Session → Outcome → Result Plan RunFault → Holding → Session → Type 0
 Plans old outcome (Ok plan) held new =
     (outcome ≡ changed old (new_texts plan held.now)) × (new ≡ old)
-Plans old outcome (Err fault) held new = Does old outcome (Err fault) new
+Plans old outcome (Err fault) held new = Steps old outcome (Err fault) new
 
 -- the same of a command that may change nothing: then there is no plan
 abbrev pub PlansOrStays : Session → Outcome → Result (Option Plan) RunFault → Holding → Session
@@ -43,8 +43,7 @@ abbrev pub Reads : {A : Type 0} → Session → Result A RunFault → Session �
 Reads old (Ok _) new = new ≡ old
 Reads old (Err OutOfMemory) new = new ≡ old
 Reads old (Err Device) new = new ≡ failed_in_read old
-Reads old (Err Broken) new = ⊥
-Reads old (Err (Refused why)) new = ⊥
+Reads old (Err fault) new = ⊥
 
 -- A heading was looked for, and it is there; or it isn't, for this reason; or its file couldn't be
 -- read.
@@ -59,12 +58,12 @@ LooksUp old found (Err Broken) new = ⊥
 
 -- What a call does that is to have this outcome: to the session, to the disk, and to the counts
 -- whatever the disk does.
-pub record Acts {D : Type 0} (g : Ghosts D) (old : Kept D) (outcome : Outcome)
-    (answer : Result Reply RunFault) (new : Kept D) : Type 0 where
-  pub does : g.honest new.disk → Does old.session outcome answer new.session
+pub record ExecutesTo {D : Type 0} (g : Ghosts D) (old : StoreView D) (outcome : Outcome)
+    (answer : Result Reply RunFault) (new : StoreView D) : Type 0 where
+  pub does : g.honest new.disk → Steps old.session outcome answer new.session
   pub disk : g.honest new.disk → LeavesDisk g old new
       (IsLeft old.session (contents (g.files old.disk)) outcome answer new.session.accepted)
-      (IsLeftAlone old.session old.waiting outcome answer new.session.accepted)
+      (IsLeftAlone old.session old.dirty outcome answer new.session.accepted)
       (IsErrOf answer Device)
   pub counts : Counts old.session answer new.session
   pub works : IsErrOf answer Broken → ⊥
@@ -78,20 +77,7 @@ Keeps old files (Err OutOfMemory) new = new ≡ old
 Keeps old files (Err Device) new =
     IsTrue (fills old)
     × ((left : List (List ℕ)) × (now : List (List ℕ)) × (new ≡ torn_in old left now))
-Keeps old files (Err Broken) new = ⊥
-Keeps old files (Err (Refused why)) new = ⊥
-
--- What counting one more command does, which made these texts, where so many files wait: the texts
--- are kept, or all that waits is settled.
-abbrev pub KeepsOrSettles : {D : Type 0} → Ghosts D → Kept D → List (List ℕ) → List (List ℕ)
-    → Result (Unit {0}) RunFault → Kept D → Type 0
-KeepsOrSettles g old waiting texts answer new = g.honest new.disk
-    → Keeps old.session texts answer new.session
-    × LeavesDisk g old new
-    (IsLeft old.session (contents (g.files old.disk)) (Accepts waiting texts) answer
-    new.session.accepted)
-    (IsLeftAlone old.session [] (Accepts waiting texts) answer new.session.accepted)
-    (IsErrOf answer Device)
+Keeps old files (Err fault) new = ⊥
 
 -- what becomes of the counts
 abbrev pub KeepsCounts : Session → Result (Unit {0}) RunFault → Session → Type 0
@@ -104,8 +90,7 @@ KeepsCounts old (Err Device) new =
     (new.accepted ≡ old.accepted + 1)
     × (new.acknowledged ≡ old.acknowledged)
     × (new.group ≡ old.group)
-KeepsCounts old (Err Broken) new = ⊥
-KeepsCounts old (Err (Refused why)) new = ⊥
+KeepsCounts old (Err fault) new = ⊥
 
 -- the fault of a command that met this fault of the files
 abbrev pub fault_of_set : SetFault → RunFault
@@ -116,31 +101,17 @@ fault_of_set set.Broken = Broken
 -- the fault of a command whose entry isn't put in
 abbrev pub fault_of_capture : CaptureFault → RunFault
 fault_of_capture capture.OutOfMemory = OutOfMemory
-fault_of_capture capture.BadTemplate = Refused (refusal_of capture.BadTemplate)
-fault_of_capture capture.BadEntry = Refused (refusal_of capture.BadEntry)
-fault_of_capture capture.NotFound = Refused (refusal_of capture.NotFound)
-fault_of_capture capture.NotUnique = Refused (refusal_of capture.NotUnique)
+fault_of_capture fault = Refused (refusal_of fault)
 
 -- the fault of a command whose subtree isn't moved
 abbrev pub fault_of_move : MoveFault → RunFault
 fault_of_move move.OutOfMemory = OutOfMemory
-fault_of_move move.NotFound = Refused (refusal_of_move move.NotFound)
-fault_of_move move.NotUnique = Refused (refusal_of_move move.NotUnique)
-fault_of_move move.InsideItself = Refused (refusal_of_move move.InsideItself)
-fault_of_move move.AlreadyArchive = Refused (refusal_of_move move.AlreadyArchive)
-fault_of_move move.BadLocation = Refused (refusal_of_move move.BadLocation)
-fault_of_move move.NoSuchFile = Refused (refusal_of_move move.NoSuchFile)
+fault_of_move fault = Refused (refusal_of_move fault)
 
 -- the fault of a command whose heading doesn't get another state
 abbrev pub fault_of_state : StateFault → RunFault
 fault_of_state state.OutOfMemory = OutOfMemory
-fault_of_state state.NotFound = Refused (refusal_of_state state.NotFound)
-fault_of_state state.NotUnique = Refused (refusal_of_state state.NotUnique)
-fault_of_state state.UnknownState = Refused (refusal_of_state state.UnknownState)
-fault_of_state state.OddPlanning = Refused (refusal_of_state state.OddPlanning)
-fault_of_state state.BadRepeat = Refused (refusal_of_state state.BadRepeat)
-fault_of_state state.DateRange = Refused (refusal_of_state state.DateRange)
-fault_of_state state.ClockBackwards = Refused (refusal_of_state state.ClockBackwards)
+fault_of_state fault = Refused (refusal_of_state fault)
 
 -- the fault of a command that finds no heading at a path
 abbrev pub fault_of_path : PathFault → RunFault

@@ -18,9 +18,7 @@ abbrev pub PutsOnDisk : Session → Outcome → ℕ → List (List ℕ) → Type
 PutsOnDisk old (Accepts names files) accepted texts =
     (texts ≡ files) × IsTrue (fills old) × (accepted ≡ old.accepted + 1)
 PutsOnDisk old AsksToSettle accepted texts = texts ≡ old.files
-PutsOnDisk old (Shows text) accepted texts = ⊥
-PutsOnDisk old (Tells minutes) accepted texts = ⊥
-PutsOnDisk old (Refuses why) accepted texts = ⊥
+PutsOnDisk old outcome accepted texts = ⊥
 
 -- a call with this answer may have written: it did as it was to do, or the disk failed
 abbrev pub MayHaveWritten : {A : Type 0} → Result A RunFault → Type 0
@@ -43,18 +41,16 @@ IsLeft old others outcome answer accepted image =
 -- wait, and those that the command is to give new texts; where there are none of these files,
 -- nothing.
 abbrev pub IsSpared : Session → List (List ℕ) → Outcome → ℕ → List ℕ → Type 0
-IsSpared old waiting (Accepts names files) accepted name =
-    IsTrue (fills old) → accepted ≡ old.accepted + 1 → IsOther (waiting ++ names) name
-IsSpared old waiting AsksToSettle accepted name = IsOther waiting name
-IsSpared old waiting (Shows text) accepted name = Unit {0}
-IsSpared old waiting (Tells minutes) accepted name = Unit {0}
-IsSpared old waiting (Refuses why) accepted name = Unit {0}
+IsSpared old dirty (Accepts names files) accepted name =
+    IsTrue (fills old) → accepted ≡ old.accepted + 1 → IsOther (dirty ++ names) name
+IsSpared old dirty AsksToSettle accepted name = IsOther dirty name
+IsSpared old dirty outcome accepted name = Unit {0}
 
 -- .. and it is left alone by one with this answer, which may not have written at all
 abbrev pub IsLeftAlone : {A : Type 0} → Session → List (List ℕ) → Outcome → Result A RunFault → ℕ
     → List ℕ → Type 0
-IsLeftAlone old waiting outcome answer accepted name =
-    MayHaveWritten answer → IsSpared old waiting outcome accepted name
+IsLeftAlone old dirty outcome answer accepted name =
+    MayHaveWritten answer → IsSpared old dirty outcome accepted name
 
 -- the file of this name is neither the journal nor one of these
 pub record IsApart (names : List (List ℕ)) (name : List ℕ) : Type 0 where

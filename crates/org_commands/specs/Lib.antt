@@ -6,14 +6,15 @@ pub mod Capture
 pub mod Refile
 pub mod Todo
 pub mod Clocks
-pub mod Quiet
+pub mod Clockless
 pub mod Clocking
 pub mod Kinds
 pub mod Outcome
 pub mod Step
-pub mod Waiting
+pub mod Dirty
 pub mod Left
 pub mod Counts
 pub mod Runs
 pub mod Keeping
 pub mod Reading
+pub mod Executing

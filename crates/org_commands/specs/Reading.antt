@@ -13,8 +13,8 @@ pub record OnlyReads {D A : Type 0} (g : Ghosts D) (old new : OpenFiles D)
   -- the disk is only looked at
   pub looks : Looks g old.disk new.disk
   pub names : new.names ≡ old.names
-  -- of the texts as they were before the command, the same wait for a commit
-  pub waits : new.held.before.waiting ≡ old.held.before.waiting
+  -- of the texts as they were before the command, the same are dirty
+  pub dirty_files : new.held.before.dirty ≡ old.held.before.dirty
   -- the answer isn't that the files were broken before ..
   pub works : IsErrOf answer Broken → ⊥
   -- .. and it is the device's fault exactly where they are broken afterwards

@@ -12,16 +12,16 @@ use Rattle.org_commands.specs.declared.command.Reply.{Reply}
 use Rattle.org_commands.specs.declared.command.RunFault.{RunFault}
 use Rattle.org_commands.specs.declared.command.RunFault.TheVariants.{Device, Broken}
 use Rattle.org_commands.specs.InOrder.{with_texts}
-use Rattle.org_commands.specs.Session.{Session, Kept}
+use Rattle.org_commands.specs.Session.{Session, StoreView}
 use Rattle.org_commands.specs.Outcome.{AsksToSettle, outcome}
 use Rattle.org_commands.specs.Step.{Step, Settles}
 use Rattle.org_commands.specs.Left.{IsLeft, IsLeftAlone}
-use Rattle.org_commands.specs.Waiting.{Waits, WaitsSettled}
+use Rattle.org_commands.specs.Dirty.{DirtyAfter, DirtyAfterSettled}
 
 -- What a call of a store leaves of its disk, where the disk is honest after it. `Left` is what a
--- crash may leave while the call runs, `Alone` are the files that it leaves alone, and `Failed` says
--- that the call answers Device.
-pub record LeavesDisk {D : Type 0} (g : Ghosts D) (old new : Kept D) (Left : Image → Type 0)
+-- crash may leave while the call runs, `Alone` are the files that it leaves alone, and `Failed`
+-- says that the call answers Device.
+pub record LeavesDisk {D : Type 0} (g : Ghosts D) (old new : StoreView D) (Left : Image → Type 0)
     (Alone : List ℕ → Type 0) (Failed : Type 0) : Type 0 where
   -- where all was on the disk: what a crash at any moment since the call began leaves
   pub any_moment : IsAtRest (g.files old.disk)
@@ -40,14 +40,14 @@ pub record LeavesDisk {D : Type 0} (g : Ghosts D) (old new : Kept D) (Left : Ima
 
 -- Where a call of a store does nothing, whatever its disk does: `Asks` says that it asks for a
 -- settling and no more.
-pub record IsIdle {D A : Type 0} (Asks : Type 0) (old : Kept D) (answer : Result A RunFault)
-    (new : Kept D) : Type 0 where
+pub record IsIdle {D A : Type 0} (Asks : Type 0) (old : StoreView D) (answer : Result A RunFault)
+    (new : StoreView D) : Type 0 where
   -- the store was broken before
   pub untouched : IsErrOf answer Broken → new ≡ old
-  -- no accepted command waits to be acknowledged
+  -- no accepted command is pending
   pub nothing : Asks → old.session.acknowledged ≡ old.session.accepted → new ≡ old
   -- .. and where no file waits, there is no call of the disk
-  pub unneeded : Asks → old.waiting ≡ [] → new.disk ≡ old.disk
+  pub unneeded : Asks → old.dirty ≡ [] → new.disk ≡ old.disk
 
 -- When a store is broken, whatever its disk does: Broken is answered exactly where it was so
 -- before, and behind the call it is so where it was or where Device is answered.
@@ -58,36 +58,36 @@ pub record IsBrokenBy {A : Type 0} (old : Session) (answer : Result A RunFault) 
 
 -- A command was run over a disk of the type D that is honest after it: the store was `old`, this
 -- was answered, and the store is `new`.
-pub record RunsOver {D : Type 0} (g : Ghosts D) (old : Kept D) (command : Command)
-    (answer : Result Reply RunFault) (new : Kept D) : Type 0 where
+pub record RunsOver {D : Type 0} (g : Ghosts D) (old : StoreView D) (command : Command)
+    (answer : Result Reply RunFault) (new : StoreView D) : Type 0 where
   pub step : Step old.session command answer new.session
   pub disk : LeavesDisk g old new
       (IsLeft old.session (contents (g.files old.disk))
       (outcome old.session command) answer new.session.accepted)
-      (IsLeftAlone old.session old.waiting
+      (IsLeftAlone old.session old.dirty
       (outcome old.session command) answer new.session.accepted)
       (IsErrOf answer Device)
-  pub waits : Waits old (outcome old.session command) answer new
+  pub dirty_files : DirtyAfter old (outcome old.session command) answer new
   pub idle : IsIdle (command ≡ Settle) old answer new
 
 -- The same of settling.
-pub record SettlesOver {D : Type 0} (g : Ghosts D) (old : Kept D)
-    (answer : Result (Unit {0}) RunFault) (new : Kept D) : Type 0 where
+pub record SettlesOver {D : Type 0} (g : Ghosts D) (old : StoreView D)
+    (answer : Result (Unit {0}) RunFault) (new : StoreView D) : Type 0 where
   pub step : Settles old.session answer new.session
   pub disk : LeavesDisk g old new
       (IsLeft old.session (contents (g.files old.disk)) AsksToSettle answer new.session.accepted)
-      (IsLeftAlone old.session old.waiting AsksToSettle answer new.session.accepted)
+      (IsLeftAlone old.session old.dirty AsksToSettle answer new.session.accepted)
       (IsErrOf answer Device)
-  pub waits : WaitsSettled old.waiting answer new.waiting
+  pub dirty_files : DirtyAfterSettled old.dirty answer new.dirty
   pub idle : IsIdle (Unit {0}) old answer new
 
 -- What `Store::run` and `Store::settle` promise: this of a disk that is honest after the call.
-abbrev pub Runs : {D : Type 0} → Ghosts D → Kept D → Command → Result Reply RunFault → Kept D
-    → Type 0
+abbrev pub Runs : {D : Type 0} → Ghosts D → StoreView D → Command → Result Reply RunFault
+    → StoreView D → Type 0
 Runs g old command answer new = g.honest new.disk → RunsOver g old command answer new
 
-abbrev pub SettlesAll : {D : Type 0} → Ghosts D → Kept D → Result (Unit {0}) RunFault → Kept D
-    → Type 0
+abbrev pub SettlesAll : {D : Type 0} → Ghosts D → StoreView D → Result (Unit {0}) RunFault
+    → StoreView D → Type 0
 SettlesAll g old answer new = g.honest new.disk → SettlesOver g old answer new
 
 -- The texts that are settled are those of the disk's files.

@@ -27,12 +27,12 @@ pub record Session : Type 0 where
   -- a call of the disk failed: the store does nothing any more
   pub broken : Bool
 
--- A store over a disk of the type D: with the names of the files that wait for a commit, in the
--- order in which commands touched them.
-pub record Kept (D : Type 0) : Type 0 where
+-- A store over a disk of the type D, as callers see it: with the names of the files that wait for a
+-- commit, in the order in which commands touched them.
+pub record StoreView (D : Type 0) : Type 0 where
   pub disk : D
   pub session : Session
-  pub waiting : List (List ℕ)
+  pub dirty : List (List ℕ)
 
 -- the image recovers to these texts of the store's files, and for these other files
 abbrev pub Holds : Session → Image → List (List ℕ) → Image → Type 0
@@ -52,12 +52,12 @@ session_over texts states files tally = record {
 }
 
 -- .. and the store
-abbrev pub kept_over : {D : Type 0} → (D → List ℕ → FileState) → Keywords → OpenFiles D → Tally
-    → Kept D
-kept_over files states opened tally = record {
+abbrev pub view_over : {D : Type 0} → (D → List ℕ → FileState) → Keywords → OpenFiles D → Tally
+    → StoreView D
+view_over files states opened tally = record {
   disk = opened.disk;
   session = session_over (λ disk. contents (files disk)) states opened tally;
-  waiting = opened.held.before.waiting;
+  dirty = opened.held.before.dirty;
 }
 
 -- What a call over files does to the session of a store that counts anything, where the disk is
@@ -65,5 +65,5 @@ kept_over files states opened tally = record {
 abbrev pub BetweenSessions : {D : Type 0} → Ghosts D → Keywords → OpenFiles D → OpenFiles D
     → (Session → Session → Type 0) → Type 0
 BetweenSessions g states old new Relation = (tally : Tally) → g.honest new.disk
-    → Relation (kept_over g.files states old tally).session
-    (kept_over g.files states new tally).session
+    → Relation (view_over g.files states old tally).session
+    (view_over g.files states new tally).session

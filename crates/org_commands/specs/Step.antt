@@ -5,12 +5,16 @@ use Rattle.org_commands.specs.declared.command.Reply.{Reply}
 use Rattle.org_commands.specs.declared.command.Reply.TheVariants.{Done, Safe, Text, Time}
 use Rattle.org_commands.specs.declared.command.RunFault.{RunFault}
 use Rattle.org_commands.specs.declared.command.RunFault.TheVariants.{Refused, OutOfMemory, Device, Broken}
+use Rattle.org_commands.specs.declared.tally.Tally.{Tally}
 use Rattle.org_commands.specs.Session.{Session}
 use Rattle.org_commands.specs.Outcome.{Outcome, IsAccepted, Shows, Tells, AsksToSettle, Refuses, outcome}
 
 -- with one more accepted command, the group is full
 abbrev pub fills : Session → Bool
 fills s = nat_le s.group (s.accepted + 1 - s.acknowledged)
+
+abbrev pub fills_tally : Tally → Bool
+fills_tally tally = nat_le tally.group (tally.accepted + 1 - tally.acknowledged)
 
 -- one more command accepted, with these texts after it; where it fills the group, all is settled
 abbrev pub done : Session → List (List ℕ) → Session
@@ -55,38 +59,36 @@ IsTorn old outcome new = (files : List (List ℕ)) × (left : List (List ℕ)) �
     × IsAccepted outcome files × IsTrue (fills old) × (new ≡ torn_in old left now)
 
 -- The store was `old`, a command is to do this, its answer is this one, and the store is `new`.
-abbrev pub Does : Session → Outcome → Result Reply RunFault → Session → Type 0
-Does old outcome (Ok (Done n)) new =
+abbrev pub Steps : Session → Outcome → Result Reply RunFault → Session → Type 0
+Steps old outcome (Ok (Done n)) new =
     (old.broken ≡ false)
     × ((files : List (List ℕ))
     × IsAccepted outcome files
     × (n ≡ old.accepted + 1)
     × (new ≡ done old files))
-Does old outcome (Ok (Text bytes)) new =
+Steps old outcome (Ok (Text bytes)) new =
     (old.broken ≡ false) × (outcome ≡ Shows bytes) × (new ≡ old)
-Does old outcome (Ok (Time minutes)) new =
+Steps old outcome (Ok (Time minutes)) new =
     (old.broken ≡ false) × (outcome ≡ Tells minutes) × (new ≡ old)
-Does old outcome (Ok (Safe n)) new =
+Steps old outcome (Ok (Safe n)) new =
     (old.broken ≡ false) × (outcome ≡ AsksToSettle) × (n ≡ old.accepted) × (new ≡ settled old)
-Does old outcome (Err (Refused why)) new =
+Steps old outcome (Err (Refused why)) new =
     (old.broken ≡ false) × (outcome ≡ Refuses why) × (new ≡ old)
-Does old outcome (Err OutOfMemory) new = (old.broken ≡ false) × (new ≡ old)
-Does old outcome (Err Device) new =
+Steps old outcome (Err OutOfMemory) new = (old.broken ≡ false) × (new ≡ old)
+Steps old outcome (Err Device) new =
     (old.broken ≡ false)
     × ((new ≡ failed_in_read old) ⊎ IsTorn old outcome new ⊎ IsTornBetween old outcome new)
-Does old outcome (Err Broken) new = (old.broken ≡ true) × (new ≡ old)
+Steps old outcome (Err Broken) new = (old.broken ≡ true) × (new ≡ old)
 
 -- The store was `old`, a command gets this answer, and the store is `new`.
 abbrev pub Step : Session → Command → Result Reply RunFault → Session → Type 0
-Step old command answer new = Does old (outcome old command) answer new
+Step old command answer new = Steps old (outcome old command) answer new
 
 -- an answer that is no fault: what was asked is done, or it is refused
 abbrev pub IsReply : Result Reply RunFault → Type 0
 IsReply (Ok reply) = Unit {0}
 IsReply (Err (Refused why)) = Unit {0}
-IsReply (Err OutOfMemory) = ⊥
-IsReply (Err Device) = ⊥
-IsReply (Err Broken) = ⊥
+IsReply (Err fault) = ⊥
 
 -- The store was `old`, settling gets this answer, and the store is `new`.
 abbrev pub Settles : Session → Result (Unit {0}) RunFault → Session → Type 0
@@ -103,5 +105,4 @@ abbrev pub Run : Session → List Command → List (Result Reply RunFault) → S
 Run old [] [] new = new ≡ old
 Run old (command ∷ commands) (answer ∷ answers) new =
     (mid : Session) × Step old command answer mid × Run mid commands answers new
-Run old [] (answer ∷ answers) new = ⊥
-Run old (command ∷ commands) [] new = ⊥
+Run old commands answers new = ⊥

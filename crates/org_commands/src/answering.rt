@@ -1,48 +1,36 @@
-//! How a question is answered.
+//! How a question is answered: from held texts, of which nothing is changed.
 ghost use Rattle.std.specs.Prelude.{◌≡◌, IsErrOf};
 ghost use Rattle.org_disk.specs.Accounts.{Accounts};
-ghost use Rattle.org_commands.specs.declared.tally.Tally.{Tally};
+ghost use Rattle.org_commands.specs.Executing.{Executes, IsUnedited, LeavesDirty};
 ghost use Rattle.org_commands.specs.Files.{AreBetweenCommands};
-ghost use Rattle.org_commands.specs.Keeping.{Acts};
 ghost use Rattle.org_commands.specs.Kinds.{asking};
-ghost use Rattle.org_commands.specs.Outcome.{outcome};
-ghost use Rattle.org_commands.specs.Session.{kept_over};
-ghost use Rattle.org_commands.specs.Waiting.{Waits};
 
 use crate::command::{Reply, RunFault};
-use crate::commands::show::show;
-use crate::commands::time::time;
-use crate::files::Files;
+use crate::executor::Executor;
 use crate::kind::Question;
 use org_disk::Disk;
-use org_outline::States;
 
-/// Answers a question over files that aren't broken, of which nothing is edited that isn't kept. All
-/// texts stay as they are.
-///
-/// `Refused` where its file is none of the store's, or where no heading is at its path. `Device`
-/// comes only where the disk counted a failure in this call, and leaves the files broken;
-/// `OutOfMemory` where memory ran out.
-pub fn answer<D: Disk>(
-    files: &mut Files<D>,
-    states: &States,
-    question: &Question<'_>,
-) -> Result<Reply, RunFault>
-    requires between { AreBetweenCommands files.old }
-    ensures acts { (tally : Tally)
-        → let old = kept_over D.files states.now files.old tally in
-        Acts D.Disk old (outcome old.session (asking question.now)) result
-        (kept_over D.files states.now files.new tally) }
-    ensures waits { (tally : Tally)
-        → let old = kept_over D.files states.now files.old tally in
-        Waits old (outcome old.session (asking question.now)) result
-        (kept_over D.files states.now files.new tally) }
-    ensures begun { files.new.held.now ≡ files.new.held.before }
-    ensures accounts { Accounts D.Disk files.old.disk files.new.disk
-        (IsErrOf result RunFault.Device) }
-{
-    match *question {
-        Question::Time { file, path } => time(files, states, file, path),
-        Question::Show { file } => show(files, file),
+impl<D: Disk> Executor<D> {
+    /// Answers a question over files that aren't broken, of which nothing is edited that isn't
+    /// kept. All texts stay as they are.
+    ///
+    /// # Errors
+    ///
+    /// - `Refused`: its file is none of the store's, or no heading is at its path.
+    /// - `Device`: the disk counted a failure in this call; the files are broken.
+    /// - `OutOfMemory`.
+    pub fn answer(&mut self, question: &Question<'_>) -> Result<Reply, RunFault>
+        requires between { AreBetweenCommands self.old.files }
+        ensures executes { Executes D.Disk self.old (asking question.now) result self.new }
+        ensures dirty_files { LeavesDirty D.Disk self.old (asking question.now) result self.new }
+        ensures tally { self.new.tally ≡ self.old.tally }
+        ensures unedited { IsUnedited self.new }
+        ensures accounts { Accounts D.Disk self.old.files.disk self.new.files.disk
+            (IsErrOf result RunFault.Device) }
+    {
+        match *question {
+            Question::Time { file, path } => self.time(file, path),
+            Question::Show { file } => self.show(file),
+        }
     }
 }

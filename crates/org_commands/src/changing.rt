@@ -1,16 +1,19 @@
-//! How a change is made: planned on held texts, and accepted.
+//! How a change is made: planned on held texts, accepted, and committed where it fills its group.
+//!
+//! A planner edits nothing. From the first edit to the count a command can be taken back, which
+//! takes no memory.
 ghost use Rattle.std.specs.Prelude.{◌≡◌, ◌<◌, ◌+◌, ◌^◌, ◌↔◌, ℕ, List, [], IfOk, IsErrOf, IsTrue, false};
 ghost use Rattle.std.specs.Option.{ForSome};
 ghost use Rattle.org_disk.specs.Accounts.{Accounts};
-ghost use Rattle.org_outline.specs.States.{Keywords};
+ghost use Rattle.org_commands.specs.Executing.{Executes, ExecutesAs, IsUnedited, KeepsOrSettles, LeavesDirty, Tallies};
 ghost use Rattle.org_commands.specs.Files.{AreBetweenCommands, AreSmallToWrite, IsPlanFor, files_of, new_texts, texts_now};
-ghost use Rattle.org_commands.specs.Keeping.{Acts, KeepsCounts, KeepsOrSettles, PlansOrStays};
+ghost use Rattle.org_commands.specs.Keeping.{PlansOrStays};
 ghost use Rattle.org_commands.specs.Kinds.{changing};
 ghost use Rattle.org_commands.specs.Outcome.{changed, counted, outcome};
 ghost use Rattle.org_commands.specs.Reading.{OnlyReads};
-ghost use Rattle.org_commands.specs.Session.{BetweenSessions, kept_over};
-ghost use Rattle.org_commands.specs.Step.{fills};
-ghost use Rattle.org_commands.specs.Waiting.{Joins, Waits, WaitsAccepted, WaitsCounted};
+ghost use Rattle.org_commands.specs.Session.{BetweenSessions};
+ghost use Rattle.org_commands.specs.Step.{fills_tally};
+ghost use Rattle.org_commands.specs.Dirty.{Dirties, DirtyAfterAccepted, DirtyAfterCounted};
 
 use crate::command::{Refusal, Reply, RunFault};
 use crate::commands::archive::plan_archive;
@@ -18,127 +21,13 @@ use crate::commands::capture::plan_capture;
 use crate::commands::clock::{plan_clock_in, plan_clock_out};
 use crate::commands::refile::plan_refile;
 use crate::commands::todo::plan_todo;
+use crate::executor::Executor;
 use crate::files::Files;
 use crate::kind::Change;
-use crate::tally::Tally;
 use org_disk::Disk;
 use org_fileset::SetFault;
 use org_outline::States;
 use org_texts::Plan;
-
-/// Counts one more command, which made the texts what they are. Where it fills the group, all is
-/// settled; else the texts are kept in memory.
-fn keep_or_settle<D: Disk>(files: &mut Files<D>, tally: &mut Tally) -> Result<(), RunFault>
-    requires unbroken { files.old.broken ≡ false }
-    requires small { AreSmallToWrite files.old.held.now }
-    requires countable { tally.old.accepted + 1 < 2 ^ 64 }
-    ensures did { (states : Keywords) → KeepsOrSettles D.Disk
-        (kept_over D.files states files.old tally.old)
-        files.old.held.now.waiting (texts_now D.Disk files.old) result
-        (kept_over D.files states files.new tally.new) }
-    ensures counts { (states : Keywords)
-        → KeepsCounts (kept_over D.files states files.old tally.old).session result
-        (kept_over D.files states files.new tally.new).session }
-    ensures waits { (states : Keywords)
-        → WaitsCounted (fills (kept_over D.files states files.old tally.old).session) files.old.held
-        result files.new.held }
-    ensures kept { files.new.held.now ≡ files.new.held.before }
-    ensures breaks { IsErrOf result RunFault.Device ↔ IsTrue files.new.broken }
-    ensures accounts { Accounts D.Disk files.old.disk files.new.disk
-        (IsErrOf result RunFault.Device) }
-{
-    if !tally.fills() {
-        files.keep();
-        tally.accepted += 1;
-        return Ok(());
-    }
-    match files.commit() {
-        Ok(()) => {
-            tally.accepted += 1;
-            tally.acknowledged = tally.accepted;
-            Ok(())
-        }
-        Err(SetFault::Device) => {
-            files.undo();
-            tally.accepted += 1;
-            Err(RunFault::Device)
-        }
-        Err(SetFault::OutOfMemory) => {
-            files.undo();
-            Err(RunFault::OutOfMemory)
-        }
-        Err(SetFault::Broken) => unreachable!(),
-    }
-}
-
-/// Counts one more command, which made the texts what they are, unless the accepted commands are as
-/// many as can be counted. Where it is refused, or there is no memory, all of its edits are taken
-/// back.
-fn count<D: Disk>(files: &mut Files<D>, tally: &mut Tally) -> Result<Reply, RunFault>
-    requires unbroken { files.old.broken ≡ false }
-    requires small { AreSmallToWrite files.old.held.now }
-    ensures acts { (states : Keywords) (names : List (List ℕ))
-        → Joins files.old.held.before.waiting names files.old.held.now.waiting
-        → let old = kept_over D.files states files.old tally.old in
-        Acts D.Disk old (counted old.session names (texts_now D.Disk files.old)) result
-        (kept_over D.files states files.new tally.new) }
-    ensures waits { (states : Keywords)
-        → WaitsCounted (fills (kept_over D.files states files.old tally.old).session) files.old.held
-        result files.new.held }
-    ensures begun { files.new.held.now ≡ files.new.held.before }
-    ensures accounts { Accounts D.Disk files.old.disk files.new.disk
-        (IsErrOf result RunFault.Device) }
-{
-    if tally.accepted == u64::MAX {
-        files.undo();
-        return Err(RunFault::Refused(Refusal::TooLarge));
-    }
-    keep_or_settle(files, tally)?;
-    Ok(Reply::Done(tally.accepted))
-}
-
-/// Accepts one more command, which makes these edits. Where it is refused, or there is no memory,
-/// all of its edits are taken back.
-fn accept<D: Disk>(
-    files: &mut Files<D>,
-    tally: &mut Tally,
-    plan: Plan<'_>,
-) -> Result<Reply, RunFault>
-    requires unbroken { files.old.broken ≡ false }
-    requires plan { IsPlanFor files.old.names files.old.held plan }
-    ensures acts { (states : Keywords)
-        → let old = kept_over D.files states files.old tally.old in
-        Acts D.Disk old (changed old.session (new_texts plan.entry files.old.held.now)) result
-        (kept_over D.files states files.new tally.new) }
-    ensures waits { (states : Keywords)
-        → WaitsAccepted (fills (kept_over D.files states files.old tally.old).session)
-        (files_of plan.entry) files.old.held result files.new.held }
-    ensures begun { files.new.held.now ≡ files.new.held.before }
-    ensures accounts { Accounts D.Disk files.old.disk files.new.disk
-        (IsErrOf result RunFault.Device) }
-{
-    files.put(&plan)?;
-    count(files, tally)
-}
-
-/// Accepts one more command, which changes nothing: what was done for it to the texts is taken
-/// back.
-fn accept_unchanged<D: Disk>(files: &mut Files<D>, tally: &mut Tally) -> Result<Reply, RunFault>
-    requires unbroken { files.old.broken ≡ false }
-    ensures acts { (states : Keywords)
-        → let old = kept_over D.files states files.old tally.old in
-        Acts D.Disk old (changed old.session []) result
-        (kept_over D.files states files.new tally.new) }
-    ensures waits { (states : Keywords)
-        → WaitsAccepted (fills (kept_over D.files states files.old tally.old).session) []
-        files.old.held result files.new.held }
-    ensures begun { files.new.held.now ≡ files.new.held.before }
-    ensures accounts { Accounts D.Disk files.old.disk files.new.disk
-        (IsErrOf result RunFault.Device) }
-{
-    files.undo();
-    count(files, tally)
-}
 
 /// What a command that changes files is to change: its files are read where they aren't held, and
 /// made ready. Nothing is edited. There is no plan where nothing changes.
@@ -151,7 +40,8 @@ fn plan<'a, D: Disk>(
     ensures plan { IfOk result (λ plan. ForSome plan
         (λ plan. IsPlanFor files.new.names files.new.held plan)) }
     ensures plans { BetweenSessions D.Disk states.now files.old files.new
-        (λ old new. PlansOrStays old (outcome old (changing change.now)) result files.new.held new) }
+        (λ old new. PlansOrStays old (outcome old (changing change.now)) result
+        files.new.held new) }
     ensures disk { OnlyReads D.Disk files.old files.new result }
 {
     match *change {
@@ -164,36 +54,126 @@ fn plan<'a, D: Disk>(
     }
 }
 
-/// Runs a command that changes files.
-///
-/// Where it is accepted it is counted: where it fills its group all that waits is committed, else
-/// its texts are kept in memory. `Refused` and `OutOfMemory` leave texts and counts as they were;
-/// where a commit finds no memory, this command is undone. `Device` comes only where the disk
-/// counted a failure in this call, and leaves the files broken.
-pub fn change<D: Disk>(
-    files: &mut Files<D>,
-    states: &States,
-    tally: &mut Tally,
-    asked: &Change<'_>,
-) -> Result<Reply, RunFault>
-    requires between { AreBetweenCommands files.old }
-    ensures acts { let old = kept_over D.files states.now files.old tally.old in
-        Acts D.Disk old (outcome old.session (changing asked.now)) result
-        (kept_over D.files states.now files.new tally.new) }
-    ensures waits { D.honest files.new.disk
-        → let old = kept_over D.files states.now files.old tally.old in
-        Waits old (outcome old.session (changing asked.now)) result
-        (kept_over D.files states.now files.new tally.new) }
-    ensures begun { files.new.held.now ≡ files.new.held.before }
-    ensures accounts { Accounts D.Disk files.old.disk files.new.disk
-        (IsErrOf result RunFault.Device) }
-{
-    match plan(files, states, asked) {
-        Ok(Some(plan)) => accept(files, tally, plan),
-        Ok(None) => accept_unchanged(files, tally),
-        Err(fault) => {
-            files.undo();
-            Err(fault)
+impl<D: Disk> Executor<D> {
+    // Counts one more command, which made the texts what they are. Where it fills the group, all is
+    // settled; else the texts are kept in memory.
+    fn keep_or_settle(&mut self) -> Result<(), RunFault>
+        requires unbroken { self.old.files.broken ≡ false }
+        requires small { AreSmallToWrite self.old.files.held.now }
+        requires countable { self.old.tally.accepted + 1 < 2 ^ 64 }
+        ensures did { KeepsOrSettles D.Disk self.old result self.new }
+        ensures counts { Tallies D.Disk self.old result self.new }
+        ensures dirty_files { DirtyAfterCounted (fills_tally self.old.tally) self.old.files.held result
+            self.new.files.held }
+        ensures unedited { IsUnedited self.new }
+        ensures breaks { IsErrOf result RunFault.Device ↔ IsTrue self.new.files.broken }
+        ensures accounts { Accounts D.Disk self.old.files.disk self.new.files.disk
+            (IsErrOf result RunFault.Device) }
+    {
+        if !self.tally.fills() {
+            self.files.keep();
+            self.tally.accepted += 1;
+            return Ok(());
+        }
+        match self.files.commit() {
+            Ok(()) => {
+                self.tally.accepted += 1;
+                self.tally.acknowledged = self.tally.accepted;
+                Ok(())
+            }
+            Err(SetFault::Device) => {
+                self.files.undo();
+                self.tally.accepted += 1;
+                Err(RunFault::Device)
+            }
+            Err(SetFault::OutOfMemory) => {
+                self.files.undo();
+                Err(RunFault::OutOfMemory)
+            }
+            Err(SetFault::Broken) => unreachable!(),
+        }
+    }
+
+    // Counts one more command, which made the texts what they are, unless the accepted commands are
+    // as many as can be counted. Where it is refused, or there is no memory, all of its edits are
+    // taken back.
+    fn count(&mut self) -> Result<Reply, RunFault>
+        requires unbroken { self.old.files.broken ≡ false }
+        requires small { AreSmallToWrite self.old.files.held.now }
+        ensures executes { (names : List (List ℕ))
+            → Dirties self.old.files.held.before.dirty names self.old.files.held.now.dirty
+            → ExecutesAs D.Disk self.old
+            (λ s. counted s names (texts_now D.Disk self.old.files)) result self.new }
+        ensures dirty_files { DirtyAfterCounted (fills_tally self.old.tally) self.old.files.held result
+            self.new.files.held }
+        ensures unedited { IsUnedited self.new }
+        ensures accounts { Accounts D.Disk self.old.files.disk self.new.files.disk
+            (IsErrOf result RunFault.Device) }
+    {
+        if self.tally.accepted == u64::MAX {
+            self.files.undo();
+            return Err(RunFault::Refused(Refusal::TooLarge));
+        }
+        self.keep_or_settle()?;
+        Ok(Reply::Done(self.tally.accepted))
+    }
+
+    // Accepts one more command, which makes these edits. Where it is refused, or there is no
+    // memory, all of its edits are taken back.
+    fn accept(&mut self, plan: Plan<'_>) -> Result<Reply, RunFault>
+        requires unbroken { self.old.files.broken ≡ false }
+        requires plan { IsPlanFor self.old.files.names self.old.files.held plan }
+        ensures executes { ExecutesAs D.Disk self.old
+            (λ s. changed s (new_texts plan.entry self.old.files.held.now)) result self.new }
+        ensures dirty_files { DirtyAfterAccepted (fills_tally self.old.tally) (files_of plan.entry)
+            self.old.files.held result self.new.files.held }
+        ensures unedited { IsUnedited self.new }
+        ensures accounts { Accounts D.Disk self.old.files.disk self.new.files.disk
+            (IsErrOf result RunFault.Device) }
+    {
+        self.files.put(&plan)?;
+        self.count()
+    }
+
+    // Accepts one more command, which changes nothing: what was done for it to the texts is taken
+    // back.
+    fn accept_unchanged(&mut self) -> Result<Reply, RunFault>
+        requires unbroken { self.old.files.broken ≡ false }
+        ensures executes { ExecutesAs D.Disk self.old (λ s. changed s []) result self.new }
+        ensures dirty_files { DirtyAfterAccepted (fills_tally self.old.tally) [] self.old.files.held result
+            self.new.files.held }
+        ensures unedited { IsUnedited self.new }
+        ensures accounts { Accounts D.Disk self.old.files.disk self.new.files.disk
+            (IsErrOf result RunFault.Device) }
+    {
+        self.files.undo();
+        self.count()
+    }
+
+    /// Runs a command that changes files. Where it is accepted it is counted: where it fills its
+    /// group all dirty texts are committed, else its texts are kept in memory.
+    ///
+    /// # Errors
+    ///
+    /// - `Refused`, `OutOfMemory`: texts and counts are as they were; where a commit finds no
+    ///   memory, this command is undone.
+    /// - `Device`: the disk counted a failure in this call; the files are broken.
+    pub fn change(&mut self, asked: &Change<'_>) -> Result<Reply, RunFault>
+        requires between { AreBetweenCommands self.old.files }
+        ensures executes { Executes D.Disk self.old (changing asked.now) result self.new }
+        ensures dirty_files { D.honest self.new.files.disk
+            → LeavesDirty D.Disk self.old (changing asked.now) result self.new }
+        ensures unedited { IsUnedited self.new }
+        ensures accounts { Accounts D.Disk self.old.files.disk self.new.files.disk
+            (IsErrOf result RunFault.Device) }
+    {
+        match plan(&mut self.files, &self.states, asked) {
+            Ok(Some(plan)) => self.accept(plan),
+            Ok(None) => self.accept_unchanged(),
+            Err(fault) => {
+                self.files.undo();
+                Err(fault)
+            }
         }
     }
 }

@@ -1,4 +1,7 @@
-//! Commands, and what is answered to them.
+//! Commands, and what is answered to them, as values.
+//!
+//! Texts are borrowed from the line that they were read from. Which lines spell which commands is
+//! org_serve's matter.
 ghost use Rattle.std.specs.Prelude.{◌≡◌, codes};
 ghost use Rattle.org_commands.specs.Refusals.{code_of, name_of};
 ghost use Rattle.org_commands.specs.declared.command.RunFault.TheVariants.{OutOfMemory};
@@ -14,6 +17,7 @@ use org_state::StateFault;
 use std::alloc::AllocError;
 use std::borrow::CowSlice;
 use std::marker::Model;
+use thiserror::Error;
 
 /// A text of a command: bytes of the line that it was read from, which aren't copied, or bytes that
 /// were made for it.
@@ -184,38 +188,53 @@ pub enum Reply {
 }
 
 /// Why a command is refused. It then changed nothing.
-#[derive(Clone, Copy, PartialEq, Eq)]
+#[derive(Clone, Copy, Debug, PartialEq, Eq, Error)]
 pub enum Refusal {
     /// The file is none of the store's, whose archive files count too.
+    #[error("no such file")]
     NoSuchFile,
     /// The template can't be expanded.
+    #[error("bad template")]
     BadTemplate,
     /// The expanded template isn't one heading with what lies below it, or has bytes before it.
+    #[error("bad entry")]
     BadEntry,
     /// No heading is at a path, or none can be made with a title.
+    #[error("not found")]
     NotFound,
     /// Several headings have a title.
+    #[error("not unique")]
     NotUnique,
     /// The heading that a subtree is to go below lies in the subtree.
+    #[error("inside itself")]
     InsideItself,
     /// The file is an archive file already, or the entry lies below the heading that it would be
     /// archived to.
+    #[error("already archived")]
     AlreadyArchive,
     /// The state is none of the store's.
+    #[error("unknown state")]
     UnknownState,
     /// The planning line of the heading isn't well formed.
+    #[error("odd planning line")]
     OddPlanning,
     /// A repeater of hours on a timestamp without a time, or with a range.
+    #[error("a repeater of hours needs one time")]
     BadRepeat,
     /// A repeated date is past the year 9999.
+    #[error("the repeated date is past the year 9999")]
     DateRange,
     /// No clock runs.
+    #[error("no clock runs")]
     NoClock,
     /// The moment is before the start of the clock that is to be closed.
+    #[error("the clock would run backwards")]
     ClockBackwards,
     /// The location of an entry's archive can't be read, or its heading can't be made.
+    #[error("bad location")]
     BadLocation,
     /// A file would grow past its limit, or the accepted commands are as many as can be counted.
+    #[error("too large")]
     TooLarge,
 }
 
@@ -268,15 +287,19 @@ impl Refusal {
 }
 
 /// Why a call didn't do what was asked.
-#[derive(Clone, Copy, PartialEq, Eq)]
+#[derive(Clone, Copy, Debug, PartialEq, Eq, Error)]
 pub enum RunFault {
     /// The command asks for what can't be done. All is as before.
+    #[error("refused: {0}")]
     Refused(Refusal),
     /// There was no memory for it. All is as before.
+    #[error("out of memory")]
     OutOfMemory,
     /// A call of the disk failed. The store is broken from now on.
+    #[error("a call of the disk failed")]
     Device,
     /// A call of the disk failed earlier. Nothing was done: open the folder again.
+    #[error("broken by an earlier failure of the disk")]
     Broken,
 }
 

@@ -1,4 +1,4 @@
-//! The commands, each with what it is to change or to answer.
+//! The planners: each command with what it is to change or to answer.
 pub(crate) mod archive;
 pub(crate) mod capture;
 pub(crate) mod clock;

@@ -1,4 +1,7 @@
 //! The files of a store, with what is held of their texts.
+//!
+//! Each file is read once, when a command first names it, and edited in memory from then on. What
+//! the disk has is what was read, and what was committed since: nobody else writes it.
 ghost use Rattle.std.specs.Prelude.{◌≡◌, ◌⊎◌, ◌↔◌, ◌<◌, ◌∷◌, [], List, ℕ, None, Some, nat_lt, length, slice_get, true, false, IfOk, IfErr, MatchResult, OnOk, OnErr, IsErrOf, IsSome, IsTrue};
 ghost use Rattle.std.specs.List.{All};
 ghost use Rattle.std.specs.Map.{lookup};
@@ -15,7 +18,7 @@ ghost use Rattle.org_commands.specs.Clocks.{RunsIn};
 ghost use Rattle.org_commands.specs.Files.{AreOpened, AreReady, AreSmallToWrite, CommitsHeld, HoldsCommitted, IsPlanFor, IsReady, KeepsFiles, KeepsHeld, PutsPlan, StaysInMemory, disk_of, files_of, has_large, texts_in};
 ghost use Rattle.org_commands.specs.InOrder.{is_name};
 ghost use Rattle.org_commands.specs.Keeping.{Reads};
-ghost use Rattle.org_commands.specs.Quiet.{Forgets};
+ghost use Rattle.org_commands.specs.Clockless.{Forgets};
 ghost use Rattle.org_commands.specs.Reading.{OnlyReads};
 ghost use Rattle.org_commands.specs.Session.{BetweenSessions};
 
@@ -38,14 +41,14 @@ pub struct Files<D: Disk> {
     texts: Texts,
     // Which files are held and known to have no clock that runs, by the numbers of their names; it
     // may end early.
-    quiet: Vec<bool>,
+    clockless: Vec<bool>,
 }
 
 impl<D: Disk> Model for Files<D> {
     ghost use Rattle.std.specs.Prelude.{◌≡◌, false};
     ghost use Rattle.org_journal.specs.Recovered.{contents};
     ghost use Rattle.org_commands.specs.Files.{OpenFiles, IsSound};
-    ghost use Rattle.org_commands.specs.Quiet.{IsNoted};
+    ghost use Rattle.org_commands.specs.Clockless.{IsNoted};
 
     ghost Value = { OpenFiles D };
 
@@ -57,13 +60,17 @@ impl<D: Disk> Model for Files<D> {
     } };
 
     ghost invariant = { λ f. IsSound f.set.names ((f.set.broken ≡ false) × D.honest f.set.disk)
-        (contents (D.files f.set.disk)) f.texts × IsNoted f.set.names f.quiet.items f.texts };
+        (contents (D.files f.set.disk)) f.texts × IsNoted f.set.names f.clockless.items f.texts };
 }
 
 impl<D: Disk> Files<D> {
     /// The files of the given names and of their archive files, with nothing held. No name is an
     /// archive file's or the journal's; a repeated one counts once. What a crash cut short is
-    /// brought to an end first: see `FileSet::open`, whose faults it answers.
+    /// finished first.
+    ///
+    /// # Errors
+    ///
+    /// Those of `FileSet::open`.
     pub fn open(alloc: Global, disk: D, names: Vec<FileName>) -> Result<Files<D>, OpenRefused<D>>
         requires { All IsOrgFile names.items }
         ensures opened { IfOk result (λ files. AreOpened D.Disk names.items files) }
@@ -77,7 +84,7 @@ impl<D: Disk> Files<D> {
                 alloc,
                 set,
                 texts: Texts::new(alloc),
-                quiet: Vec::new(alloc),
+                clockless: Vec::new(alloc),
             }),
             Err(refused) => Err(refused),
         }
@@ -160,7 +167,7 @@ impl<D: Disk> Files<D> {
         ensures held { OnOk result (IsSome (text_of self.new.held.now name.now)) }
         ensures reads { (states : Keywords) → BetweenSessions D.Disk states self.old self.new
             (λ old new. Reads old result new) }
-        ensures begun { self.old.held.now ≡ self.old.held.before
+        ensures unedited { self.old.held.now ≡ self.old.held.before
             → self.new.held.now ≡ self.new.held.before }
         ensures ready { (names : List (List ℕ)) → AreReady names self.old.held
             → AreReady names self.new.held }
@@ -206,22 +213,22 @@ impl<D: Disk> Files<D> {
     }
 
     /// Whether the file of this number is known to have no clock that runs.
-    pub(crate) fn is_quiet(&self, index: usize) -> bool
+    pub(crate) fn is_clockless(&self, index: usize) -> bool
         ensures { IsTrue result → (name : List ℕ) → slice_get self.now.names index ≡ Some name
             → RunsIn self.now.held.before name None }
     {
-        is_noted(&self.quiet, index)
+        is_noted(&self.clockless, index)
     }
 
     /// Notes that no clock runs in the file of this number, until an edit of it is put. Nothing
     /// else changes.
-    pub(crate) fn note_quiet(&mut self, index: usize)
-        requires begun { self.old.held.now ≡ self.old.held.before }
-        requires quiet { (name : List ℕ) → slice_get self.old.names index ≡ Some name
+    pub(crate) fn note_clockless(&mut self, index: usize)
+        requires unedited { self.old.held.now ≡ self.old.held.before }
+        requires clockless { (name : List ℕ) → slice_get self.old.names index ≡ Some name
             → RunsIn self.old.held.before name None }
         ensures { self.new ≡ self.old }
     {
-        note(&mut self.quiet, index);
+        note(&mut self.clockless, index);
     }
 
     /// Makes the edits of a plan, in memory. `TooLarge` where one of the texts would be past the
@@ -232,7 +239,7 @@ impl<D: Disk> Files<D> {
         ensures before { self.new.held.before ≡ self.old.held.before }
         ensures puts { PutsPlan plan.now self.old.held result self.new.held }
     {
-        forget_plan(&mut self.quiet, self.set.names(), plan);
+        forget_plan(&mut self.clockless, self.set.names(), plan);
         self.texts.apply(plan)?;
         if is_large(&self.texts, plan) {
             self.texts.undo();
@@ -261,9 +268,13 @@ impl<D: Disk> Files<D> {
         self.texts.keep();
     }
 
-    /// Commits the texts as they are, of which those that wait are within the limit, as they always
-    /// are between commands: see `FileSet::commit`. `OutOfMemory` leaves all as it was. Where no
-    /// text waits, no call of the disk is made.
+    /// Commits the texts as they are, of which the dirty ones are within the limit, as they always
+    /// are between commands: see `FileSet::commit`. Where no text is dirty, no call of the disk is
+    /// made.
+    ///
+    /// # Errors
+    ///
+    /// Those of `FileSet::commit`; `OutOfMemory` leaves all as it was.
     pub fn commit(&mut self) -> Result<(), SetFault>
         requires unbroken { self.old.broken ≡ false }
         requires small { (self.old.held.now ≡ self.old.held.before)
@@ -271,9 +282,9 @@ impl<D: Disk> Files<D> {
         ensures commits { CommitsHeld D.Disk self.old self.new result }
         ensures texts { HoldsCommitted D.Disk self.old self.new result }
         ensures held { MatchResult result (λ _. (self.new.held.now ≡ self.new.held.before)
-            × (self.new.held.now.waiting ≡ [])) (λ _. self.new.held ≡ self.old.held) }
+            × (self.new.held.now.dirty ≡ [])) (λ _. self.new.held ≡ self.old.held) }
         ensures idle { (IsErrOf result SetFault.OutOfMemory → self.new ≡ self.old)
-            × (self.old.held.now.waiting ≡ [] → self.new.disk ≡ self.old.disk) }
+            × (self.old.held.now.dirty ≡ [] → self.new.disk ≡ self.old.disk) }
         ensures set { KeepsFiles self.old self.new result }
         ensures accounts { Accounts D.Disk self.old.disk self.new.disk
             (IsErrOf result SetFault.Device) }
@@ -312,42 +323,42 @@ fn is_large(texts: &Texts, plan: &Plan<'_>) -> bool
 }
 
 /// Whether the file of this number is noted.
-fn is_noted(quiet: &[bool], index: usize) -> bool
-    ensures { IsTrue result → slice_get quiet.now index ≡ Some true }
+fn is_noted(clockless: &[bool], index: usize) -> bool
+    ensures { IsTrue result → slice_get clockless.now index ≡ Some true }
 {
-    matches!(quiet.get(index), Some(true))
+    matches!(clockless.get(index), Some(true))
 }
 
 /// Notes the file of this number, where it is noted already or is the next one. Without memory it
 /// isn't noted.
-fn note(quiet: &mut Vec<bool>, index: usize)
-    ensures { (i : ℕ) → slice_get quiet.new.items i ≡ Some true
-        → (i ≡ index) ⊎ (slice_get quiet.old.items i ≡ Some true) }
+fn note(clockless: &mut Vec<bool>, index: usize)
+    ensures { (i : ℕ) → slice_get clockless.new.items i ≡ Some true
+        → (i ≡ index) ⊎ (slice_get clockless.old.items i ≡ Some true) }
 {
-    if index < quiet.len() {
-        quiet[index] = true;
-    } else if index == quiet.len() {
-        let _ = quiet.push(true);
+    if index < clockless.len() {
+        clockless[index] = true;
+    } else if index == clockless.len() {
+        let _ = clockless.push(true);
     }
 }
 
 /// Forgets what was noted of the file of this name.
-fn forget(quiet: &mut Vec<bool>, names: &[FileName], file: &FileName)
-    ensures { Forgets names.now (file.now ∷ []) quiet.old.items quiet.new.items }
+fn forget(clockless: &mut Vec<bool>, names: &[FileName], file: &FileName)
+    ensures { Forgets names.now (file.now ∷ []) clockless.old.items clockless.new.items }
 {
     for (index, name) in names.iter().enumerate() {
-        if index < quiet.len() && file == name {
-            quiet[index] = false;
+        if index < clockless.len() && file == name {
+            clockless[index] = false;
         }
     }
 }
 
 /// Forgets what was noted of the files that a plan changes.
-fn forget_plan(quiet: &mut Vec<bool>, names: &[FileName], plan: &Plan<'_>)
-    ensures { Forgets names.now (files_of plan.now) quiet.old.items quiet.new.items }
+fn forget_plan(clockless: &mut Vec<bool>, names: &[FileName], plan: &Plan<'_>)
+    ensures { Forgets names.now (files_of plan.now) clockless.old.items clockless.new.items }
 {
-    forget(quiet, names, plan.first.file.name());
+    forget(clockless, names, plan.first.file.name());
     if let Some(change) = &plan.second {
-        forget(quiet, names, change.file.name());
+        forget(clockless, names, change.file.name());
     }
 }

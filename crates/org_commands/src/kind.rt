@@ -1,5 +1,6 @@
-//! The kinds of commands: those that change files, the questions, and the settling. What runs a
-//! command is handed one kind of them, and leaves no case of it out.
+//! The kinds of commands: those that change files, the questions, and the settling.
+//!
+//! What runs a command is handed one kind of them, and leaves no case of it out.
 ghost use Rattle.std.specs.Prelude.{◌≡◌};
 ghost use Rattle.org_commands.specs.Kinds.{command_of};
 

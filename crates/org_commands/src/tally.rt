@@ -1,4 +1,6 @@
 //! How many commands were accepted and acknowledged.
+//!
+//! Those acknowledged are never more than those accepted.
 ghost use Rattle.std.specs.Prelude.{◌≡◌, ◌+◌, ◌-◌, ◌≤◌, ◌<◌, ◌^◌, nat_le};
 
 /// What a store counts.

@@ -13,7 +13,7 @@ pub accounts_none : {D : Type 0} (g : Ghosts D) (disk : D)
     → Accounts g disk disk ⊥
 accounts_none g disk = record {
   was_honest = λ h. h;
-  stays_honest = λ steady h. h;
+  stays_honest = λ truthful h. h;
   no_less = omega arith;
   risen = λ none. absurd none;
   equal = λ fine. refl;
@@ -26,7 +26,7 @@ counted_up {before} {now} counted = ⊎_elim {C = (before ≤ now) × HasRisen b
 
 -- one call
 pub accounts_call : {D : Type 0} {A : Type 0} {g : Ghosts D} {old new : D} (result : Result A DiskFault)
-    → AccountsOfCall g.steady g.honest g.failures old new result → Accounts g old new (IsErr result)
+    → AccountsOfCall g.truthful g.honest g.failures old new result → Accounts g old new (IsErr result)
 accounts_call (Ok done) call = record {
   was_honest = call.was_honest;
   stays_honest = call.stays_honest;
@@ -59,7 +59,7 @@ pub accounts_ok : {D : Type 0} {g : Ghosts D} {old new : D}
 accounts_ok call = accounts_fine (λ failed. true≢false (sym failed)) call
 
 pub accounts_call_ok : {D : Type 0} {A : Type 0} {x : A} {g : Ghosts D} {old new : D}
-    → AccountsOfCall g.steady g.honest g.failures old new (Ok x) → Accounts g old new ⊥
+    → AccountsOfCall g.truthful g.honest g.failures old new (Ok x) → Accounts g old new ⊥
 accounts_call_ok {x = x} call = accounts_ok (accounts_call (Ok x) call)
 
 -- calls that didn't fail, and others after them
@@ -67,7 +67,7 @@ pub accounts_then : {D : Type 0} {g : Ghosts D} {old mid new : D} {Failed : Type
     → Accounts g old mid ⊥ → Accounts g mid new Failed → Accounts g old new Failed
 accounts_then {g = g} {new = new} first second = record {
   was_honest = λ h. first.was_honest (second.was_honest h);
-  stays_honest = λ steady h. second.stays_honest steady (first.stays_honest steady h);
+  stays_honest = λ truthful h. second.stays_honest truthful (first.stays_honest truthful h);
   no_less = omega (arith, first.no_less, second.no_less);
   risen = λ failed. subst (λ (n : ℕ). HasRisen n (g.failures new)) (first.equal (λ none. none)) (second.risen failed);
   equal = λ fine. second.equal fine ∙ first.equal (λ none. none);

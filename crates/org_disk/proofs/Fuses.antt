@@ -24,28 +24,28 @@ counted_disk own own' disk disk' same (inl more) = counted_most (own + disk) (ow
 counted_disk own own' disk disk' same (inr full) = counted_most (own + disk) (own' + disk') (inr (omega (arith, full.0), omega (arith, full.1, same)))
 
 -- a call that the fuse failed
-pub accounts_blown : {D A : Type 0} {steady : Type 0} (honest : D → Type 0) (failures : D → ℕ) (old new : Fuse D) (fault : DiskFault) → new.disk ≡ old.disk → IsCounted old.failures new.failures
-    → AccountsOfCall {A = A} steady (λ (fuse : Fuse D). honest fuse.disk) (λ (fuse : Fuse D). fuse_failures fuse.failures (failures fuse.disk)) old new (Err fault)
+pub accounts_blown : {D A : Type 0} {truthful : Type 0} (honest : D → Type 0) (failures : D → ℕ) (old new : Fuse D) (fault : DiskFault) → new.disk ≡ old.disk → IsCounted old.failures new.failures
+    → AccountsOfCall {A = A} truthful (λ (fuse : Fuse D). honest fuse.disk) (λ (fuse : Fuse D). fuse_failures fuse.failures (failures fuse.disk)) old new (Err fault)
 accounts_blown honest failures old new fault same counted = record {
   was_honest = λ h. subst honest same h;
-  stays_honest = λ steady h. subst honest (sym same) h;
+  stays_honest = λ truthful h. subst honest (sym same) h;
   kept = tt;
   counted = counted_own old.failures new.failures (failures old.disk) (failures new.disk) counted (ap failures same);
 }
 
 -- a call that was passed on
-pub accounts_passed : {D A : Type 0} {steady : Type 0} {honest : D → Type 0} {failures : D → ℕ} (old mid new : Fuse D) (result : Result A DiskFault) → mid.disk ≡ old.disk → mid.failures ≡ old.failures → new.failures ≡ mid.failures
-    → AccountsOfCall steady honest failures mid.disk new.disk result
-    → AccountsOfCall steady (λ (fuse : Fuse D). honest fuse.disk) (λ (fuse : Fuse D). fuse_failures fuse.failures (failures fuse.disk)) old new result
+pub accounts_passed : {D A : Type 0} {truthful : Type 0} {honest : D → Type 0} {failures : D → ℕ} (old mid new : Fuse D) (result : Result A DiskFault) → mid.disk ≡ old.disk → mid.failures ≡ old.failures → new.failures ≡ mid.failures
+    → AccountsOfCall truthful honest failures mid.disk new.disk result
+    → AccountsOfCall truthful (λ (fuse : Fuse D). honest fuse.disk) (λ (fuse : Fuse D). fuse_failures fuse.failures (failures fuse.disk)) old new result
 accounts_passed {honest = honest} {failures = failures} old mid new (Ok x) same kept own call = record {
   was_honest = λ h. subst honest same (call.was_honest h);
-  stays_honest = λ steady h. call.stays_honest steady (subst honest (sym same) h);
+  stays_honest = λ truthful h. call.stays_honest truthful (subst honest (sym same) h);
   kept = λ j. fuse_failures ((own ∙ kept) j) ((call.kept ∙ ap failures same) j);
   counted = tt;
 }
 accounts_passed {honest = honest} {failures = failures} old mid new (Err fault) same kept own call = record {
   was_honest = λ h. subst honest same (call.was_honest h);
-  stays_honest = λ steady h. call.stays_honest steady (subst honest (sym same) h);
+  stays_honest = λ truthful h. call.stays_honest truthful (subst honest (sym same) h);
   kept = tt;
   counted = counted_disk old.failures new.failures (failures old.disk) (failures new.disk) (own ∙ kept) (subst (λ d. IsCounted (failures d) (failures new.disk)) same call.counted);
 }

@@ -13,8 +13,8 @@ use Rattle.org_disk.specs.declared.disk.Disk.{Ghosts}
 pub record Accounts {D : Type 0} (g : Ghosts D) (old new : D) (Failed : Type 0) : Type 0 where
   -- a wrong answer may end honesty, and nothing brings it back
   pub was_honest : g.honest new → g.honest old
-  -- a steady disk stays honest
-  pub stays_honest : g.steady → g.honest old → g.honest new
+  -- a truthful disk stays honest
+  pub stays_honest : g.truthful → g.honest old → g.honest new
   pub no_less : g.failures old ≤ g.failures new
   pub risen : Failed → HasRisen (g.failures old) (g.failures new)
   pub equal : (Failed → ⊥) → g.failures new ≡ g.failures old

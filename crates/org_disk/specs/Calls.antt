@@ -6,12 +6,12 @@ use Rattle.org_disk.specs.declared.disk.DiskFault.{DiskFault}
 
 -- What a call makes of a disk's honesty, and of its count of failures, to which a failure adds
 -- exactly one.
-pub record AccountsOfCall {D : Type 0} {A : Type 0} (steady : Type 0) (honest : D → Type 0)
+pub record AccountsOfCall {D : Type 0} {A : Type 0} (truthful : Type 0) (honest : D → Type 0)
     (failures : D → ℕ) (old new : D) (result : Result A DiskFault) : Type 0 where
   -- a wrong answer may end honesty, and nothing brings it back
   pub was_honest : honest new → honest old
-  -- a steady disk stays honest
-  pub stays_honest : steady → honest old → honest new
+  -- a truthful disk stays honest
+  pub stays_honest : truthful → honest old → honest new
   pub kept : OnOk result (failures new ≡ failures old)
   pub counted : OnErr result (IsCounted (failures old) (failures new))
 

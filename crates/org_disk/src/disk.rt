@@ -1,4 +1,8 @@
 //! A disk as the layers above see it: what a read gives, and what a crash may leave.
+//!
+//! Files are flat, named, and never removed; an absent file and an empty one are the same.
+//! Contracts ask of an honest disk alone. How a disk is honest is for its type to say: `MemoryDisk`
+//! is, a folder's is as long as the system's answers are right.
 ghost use Rattle.std.specs.Prelude.{◌≡◌, ◌+◌, ◌^◌, ◌<◌, ◌≤◌, List, ℕ, length, take, drop, IfOk, OnOk};
 ghost use Rattle.org_disk.specs.Disk.{FileState, IsImage, AreImages, AreLeftBy, Changes, write, cut, sync};
 ghost use Rattle.org_disk.specs.Calls.{AccountsOfCall, LooksInCall, PassesInCall};
@@ -24,7 +28,7 @@ pub trait Disk {
     ghost honest: { Self → Type 0 };
 
     /// No answer is wrong: an honest disk of this type stays honest.
-    ghost steady: { Type 0 };
+    ghost truthful: { Type 0 };
 
     /// The file of each name, a name being its bytes.
     ghost files: { Self → List ℕ → FileState };
@@ -44,7 +48,7 @@ pub trait Disk {
         ensures value { IfOk result (λ n. honest self.new →
             n ≡ length (files self.old name.now).content) }
         ensures looks { honest self.new → LooksInCall files moment left_since self.old self.new }
-        ensures accounts { AccountsOfCall steady honest failures self.old self.new result };
+        ensures accounts { AccountsOfCall truthful honest failures self.old self.new result };
 
     /// Fills the buffer with the bytes of a file from `from` on; they lie within its length. It
     /// changes nothing of the disk, failed or not; what the buffer holds after a failure is open.
@@ -54,7 +58,7 @@ pub trait Disk {
         ensures bytes { OnOk result (honest self.new →
             into.new ≡ take (length into.old) (drop from (files self.old name.now).content)) }
         ensures looks { honest self.new → LooksInCall files moment left_since self.old self.new }
-        ensures accounts { AccountsOfCall steady honest failures self.old self.new result };
+        ensures accounts { AccountsOfCall truthful honest failures self.old self.new result };
 
     /// Writes bytes over a file from `from` on, which is at most its length; the file grows where
     /// they reach past its end. Until the next sync a crash may leave any bytes in that range, and
@@ -68,7 +72,7 @@ pub trait Disk {
         ensures time { honest self.new →
             PassesInCall moment left_since self.old self.new
             (AreLeftBy (write from bytes.now) name.now (files self.old)) }
-        ensures accounts { AccountsOfCall steady honest failures self.old self.new result };
+        ensures accounts { AccountsOfCall truthful honest failures self.old self.new result };
 
     /// Takes away the bytes of a file from `to` on, which is at most its length. Until the next
     /// sync a crash may leave any length from the least to the greatest that the file had since the
@@ -80,7 +84,7 @@ pub trait Disk {
         ensures time { honest self.new →
             PassesInCall moment left_since self.old self.new
             (AreLeftBy (cut to) name.now (files self.old)) }
-        ensures accounts { AccountsOfCall steady honest failures self.old self.new result };
+        ensures accounts { AccountsOfCall truthful honest failures self.old self.new result };
 
     /// Puts a file on the disk: from then on a crash leaves its content, and nothing else.
     fn sync(&mut self, name: &FileName) -> Result<(), DiskFault>
@@ -89,7 +93,7 @@ pub trait Disk {
         ensures time { honest self.new →
             PassesInCall moment left_since self.old self.new
             (AreLeftBy sync name.now (files self.old)) }
-        ensures accounts { AccountsOfCall steady honest failures self.old self.new result };
+        ensures accounts { AccountsOfCall truthful honest failures self.old self.new result };
 
     /// The content is one of the images.
     ghost content_is_image: { (disk : Self) (name : List ℕ) → honest disk →

@@ -1,4 +1,6 @@
-//! A disk whose calls fail from some call on.
+//! A disk whose calls fail from some call on, for tests of what stays after a failure.
+//!
+//! A call that fails has no effect, so what a crash may leave of the disk stays as it was.
 ghost use Rattle.std.specs.Prelude.{◌≡◌, ◌+◌, ◌-◌, ◌^◌, ◌↔◌, IsTrue, IsFalse, OnOk};
 ghost use Rattle.org_disk.specs.Disk.{IsCounted};
 
@@ -61,7 +63,7 @@ impl<D: Disk> Disk for Fuse<D> {
 
     ghost honest = { λ fuse. D.honest fuse.disk };
 
-    ghost steady = { D.steady };
+    ghost truthful = { D.truthful };
 
     ghost files = { λ fuse. D.files fuse.disk };
 
@@ -83,7 +85,7 @@ impl<D: Disk> Disk for Fuse<D> {
             n ≡ length (D.files self.old.disk name.now).content) }
         ensures looks { D.honest self.new.disk →
             LooksInCall D.files D.moment D.left_since self.old.disk self.new.disk }
-        ensures accounts { AccountsOfCall D.steady (λ fuse. D.honest fuse.disk)
+        ensures accounts { AccountsOfCall D.truthful (λ fuse. D.honest fuse.disk)
             (λ fuse. fuse_failures fuse.failures (D.failures fuse.disk)) self.old self.new result }
         ensures burns { Burns self.old self.new result }
     {
@@ -100,7 +102,7 @@ impl<D: Disk> Disk for Fuse<D> {
             take (length into.old) (drop from (D.files self.old.disk name.now).content)) }
         ensures looks { D.honest self.new.disk →
             LooksInCall D.files D.moment D.left_since self.old.disk self.new.disk }
-        ensures accounts { AccountsOfCall D.steady (λ fuse. D.honest fuse.disk)
+        ensures accounts { AccountsOfCall D.truthful (λ fuse. D.honest fuse.disk)
             (λ fuse. fuse_failures fuse.failures (D.failures fuse.disk)) self.old self.new result }
         ensures burns { Burns self.old self.new result }
     {
@@ -120,7 +122,7 @@ impl<D: Disk> Disk for Fuse<D> {
         ensures time { D.honest self.new.disk →
             PassesInCall D.moment D.left_since self.old.disk self.new.disk
             (AreLeftBy (write from bytes.now) name.now (D.files self.old.disk)) }
-        ensures accounts { AccountsOfCall D.steady (λ fuse. D.honest fuse.disk)
+        ensures accounts { AccountsOfCall D.truthful (λ fuse. D.honest fuse.disk)
             (λ fuse. fuse_failures fuse.failures (D.failures fuse.disk)) self.old self.new result }
         ensures burns { Burns self.old self.new result }
     {
@@ -137,7 +139,7 @@ impl<D: Disk> Disk for Fuse<D> {
         ensures time { D.honest self.new.disk →
             PassesInCall D.moment D.left_since self.old.disk self.new.disk
             (AreLeftBy (cut to) name.now (D.files self.old.disk)) }
-        ensures accounts { AccountsOfCall D.steady (λ fuse. D.honest fuse.disk)
+        ensures accounts { AccountsOfCall D.truthful (λ fuse. D.honest fuse.disk)
             (λ fuse. fuse_failures fuse.failures (D.failures fuse.disk)) self.old self.new result }
         ensures burns { Burns self.old self.new result }
     {
@@ -153,7 +155,7 @@ impl<D: Disk> Disk for Fuse<D> {
         ensures time { D.honest self.new.disk →
             PassesInCall D.moment D.left_since self.old.disk self.new.disk
             (AreLeftBy sync name.now (D.files self.old.disk)) }
-        ensures accounts { AccountsOfCall D.steady (λ fuse. D.honest fuse.disk)
+        ensures accounts { AccountsOfCall D.truthful (λ fuse. D.honest fuse.disk)
             (λ fuse. fuse_failures fuse.failures (D.failures fuse.disk)) self.old self.new result }
         ensures burns { Burns self.old self.new result }
     {

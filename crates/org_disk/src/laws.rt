@@ -1,5 +1,6 @@
-//! The laws of what a disk does, for all values: each is the contract of a function with nothing to
-//! do.
+//! The laws of what a disk does, for all values.
+//!
+//! Each is the contract of a function with nothing to do.
 ghost use Rattle.std.specs.Prelude.{◌≡◌, ◌≤◌, ℕ, [], length};
 ghost use Rattle.org_disk.specs.Disk.{FileState, IsImage, write};
 

@@ -63,7 +63,8 @@ pub(crate) enum Crash {
     Came(Outcome),
 }
 
-/// Files in memory, with a record of all calls. It is honest, and steady: no answer of it is wrong.
+/// Files in memory, with a record of all calls. It is honest, and truthful: no answer of it is
+/// wrong.
 #[derive(Drop)]
 pub struct MemoryDisk {
     alloc: Global,
@@ -105,8 +106,11 @@ impl MemoryDisk {
         }
     }
 
-    /// Gives a file a content, all on the disk. It counts as no call; where memory is refused,
-    /// nothing changes.
+    /// Gives a file a content, all on the disk. It counts as no call.
+    ///
+    /// # Errors
+    ///
+    /// `AllocError`: nothing changes.
     pub fn set(&mut self, name: &FileName, bytes: &[u8]) -> Result<(), AllocError>
         ensures ok { OnOk result (memory_files self.new name.now ≡ stable bytes.now) }
         ensures others { (other : List ℕ) → other ≢ name.now →
@@ -152,6 +156,10 @@ impl MemoryDisk {
 
     /// The disk after the crash, all of it stable: one of its images, which the outcome picks.
     /// Without a crash it is the content as it is now.
+    ///
+    /// # Errors
+    ///
+    /// `AllocError`.
     pub fn image(&self, alloc: Global) -> Result<MemoryDisk, AllocError>
         ensures stable { IfOk result (λ image. (name : List ℕ) →
             memory_files image name ≡ stable (memory_files image name).content) }
@@ -325,7 +333,7 @@ impl Disk for MemoryDisk {
 
     ghost honest = { λ _. Unit {0} };
 
-    ghost steady = { Unit {0} };
+    ghost truthful = { Unit {0} };
 
     ghost files = { memory_files };
 

@@ -1,4 +1,7 @@
 //! The names of files.
+//!
+//! A name is valid from its making on: `FileName::new` is the one way to make an Org file's or an
+//! archive file's, `journal_name` the one to make the journal's. Names are compared byte by byte.
 ghost use Rattle.std.specs.Prelude.{◌≡◌, ◌≢◌, ◌≤◌, ◌↔◌, false, nat_eq, refl, Some, length, IsTrue, IsFalse, IsUtf8, IfOk, OnOk, IsErrOf};
 ghost use Rattle.std.specs.List.{list_all};
 ghost use Rattle.std.specs.Ordering.{nat_cmp};
@@ -65,8 +68,12 @@ impl From<AllocError> for NameFault {
 }
 
 impl FileName {
-    /// The name that this text is. `BadName` comes exactly where `accepts` refuses the text; the
-    /// journal's name is one of those.
+    /// The name that this text is.
+    ///
+    /// # Errors
+    ///
+    /// - `BadName`: exactly where `accepts` refuses the text; the journal's name is one of those.
+    /// - `OutOfMemory`.
     pub fn new(alloc: Global, text: &str) -> Result<FileName, NameFault>
         ensures name { IfOk result (λ name. name ≡ text.now) }
         ensures accepted { OnOk result (IsTrue (is_file_name text.now)) }
@@ -89,6 +96,10 @@ impl FileName {
     }
 
     /// The name of the journal. No text makes it by `new`.
+    ///
+    /// # Errors
+    ///
+    /// `AllocError`.
     pub fn journal_name(alloc: Global) -> Result<FileName, AllocError>
         ensures { IfOk result (λ name. name ≡ journal_name) }
     {
@@ -113,6 +124,10 @@ impl FileName {
     }
 
     /// The name of this Org file's archive file.
+    ///
+    /// # Errors
+    ///
+    /// `AllocError`.
     pub fn archive(&self) -> Result<FileName, AllocError>
         requires not_archive { IsFalse (is_archive_name self.now) }
         requires not_journal { self.now ≢ journal_name }

@@ -1,4 +1,4 @@
--- An opening's steps: a look at the journal, and what brings to an end what was found there.
+-- An opening's steps: a look at the journal, and what finishes what was found there.
 use Rattle.std.proofs.Common.{◌≡◌, ◌≢◌, inl, inr, ℕ, ◌<◌, ◌≤◌, List, ◌∷◌, length, drop, true, false, Result, Ok, Err, IfOk, OnOk, None, sym, ◌∙◌, ap, subst}
 use Rattle.org_disk.specs.declared.disk.Disk.{Ghosts}
 use Rattle.std.specs.Prelude.{IsSomeAnd}

@@ -52,9 +52,9 @@ HaveSizes files names (Err Device) = Unit {0}
 HaveSizes files names (Err OutOfMemory) = Unit {0}
 HaveSizes files names (Err fault) = ⊥
 
--- what a crash had cut short was brought to an end: the files are what the disk recovered to, and
+-- what a crash had cut short was finished: the files are what the disk recovered to, and
 -- the gate is closed
-pub record IsBroughtToAnEnd (before now : Image) : Type 0 where
+pub record IsRecovered (before now : Image) : Type 0 where
   pub files : IsSomeAnd (recovered before) (SameFiles now)
   pub journal : now journal_name ≡ closed_journal (before journal_name)
 
@@ -64,7 +64,7 @@ abbrev pub IsAnswer : Image → Image → List (List ℕ) → Result (Unit {0}) 
 IsAnswer before now names (Err BadJournal) = (recovered before ≡ None) × (now ≡ before)
 IsAnswer before now names (Ok done) = HaveSizes now names (Ok done)
 IsAnswer before now names (Err (TooLarge name)) =
-    HaveSizes now names (Err (TooLarge name)) × IsBroughtToAnEnd before now
+    HaveSizes now names (Err (TooLarge name)) × IsRecovered before now
 IsAnswer before now names (Err TooManyFiles) = ⊥
 IsAnswer before now names (Err Device) = Unit {0}
 IsAnswer before now names (Err OutOfMemory) = Unit {0}
@@ -78,7 +78,7 @@ IsReason given honest before now BadJournal =
     AreFew given × (honest → (recovered before ≡ None) × (now ≡ before))
 IsReason given honest before now (TooLarge name) = AreFew given
     × (honest → (names : List (List ℕ)) × AreSorted (with_archives given) names
-    × (first_large now names ≡ Some name) × IsBroughtToAnEnd before now)
+    × (first_large now names ≡ Some name) × IsRecovered before now)
 IsReason given honest before now Device = AreFew given
 IsReason given honest before now OutOfMemory = Unit {0}
 

@@ -53,7 +53,7 @@ pub record ReopensOver {D A E : Type 0} (g : Ghosts D) (old new : D) (result : R
       → IsRecoverable (g.files new)
   pub bad : recovered (contents (g.files old)) ≡ None
       → LeavesOver g old new (AreImages (g.files old))
-  -- A whole journal with a closed gate leaves nothing to bring to an end: whatever is answered, a
+  -- A whole journal with a closed gate leaves nothing to finish: whatever is answered, a
   -- crash leaves what it might have left before.
   pub idle : IsTrue (is_closed (contents (g.files old) journal_name))
       → LeavesOver g old new (AreImages (g.files old))

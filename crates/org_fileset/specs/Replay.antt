@@ -95,6 +95,14 @@ pub record IsAtRest (files : List ℕ → FileState) : Type 0 where
   pub gate : HasClosedGate (files journal_name)
   pub stable : (name : List ℕ) → IsStable (files name)
 
+-- .. on this disk
+abbrev pub RestsOn : {D : Type 0} → Ghosts D → D → Type 0
+RestsOn g disk = IsAtRest (g.files disk)
+
+-- what the files of a disk hold
+abbrev pub files_on : {D : Type 0} → Ghosts D → D → Image
+files_on g disk = contents (g.files disk)
+
 -- what is left recovers to these files, or for those
 abbrev pub IsBeforeOrAfter : Image → Image → Image → Type 0
 IsBeforeOrAfter before after image = RecoversTo before image ⊎ RecoversTo after image

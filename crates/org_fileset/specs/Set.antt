@@ -4,6 +4,7 @@ use Rattle.std.specs.Global.{Global}
 use Rattle.std.specs.List.{All, AllByRecursion, Contains}
 use Rattle.std.specs.Map.{keys_of}
 use Rattle.org_disk.specs.declared.disk.Disk.{Ghosts}
+use Rattle.org_disk.specs.Accounts.{Accounts}
 use Rattle.org_disk.specs.Disk.{FileState}
 use Rattle.org_disk.specs.Names.{journal_name}
 use Rattle.org_splice.specs.Texts.{EditedText, IsEditOf}
@@ -13,7 +14,7 @@ use Rattle.org_journal.specs.Recovered.{Image, contents}
 use Rattle.org_fileset.specs.Entries.{HasRecordOf, changed}
 use Rattle.org_fileset.specs.declared.fault.SetFault.{SetFault}
 use Rattle.org_fileset.specs.declared.open.OpenRefused.{OpenRefused}
-use Rattle.org_fileset.specs.declared.fault.SetFault.TheVariants.{Broken, Device}
+use Rattle.org_fileset.specs.declared.fault.SetFault.TheVariants.{Broken, Device, OutOfMemory}
 use Rattle.org_fileset.specs.Names.{limit}
 use Rattle.org_fileset.specs.Opening.{IsOpenedFor, disk_in}
 use Rattle.org_fileset.specs.Replay.{CommitsOver}
@@ -71,6 +72,17 @@ abbrev pub LeavesRecord : {D A E : Type 0} → Ghosts D → List (List ℕ × Ed
     → Result A E → Type 0
 LeavesRecord g changes new result = g.honest new
     → OnOk result (HasRecordOf changes (contents (g.files new) journal_name))
+
+-- All that a commit of these changes does to a set and its disk.
+pub record CommitsSet {D A : Type 0} (g : Ghosts D) (old : Opened D)
+    (changes : List (List ℕ × EditedText)) (result : Result A SetFault) (new : Opened D)
+    : Type 0 where
+  pub commits : Commits g old.disk changes new.disk result
+  pub record_stands : LeavesRecord g changes new.disk result
+  -- want of memory leaves all as it was
+  pub memory : IsErrOf result OutOfMemory → new ≡ old
+  pub set : KeepsSet old new result
+  pub accounts : Accounts g old.disk new.disk (IsErrOf result Device)
 
 -- Changes that may be committed to a set of these names over these files: the names are the set's,
 -- and the texts are edits of what the files hold, and within the limit.

@@ -1,4 +1,7 @@
 //! The files of a record, written one after the other.
+//!
+//! Each step may be stopped and done again: a record makes the same text of whatever a crash left
+//! of its file. Nothing here looks at the journal.
 ghost use Rattle.std.specs.Prelude.{◌≡◌, ◌≢◌, ◌<◌, ◌^◌, List, ℕ, length, IsTrue, IsFalse, OnOk, IsErr};
 ghost use Rattle.org_disk.specs.Disk.{IsStable};
 ghost use Rattle.org_disk.specs.Accounts.{Accounts};

@@ -1,4 +1,8 @@
 //! A record made to count: written to the journal, applied to its files, and done with.
+//!
+//! The order is that of FORMATS: record, sync, gate, sync, files, syncs, gate, sync. What a commit
+//! has to do it does for any entries that fit their files; that they are changes of a set is
+//! `set`'s matter.
 ghost use Rattle.std.specs.Prelude.{◌≡◌, ◌≤◌, ◌++◌, List, ℕ, Some, drop, length, IsTrue, OnOk, IsErr};
 ghost use Rattle.org_disk.specs.Accounts.{Accounts};
 ghost use Rattle.org_disk.specs.Names.{journal_name};

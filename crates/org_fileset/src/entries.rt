@@ -1,4 +1,6 @@
-//! The record of a set of changed files.
+//! The record of a set of changed files: one entry each, in the order of the set.
+//!
+//! The patches are those of the edited texts. No disk is called.
 ghost use Rattle.std.specs.Prelude.{OnOk, IfOk};
 ghost use Rattle.std.specs.List.{IsDistinct};
 ghost use Rattle.std.specs.Map.{keys_of};

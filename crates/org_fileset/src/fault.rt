@@ -1,4 +1,6 @@
-//! What a call on a set of files may answer in place of its result.
+//! Why a read or a commit of a set failed.
+//!
+//! Why an opening failed is in `open`.
 ghost use Rattle.std.specs.Prelude.{◌≡◌};
 ghost use Rattle.org_fileset.specs.declared.fault.SetFault.TheVariants.{OutOfMemory, Device};
 

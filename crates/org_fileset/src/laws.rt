@@ -1,5 +1,6 @@
-//! The laws of applying records to files, for all values: each is the contract of a function with
-//! nothing to do.
+//! The laws of applying records to files, for all values.
+//!
+//! Each is the contract of a function with nothing to do.
 ghost use Rattle.std.specs.Prelude.{◌≤◌, ◌⊎◌, List, ℕ, length, IsSomeAnd};
 ghost use Rattle.std.specs.List.{Contains};
 ghost use Rattle.org_disk.specs.Accounts.{LeavesOver};
@@ -11,7 +12,7 @@ ghost use Rattle.org_splice.specs.declared.patch.Patch.{Patch};
 ghost use Rattle.org_journal.specs.Recovered.{Image, RecoversTo, SameFiles, recovered, contents};
 ghost use Rattle.org_fileset.specs.Entries.{changed};
 ghost use Rattle.org_fileset.specs.Recovery.{IsReopened, RecoversAsBefore};
-ghost use Rattle.org_fileset.specs.Replay.{IsAtRest, IsBeforeOrAfter, IsCommitted};
+ghost use Rattle.org_fileset.specs.Replay.{IsAtRest, IsBeforeOrAfter, IsCommitted, RestsOn, files_on};
 ghost use Rattle.org_fileset.specs.Laws.{AllStable, AreAtRest, AreOtherFiles, IsArmedFor, IsBetween, IsFound, KeepsTexts, IsEachOldOrNew};
 
 use org_disk::Disk;
@@ -91,25 +92,25 @@ pub fn crashed_disk_opens_again()
 /// promises of every disk that it passes through: one that is at rest there has all files as they
 /// were, or all with the changed texts.
 pub fn middle_of_a_commit_counts<D: Disk>()
-    ensures middle { (old mid new : D) (after : Image) → D.honest mid → IsAtRest (D.files mid)
+    ensures middle { (old mid new : D) (after : Image) → D.honest mid → RestsOn D.Disk mid
         → IsBetween D.Disk old mid new
-        → LeavesOver D.Disk old new (IsBeforeOrAfter (contents (D.files old)) after)
-        → SameFiles (contents (D.files mid)) (contents (D.files old))
-        ⊎ SameFiles (contents (D.files mid)) after }
+        → LeavesOver D.Disk old new (IsBeforeOrAfter (files_on D.Disk old) after)
+        → SameFiles (files_on D.Disk mid) (files_on D.Disk old)
+        ⊎ SameFiles (files_on D.Disk mid) after }
     // So the promise is false of a body that commits other files on its way: a part of the changed
     // ones by a record of their own, or a file without what it had, which is put back later.
     ensures apart { (old mid new : D) (half after : Image) → D.honest mid
-        → IsAtRest (D.files old) → IsCommitted half (D.files old) (D.files mid)
-        → AreOtherFiles half (contents (D.files old)) → AreOtherFiles half after
+        → RestsOn D.Disk old → IsCommitted half (D.files old) (D.files mid)
+        → AreOtherFiles half (files_on D.Disk old) → AreOtherFiles half after
         → IsBetween D.Disk old mid new
-        → LeavesOver D.Disk old new (IsBeforeOrAfter (contents (D.files old)) after)
+        → LeavesOver D.Disk old new (IsBeforeOrAfter (files_on D.Disk old) after)
         → ⊥ }
     // So it is of two commits, one behind the other, of which the first is done.
     ensures two { (old mid new : D) (half last after : Image) → D.honest mid
-        → IsAtRest (D.files old) → IsCommitted half (D.files old) (D.files mid)
-        → LeavesOver D.Disk old mid (IsBeforeOrAfter (contents (D.files old)) half)
-        → LeavesOver D.Disk mid new (IsBeforeOrAfter (contents (D.files mid)) last)
-        → AreOtherFiles half (contents (D.files old)) → AreOtherFiles half after
-        → LeavesOver D.Disk old new (IsBeforeOrAfter (contents (D.files old)) after)
+        → RestsOn D.Disk old → IsCommitted half (D.files old) (D.files mid)
+        → LeavesOver D.Disk old mid (IsBeforeOrAfter (files_on D.Disk old) half)
+        → LeavesOver D.Disk mid new (IsBeforeOrAfter (files_on D.Disk mid) last)
+        → AreOtherFiles half (files_on D.Disk old) → AreOtherFiles half after
+        → LeavesOver D.Disk old new (IsBeforeOrAfter (files_on D.Disk old) after)
         → ⊥ }
 {}

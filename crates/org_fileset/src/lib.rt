@@ -16,5 +16,6 @@ mod recover;
 mod set;
 
 pub use fault::SetFault;
-pub use open::{OpenFault, OpenRefused};
+pub use names::{in_order, with_archives};
+pub use open::{MOST_NAMES, OpenFault, OpenRefused};
 pub use set::{FileSet, LIMIT};

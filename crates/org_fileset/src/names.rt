@@ -1,4 +1,6 @@
-//! The names of a set's files.
+//! The names of a set's files: the given ones and those of their archive files, in byte order.
+//!
+//! A repeated name counts once.
 ghost use Rattle.std.specs.Prelude.{◌≡◌, ◌≤◌, length, IfOk};
 ghost use Rattle.std.specs.List.{All};
 ghost use Rattle.org_disk.specs.Names.{IsOrgFile};

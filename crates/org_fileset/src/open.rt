@@ -1,4 +1,8 @@
-//! What is asked of files before a set is opened over them.
+//! What is asked of files before a set is opened over them: few enough names, a journal that is no
+//! damage, files within the limit.
+//!
+//! The faults come in the order of `OpenFault`. Only the journal is written, and what its record
+//! names.
 ghost use Rattle.std.specs.Prelude.{◌≡◌, Err, IfOk, IfErr, IsErrOf};
 ghost use Rattle.std.specs.List.{All};
 ghost use Rattle.org_disk.specs.Accounts.{Accounts, Looks};
@@ -15,24 +19,30 @@ use crate::set::LIMIT;
 use org_disk::{Disk, DiskFault, FileName};
 use org_journal::FindFault;
 use std::alloc::{AllocError, Global};
+use thiserror::Error;
 
 /// How many different names may be given; those of their archive files come on top.
-const MOST_NAMES: usize = 256;
+pub const MOST_NAMES: usize = 256;
 
-/// Why a set of files wasn't opened.
-#[derive(Drop)]
+/// Why a set of files wasn't opened. It prints as the program's line on standard error has it.
+#[derive(Debug, Drop, Error)]
 pub enum OpenFault {
     /// More than 256 different names were given. The disk wasn't called.
+    #[error("TooManyFiles")]
     TooManyFiles,
     /// The journal's gate is open, and what stands behind it is no record, or one that doesn't fit
     /// its files. No content was changed.
+    #[error("BadJournal")]
     BadJournal,
     /// The file of this name has more than 67,108,864 bytes: the first such file, in byte order of
-    /// the names. What a crash had cut short was brought to an end.
+    /// the names. What a crash had cut short was finished.
+    #[error("TooLarge {0}")]
     TooLarge(FileName),
     /// A call of the disk failed.
+    #[error("Device")]
     Device,
     /// Memory ran out.
+    #[error("OutOfMemory")]
     OutOfMemory,
 }
 
@@ -117,7 +127,7 @@ pub fn check_sizes<D: Disk>(disk: &mut D, names: &[FileName]) -> Result<(), Open
     Ok(())
 }
 
-/// Brings to an end what a crash cut short, and then asks for the length of each of these files.
+/// Finishes what a crash cut short, and then asks for the length of each of these files.
 pub fn make_ready<D: Disk>(
     alloc: Global,
     disk: &mut D,

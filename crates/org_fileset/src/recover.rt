@@ -1,4 +1,6 @@
-//! What an opening does first: it brings to an end what a crash cut short.
+//! What an opening does first: it finishes what a crash cut short, and leaves the gate closed.
+//!
+//! It may be stopped at any call and begun anew. A bad journal is left as it is.
 ghost use Rattle.std.specs.Prelude.{◌≡◌, None, Ok, IfOk, IsErr, IsErrOf, IsFalse};
 ghost use Rattle.org_disk.specs.Accounts.{Accounts};
 ghost use Rattle.org_disk.specs.Disk.{IsStable};
@@ -47,7 +49,7 @@ fn give_gate<D: Disk>(disk: &mut D, journal: &FileName) -> Result<(), DiskFault>
     Ok(())
 }
 
-/// Brings to an end what was found in the journal, which is on the device.
+/// Finishes what was found in the journal, which is on the device.
 fn finish<D: Disk>(disk: &mut D, journal: &FileName, found: &Found) -> Result<(), DiskFault>
     requires journal { journal.now ≡ journal_name }
     requires stable { D.honest disk.old → IsStable (D.files disk.old journal_name) }
@@ -62,14 +64,21 @@ fn finish<D: Disk>(disk: &mut D, journal: &FileName, found: &Found) -> Result<()
     }
 }
 
-/// Brings the journal's record to an end where its gate is open, and gives a journal without a gate
-/// one that is closed. Nothing else is written.
+/// Finishes the journal's record where its gate is open, and gives a journal without a gate one
+/// that is closed. Nothing else is written.
 ///
 /// On a disk that is recoverable, of which each image recovers to files, every image at every
 /// moment since the call began recovers to what an image at the start recovered to, whatever is
 /// answered; so it may be stopped, and called again. Where the journal is bad, as it reads, or is
 /// whole and its gate is closed, a crash leaves what it might have left before, whatever is
 /// answered.
+///
+/// # Errors
+///
+/// - `BadJournal`: the gate is open, and no whole record that fits its files stands behind it.
+///   Nothing was changed.
+/// - `Device`: a call of the disk failed.
+/// - `OutOfMemory`.
 pub fn recover<D: Disk>(alloc: Global, disk: &mut D, journal: &FileName) -> Result<(), FindFault>
     requires { journal.now ≡ journal_name }
     ensures reopens { Reopens D.Disk disk.old disk.new result }

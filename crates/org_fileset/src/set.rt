@@ -1,11 +1,14 @@
-//! The files of a store as one.
+//! The files of a store as one: read one by one, changed all or none.
+//!
+//! All files are at rest between two calls, but after a failure of the disk: from then on the set
+//! is broken, and makes no call. It holds no text; what files held is the caller's to keep.
 ghost use Rattle.std.specs.Prelude.{◌≡◌, ◌≢◌, [], true, false, IsFalse, IfOk, IfErr, IsErrOf, IsOk};
 ghost use Rattle.std.specs.List.{All};
 ghost use Rattle.org_disk.specs.Accounts.{Accounts, Looks};
 ghost use Rattle.org_disk.specs.Names.{IsOrgFile};
 ghost use Rattle.org_fileset.specs.Opening.{IsDeviceRefusal, IsRefusedFor};
 ghost use Rattle.org_fileset.specs.Recovery.{Reopens};
-ghost use Rattle.org_fileset.specs.Set.{CanCommit, Commits, GivesBytes, IsOpenedSet, KeepsSet, LeavesRecord, disk_of};
+ghost use Rattle.org_fileset.specs.Set.{CanCommit, CommitsSet, GivesBytes, IsOpenedSet, KeepsSet, disk_of};
 
 use crate::commit::commit_entries;
 use crate::entries::entries_of;
@@ -42,8 +45,8 @@ impl<D: Disk> Model for FileSet<D> {
 
 impl<D: Disk> FileSet<D> {
     /// A set of the files of the given names and of their archive files. No name is an archive
-    /// file's or the journal's; a repeated one counts once. What a crash cut short is brought to an
-    /// end first.
+    /// file's or the journal's; a repeated one counts once. What a crash cut short is finished
+    /// first.
     ///
     /// On a disk that is recoverable, of which each image recovers to files, every image at every
     /// moment since the call began recovers to what an image at the start recovered to, whatever is
@@ -51,8 +54,14 @@ impl<D: Disk> FileSet<D> {
     /// is whole and its gate is closed, a crash leaves what it might have left before, whatever is
     /// answered.
     ///
-    /// The faults come in the order of `OpenFault`; `Device` and `OutOfMemory` as they are met. A
-    /// refused call hands the disk back.
+    /// # Errors
+    ///
+    /// The disk is handed back with one of these, in this order; the last two as they are met.
+    ///
+    /// - `TooManyFiles`: more than 256 different names. No call of the disk was made.
+    /// - `BadJournal`: the journal's gate is open over no whole record that fits its files.
+    /// - `TooLarge`: the first file in byte order of the names that is past the limit.
+    /// - `Device`, `OutOfMemory`.
     pub fn open(alloc: Global, disk: D, names: Vec<FileName>) -> Result<FileSet<D>, OpenRefused<D>>
         requires { All IsOrgFile names.items }
         ensures opened { IfOk result (λ set. IsOpenedSet D.Disk names.items set) }
@@ -105,8 +114,13 @@ impl<D: Disk> FileSet<D> {
         disk
     }
 
-    /// The bytes of a file, one of the set's or not. `Device` breaks the set; after `OutOfMemory`
-    /// the file can be read again; a broken set answers `Broken`.
+    /// The bytes of a file, one of the set's or not.
+    ///
+    /// # Errors
+    ///
+    /// - `Broken`: a call of the disk has failed before. No call is made.
+    /// - `Device`: a call of the disk failed; the set is broken from then on.
+    /// - `OutOfMemory`: the file can be read again.
     pub fn read(&mut self, name: &FileName) -> Result<Vec<u8>, SetFault>
         ensures text { GivesBytes D.Disk self.old.disk name.now self.new.disk result }
         ensures looks { Looks D.Disk self.old.disk self.new.disk }
@@ -133,20 +147,21 @@ impl<D: Disk> FileSet<D> {
     ///
     /// Where all is on the disk when the call begins, then at every moment since what a crash
     /// leaves recovers to all files as they were, or to all files with the changed texts; after Ok
-    /// all is on the disk again, and after `Device` it can be opened anew. No file is written but
-    /// the changed ones and the journal, behind whose gate the record of the changes stays. All
-    /// memory is taken before the first call of the disk. Where nothing was changed, no call of the
-    /// disk is made.
+    /// all is on the disk again. No file is written but the changed ones and the journal, behind
+    /// whose gate the record of the changes stays. Where nothing was changed, no call of the disk
+    /// is made.
+    ///
+    /// # Errors
+    ///
+    /// - `Broken`: a call of the disk has failed before. No call is made.
+    /// - `OutOfMemory`: before the first call of the disk. Nothing was changed.
+    /// - `Device`: a call of the disk failed. The set is broken from then on, and the disk can be
+    ///   opened anew.
     pub fn commit<C: Changes<FileName>>(&mut self, changes: &C) -> Result<(), SetFault>
         requires { CanCommit D.Disk self.old (C.pairs changes.now) }
-        ensures commits { Commits D.Disk self.old.disk (C.pairs changes.now) self.new.disk result }
-        ensures record { LeavesRecord D.Disk (C.pairs changes.now) self.new.disk result }
-        ensures memory { IsErrOf result SetFault.OutOfMemory → self.new ≡ self.old }
+        ensures commits { CommitsSet D.Disk self.old (C.pairs changes.now) result self.new }
         ensures nothing { C.pairs changes.now ≡ []
             → (self.new ≡ self.old) × (IsFalse self.old.broken → IsOk result) }
-        ensures set { KeepsSet self.old self.new result }
-        ensures accounts { Accounts D.Disk self.old.disk self.new.disk
-            (IsErrOf result SetFault.Device) }
     {
         if self.broken {
             return Err(SetFault::Broken);
@@ -162,12 +177,7 @@ impl<D: Disk> FileSet<D> {
         requires whole { IsFalse self.old.broken }
         requires some { C.pairs changes.now ≢ [] }
         requires can { CanCommit D.Disk self.old (C.pairs changes.now) }
-        ensures commits { Commits D.Disk self.old.disk (C.pairs changes.now) self.new.disk result }
-        ensures record { LeavesRecord D.Disk (C.pairs changes.now) self.new.disk result }
-        ensures memory { IsErrOf result SetFault.OutOfMemory → self.new ≡ self.old }
-        ensures set { KeepsSet self.old self.new result }
-        ensures accounts { Accounts D.Disk self.old.disk self.new.disk
-            (IsErrOf result SetFault.Device) }
+        ensures { CommitsSet D.Disk self.old (C.pairs changes.now) result self.new }
     {
         let alloc = *self.names.allocator();
         let record = Record::new(entries_of(alloc, changes)?);

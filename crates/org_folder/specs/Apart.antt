@@ -2,8 +2,8 @@
 use Rattle.std.specs.Prelude.{ℕ, Bool, false, ◌&&◌, nat_eq, List, get_or, take, drop, Option, Some, None}
 use Rattle.std.specs.List.{Contains, list_any}
 use Rattle.org_folder.specs.declared.apart.Node.{Node}
-use Rattle.org_folder.specs.declared.apart.ApartFault.{ApartFault}
-use Rattle.org_folder.specs.declared.apart.ApartFault.TheVariants.{SameFile, Device, OutOfMemory}
+use Rattle.org_folder.specs.declared.apart.AliasFault.{AliasFault}
+use Rattle.org_folder.specs.declared.apart.AliasFault.TheVariants.{SameFile, Device, OutOfMemory}
 
 -- both are files, and they are one
 abbrev pub is_same : Option Node → Option Node → Bool
@@ -16,7 +16,7 @@ abbrev pub is_again : List (Option Node) → ℕ → Bool
 is_again nodes at = list_any (λ other. is_same other (get_or nodes at None)) (take at nodes)
 
 -- of these names a name behind the first may be told to lead to a file that has one already
-abbrev pub MayTell : List (List ℕ) → ApartFault → Type 0
+abbrev pub MayTell : List (List ℕ) → AliasFault → Type 0
 MayTell names (SameFile name) = Contains (drop 1 names) name
 MayTell names Device = Unit {0}
 MayTell names OutOfMemory = Unit {0}

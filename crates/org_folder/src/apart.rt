@@ -1,10 +1,13 @@
 //! That each two of a store's names lead to two files.
+//!
+//! Two names of one file (links) would be written as two. It looks and changes nothing; that the
+//! system answers rightly is no clause.
 ghost use Rattle.std.specs.Prelude.{◌≡◌, ◌<◌, ℕ, [], length, IfOk, IfErr, IfSome, IfNone, IsTrue, IsFalse};
 ghost use Rattle.std.specs.List.{list_any};
 ghost use Rattle.std.specs.IoError.{error_kind};
 ghost use Rattle.org_folder.specs.Apart.{is_again, is_same, MayTell};
 ghost use Rattle.org_folder.specs.Faults.{IsToldAs};
-ghost use Rattle.org_folder.specs.declared.apart.ApartFault.TheVariants.{Device, OutOfMemory};
+ghost use Rattle.org_folder.specs.declared.apart.AliasFault.TheVariants.{Device, OutOfMemory};
 
 use crate::lock::LockedFolder;
 use org_disk::FileName;
@@ -17,7 +20,7 @@ use thiserror::Error;
 
 /// Why names can't be those of a store.
 #[derive(Debug, Drop, Error)]
-pub enum ApartFault {
+pub enum AliasFault {
     /// This name leads to the file of one before it.
     #[error("the file of {0} has another name")]
     SameFile(FileName),
@@ -29,30 +32,30 @@ pub enum ApartFault {
     OutOfMemory,
 }
 
-impl From<io::Error> for ApartFault {
+impl From<io::Error> for AliasFault {
     ghost from_gives = { λ error fault. IsToldAs (error_kind error) OutOfMemory Device fault };
 
-    fn from(error: io::Error) -> ApartFault {
+    fn from(error: io::Error) -> AliasFault {
         match error.kind() {
-            ErrorKind::OutOfMemory => ApartFault::OutOfMemory,
-            _ => ApartFault::Device,
+            ErrorKind::OutOfMemory => AliasFault::OutOfMemory,
+            _ => AliasFault::Device,
         }
     }
 }
 
-impl From<AllocError> for ApartFault {
+impl From<AllocError> for AliasFault {
     ghost from_gives = { λ _ fault. fault ≡ OutOfMemory };
 
-    fn from(_: AllocError) -> ApartFault {
-        ApartFault::OutOfMemory
+    fn from(_: AllocError) -> AliasFault {
+        AliasFault::OutOfMemory
     }
 }
 
-impl<T: Drop> From<AllocFailed<T>> for ApartFault {
+impl<T: Drop> From<AllocFailed<T>> for AliasFault {
     ghost from_gives = { λ _ fault. fault ≡ OutOfMemory };
 
-    fn from(_: AllocFailed<T>) -> ApartFault {
-        ApartFault::OutOfMemory
+    fn from(_: AllocFailed<T>) -> AliasFault {
+        AliasFault::OutOfMemory
     }
 }
 
@@ -68,16 +71,16 @@ pub struct Node {
 ///
 /// What the system answers of a name is no clause, so whether two names lead to one file isn't
 /// either.
-pub fn check_apart<R: Files + AllocGlobal>(
+pub fn check_aliases<R: Files + AllocGlobal>(
     rt: &R,
     folder: &LockedFolder<'_>,
     names: &[FileName],
-) -> Result<(), ApartFault>
+) -> Result<(), AliasFault>
     ensures { IfErr result (MayTell names.now) }
 {
     let nodes = nodes_of(rt, folder.path(), names)?;
     match first_again(nodes.as_slice()) {
-        Some(at) => Err(ApartFault::SameFile(names[at].clone()?)),
+        Some(at) => Err(AliasFault::SameFile(names[at].clone()?)),
         None => Ok(()),
     }
 }
@@ -87,7 +90,7 @@ fn nodes_of<R: Files + AllocGlobal>(
     rt: &R,
     path: &str,
     names: &[FileName],
-) -> Result<Vec<Option<Node>>, ApartFault>
+) -> Result<Vec<Option<Node>>, AliasFault>
     ensures size { IfOk result (λ nodes. length nodes.items ≡ length names.now) }
     ensures fault { IfErr result (MayTell []) }
 {
@@ -102,7 +105,7 @@ fn node_of<R: Files + AllocGlobal>(
     rt: &R,
     path: &str,
     name: &FileName,
-) -> Result<Option<Node>, ApartFault>
+) -> Result<Option<Node>, AliasFault>
     ensures { IfErr result (MayTell []) }
 {
     let path = Path::new(path).join(rt.alloc(), name.as_str())?;
@@ -110,7 +113,7 @@ fn node_of<R: Files + AllocGlobal>(
 }
 
 // The file that the system told of, none where there is no such file.
-fn told(answer: io::Result<Metadata>) -> Result<Option<Node>, ApartFault>
+fn told(answer: io::Result<Metadata>) -> Result<Option<Node>, AliasFault>
     ensures { IfErr result (MayTell []) }
 {
     match answer {

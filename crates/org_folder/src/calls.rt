@@ -1,4 +1,7 @@
-//! The calls of a system on the files of a folder.
+//! The calls of a system on the files of a folder: the ones that a disk needs, and their record.
+//!
+//! The record stands in proofs alone. Whether its answers were right is the premise under which a
+//! folder is an honest disk.
 ghost use Rattle.std.specs.Prelude.{◌≡◌, ◌≤◌, List, ◌∷◌, length, is_ok, IsTrue, IsFalse, IfOk, IfSome, IfNone, OnOk, OnErr};
 ghost use Rattle.org_folder.specs.Calls.{files, AreRight, Event, World};
 ghost use Rattle.org_folder.specs.Calls.Event.{Absent, Cut, Length, Read, Sync, Write};

@@ -1,4 +1,6 @@
-//! The files of a folder, as a disk.
+//! The files of a folder, as a disk: org_disk's `Disk` over the calls of a system.
+//!
+//! It counts failures and keeps what `folder` opened. Nothing is cached of what files hold.
 ghost use Rattle.std.specs.Prelude.{◌≡◌, [], IfOk, OnOk, OnErr, length};
 ghost use Rattle.org_disk.specs.Disk.{IsCounted};
 ghost use Rattle.org_folder.specs.Calls.{files, AreRight, LeftSince};
@@ -67,6 +69,10 @@ where
 {
     /// The disk of a locked folder, by the folder's path. It makes no call of the system, and its
     /// record is empty. The folder is to be kept as long as the disk.
+    ///
+    /// # Errors
+    ///
+    /// `AllocError`: there was no memory for the path.
     pub fn new(
         rt: R,
         alloc: Global,
@@ -100,7 +106,7 @@ where
 
     ghost honest = { λ disk. AreRight C.world (C.history disk.folder.calls) };
 
-    ghost steady = { ⊥ };
+    ghost truthful = { ⊥ };
 
     ghost files = { λ disk. files C.world (C.history disk.folder.calls) };
 

@@ -1,4 +1,7 @@
-//! The files of a folder, each opened once and kept open. No fault is counted here.
+//! The files of a folder, each opened once and kept open.
+//!
+//! Each name stands once among the opened files. Files are made by their first byte, and never
+//! removed or renamed. No fault is counted here.
 ghost use Rattle.std.specs.Prelude.{◌≡◌, ◌⊎◌, ◌<◌, ◌≤◌, [], ◌∷◌, length, take, drop, is_ok, IfOk, IfSome, IfNone, IsErr, OnOk};
 ghost use Rattle.std.specs.List.{HoldsAt};
 ghost use Rattle.org_disk.specs.Disk.{cut, stable, sync, write};

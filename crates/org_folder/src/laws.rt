@@ -1,5 +1,6 @@
-//! The laws of the record of calls, for all values: each is the contract of a function with nothing
-//! to do.
+//! The laws of the record of calls, for all values.
+//!
+//! Each is the contract of a function with nothing to do.
 ghost use Rattle.std.specs.Prelude.{◌≡◌, List, ℕ, []};
 ghost use Rattle.org_disk.specs.Disk.{stable};
 ghost use Rattle.org_folder.specs.Calls.{Event, IsLeftAlone, IsRight, World};

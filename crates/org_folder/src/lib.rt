@@ -19,7 +19,7 @@ mod lock;
 mod record;
 mod start;
 
-pub use apart::{ApartFault, Node, check_apart};
+pub use apart::{AliasFault, Node, check_aliases};
 pub use calls::{Calls, Opened, SystemCalls};
 pub use disk::{CallsDisk, FolderDisk};
 pub use list::{ListFault, org_file, org_files};

@@ -1,4 +1,7 @@
-//! The Org files of a folder.
+//! The Org files of a folder: its plain files whose names are file names in `.org`.
+//!
+//! Links are followed. Other entries are left alone; one whose name isn't UTF-8 refuses the
+//! listing.
 ghost use Rattle.std.specs.Prelude.{◌≡◌, ◌↔◌, IsTrue, IsFalse, IfOk, IfSome, IsErrOf, All};
 ghost use Rattle.std.specs.IoError.{error_kind};
 ghost use Rattle.org_disk.specs.Names.{IsOrgFile};
@@ -43,8 +46,12 @@ impl<T: Drop> From<AllocFailed<T>> for ListFault {
     }
 }
 
-/// The name of an Org file that this text is. `BadName` comes exactly where it is none, or an
-/// archive file's.
+/// The name of an Org file that this text is.
+///
+/// # Errors
+///
+/// - `BadName`: exactly where it is none, or an archive file's.
+/// - `OutOfMemory`.
 #[tactic(auto, using(crate::proofs::Names::org_file_is))]
 pub fn org_file(alloc: Global, text: &str) -> Result<FileName, NameFault>
     ensures name { IfOk result (λ name. (name ≡ text.now) × IsTrue (is_org_file text.now)) }
@@ -63,10 +70,15 @@ fn is_org_file(text: &str) -> bool
     FileName::accepts(text) && !text.as_bytes().ends_with(b"_archive")
 }
 
-/// The names of the Org files of a locked folder, in the order in which the system tells them.
+/// The names of the Org files of a locked folder, in the order in which the system lists them.
 /// Entries with other names are left out, and so is what is no plain file: folders, pipes, sockets
 /// and devices, those that a link leads to as well. A link that leads nowhere is a file that is
 /// absent.
+///
+/// # Errors
+///
+/// - `Device`: the folder can't be listed, or the name of one of its entries isn't UTF-8.
+/// - `OutOfMemory`.
 pub fn org_files<R: Files + AllocGlobal + Clone + Drop>(
     rt: &R,
     folder: &LockedFolder<'_>,

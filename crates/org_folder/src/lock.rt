@@ -1,4 +1,7 @@
 //! The lock by which one store at a time is open on a folder.
+//!
+//! It is the system's advisory lock on the folder itself: no file is made, and a process that ends
+//! has none. It keeps off this program alone.
 ghost use Rattle.std.specs.Prelude.{◌≡◌, IfOk};
 ghost use Rattle.org_folder.specs.Locks.{held};
 ghost use Rattle.org_folder.specs.declared.lock.LockFault.TheVariants.{OutOfMemory};
@@ -45,11 +48,15 @@ impl<'a> LockedFolder<'a> {
 }
 
 /// Locks a folder against every other call of this, until the answer is dropped or its process
-/// ends, however it ends. `Locked` comes where another answer is still held. A folder that can't be
-/// opened, or that the system doesn't lock, is answered without a lock. Nothing is made in the
-/// folder, and nothing in it is looked at.
+/// ends, however it ends. A folder that can't be opened, or that the system doesn't lock, is
+/// answered without a lock. Nothing is made in the folder, and nothing in it is looked at.
 ///
 /// That the system keeps the lock is no clause: no contract says what a lock does.
+///
+/// # Errors
+///
+/// - `Locked`: another answer is still held.
+/// - `OutOfMemory`.
 pub fn lock_folder<'a, R: Files<File = File> + AllocGlobal>(
     rt: &R,
     path: &'a str,

@@ -1,5 +1,7 @@
-//! The record of the calls, which stands in proofs alone and takes no memory. Its two functions are
-//! proved by hand, since no code can set it.
+//! The record of the calls, which stands in proofs alone and takes no memory.
+//!
+//! Its two functions are proved by hand, since no code can set it: it is to be read, and no other
+//! proof by hand may set a record.
 ghost use Rattle.std.specs.Prelude.{◌≡◌, List, [], ◌∷◌};
 ghost use Rattle.std.specs.Borrow.{ftrue};
 ghost use Rattle.org_folder.specs.Calls.{Event};

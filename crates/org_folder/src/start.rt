@@ -1,4 +1,6 @@
 //! What a folder holds at first, which no code reads.
+//!
+//! A program names `Unknown`; what is proved at every start holds for the folder that there is.
 ghost use Rattle.std.specs.Prelude.{[]};
 ghost use Rattle.org_disk.specs.Disk.{stable};
 ghost use Rattle.org_folder.specs.Calls.{World};

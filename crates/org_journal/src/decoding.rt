@@ -1,4 +1,7 @@
-//! The record that the bytes behind a journal's gate spell.
+//! The record that the bytes behind a journal's gate spell, in either version of the format.
+//!
+//! Bytes are checked whole before any memory is taken for what they hold. Whether a record fits its
+//! files is `finding`'s question.
 ghost use Rattle.std.specs.Prelude.{◌≡◌, ◌==◌, ◌⊎◌, List, Some, Ok, Err, IfOk, IsErrOf, IsFalse, IsTrue, is_some};
 ghost use Rattle.org_journal.specs.Reading.{patches_at, entry_at, entries_at, journal_at};
 ghost use Rattle.org_disk.specs.Names.{is_file_name};
@@ -148,8 +151,12 @@ fn record_of(alloc: Global, bytes: &[u8]) -> Result<Record, RecordFault>
 }
 
 /// The record whose bytes stand at the front of these, which are a journal's bytes behind its gate.
-/// `Malformed` comes exactly where they don't begin with a well-formed record's bytes, in either
-/// version; memory is wanted only where they do.
+///
+/// # Errors
+///
+/// - `Malformed`: exactly where they don't begin with a well-formed record's bytes, in either
+///   version.
+/// - `OutOfMemory`: only where they do.
 pub fn decode(alloc: Global, bytes: &[u8]) -> Result<Record, RecordFault>
     ensures found { IfOk result (λ entries. BeginsWith bytes.now entries) }
     ensures only { (entries : List Entry) → BeginsWith bytes.now entries

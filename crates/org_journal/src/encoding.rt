@@ -1,4 +1,7 @@
-//! The bytes of a record, in version 2 of the journal's format.
+//! The bytes of a record, in version 2 of the journal's format: numbers big-endian, names behind
+//! their lengths, patches behind their counts.
+//!
+//! The gate's byte isn't part of them. Version 1 is read and never written.
 ghost use Rattle.std.specs.Prelude.{◌≡◌, ◌≤◌, ◌++◌, List, ℕ, length, take, drop, Some, OnOk, IfOk};
 ghost use Rattle.std.specs.List.{flat_map, AllByRecursion};
 ghost use Rattle.byteorder.specs.Endian.{big_bytes};
@@ -90,6 +93,10 @@ fn set_size(bytes: &mut [u8], size: u64)
 
 impl Record {
     /// The journal's bytes behind its gate, in version 2 of the format.
+    ///
+    /// # Errors
+    ///
+    /// `AllocError`.
     pub fn encode(&self, alloc: Global) -> Result<Vec<u8>, AllocError>
         requires { IsWellFormed Two self.now }
         ensures bytes { IfOk result (λ bytes. bytes.items ≡ journal_bytes Two self.now) }

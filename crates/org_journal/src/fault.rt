@@ -1,4 +1,6 @@
-//! Why a record was not read or found.
+//! Why a record was not read, or not found.
+//!
+//! Faults of memory and of the disk come by `?`.
 ghost use Rattle.std.specs.Prelude.{◌≡◌};
 
 use org_disk::DiskFault;

@@ -1,4 +1,7 @@
-//! The fields of a record, read from the front of its bytes. Nothing here takes memory.
+//! The fields of a record, read from the front of its bytes.
+//!
+//! Each function answers a field and the bytes behind it, or none where it isn't well formed.
+//! Nothing here takes memory.
 ghost use Rattle.std.specs.Prelude.{◌≡◌, ◌+◌, ◌≤◌, length, IfSome, IsTrue};
 ghost use Rattle.org_disk.specs.Names.{is_file_name};
 ghost use Rattle.org_journal.specs.Reading.{Reads, number_at, bytes_at, counted_at, name_at, may_follow, patch_at, old_entry, old_entry_at, head_at};

@@ -1,4 +1,7 @@
 //! What a journal on a disk says: that nothing is to be done, or what a commit had still to do.
+//!
+//! It reads and never writes. An open gate over anything but a whole record that fits its files is
+//! `BadJournal`.
 ghost use Rattle.std.specs.Prelude.{◌≡◌, ◌≤◌, ◌<◌, ◌+◌, ◌^◌, ℕ, List, length, take, drop, Some, Ok, Err, IfOk, IfSome, IsErr, IsErrOf, IsTrue, IsFalse};
 ghost use Rattle.std.specs.List.{AllByRecursion};
 ghost use Rattle.org_disk.specs.Accounts.{Accounts, Looks};
@@ -152,9 +155,14 @@ fn all_fit<D: Disk>(disk: &mut D, entries: &[Entry]) -> Result<bool, DiskFault>
 
 /// Looks at the journal, and changes nothing. `Armed` comes exactly where the gate is open and a
 /// well-formed record that fits its files stands behind it, with that record; `Closed` exactly
-/// where the gate is closed; else `BadJournal`. In their place `Device` comes where a call of the
-/// disk failed, and `OutOfMemory` where memory was refused. Memory is taken only where the gate is
-/// open and the journal is long enough for the size that its header gives.
+/// where the gate is closed.
+///
+/// # Errors
+///
+/// - `BadJournal`: the gate is open over anything else.
+/// - `Device`: a call of the disk failed.
+/// - `OutOfMemory`: memory is taken only where the gate is open and the journal is long enough for
+///   the size that its header gives.
 pub fn find<D: Disk>(alloc: Global, disk: &mut D, journal: &FileName) -> Result<Found, FindFault>
     requires { journal.now ≡ journal_name }
     ensures found { D.honest disk.new → Finds (contents (D.files disk.old)) result }

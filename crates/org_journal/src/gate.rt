@@ -1,5 +1,7 @@
-//! The writes of the journal, in the order that lets a crash at any moment leave it whole: while
-//! its bytes are written the gate is closed on the disk, and the gate alone opens and closes it.
+//! The writes of the journal, in the order that lets a crash at any moment leave it whole.
+//!
+//! The gate is the journal's first byte. While other bytes are written it is closed on the disk; it
+//! is opened and closed by a write of its own, synced before anything else is done.
 ghost use Rattle.std.specs.Prelude.{◌≤◌, ◌<◌, length, drop, ◌∷◌, OnOk, IsErr, IsTrue, is_some};
 ghost use Rattle.org_splice.specs.Overwritten.{overwritten};
 ghost use Rattle.org_disk.specs.Disk.{IsStable};
@@ -16,6 +18,10 @@ pub(crate) const OPEN: u8 = 1;
 
 /// Gives a journal that is shorter than a header its gate, closed. At every moment the gate is
 /// closed, also where the call fails.
+///
+/// # Errors
+///
+/// `DiskFault`: a call of the disk failed.
 pub fn prepare<D: Disk>(disk: &mut D, journal: &FileName) -> Result<(), DiskFault>
     requires stable { D.honest disk.old → IsStable (D.files disk.old journal.now) }
     requires short { D.honest disk.old → length (D.files disk.old journal.now).content <
@@ -32,6 +38,10 @@ pub fn prepare<D: Disk>(disk: &mut D, journal: &FileName) -> Result<(), DiskFaul
 
 /// Puts a record's bytes behind the closed gate, on the disk. At every moment the gate is closed,
 /// also where the call fails; bytes that stood behind the new ones stay.
+///
+/// # Errors
+///
+/// `DiskFault`: a call of the disk failed.
 pub fn arm<D: Disk>(disk: &mut D, journal: &FileName, body: &[u8]) -> Result<(), DiskFault>
     requires { D.honest disk.old → HasClosedGate (D.files disk.old journal.now) }
     ensures any_moment { D.honest disk.new → PassesOver D.Disk disk.old disk.new
@@ -47,6 +57,10 @@ pub fn arm<D: Disk>(disk: &mut D, journal: &FileName, body: &[u8]) -> Result<(),
 
 /// Opens the gate, on the disk. Where a record stands behind it, the journal is open then. At every
 /// moment the journal differs from what it was at its first byte alone, also where the call fails.
+///
+/// # Errors
+///
+/// `DiskFault`: a call of the disk failed.
 pub fn open_gate<D: Disk>(disk: &mut D, journal: &FileName) -> Result<(), DiskFault>
     requires { D.honest disk.old → IsStable (D.files disk.old journal.now) }
     ensures any_moment { D.honest disk.new → PassesOver D.Disk disk.old disk.new
@@ -64,6 +78,10 @@ pub fn open_gate<D: Disk>(disk: &mut D, journal: &FileName) -> Result<(), DiskFa
 
 /// Closes the gate, on the disk. At every moment the journal differs from what it was at its first
 /// byte alone, also where the call fails.
+///
+/// # Errors
+///
+/// `DiskFault`: a call of the disk failed.
 pub fn close_gate<D: Disk>(disk: &mut D, journal: &FileName) -> Result<(), DiskFault>
     requires stable { D.honest disk.old → IsStable (D.files disk.old journal.now) }
     requires nonempty { D.honest disk.old → 1 ≤ length (D.files disk.old journal.now).content }

@@ -1,5 +1,6 @@
-//! Whether bytes are those of a record. Nothing here takes memory: what is read is looked at and
-//! passed over.
+//! Whether bytes are those of a record: `fields` over all entries.
+//!
+//! Nothing here takes memory: what is read is looked at and passed over.
 ghost use Rattle.std.specs.Prelude.{◌≡◌, ◌↔◌, ◌==◌, List, Some, IfSome, IsTrue, is_some};
 ghost use Rattle.org_journal.specs.Record.{is_named, names_differ, BeginsWith};
 ghost use Rattle.org_journal.specs.declared.record.Entry.{Entry};

@@ -1,4 +1,6 @@
-//! What a commit makes of its files, entry by entry.
+//! What a commit makes of its files, entry by entry, as a value.
+//!
+//! It knows no bytes: `encoding` and `decoding` do.
 ghost use Rattle.std.specs.Prelude.{◌≡◌};
 
 use org_disk::FileName;

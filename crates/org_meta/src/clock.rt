@@ -1,4 +1,6 @@
-//! Clock lines (Org Syntax, "Clocks").
+//! Clock lines (Org Syntax, "Clocks"): open ones, and closed ones with their minutes.
+//!
+//! Minutes are counted from the two stamps; the duration that is written isn't believed.
 ghost use Rattle.std.specs.Prelude.{◌≡◌, ◌≤◌, length, IfSome, codes, nat_eq, map};
 ghost use Rattle.std.specs.Option.{option_map};
 ghost use Rattle.std.specs.List.{prefix_len};

@@ -1,4 +1,7 @@
 //! Clocking in and out: edits of LOGBOOK drawers (Org manual, "Clocking Work Time").
+//!
+//! An edit is answered, and the section isn't changed here. Which clock runs is the caller's
+//! question.
 ghost use Rattle.std.specs.Prelude.{◌≡◌, ℕ, List, IfOk, IfErr, IfSome, IfNone, OnOk, None, [], ◌∷◌, ◌++◌};
 ghost use Rattle.std.specs.List.{list_any};
 ghost use Rattle.org_splice.specs.Lines.{terminated, lines_of};
@@ -56,6 +59,10 @@ fn log_place(text: &[u8]) -> Option<Place<'_>>
 
 /// The edit that puts an open clock line first into the section's LOGBOOK drawer, or into a new one
 /// before the rest (Org manual, "Clocking commands").
+///
+/// # Errors
+///
+/// `AllocError`.
 pub fn open_clock(alloc: Global, section: &[u8], now: Moment) -> Result<Edit, AllocError>
     requires { terminated section.now ≡ section.now }
     ensures { IfOk result (λ edit.
@@ -87,8 +94,12 @@ fn push_closing(out: &mut Vec<u8>, now: Moment, minutes: u64) -> Result<(), Allo
 
 /// The edit that closes an open clock line of the section, as `find_open` answers it: `--`, the
 /// moment's timestamp and the duration take the place of all that follows the line's own timestamp
-/// (Org manual, "Clocking commands"). ClockBackwards where the moment is before the clock's start;
-/// only where it isn't is memory wanted.
+/// (Org manual, "Clocking commands").
+///
+/// # Errors
+///
+/// - `ClockBackwards`: the moment is before the clock's start.
+/// - `OutOfMemory`: only where it isn't.
 pub fn close_clock(
     alloc: Global,
     section: &[u8],

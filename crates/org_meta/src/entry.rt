@@ -1,4 +1,6 @@
-//! The entries of planning lines (Org Syntax, "Planning").
+//! The entries of planning lines (Org Syntax, "Planning"): a word, blanks, a stamp, blanks.
+//!
+//! Entries borrow their bytes, so that what isn't changed is written as it was read.
 ghost use Rattle.std.specs.Prelude.{◌≡◌, ◌≤◌, ◌⊎◌, length, None, Some, IfSome, IfOk, IfErr, OnOk, ◌++◌};
 ghost use Rattle.std.specs.Option.{option_map};
 ghost use Rattle.std.specs.List.{list_all, list_any};

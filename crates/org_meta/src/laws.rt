@@ -1,5 +1,6 @@
-//! What holds of the definitions, for all values: each law is the contract of a function with
-//! nothing to do.
+//! What holds of the definitions of sections, for all values.
+//!
+//! Each law is the contract of a function with nothing to do.
 ghost use Rattle.std.specs.Prelude.{◌≡◌, ◌<◌, ◌++◌, ◌∷◌, [], ℕ, Bool, List, Result, Some, Ok, true, false, codes, IsTrue};
 ghost use Rattle.org_splice.specs.Blanks.{trimmed};
 ghost use Rattle.org_stamp.specs.Calendar.{CivilMinute, IsDay};

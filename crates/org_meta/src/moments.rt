@@ -1,4 +1,4 @@
-//! How a moment is written into sections.
+//! How a moment is written into sections: one inactive stamp, with its time.
 ghost use Rattle.std.specs.Prelude.{◌≡◌, IfOk, OnOk, ◌++◌};
 ghost use Rattle.org_meta.specs.Moments.{moment_text};
 

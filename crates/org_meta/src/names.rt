@@ -1,4 +1,4 @@
-//! Names that are compared without regard to case.
+//! Names that are compared without regard to ASCII case.
 ghost use Rattle.std.specs.Prelude.{◌≡◌};
 ghost use Rattle.std.specs.Str.{str_eq_ignore_ascii_case};
 

@@ -1,4 +1,6 @@
 //! Notes of repetitions (Org manual, "Tracking TODO state changes").
+//!
+//! A note is one line, put first into the rest of a section. No drawer is made for it.
 ghost use Rattle.std.specs.Prelude.{◌≡◌, ◌∷◌, [], ◌++◌, IfOk, OnOk};
 ghost use Rattle.org_splice.specs.Lines.{terminated};
 ghost use Rattle.org_meta.specs.Edits.{GivesParts};
@@ -34,6 +36,10 @@ fn push_note(out: &mut Vec<u8>, new: &[u8], old: &[u8], now: Moment) -> Result<(
 /// The edit that puts the note of a repetition first into the rest of the section (Org manual,
 /// "Repeated tasks"): `- State`, the new state, `from`, the old one, each in quotes and padded to
 /// 12 columns, and the moment. A heading without a state has the empty one.
+///
+/// # Errors
+///
+/// `AllocError`.
 pub fn add_note(
     alloc: Global,
     section: &[u8],

@@ -1,4 +1,6 @@
-//! What a section is split into.
+//! What a section is split into: planning line, property drawer, rest.
+//!
+//! Each part is a terminated text, and the three together are the section.
 
 /// The parts of a section, each a terminated text that begins where the one before ends (Org
 /// Syntax, "Headings").

@@ -1,4 +1,7 @@
 //! Edits of the planning line (Org manual, "Closing items", "Repeated tasks").
+//!
+//! A line that isn't well formed is odd, and never edited. Entries that an edit doesn't mean keep
+//! their bytes.
 ghost use Rattle.std.specs.Prelude.{◌≡◌, ◌⊎◌, ◌<◌, ◌≤◌, ℕ, List, length, None, Some, Ok, Err, IfOk, IfErr, OnOk, true, false, [], ◌∷◌, ◌++◌};
 ghost use Rattle.org_splice.specs.Lines.{terminated, print_lines, lines_of};
 ghost use Rattle.org_meta.specs.Edits.{ChangesNothing};
@@ -225,8 +228,12 @@ fn replacing(line: &[u8], bytes: Vec<u8>) -> Edit
 }
 
 /// The edit that takes the CLOSED entry away, with the blanks behind it; a planning line left
-/// without entries goes whole. Where there is none, the edit changes nothing. OddPlanning where the
-/// planning line isn't well formed (Org Syntax, "Planning").
+/// without entries goes whole. Where there is none, the edit changes nothing.
+///
+/// # Errors
+///
+/// - `OddPlanning`: the planning line isn't well formed (Org Syntax, "Planning").
+/// - `OutOfMemory`.
 pub fn clear_closed(alloc: Global, section: &[u8]) -> Result<Edit, PlanningFault>
     requires { terminated section.now ≡ section.now }
     ensures ok { IfOk result (GivesOk (clear_closed (parts_of section.now)) section.now) }
@@ -246,8 +253,12 @@ pub fn clear_closed(alloc: Global, section: &[u8]) -> Result<Edit, PlanningFault
 }
 
 /// The edit that puts `CLOSED: [stamp]` first in the planning line, in the place of the CLOSED
-/// entry that it has, or as a new planning line (Org manual, "Closing items"). OddPlanning where
-/// the planning line isn't well formed.
+/// entry that it has, or as a new planning line (Org manual, "Closing items").
+///
+/// # Errors
+///
+/// - `OddPlanning`: the planning line isn't well formed.
+/// - `OutOfMemory`.
 pub fn set_closed(alloc: Global, section: &[u8], now: Moment) -> Result<Edit, PlanningFault>
     requires { terminated section.now ≡ section.now }
     ensures ok { IfOk result (GivesOk (set_closed now (parts_of section.now)) section.now) }
@@ -262,9 +273,14 @@ pub fn set_closed(alloc: Global, section: &[u8], now: Moment) -> Result<Edit, Pl
 }
 
 /// The edit that repeats each SCHEDULED or DEADLINE stamp that has a repeater, and takes the CLOSED
-/// entry away (Org manual, "Repeated tasks"); None where no stamp repeats. OddPlanning where the
-/// planning line isn't well formed; else BadRepeat or DateRange, of several faults the first
-/// entry's.
+/// entry away (Org manual, "Repeated tasks"); None where no stamp repeats.
+///
+/// # Errors
+///
+/// - `OddPlanning`: the planning line isn't well formed.
+/// - `BadRepeat`, `DateRange`: a stamp can't be repeated (`Stamp::repeat`); of several the first
+///   entry's.
+/// - `OutOfMemory`.
 pub fn repeat_planning(
     alloc: Global,
     section: &[u8],

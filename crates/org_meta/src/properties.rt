@@ -1,4 +1,7 @@
-//! Properties (Org manual, "Property Syntax").
+//! Properties (Org manual, "Property Syntax"): read from the drawer, and put into it.
+//!
+//! The first line of a name counts. Names are compared without regard to ASCII case; `+` properties
+//! aren't joined.
 ghost use Rattle.std.specs.Prelude.{◌≡◌, ℕ, ◌≤◌, ◌+◌, length, IfOk, [], ◌∷◌, ◌++◌};
 ghost use Rattle.std.specs.Option.{option_map};
 ghost use Rattle.org_splice.specs.Lines.{terminated, lines_of};
@@ -93,6 +96,10 @@ fn property_bytes(
 /// The edit that puts a property into the section (Org manual, "Property Syntax"): its line in the
 /// place of the first of that name, or before the `:END:` of the drawer, or in a new drawer below
 /// the planning line. What is put is read again where the name is nonblank bytes and not END.
+///
+/// # Errors
+///
+/// `AllocError`.
 pub fn put_property(
     alloc: Global,
     section: &[u8],

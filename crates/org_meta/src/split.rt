@@ -1,4 +1,7 @@
-//! The three parts of a section.
+//! The three parts of a section, found from its front.
+//!
+//! A planning line stands first or isn't one; a drawer counts only where all its lines are
+//! properties.
 ghost use Rattle.std.specs.Prelude.{◌≡◌, codes, is_some};
 ghost use Rattle.std.specs.Option.{option_map};
 ghost use Rattle.org_splice.specs.Lines.{terminated, lines_of};

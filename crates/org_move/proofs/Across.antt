@@ -27,7 +27,7 @@ pub archive_made : (states : Keywords) (name : List ℕ) (path : List (List ℕ)
     → out ≡ removal i (tree t) → goes_in ≡ record { at = at; removed = 0; bytes = bytes } → bytes ≡ print_node (filled to (level_at up (tree u)) (archived states name now (tree t) i))
     → (new : Moved) × (archive_across states name path now (tree t) there to (tree u) ≡ Ok new)
     × (AreEdits (out ∷ []) t (print new.source) × AreEdits (goes_in ∷ []) u (print new.target))
-archive_made states name path now t there to u r s i up at bytes out goes_in shut shut_target r_is found s_is found_up lt goes out_is goes_in_is bytes_is =
+archive_made states name path now t there to u r s i up at bytes out goes_in stays_terminated shut_target r_is found s_is found_up lt goes out_is goes_in_is bytes_is =
     let d : Document = tree t in
     let e : Document = tree u in
     let root : Node = archived states name now d i in
@@ -43,7 +43,7 @@ archive_made states name path now t there to u r s i up at bytes out goes_in shu
       new,
       rw (first, second) refl,
       (
-        rw out_is (subst (λ t. AreEdits (removal i d ∷ []) t (print new.source)) (prints t shut) left),
+        rw out_is (subst (λ t. AreEdits (removal i d ∷ []) t (print new.source)) (prints t stays_terminated) left),
         rw (goes_in_is, bytes_is) (subst (λ u. AreEdits (insertion at node ∷ []) u (print new.target)) whole gained),
       ),
     )

@@ -27,11 +27,11 @@ use Rattle.org_move.specs.Refile.{is_inside, moved, refile_within, Moved, refile
 -- ---- nodes of a text
 
 pub prints : (t : List ℕ) → terminated t ≡ t → print (tree t) ≡ t
-prints t shut = (tree-is t).prints ∙ shut
+prints t stays_terminated = (tree-is t).prints ∙ stays_terminated
 
 -- the stars of a heading line aren't the whole text
 pub level_less : (t u : List ℕ) (i level : ℕ) → u ≡ t → terminated t ≡ t → i < node_count (tree t) → level ≡ (node_at (tree t) i).node.level → level < length u
-level_less t u i level same shut lt is =
+level_less t u i level same stays_terminated lt is =
     let node : Node = (node_at (tree t) i).node in
     let at = take_local i (tree t) lt in
     let whole : length (print (tree t)) ≡ length at.front + (length (print_node node) + length at.back) =
@@ -39,7 +39,7 @@ level_less t u i level same shut lt is =
     let more : List ℕ = print_lines (node.section ++ lines node.children) in
     let line : length (print_node node) ≡ node.level + length node.rest + (length more + 1) =
     omega (arith, length-append (heading_line node.level node.rest) (10 ∷ more), length-append (replicate node.level 42) node.rest, length-replicate {A = ℕ} node.level 42) in
-    omega (arith, is, whole, line, ap length (prints t shut), ap length same)
+    omega (arith, is, whole, line, ap length (prints t stays_terminated), ap length same)
 
 -- the bytes of a subtree are the print of its node
 pub printed : (t u : List ℕ) (i start end : ℕ) → u ≡ t → i < node_count (tree t) → slice_range t start end ≡ print_node (node_at (tree t) i).node
@@ -85,7 +85,7 @@ pub within_made : (states : Keywords) (path to : List (List ℕ)) (place : Place
     → ((node : Node) → InsertsAt (print (take i (tree t))) (insert (parent_without i (size_of (tree t) i) (Some p)) place node (take i (tree t))) at (shift_node (level_below (Some p) (tree t)) node))
     → level ≡ level_below (Some p) (tree t) → out ≡ removal i (tree t) → into ≡ insertion at (shift_node level (node_at (tree t) i).node)
     → (new : Document) × (refile_within states path to place (tree t) ≡ Ok new) × AreEdits (out ∷ into ∷ []) t (print new)
-within_made states path to place t r s i p at level b out into shut r_is found s_is found_to lt lies outside goes level_is out_is into_is =
+within_made states path to place t r s i p at level b out into stays_terminated r_is found s_is found_to lt lies outside goes level_is out_is into_is =
     let d : Document = tree t in
     let node : Node = (node_at d i).node in
     let test : is_inside d i p ≡ false = inside_is d i p b lies ∙ outside in
@@ -95,7 +95,7 @@ within_made states path to place t r s i p at level b out into shut r_is found s
     two_edits i at (shift_node (level_below (Some p) d) node) d (moved i p place d) lt (goes node) in (
       moved i p place d,
       rw (first, second, test) refl,
-      rw (out_is, into_is, level_is) (subst (λ t. AreEdits (removal i d ∷ insertion at (shift_node (level_below (Some p) d) node) ∷ []) t (print (moved i p place d))) (prints t shut) edits),
+      rw (out_is, into_is, level_is) (subst (λ t. AreEdits (removal i d ∷ insertion at (shift_node (level_below (Some p) d) node) ∷ []) t (print (moved i p place d))) (prints t stays_terminated) edits),
     )
 
 -- ---- across two texts
@@ -105,7 +105,7 @@ pub across_made : (states : Keywords) (path : List (List ℕ)) (t : List ℕ) (t
     → ((node : Node) → InsertsAt u (insert (Some p) place node (tree u)) at (shift_node (level_below (Some p) (tree u)) node))
     → level ≡ level_below (Some p) (tree u) → out ≡ removal i (tree t) → into ≡ insertion at (shift_node level (node_at (tree t) i).node)
     → (new : Moved) × (refile_across states path (tree t) there to (tree u) place ≡ Ok new) × (AreEdits (out ∷ []) t (print new.source) × AreEdits (into ∷ []) u (print new.target))
-across_made states path t there to u place r s i p at level out into shut shut_target r_is found s_is found_to lt goes level_is out_is into_is =
+across_made states path t there to u place r s i p at level out into stays_terminated shut_target r_is found s_is found_to lt goes level_is out_is into_is =
     let d : Document = tree t in
     let e : Document = tree u in
     let node : Node = shift_node (level_below (Some p) e) (node_at d i).node in
@@ -120,7 +120,7 @@ across_made states path t there to u place r s i p at level out into shut shut_t
       new,
       rw (first, second) refl,
       (
-        rw out_is (subst (λ t. AreEdits (removal i d ∷ []) t (print new.source)) (prints t shut) left),
+        rw out_is (subst (λ t. AreEdits (removal i d ∷ []) t (print new.source)) (prints t stays_terminated) left),
         rw (into_is, level_is) (subst (λ u. AreEdits (insertion at node ∷ []) u (print new.target)) whole gained),
       ),
     )

@@ -23,12 +23,12 @@ section_lines t i lt = plain_lines _ (node-valid t i lt).heading.section
 
 -- the section lies in the text
 pub section_within : (t u : List ℕ) (i : ℕ) (s : Span) → u ≡ t → terminated t ≡ t → i < node_count (tree t) → IsSection t (node_at (tree t) i) s → s.end ≤ length u
-section_within t u i s same shut lt is =
+section_within t u i s same stays_terminated lt is =
     let node : Node = (node_at (tree t) i).node in
     let at = take_local i (tree t) lt in
     let whole : length (print (tree t)) ≡ length at.front + (length (print_node node) + length at.back) =
     ap length at.is ∙ length-append at.front (print_node node ++ at.back) ∙ ap (λ n. length at.front + n) (length-append (print_node node) at.back) in
-    omega (arith, is.end, at.at, whole, size-append (own_lines node) (lines node.children), ap length (prints t shut), ap length same)
+    omega (arith, is.end, at.at, whole, size-append (own_lines node) (lines node.children), ap length (prints t stays_terminated), ap length same)
 
 -- the bytes of a section, however the text is called
 pub section_bytes : (t u : List ℕ) (i : ℕ) (s : Span) → u ≡ t → IsSection t (node_at (tree t) i) s → slice_range u s.start s.end ≡ print_lines (node_at (tree t) i).node.section

@@ -42,11 +42,11 @@ level_at up d = option_map (λ i. (node_at d i).node.level) up
 -- once a subtree is taken out, as the code counts
 pub at_the_new_end : (to : Destination) (node : Node) (t u : List ℕ) (i : ℕ) (up : Option ℕ) (s : Span) → up ≡ None → u ≡ t → terminated t ≡ t → i < node_count (tree t) → IsSubtree t (node_at (tree t) i) s
     → InsertsAt (print (take i (tree t))) (put_last to (parent_without i (size_of (tree t) i) up) node (take i (tree t))) (s.start + (length u - s.end)) (filled to (level_at up (tree t)) node)
-at_the_new_end to node t u i up s none same shut lt sub =
+at_the_new_end to node t u i up s none same stays_terminated lt sub =
     let d : Document = tree t in
     let gone = take_local i d lt in
     let whole : length u ≡ length gone.front + (length (print_node (node_at d i).node) + length gone.back) =
-    ap length (same ∙ sym (prints t shut)) ∙ ap length gone.is ∙ length-append gone.front (print_node (node_at d i).node ++ gone.back)
+    ap length (same ∙ sym (prints t stays_terminated)) ∙ ap length gone.is ∙ length-append gone.front (print_node (node_at d i).node ++ gone.back)
     ∙ ap (λ n. length gone.front + n) (length-append (print_node (node_at d i).node) gone.back) in
     let rest : length (print (take i d)) ≡ length gone.front + length gone.back = ap length gone.was ∙ length-append gone.front gone.back in
     let here : s.start + (length u - s.end) ≡ length (print (take i d)) = omega (arith, sub.start, sub.end, gone.at, whole, rest) in
@@ -56,8 +56,8 @@ at_the_new_end to node t u i up s none same shut lt sub =
 
 pub end_of_text : (to : Destination) (node : Node) (t u : List ℕ) (up : Option ℕ) → up ≡ None → u ≡ t → terminated t ≡ t
     → InsertsAt t (put_last to up node (tree t)) (length u) (filled to (level_at up (tree t)) node)
-end_of_text to node t u up none same shut =
+end_of_text to node t u up none same stays_terminated =
     let P : Option ℕ → Type 0 = λ up. InsertsAt t (put_last to up node (tree t)) (length u) (filled to (level_at up (tree t)) node) in
     let Q : List ℕ → Type 0 = λ p. InsertsAt p (put_last to None node (tree t)) (length p) (filled to None node) in
-    let at : InsertsAt t (put_last to None node (tree t)) (length t) (filled to None node) = subst Q (prints t shut) (at_the_end to node (tree t) (tree-is t).valid) in
+    let at : InsertsAt t (put_last to None node (tree t)) (length t) (filled to None node) = subst Q (prints t stays_terminated) (at_the_end to node (tree t) (tree-is t).valid) in
     subst P (sym none) (subst (λ k. InsertsAt t (put_last to None node (tree t)) k (filled to None node)) (sym (ap length same)) at)

@@ -30,7 +30,7 @@ pub other_section : (t u : List ℕ) (i : ℕ) (s o : Span) (section first secon
     → IsSubtree t (node_at (tree t) i) s → IsSection t (node_at (tree t) i) o → terminated section ≡ section
     → first ≡ slice_range u s.start o.start → second ≡ first ++ section → new ≡ second ++ slice_range u o.end s.end
     → new ≡ print_node (record (node_at (tree t) i).node { section = lines_of section })
-other_section t u i s o section first second new same shut lt sub sec whole first_is second_is new_is =
+other_section t u i s o section first second new same stays_terminated lt sub sec whole first_is second_is new_is =
     let node : Node = (node_at (tree t) i).node in
     let at = take_local i (tree t) lt in
     let head : List ℕ = heading_line node.level node.rest ++ 10 ∷ [] in
@@ -38,7 +38,7 @@ other_section t u i s o section first second new same shut lt sub sec whole firs
     let tail : List ℕ = print_lines (lines node.children) in
     let print_is : print_node node ≡ head ++ (body ++ tail) = node_text node in
     let text : u ≡ at.front ++ ((head ++ (body ++ tail)) ++ at.back) =
-    same ∙ sym (prints t shut) ∙ at.is ∙ ap (λ (p : List ℕ). at.front ++ (p ++ at.back)) print_is in
+    same ∙ sym (prints t stays_terminated) ∙ at.is ∙ ap (λ (p : List ℕ). at.front ++ (p ++ at.back)) print_is in
     let before : u ≡ at.front ++ (head ++ ((body ++ tail) ++ at.back)) = text ∙ ap (λ (p : List ℕ). at.front ++ p) (append_assoc head (body ++ tail) at.back) in
     let behind : u ≡ (at.front ++ (head ++ body)) ++ (tail ++ at.back) =
     before ∙ ap (λ (p : List ℕ). at.front ++ (head ++ p)) (append_assoc body tail at.back)

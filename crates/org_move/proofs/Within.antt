@@ -62,7 +62,7 @@ pub archived_within : (states : Keywords) (name : List ℕ) (path : List (List �
     → ((node : Node) → InsertsAt (print (take i (tree t))) (put_last to (parent_without i (size_of (tree t) i) up) node (take i (tree t))) at (filled to (level_at up (tree t)) node))
     → out ≡ removal i (tree t) → goes_in ≡ record { at = at; removed = 0; bytes = bytes } → bytes ≡ print_node (filled to (level_at up (tree t)) (archived states name now (tree t) i))
     → (new : Document) × (archive_within states name path now to (tree t) ≡ Ok new) × AreEdits (out ∷ goes_in ∷ []) t (print new)
-archived_within states name path now t to r s i asked up at bytes out goes_in shut r_is found s_is found_up is lt goes out_is goes_in_is bytes_is =
+archived_within states name path now t to r s i asked up at bytes out goes_in stays_terminated r_is found s_is found_up is lt goes out_is goes_in_is bytes_is =
     let d : Document = tree t in
     let root : Node = archived states name now d i in
     let node : Node = filled to (level_at up d) root in
@@ -73,5 +73,5 @@ archived_within states name path now t to r s i asked up at bytes out goes_in sh
     let edits : AreEdits (removal i d ∷ insertion at node ∷ []) (print d) (print new) = two_edits i at node d new lt (goes root) in (
       new,
       defined ∙ ap (λ up. Ok (left_with states name now to d i up)) same,
-      rw (out_is, goes_in_is, bytes_is) (subst (λ t. AreEdits (removal i d ∷ insertion at node ∷ []) t (print new)) (prints t shut) edits),
+      rw (out_is, goes_in_is, bytes_is) (subst (λ t. AreEdits (removal i d ∷ insertion at node ∷ []) t (print new)) (prints t stays_terminated) edits),
     )

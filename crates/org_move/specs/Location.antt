@@ -1,12 +1,12 @@
 -- Where an archived subtree goes (Org manual, "Moving a tree to an archive file"; Org Syntax,
 -- "Keywords").
-use Rattle.std.specs.Prelude.{ℕ, nat_lt, ◌==◌, Bool, ◌&&◌, if◌then◌else◌, List, [], ◌∷◌, ◌++◌, codes, length, take, drop, Option, None, Some, Result, Ok, Err}
+use Rattle.std.specs.Prelude.{◌≡◌, ◌<◌, ℕ, nat_lt, ◌==◌, Bool, ◌&&◌, if◌then◌else◌, List, [], ◌∷◌, ◌++◌, codes, length, take, drop, Option, None, Some, Result, Ok, Err}
 use Rattle.std.specs.Borrow.{Bor}
 use Rattle.std.specs.List.{find}
 use Rattle.std.specs.Option.{option_map, option_and_then, option_or, unwrap_or}
 use Rattle.std.specs.Str.{str_eq_ignore_ascii_case, is_utf8}
 use Rattle.org_splice.specs.Blanks.{is_blank, behind, trimmed}
-use Rattle.org_splice.specs.Lines.{lines_of}
+use Rattle.org_splice.specs.Lines.{terminated, lines_of}
 use Rattle.org_disk.specs.Names.{is_archive_name, is_file_name}
 use Rattle.org_outline.specs.States.{Keywords}
 use Rattle.org_outline.specs.Text.{level_of}
@@ -34,6 +34,13 @@ is_archive_line l = str_eq_ignore_ascii_case (take 10 (behind is_blank l)) (code
 -- what stands behind it, without the blanks round it
 abbrev pub value_behind : List ℕ → List ℕ
 value_behind l = trimmed (drop 10 (behind is_blank l))
+
+-- the first such line of a text is this line, or it is that of the rest behind it
+pub record ComesTo (text line rest : List ℕ) : Type 0 where
+  pub terminated_rest : terminated rest ≡ rest
+  pub shorter : length rest < length text
+  pub first : find is_archive_line (lines_of text)
+      ≡ (if is_archive_line line then Some line else find is_archive_line (lines_of rest))
 
 -- the value of the first such line: a later one doesn't count, even where the first one is empty
 abbrev pub value_of_lines : List (List ℕ) → Option (List ℕ)

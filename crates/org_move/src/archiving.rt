@@ -1,4 +1,6 @@
-//! Archived subtrees.
+//! Subtrees archived: the edits of one text or of two, with the properties of an archived entry.
+//!
+//! The place is given (`locating` finds it). Nothing is changed here.
 ghost use Rattle.std.specs.Prelude.{◌≡◌, [], ◌∷◌, ◌+◌, ◌<◌, ◌^◌};
 ghost use Rattle.std.specs.Option.{ForSome, option_map};
 ghost use Rattle.org_splice.specs.Edits.{AreEdits};
@@ -94,8 +96,13 @@ fn insertion(at: usize, bytes: Vec<u8>) -> Edit
 /// there, or last at the top level. Its root gets the properties ARCHIVE_TIME, ARCHIVE_FILE,
 /// ARCHIVE_OLPATH, ARCHIVE_CATEGORY, ARCHIVE_TODO and ARCHIVE_ITAGS.
 ///
-/// # Errors In this order: `NotFound` or `NotUnique` of `path`, `NotUnique` of the location's
-/// heading, and `OutOfMemory`.
+/// # Errors
+///
+/// In this order:
+///
+/// - `NotFound` or `NotUnique` of `path`;
+/// - `NotUnique` of the location's heading;
+/// - `OutOfMemory`.
 pub fn archive(
     alloc: Global,
     source: &Outline<'_>,
@@ -126,9 +133,15 @@ pub fn archive(
 /// leaves, last below the location's heading, which is made at the end where it isn't there, or
 /// last at the top level. Its root gets the properties of an archived entry, as by `archive`.
 ///
-/// # Errors In this order: `NotFound` or `NotUnique` of `path`, `NotUnique` of the location's
-/// heading, `InsideItself` where that heading lies in the subtree, `AlreadyArchive` where the
-/// subtree lies below it, and `OutOfMemory`.
+/// # Errors
+///
+/// In this order:
+///
+/// - `NotFound` or `NotUnique` of `path`;
+/// - `NotUnique` of the location's heading;
+/// - `InsideItself`: that heading lies in the subtree;
+/// - `AlreadyArchive`: the subtree lies below it;
+/// - `OutOfMemory`.
 pub fn archive_within(
     alloc: Global,
     outline: &Outline<'_>,

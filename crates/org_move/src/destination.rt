@@ -1,4 +1,6 @@
-//! The place to which a subtree is archived.
+//! The place to which a subtree is archived: a file, and a heading in it, or its top level.
+//!
+//! A location is valid from its making on: its title is one that a heading line can have.
 use org_disk::FileName;
 use org_splice::Bytes;
 use std::marker::Model;

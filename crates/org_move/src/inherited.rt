@@ -1,4 +1,6 @@
-//! What an entry has of the headings above it.
+//! What an entry has of the headings above it: titles, tags, the nearest value of a property.
+//!
+//! The innermost value counts; tags are collected from the outermost on, each once.
 ghost use Rattle.std.specs.Prelude.{◌≡◌, ◌<◌, [], ◌∷◌, IfOk, OnOk, map};
 ghost use Rattle.std.specs.Option.{option_map};
 ghost use Rattle.std.specs.List.{flat_map};

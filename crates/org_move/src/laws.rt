@@ -1,5 +1,6 @@
-//! What refiling and archiving keep, for all values: each law is the contract of a function with
-//! nothing to do.
+//! What refiling and archiving keep, for all values.
+//!
+//! Each is the contract of a function with nothing to do.
 ghost use Rattle.std.specs.Prelude.{◌≡◌, ◌≢◌, ℕ, ◌+◌, List, Ok, Option, Some, slice_get, slice_set};
 ghost use Rattle.org_splice.specs.Lines.{IsLine};
 ghost use Rattle.org_stamp.specs.Calendar.{CivilMinute};

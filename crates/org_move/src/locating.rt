@@ -1,5 +1,8 @@
 //! Finding the place to which a subtree is archived.
-ghost use Rattle.std.specs.Prelude.{◌≡◌, ◌<◌, ◌^◌, ◌+◌, IfOk, IfSome, take, drop};
+//!
+//! A property of the entry or above it comes before the file's first `#+ARCHIVE:` line, and that
+//! before the file's own archive.
+ghost use Rattle.std.specs.Prelude.{◌≡◌, ◌⊎◌, ◌<◌, ◌≤◌, ◌^◌, ◌+◌, ◌++◌, ◌∷◌, [], ℕ, List, IfOk, IfSome, IfNone, None, codes, length, take, drop};
 ghost use Rattle.std.specs.List.{find};
 ghost use Rattle.std.specs.Option.{option_map};
 ghost use Rattle.org_splice.specs.Lines.{terminated, lines_of};
@@ -7,12 +10,14 @@ ghost use Rattle.org_outline.specs.Parts.{AreParts, Parts};
 ghost use Rattle.org_outline.specs.Paths.{titles_of};
 ghost use Rattle.org_outline.specs.Tree.{node_count, tree};
 ghost use Rattle.org_move.specs.Answers.{GivesName, GivesPlace};
-ghost use Rattle.org_move.specs.Location.{location, file_named, halves_made, halves_of, heading_made, heading_of, is_archive_line, is_title_alone, value_for, value_of_lines, with_file, with_name};
+ghost use Rattle.org_move.specs.Location.{ComesTo, location, file_named, halves_made, halves_of, heading_made, heading_of, is_archive_line, is_title_alone, value_for, value_of_lines, with_file, with_name};
 ghost use Rattle.org_splice.specs.Blanks.{is_blank, behind};
 
 use crate::MoveFault;
 use crate::destination::Location;
 use crate::inherited::{nearest, nonempty};
+use memchr::memmem::Finder;
+use memchr::{memchr, memrchr};
 use org_disk::{FileName, NameFault};
 use org_outline::{HeadParts, Node, Outline, States, heading_level};
 use org_splice::Bytes;
@@ -40,13 +45,44 @@ fn is_archive_line(line: &[u8]) -> bool
     mark_and_value(line).0.eq_ignore_ascii_case(b"#+ARCHIVE:")
 }
 
-/// The first line of the text that begins with `#+ARCHIVE:`.
+/// The text from the line on that holds this place, or from its start.
+fn from_line(text: &[u8], at: usize) -> &[u8]
+    requires { at ≤ length text.now }
+    ensures { (result.now ≡ text.now)
+        ⊎ ((before : List ℕ) × (text.now ≡ before ++ 10 ∷ result.now) × (length before < at)) }
+{
+    match memrchr(b'\n', &text[..at]) {
+        Some(newline) => text.split_at(newline + 1).1,
+        None => text,
+    }
+}
+
+/// The first line that holds `#+`, for which the finder looks, and what follows it.
+fn marked_line<'a>(finder: &Finder<'_>, text: &'a [u8]) -> Option<(&'a [u8], &'a [u8])>
+    requires mark { finder.now ≡ codes "#+" }
+    requires terminated { terminated text.now ≡ text.now }
+    ensures some { IfSome result (λ r. ComesTo text.now r.0.now r.1.now) }
+    ensures none { IfNone result (find is_archive_line (lines_of text.now) ≡ None) }
+{
+    let left = from_line(text, finder.find(text)?);
+    let (line, rest) = left.split_at(memchr(b'\n', left)?);
+    Some((line, rest.split_at(1).1))
+}
+
+/// The first line of the text that begins with `#+ARCHIVE:`. Lines without `#+` aren't read.
 fn archive_line(text: &[u8]) -> Option<&[u8]>
     requires { terminated text.now ≡ text.now }
     ensures { option_map (λ line. line.now) result ≡ find is_archive_line (lines_of text.now) }
 {
-    text.split(|byte| *byte == b'\n')
-        .find(|line| is_archive_line(line))
+    let finder = Finder::new(b"#+");
+    let mut left = text;
+    while let Some((line, rest)) = marked_line(&finder, left) {
+        if is_archive_line(line) {
+            return Some(line);
+        }
+        left = rest;
+    }
+    None
 }
 
 /// The value of the text's first `#+ARCHIVE:` line, where that isn't empty.
@@ -180,10 +216,16 @@ fn place(
 /// above it says so; else the text's first line that begins with `#+ARCHIVE:`, if it says
 /// something; else it is the top level of the file's archive file.
 ///
-/// # Errors In this order: `NotFound` or `NotUnique` of `path`; `AlreadyArchive` where the file is
-/// an archive file; `BadLocation` where what was found isn't a file's name, `::` and then nothing
-/// or a heading line that is a title alone; `NoSuchFile` where no file can have that name; and
-/// `OutOfMemory`.
+/// # Errors
+///
+/// In this order:
+///
+/// - `NotFound` or `NotUnique` of `path`;
+/// - `AlreadyArchive`: the file is an archive file;
+/// - `BadLocation`: what was found isn't a file's name, `::` and then nothing or a heading line
+///   that is a title alone;
+/// - `NoSuchFile`: no file can have that name;
+/// - `OutOfMemory`.
 pub fn location(
     alloc: Global,
     outline: &Outline<'_>,

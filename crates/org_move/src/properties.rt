@@ -1,4 +1,7 @@
-//! The properties of an archived entry.
+//! The properties of an archived entry, in Org's order; one without a value is left out.
+//!
+//! They are put as `org_meta` puts a property, so that those that are there get new values in
+//! place.
 ghost use Rattle.std.specs.Prelude.{◌≡◌, ◌<◌, ◌++◌, ℕ, true, IfOk, map};
 ghost use Rattle.std.specs.List.{AllByRecursion};
 ghost use Rattle.std.specs.Option.{option_map};

@@ -1,4 +1,7 @@
-//! A subtree made a child of another heading.
+//! A subtree made a child of another heading, within a text or across two.
+//!
+//! Both paths are resolved before anything is taken out. The edits are answered in the order in
+//! which they are to be made.
 ghost use Rattle.std.specs.Prelude.{◌≡◌, [], ◌∷◌, ◌+◌, ◌<◌, ◌≤◌, ◌^◌, Some, IfOk};
 ghost use Rattle.org_splice.specs.Edits.{AreEdits};
 ghost use Rattle.org_splice.specs.Lines.{terminated};
@@ -81,8 +84,13 @@ fn with_subtree(
 /// in, at a byte of the text that the first one leaves. Its root gets the level of its parent plus
 /// 1, and its descendants move by the same amount.
 ///
-/// # Errors In this order: `NotFound` or `NotUnique` of `path`, the same of `to`, `InsideItself`
-/// where `to` leads into the subtree, and `OutOfMemory`.
+/// # Errors
+///
+/// In this order:
+///
+/// - `NotFound` or `NotUnique` of `path`, then of `to`;
+/// - `InsideItself`: `to` leads into the subtree;
+/// - `OutOfMemory`.
 pub fn refile_within(
     alloc: Global,
     outline: &Outline<'_>,
@@ -112,7 +120,8 @@ pub fn refile_within(
 /// 1, and its descendants move by the same amount.
 ///
 /// # Errors
-/// In this order: `NotFound` or `NotUnique` of `path`, the same of `to`, and `OutOfMemory`.
+///
+/// In this order: `NotFound` or `NotUnique` of `path`, then of `to`, and `OutOfMemory`.
 pub fn refile_across(
     alloc: Global,
     source: &Outline<'_>,

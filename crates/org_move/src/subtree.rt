@@ -1,4 +1,4 @@
-//! The lines of an archived subtree.
+//! The lines of an archived subtree, below the heading that they go under.
 ghost use Rattle.std.specs.Prelude.{◌≡◌, ◌<◌, ◌+◌, ◌^◌, ◌++◌, ◌∷◌, [], IfOk};
 ghost use Rattle.std.specs.Option.{ForSome};
 ghost use Rattle.org_splice.specs.Lines.{terminated, lines_of};

@@ -1,4 +1,4 @@
-//! The heading below which an archived subtree goes.
+//! The heading below which an archived subtree goes: the one of that level and title.
 ghost use Rattle.std.specs.Prelude.{◌≡◌, ◌<◌, ◌==◌, ◌&&◌, IfOk};
 ghost use Rattle.std.specs.Option.{IfSome};
 ghost use Rattle.std.specs.Str.{bytes_eq};
@@ -16,7 +16,7 @@ fn is_at(outline: &Outline<'_>, node: Node, to: &Location) -> bool
         result ≡ (heading.level == to.now.level
         && bytes_eq (title_of outline.now.states heading.rest) to.now.title) }
 {
-    outline.level(node) == to.level() && outline.parts(node).title == to.title()
+    outline.level(node) == to.level() && outline.has_title(node, to.title())
 }
 
 /// The one heading of the place's level and title, anywhere in the text, if there is one; at the

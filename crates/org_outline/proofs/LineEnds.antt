@@ -1,18 +1,18 @@
 -- Where no colon ends a heading line, its title does.
-use Rattle.std.proofs.Common.{◌≡◌, ℕ, suc, ◌+◌, ◌-◌, ◌≤◌, Bool, true, false, ◌&&◌, eqb, ltb, List, [], ◌∷◌, ◌++◌, length, take, drop, refl, sym, ap, ◌∙◌, append_assoc, arith, inl, inr}
+use Rattle.std.proofs.Common.{◌≡◌, ℕ, suc, ◌+◌, ◌-◌, ◌≤◌, Bool, true, false, ◌&&◌, ◌||◌, eqb, ltb, List, [], ◌∷◌, ◌++◌, length, take, drop, refl, sym, ap, ◌∙◌, append_assoc, arith, inl, inr, eq-eqb, get_or, ◌<◌}
 use Rattle.std.specs.Prelude.{reverse}
-use Rattle.std.specs.List.{ends_with, list_all, prefix_len, suffix_len}
+use Rattle.std.specs.List.{list_all, prefix_len, suffix_len}
 use Rattle.std.specs.Str.{bytes_eq}
 use Rattle.std.proofs.lemmas.Bool.{cases_Bool, cases_lt, eqb-true}
-use Rattle.std.proofs.lemmas.Bool.Decides.{Decides-eqb}
-use Rattle.std.proofs.lemmas.List.{append-nil, length-append, length-drop, length-take, take_all, reverse-append, length-reverse}
+use Rattle.std.proofs.lemmas.List.{append-nil, length-append, length-drop, length-take, take_all, take_more, reverse-append, length-reverse}
 use Rattle.std.proofs.lemmas.List.Folds.{list_all-append}
-use Rattle.std.proofs.lemmas.Slice.Eq.{bytes_eq-Decides, ends_is}
+use Rattle.std.proofs.lemmas.Slice.Eq.{bytes_eq-Decides}
 use Rattle.org_splice.specs.Blanks.{is_blank, is_trailing, is_solid, front, behind, without_end, end_of, trimmed}
 use Rattle.org_splice.proofs.Ends.{both, front_behind, end_passes, kept_end, trimmed_twice}
 use Rattle.org_outline.specs.States.{Keywords}
 use Rattle.org_outline.specs.Parts.{are_tags, are_closed_tags, tags_of, is_tag_byte, keyword_of, priority_of, after_keyword, after_priority, without_blanks}
 use Rattle.org_outline.specs.Paths.{title_of}
+use Rattle.org_outline.proofs.TitlePlaces.{behind-stop}
 use Rattle.org_outline.proofs.Splitting.{keyword_front, priority_front}
 
 -- ---- tags end with a colon
@@ -121,7 +121,7 @@ title_last states rest none =
     let nothing : end_of is_blank y ≡ [] = no_end content (before ++ without_end is_blank y) (end_of is_blank y) (trimmed_twice rest) whole (trailing_of_blank (end_of is_blank y) (end_passes is_blank y)) in
     (before, whole ∙ ap (λ e. (before ++ without_end is_blank y) ++ e) nothing ∙ append-nil (before ++ without_end is_blank y) ∙ ap (λ t. before ++ t) (sym title))
 
-pub no_title : (states : Keywords) (rest title : List ℕ) → (EndsWith (trimmed rest) (58 ∷ []) → ⊥) → (EndsWith (trimmed rest) title → ⊥) → bytes_eq (title_of states rest) title ≡ false
+no_title : (states : Keywords) (rest title : List ℕ) → (EndsWith (trimmed rest) (58 ∷ []) → ⊥) → (EndsWith (trimmed rest) title → ⊥) → bytes_eq (title_of states rest) title ≡ false
 no_title states rest title no_colon other =
     elim (cases_Bool (bytes_eq (title_of states rest) title)) [
       | inl e ↦
@@ -131,7 +131,62 @@ no_title states rest title no_colon other =
       | inr e ↦ e
     ]
 
-pub ended : (r : Bool) (line l title : List ℕ) → r ≡ ends_with eqb line title → line ≡ l → r ≡ false → EndsWith l title → ⊥
-ended r line l title value is failed end =
-    let yes : r ≡ true = (ends_is Decides-eqb line title r value).1 end.0 (is ∙ end.1) in
-    absurd cc
+-- ---- the last byte
+
+last_same : (xs ys : List ℕ) (b c : ℕ) → xs ++ b ∷ [] ≡ ys ++ c ∷ [] → b ≡ c
+last_same xs ys b c e =
+    let turned : b ∷ reverse xs ≡ c ∷ reverse ys = sym (reverse-append xs (b ∷ [])) ∙ ap reverse e ∙ reverse-append ys (c ∷ []) in
+    cc
+
+-- a line that ends with another byte than blanks and carriage returns
+trimmed_last : (front : List ℕ) (b : ℕ) → is_blank b ≡ false → is_trailing b ≡ false → trimmed (front ++ b ∷ []) ≡ behind is_blank front ++ b ∷ []
+trimmed_last front b solid kept =
+    let g = behind is_blank front in
+    let l = g ++ b ∷ [] in
+    let none : suffix_len is_trailing l ≡ 0 = rw (reverse-append g (b ∷ []), kept) refl in
+    ap (without_end is_trailing) (behind-stop is_blank front b [] solid) ∙ ap (λ n. take (length l - n) l) none ∙ take_all (length l - 0) l (omega arith)
+
+last_of : (l : List ℕ) → 0 < length l → l ≡ take (length l - 1) l ++ get_or l (length l - 1) 0 ∷ []
+last_of l some =
+    let next : length l - 1 + 1 ≡ length l = omega (arith, some) in
+    sym (take_all (length l) l (omega arith)) ∙ ap (λ n. take n l) (sym next) ∙ take_more l (length l - 1) 0 (omega (arith, some))
+
+no_end_title : (states : Keywords) (rest title : List ℕ) → 0 < length rest → 0 < length title
+    → eqb (get_or rest (length rest - 1) 0) (get_or title (length title - 1) 0) ≡ false → eqb (get_or rest (length rest - 1) 0) 58 ≡ false
+    → is_blank (get_or rest (length rest - 1) 0) ≡ false → is_trailing (get_or rest (length rest - 1) 0) ≡ false
+    → bytes_eq (title_of states rest) title ≡ false
+no_end_title states rest title some some_title other no_colon solid kept =
+    let b = get_or rest (length rest - 1) 0 in
+    let c = get_or title (length title - 1) 0 in
+    let g = behind is_blank (take (length rest - 1) rest) in
+    let is : trimmed rest ≡ g ++ b ∷ [] = ap trimmed (last_of rest some) ∙ trimmed_last (take (length rest - 1) rest) b solid kept in
+    no_title states rest title
+    (λ end.
+    let same : b ≡ 58 = last_same g end.0 b 58 (sym is ∙ end.1) in
+    let yes : eqb b 58 ≡ true = eq-eqb b 58 same in
+    absurd cc)
+    (λ end.
+    let whole : g ++ b ∷ [] ≡ (end.0 ++ take (length title - 1) title) ++ c ∷ [] =
+    sym is ∙ end.1 ∙ ap (λ t. end.0 ++ t) (last_of title some_title) ∙ sym (append_assoc end.0 (take (length title - 1) title) (c ∷ [])) in
+    let same : b ≡ c = last_same g (end.0 ++ take (length title - 1) title) b c whole in
+    let yes : eqb b c ≡ true = eq-eqb b c same in
+    absurd cc)
+
+blank_of : (x y z : Bool) → (x || y || z) ≡ false → (x || y) ≡ false
+blank_of true y z e = absurd cc
+blank_of false true z e = absurd cc
+blank_of false false z e = refl
+
+neither : (a b : Bool) → (a || b) ≡ false → (a ≡ false) × (b ≡ false)
+neither true b e = absurd cc
+neither false b e = (refl, e)
+
+-- the same as the code says it
+pub no_end_read : (states : Keywords) (rest title : List ℕ) (r : Bool) → 0 < length rest → 0 < length title
+    → eqb (get_or rest (length rest - 1) 0) (get_or title (length title - 1) 0) ≡ false
+    → r ≡ (eqb (get_or rest (length rest - 1) 0) 58 || is_trailing (get_or rest (length rest - 1) 0)) → r ≡ false
+    → bytes_eq (title_of states rest) title ≡ false
+no_end_read states rest title r some some_title other re is =
+    let b = get_or rest (length rest - 1) 0 in
+    let n = neither (eqb b 58) (is_trailing b) (sym re ∙ is) in
+    no_end_title states rest title some some_title other n.0 (blank_of (eqb b 32) (eqb b 9) (eqb b 13) n.1) n.1

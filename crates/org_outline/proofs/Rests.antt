@@ -83,3 +83,11 @@ pub rest_at : (t u s : List ℕ) (i j : ℕ) (hs : List Heading) (d : Heading) �
 rest_at t u s i j hs d ue c je he lt found =
     let st = stands t i j hs d c je he lt in
     found (node_at (tree t) i).node.rest st.more (node-valid t i lt).heading.rest (ap (drop (get_or hs j d).start) ue ∙ st.split)
+
+pub tail_at : (t u s : List ℕ) (i j : ℕ) (hs : List Heading) (d : Heading) → u ≡ t → terminated t ≡ t → j ≡ i → hs ≡ headings_of t → i < node_count (tree t)
+    → s ≡ drop ((get_or hs j d).start + (get_or hs j d).level) u
+    → (more : List ℕ) × (s ≡ (node_at (tree t) i).node.rest ++ 10 ∷ more)
+tail_at t u s i j hs d ue c je he lt se =
+    let st = stands t i j hs d c je he lt in
+    let h = get_or hs j d in
+    (st.more, se ∙ ap (drop (h.start + h.level)) ue ∙ behind t h.start h.level (node_at (tree t) i).node.rest st.more st.split)

@@ -1,4 +1,4 @@
-//! Paths that values of other types hold.
+//! Paths that values of other types hold: lists of titles, compared byte by byte.
 ghost use Rattle.std.specs.Prelude.{◌≡◌, nat_eq};
 ghost use Rattle.std.specs.Cmp.Lexicographic.{pointwise, lists_equiv, nat_list_eq_equiv};
 ghost use Rattle.std.specs.Cmp.{partial_equiv_from_equiv};

@@ -6,8 +6,8 @@ use Rattle.org_fileset.specs.declared.open.OpenFault.{OpenFault}
 use Rattle.org_fileset.specs.declared.open.OpenFault.TheVariants as refused
 use Rattle.org_fileset.specs.Names.{with_archives, AreSorted, AreFew}
 use Rattle.org_folder.specs.OrgFiles.{is_org_file}
-use Rattle.org_folder.specs.declared.apart.ApartFault.{ApartFault}
-use Rattle.org_folder.specs.declared.apart.ApartFault.TheVariants as apart
+use Rattle.org_folder.specs.declared.apart.AliasFault.{AliasFault}
+use Rattle.org_folder.specs.declared.apart.AliasFault.TheVariants as apart
 use Rattle.org_folder.specs.declared.list.ListFault.{ListFault}
 use Rattle.org_folder.specs.declared.list.ListFault.TheVariants as list
 use Rattle.org_folder.specs.declared.lock.LockFault.{LockFault}
@@ -41,7 +41,7 @@ locking lock.Locked = Locked
 locking lock.OutOfMemory = Open refused.OutOfMemory
 
 -- why names couldn't be told to lead to files of their own
-abbrev pub sharing : ApartFault → Fault
+abbrev pub sharing : AliasFault → Fault
 sharing (apart.SameFile name) = SameFile name
 sharing apart.Device = Open refused.Device
 sharing apart.OutOfMemory = Open refused.OutOfMemory
@@ -59,15 +59,7 @@ first_bad names = find (λ name. not (is_org_file name)) names
 abbrev pub IsCauseOfNames : List (List ℕ) → Fault → Type 0
 IsCauseOfNames new (BadName name) = first_bad new ≡ Some (string_bytes name)
 IsCauseOfNames new (Open refused.OutOfMemory) = Unit {0}
-IsCauseOfNames new (Open refused.Device) = ⊥
-IsCauseOfNames new (Open refused.TooManyFiles) = ⊥
-IsCauseOfNames new (Open refused.BadJournal) = ⊥
-IsCauseOfNames new (Open (refused.TooLarge name)) = ⊥
-IsCauseOfNames new (Usage told) = ⊥
-IsCauseOfNames new BadStates = ⊥
-IsCauseOfNames new Locked = ⊥
-IsCauseOfNames new (SameFile name) = ⊥
-IsCauseOfNames new (Ended end) = ⊥
+IsCauseOfNames new fault = ⊥
 
 -- A name that may be told to share a file in a store with these names, which are few: behind the
 -- first one, in byte order, of theirs, their archive files' and the journal's.
@@ -78,7 +70,7 @@ pub record MayBeShared (names : List (List ℕ)) (name : List ℕ) : Type 0 wher
   pub behind : Contains (drop 1 files) name
 
 -- what may be told of where the names of a store lead; of too many names nothing is
-abbrev pub MayShare : List (List ℕ) → ApartFault → Type 0
+abbrev pub MayShare : List (List ℕ) → AliasFault → Type 0
 MayShare names (apart.SameFile name) = MayBeShared names name
 MayShare names apart.Device = AreFew names
 MayShare names apart.OutOfMemory = Unit {0}
@@ -94,8 +86,4 @@ IsCause new states (Open refused.Device) = (first_bad new ≡ None) × IsTrue (a
 IsCause new states (SameFile name) = (first_bad new ≡ None) × IsTrue (are_states states)
     × ((listed : List (List ℕ)) × All IsOrgFile listed × MayBeShared (new ++ listed) name)
 IsCause new states (Open refused.OutOfMemory) = Unit {0}
-IsCause new states (Open refused.TooManyFiles) = ⊥
-IsCause new states (Open refused.BadJournal) = ⊥
-IsCause new states (Open (refused.TooLarge name)) = ⊥
-IsCause new states (Usage told) = ⊥
-IsCause new states (Ended end) = ⊥
+IsCause new states fault = ⊥

@@ -34,7 +34,7 @@ failures_of disk = disk.failures
 abbrev pub seen_of : {R S A B F : Type 0} → World → Ghosts (CallsDisk (SystemCalls R S A B) F)
 seen_of world = record {
   honest = is_right world;
-  steady = ⊥;
+  truthful = ⊥;
   files = files_of world;
   moment = moment_of;
   left_since = left_of world;

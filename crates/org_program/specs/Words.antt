@@ -82,15 +82,7 @@ pub record Tells (words : List (List ℕ)) (arguments : Arguments) : Type 0 wher
 abbrev pub IsFaultBy : Type 0 → Fault → Type 0
 IsFaultBy Reason (Usage text) = Reason
 IsFaultBy Reason (Open OutOfMemory) = Unit {0}
-IsFaultBy Reason (Open Device) = ⊥
-IsFaultBy Reason (Open TooManyFiles) = ⊥
-IsFaultBy Reason (Open BadJournal) = ⊥
-IsFaultBy Reason (Open (TooLarge name)) = ⊥
-IsFaultBy Reason (BadName name) = ⊥
-IsFaultBy Reason BadStates = ⊥
-IsFaultBy Reason Locked = ⊥
-IsFaultBy Reason (SameFile name) = ⊥
-IsFaultBy Reason (Ended end) = ⊥
+IsFaultBy Reason fault = ⊥
 
 -- the words aren't what the program takes, or can't be read at all, or there was no memory for them
 abbrev pub IsFaultOfWords : Fault → Type 0

@@ -1,8 +1,7 @@
-//! The command line. Nothing else of the program knows how its words are read.
+//! The command line, by clap. Nothing else of the program knows how its words are read.
 ghost use Rattle.std.specs.Prelude.{◌≡◌, ◌⊎◌, ℕ, List, [], ◌∷◌, Some, false, map, string_bytes, IfOk, IfErr, SomeIff};
 ghost use Rattle.std.specs.Str.Parse.{digits_value};
 ghost use Rattle.clap.specs.Words.{kind_of, app_of, fault_of, found_of, new_rule, rows_of, rule_of};
-ghost use Rattle.org_store.specs.Group.{IsGroup};
 ghost use Rattle.org_program.specs.Words.{command_line, folder_argument as folder_rule, given, new_argument as new_name_rule, AreTaken, Tells, IsGroupText, IsFaultBy, IsFaultOfWords};
 
 use crate::fault::Fault;
@@ -35,21 +34,27 @@ pub struct Arguments {
     pub group: u32,
 }
 
-/// The arguments of this run. Help is a fault too: standard output holds replies alone.
-pub fn read(rt: &HostRuntime) -> Result<Arguments, Fault>
-    ensures told { IfOk result (λ arguments. (words : List (List ℕ)) × Tells words arguments) }
-    ensures group { IfOk result (λ arguments. IsGroup arguments.group) }
-    ensures fault { IfErr result IsFaultOfWords }
+/// The words of the command line, the first being the program's name.
+///
+/// # Errors
+///
+/// `Usage` where one of them isn't UTF-8.
+pub fn given_words(rt: &HostRuntime) -> Result<Vec<String>, Fault>
+    ensures { IfErr result IsFaultOfWords }
 {
-    let words: Vec<String> = match env::args(rt) {
-        Ok(words) => words.collect(rt.alloc())?,
-        Err(error) => return Err(unreadable(rt.alloc(), &error)),
-    };
-    read_words(rt.alloc(), words.as_slice())
+    match env::args(rt) {
+        Ok(words) => Ok(words.collect(rt.alloc())?),
+        Err(error) => Err(unreadable(rt.alloc(), &error)),
+    }
 }
 
-/// The arguments that these words are, the first being the program's name. `Usage` comes only where
-/// they aren't taken.
+/// The arguments that these words are, the first being the program's name. Help is a fault too:
+/// standard output holds replies alone.
+///
+/// # Errors
+///
+/// - `Usage`: the words aren't taken.
+/// - `Open(OutOfMemory)`.
 pub fn read_words(alloc: Global, words: &[String]) -> Result<Arguments, Fault>
     ensures told { IfOk result (Tells (map string_bytes words.now)) }
     ensures fault { IfErr result (IsFaultBy (AreTaken (map string_bytes words.now) → ⊥)) }
@@ -179,9 +184,17 @@ fn usage(alloc: Global, error: &Error) -> Fault
         return Fault::Open(OpenFault::OutOfMemory);
     }
     match format!(in alloc; "{error}") {
-        Ok(text) => Fault::Usage(text),
+        Ok(text) => Fault::Usage(unended(text)),
         Err(_) => Fault::Open(OpenFault::OutOfMemory),
     }
+}
+
+// A text without the newline at its end.
+fn unended(mut text: String) -> String {
+    if text.ends_with('\n') {
+        text.pop();
+    }
+    text
 }
 
 // The words can't be read at all: one of them isn't UTF-8.
@@ -191,7 +204,7 @@ fn unreadable(alloc: Global, error: &io::Error) -> Fault
     if error.kind() == io::ErrorKind::OutOfMemory {
         return Fault::Open(OpenFault::OutOfMemory);
     }
-    match String::from_str(alloc, "error: an argument isn't UTF-8\n") {
+    match String::from_str(alloc, "error: an argument isn't UTF-8") {
         Ok(text) => Fault::Usage(text),
         Err(_) => Fault::Open(OpenFault::OutOfMemory),
     }

@@ -12,7 +12,7 @@ mod program;
 mod states;
 mod streams;
 
-pub use arguments::Arguments;
+pub use arguments::{Arguments, given_words};
 pub use fault::Fault;
 pub use org_folder::Unknown;
 pub use program::{Ran, run};

@@ -1,4 +1,4 @@
-//! The names that the store is opened with.
+//! The names that the store is opened with: those given by `--new`, and those listed.
 ghost use Rattle.std.specs.Prelude.{◌≡◌, [], ◌∷◌, None, map, string_bytes, IfOk, IfErr, OnOk, IsTrue, All};
 ghost use Rattle.org_disk.specs.Names.{IsOrgFile};
 ghost use Rattle.org_folder.specs.OrgFiles.{is_org_file};
@@ -10,7 +10,12 @@ use org_folder::org_file;
 use org_store::OpenFault;
 use std::alloc::Global;
 
-/// The names given as new ones, each a file name in `.org`. `BadName` tells the first that is none.
+/// The names given as new ones, each a file name in `.org`.
+///
+/// # Errors
+///
+/// - `BadName`: the first that is none.
+/// - `Open(OutOfMemory)`.
 pub fn new_names(alloc: Global, new: &[String]) -> Result<Vec<FileName>, Fault>
     ensures openable { IfOk result (λ names. All IsOrgFile names.items) }
     ensures names { IfOk result (λ names. names.items ≡ map string_bytes new.now) }

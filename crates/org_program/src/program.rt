@@ -1,5 +1,7 @@
 //! A run of the program: what it is told to do, the folder of its files, and how it ended.
-ghost use Rattle.std.specs.Prelude.{◌≡◌, ◌++◌, ℕ, List, map, string_bytes, IfOk, IfErr, All};
+//!
+//! The order is fixed: words, names, states, lock, listing, two names of one file, opening.
+ghost use Rattle.std.specs.Prelude.{◌≡◌, ◌++◌, map, string_bytes, IfOk, IfErr, All};
 ghost use Rattle.org_disk.specs.Names.{IsOrgFile};
 ghost use Rattle.org_serve.specs.Writes.{exchange};
 ghost use Rattle.org_store.specs.Group.{IsGroup};
@@ -15,7 +17,8 @@ use crate::names::new_names;
 use crate::states::states;
 use org_disk::FileName;
 use org_folder::{
-    ApartFault, FolderDisk, LockedFolder, Start, check_apart, fill_streams, lock_folder, org_files,
+    AliasFault, FolderDisk, LockedFolder, Start, check_aliases, fill_streams, lock_folder,
+    org_files,
 };
 use org_serve::{ServeEnd, Served, Setup, Sink, Source, file_names, serve_synced};
 use org_store::OpenFault;
@@ -35,8 +38,8 @@ pub struct Ran<S: Start> {
     pub end: Result<(), Fault>,
 }
 
-/// Runs the command lines of a reader over the folder that the words of the command line name, and
-/// writes their replies to a writer.
+/// Runs the command lines of a reader over the folder that the words of a command line name, the
+/// first being the program's name, and writes their replies to a writer.
 ///
 /// `S` says what the folder held at first; no code reads it, and what is promised holds for every
 /// `S`. The disk that is handed back has a record of the calls of the operating system, which
@@ -53,21 +56,21 @@ pub struct Ran<S: Start> {
 ///
 /// No line is read, and none written, where words aren't taken (`Usage`), or where no store is set
 /// up: in this order `BadName`, `BadStates`, `Locked`, then `Open(Device)` or `SameFile`. Want of
-/// memory, `Open(OutOfMemory)`, may take the place of each. No clause can name the words that the
-/// process was given.
+/// memory, `Open(OutOfMemory)`, may take the place of each.
 pub fn run<S: Start, R: Source, W: Sink>(
     rt: &HostRuntime,
+    words: &[String],
     reader: &mut R,
     writer: &mut W,
 ) -> Result<Ran<S>, Fault>
-    ensures words { IfOk result (λ ran. (words : List (List ℕ)) × Tells words ran.arguments) }
+    ensures words { IfOk result (λ ran. Tells (map string_bytes words.now) ran.arguments) }
     ensures runs { IfOk result (λ ran. RunsFolder S.world ran.arguments ran.disk ran.end
         (exchange R.Source W.Sink reader.old reader.new writer.old writer.new)) }
     ensures unserved { IfErr result (λ _. (reader.new ≡ reader.old)
         × (writer.new ≡ writer.old)) }
-    ensures fault { IfErr result IsFaultOfRun }
+    ensures fault { IfErr result (IsFaultOfRun (map string_bytes words.now)) }
 {
-    let arguments = arguments::read(rt)?;
+    let arguments = arguments::read_words(rt.alloc(), words)?;
     // A standard stream that is closed is the folder then, and no file of the store.
     let _streams = fill_streams(rt, &arguments.folder)?;
     let Served { disk, end } = serve(rt, &arguments, reader, writer)?;
@@ -141,12 +144,12 @@ fn check_files(
     rt: &HostRuntime,
     folder: &LockedFolder<'_>,
     names: &[FileName],
-) -> Result<(), ApartFault>
+) -> Result<(), AliasFault>
     requires { All IsOrgFile names.now }
     ensures { IfErr result (MayShare names.now) }
 {
     match file_names(rt.alloc(), names)? {
-        Some(files) => check_apart(rt, folder, &files),
+        Some(files) => check_aliases(rt, folder, &files),
         None => Ok(()),
     }
 }

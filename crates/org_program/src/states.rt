@@ -1,4 +1,4 @@
-//! The states that the store is opened with.
+//! The states that the store is opened with, split from the lists at their commas.
 ghost use Rattle.std.specs.Prelude.{◌≡◌, ◌⊎◌, map, IfOk, IfErr, IsTrue, IsFalse};
 ghost use Rattle.org_fileset.specs.declared.open.OpenFault.TheVariants.{OutOfMemory};
 ghost use Rattle.org_outline.specs.States.{are_states};
@@ -9,9 +9,12 @@ use crate::fault::Fault;
 use org_outline::States;
 use std::alloc::{AllocError, Global};
 
-/// The states between the commas of a list of active ones and of one of done ones. `BadStates`
-/// comes only where a store can't have them: where `States::new` refuses them, or a list has an
-/// empty word.
+/// The states between the commas of a list of active ones and of one of done ones.
+///
+/// # Errors
+///
+/// - `BadStates`: a store can't have them: `States::new` refuses them, or a list has an empty word.
+/// - `Open(OutOfMemory)`.
 pub fn states(alloc: Global, todo: &str, done: &str) -> Result<States, Fault>
     ensures states { IfOk result (λ states. states ≡ states_of todo.now done.now) }
     ensures accepted { IfOk result (λ states. IsTrue (are_states states)) }

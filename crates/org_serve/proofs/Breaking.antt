@@ -8,7 +8,7 @@ use Rattle.org_journal.proofs.Accounted.{accounts_quiet}
 use Rattle.org_disk.specs.Disk.{HasRisen}
 use Rattle.org_commands.specs.declared.command.RunFault.{RunFault}
 use Rattle.org_commands.specs.declared.command.RunFault.TheVariants as run
-use Rattle.org_commands.specs.Session.{Session, Kept}
+use Rattle.org_commands.specs.Session.{Session, StoreView}
 use Rattle.org_serve.specs.declared.end.ServeEnd.{ServeEnd}
 use Rattle.org_serve.specs.declared.end.ServeEnd.TheVariants.{End, Unsettled, Device, Read, Write}
 use Rattle.org_serve.specs.Serving.{HasBroken, EndsBroken, end_of}
@@ -22,16 +22,16 @@ broken_or_not false = inr refl
 both_ways : {b : Bool} → b ≡ true → b ≡ false → ⊥
 both_ways is isnt = true≢false (sym is ∙ isnt)
 
-pub untouched_then : {D : Type 0} {old mid new : Kept D} → (IsTrue old.session.broken → mid ≡ old) → (IsTrue mid.session.broken → new ≡ mid) → IsTrue old.session.broken → new ≡ old
+pub untouched_then : {D : Type 0} {old mid new : StoreView D} → (IsTrue old.session.broken → mid ≡ old) → (IsTrue mid.session.broken → new ≡ mid) → IsTrue old.session.broken → new ≡ old
 untouched_then first second before = second (ap (λ k. k.session.broken) (first before) ∙ before) ∙ first before
 
-pub breaks_then : {D : Type 0} {g : Ghosts D} {old mid new : Kept D}
+pub breaks_then : {D : Type 0} {g : Ghosts D} {old mid new : StoreView D}
     → (IsTrue old.session.broken → mid ≡ old) → (IsTrue mid.session.broken → new ≡ mid)
     → Accounts g old.disk mid.disk (HasBroken old.session mid.session) → Accounts g mid.disk new.disk (HasBroken mid.session new.session)
     → Accounts g old.disk new.disk (HasBroken old.session new.session)
 breaks_then {D} {g = g} {old = old} {mid = mid} {new = new} kept_first kept_second first second = record {
   was_honest = λ h. first.was_honest (second.was_honest h);
-  stays_honest = λ steady h. second.stays_honest steady (first.stays_honest steady h);
+  stays_honest = λ truthful h. second.stays_honest truthful (first.stays_honest truthful h);
   no_less = omega (arith, first.no_less, second.no_less);
   risen = λ has. elim (broken_or_not mid.session.broken) [
     | inl broke ↦ HasRisen-before (g.failures old.disk) (g.failures mid.disk) (g.failures new.disk) second.no_less (first.risen (has.0, broke))
@@ -39,10 +39,10 @@ breaks_then {D} {g = g} {old = old} {mid = mid} {new = new} kept_first kept_seco
   ];
   equal = λ fine.
       second.equal (λ has. elim (broken_or_not old.session.broken) [
-        | inl before ↦ both_ways (ap (λ (k : Kept D). k.session.broken) (kept_first before) ∙ before) has.0
+        | inl before ↦ both_ways (ap (λ (k : StoreView D). k.session.broken) (kept_first before) ∙ before) has.0
         | inr sound ↦ fine (sound, has.1)
       ])
-      ∙ first.equal (λ has. fine (has.0, ap (λ (k : Kept D). k.session.broken) (kept_second has.1) ∙ has.1));
+      ∙ first.equal (λ has. fine (has.0, ap (λ (k : StoreView D). k.session.broken) (kept_second has.1) ∙ has.1));
 }
 
 -- whether the store is broken after a settling, by how serving ends then
@@ -73,7 +73,7 @@ ends_broken (Err run.Device) old new sound only_so so was = so (inr refl)
 ends_broken (Err run.Broken) old new sound only_so so was = absurd (both_ways (was refl) sound)
 
 -- a store that was opened and served is broken where its disk's count rose, and else not
-pub breaks_by_count : {D : Type 0} {g : Ghosts D} {disk new : D} (store after : Kept D)
+pub breaks_by_count : {D : Type 0} {g : Ghosts D} {disk new : D} (store after : StoreView D)
     → Accounts g disk store.disk ⊥ → Accounts g store.disk after.disk (HasBroken store.session after.session)
     → store.session.broken ≡ false → new ≡ after.disk
     → (IsTrue after.session.broken → HasRisen (g.failures disk) (g.failures new)) × (IsFalse after.session.broken → g.failures new ≡ g.failures disk)
@@ -84,7 +84,7 @@ breaks_by_count {D} {g = g} {disk = disk} store after opened served sound is =
     )
 
 -- a store that was opened and served, as its disk's count tells it
-pub served_accounts : {D : Type 0} {g : Ghosts D} {disk new : D} (end : ServeEnd) (store after : Kept D)
+pub served_accounts : {D : Type 0} {g : Ghosts D} {disk new : D} (end : ServeEnd) (store after : StoreView D)
     → Accounts g disk store.disk ⊥ → Accounts g store.disk after.disk (HasBroken store.session after.session)
     → store.session.broken ≡ false → EndsBroken end after.session → new ≡ after.disk
     → Accounts g disk new (HasFailed (Ok end) (g.failures disk) (g.failures new))

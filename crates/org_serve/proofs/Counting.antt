@@ -4,10 +4,9 @@ use Rattle.std.proofs.lemmas.List.{length-append}
 use Rattle.std.specs.Io.KnownBytes.{Consumes}
 use Rattle.org_disk.specs.Disk.{IsCounted, HasRisen}
 use Rattle.org_fileset.specs.declared.open.OpenFault.{OpenFault}
-use Rattle.org_serve.specs.Pipes.{Exchange, Pipes}
+use Rattle.org_serve.specs.Pipes.{Exchange, Pipes, HasRisenBy, HasRead, EndsForCause}
 use Rattle.org_serve.specs.declared.end.ServeEnd.{ServeEnd}
 use Rattle.org_serve.specs.declared.end.ServeEnd.TheVariants.{Read, Write}
-use Rattle.org_serve.specs.Counts.{HasRisenBy, HasRead, EndsForCause}
 use Rattle.org_serve.proofs.Joins.{Consumes-append, Consumes-none}
 
 pub HasRisenBy-counted : (n old mid new : ℕ) → HasRisenBy n old mid → IsCounted mid new → HasRisenBy (n + 1) old new

@@ -13,7 +13,7 @@ use Rattle.org_fileset.specs.Writes.{LeavesAlone}
 use Rattle.org_fileset.proofs.Elements.{cons_later}
 use Rattle.org_fileset.proofs.Writes.{alone_fewer, alone_then}
 use Rattle.org_commands.specs.declared.command.Command.{Command}
-use Rattle.org_store.specs.History.{Past}
+use Rattle.org_store.specs.History.{Trace}
 use Rattle.org_commands.specs.InOrder.{AreNames, is_name}
 use Rattle.org_commands.specs.Left.{IsApart}
 use Rattle.org_commands.proofs.InOrder.{named}
@@ -22,43 +22,38 @@ use Rattle.org_serve.specs.declared.whole.Setup.{Setup}
 use Rattle.org_serve.specs.Pipes.{Exchange}
 use Rattle.org_serve.specs.declared.end.ServeEnd.{ServeEnd}
 use Rattle.org_serve.specs.declared.fault.LineFault.{LineFault}
-use Rattle.org_serve.specs.Crashes.{Runs}
-use Rattle.org_serve.specs.Serving.{AnswersReadBy}
+use Rattle.org_serve.specs.Serving.{Answers, AnswersRead, HasSettled, Runs}
 use Rattle.org_serve.specs.Syncing.{IsNotStored}
-use Rattle.org_serve.specs.Transcript.{Answers}
 use Rattle.org_serve.specs.Whole.{IsForeign, LeavesForeign, ServesOver}
-use Rattle.org_serve.proofs.Honest.{HasSettledPast, PastLine, RunsPast, past_runs, up_to}
+use Rattle.org_serve.proofs.Honest.{sound_traced, sound_traces, up_to}
 
 module _ {D : Type 0} (g : Ghosts D) where
   -- a store whose waiting files are its own
-  abbrev Ready : Past D → Type 0
-  Ready past = AreNames past.store.session.names past.store.waiting
+  abbrev Ready : Trace D → Type 0
+  Ready past = AreNames past.store.session.names past.store.dirty
 
-  abbrev Own : Past D → Past D → Type 0
+  abbrev Own : Trace D → Trace D → Type 0
   Own old new = KeepsToItsOwn g old.store new.store
 
-  abbrev Line : Past D → List ℕ → List ℕ → Past D → Type 0
-  Line = PastLine g
+  own_same : (old new : Trace D) → Ready old → new ≡ old → Own old new
+  own_same old new ready same = own_none g old.store new.store ready (ap (λ (p : Trace D). p.store) same)
 
-  own_same : (old new : Past D) → Ready old → new ≡ old → Own old new
-  own_same old new ready same = own_none g old.store new.store ready (ap (λ (p : Past D). p.store) same)
-
-  own_read : (old : Past D) (read : Result Command LineFault) (out : List ℕ) (new : Past D) → Ready old → AnswersReadBy (RunsPast g) (λ past. past.store.session) old read out new → Own old new
+  own_read : (old : Trace D) (read : Result Command LineFault) (out : List ℕ) (new : Trace D) → Ready old → AnswersRead (sound_traces g) old read out new → Own old new
   own_read old (Err fault) out new ready ran = own_same old new ready ran.1
   own_read old (Ok command) out new ready ran = own_run g old.store new.store command ran.0 ready ran.1.0.0
 
-  own_lines : (old new : Past D) (lines : List (List ℕ)) (out : List ℕ) → Answers Line old lines out new → Ready old → Own old new
+  own_lines : (old new : Trace D) (lines : List (List ℕ)) (out : List ℕ) → Answers (sound_traces g) old lines out new → Ready old → Own old new
   own_lines old new [] out a ready = own_same old new ready a.1
   own_lines old new (line ∷ lines) out a ready =
       own_then g old.store a.0.store new.store (own_read old a.3.0 a.1 a.0 ready a.3.2) (λ ready. own_lines a.0 new lines a.2 a.5 ready)
 
-  own_end : (mid last : Past D) → (last ≡ mid) ⊎ HasSettledPast g mid last → Ready mid → Own mid last
+  own_end : (mid last : Trace D) → (last ≡ mid) ⊎ HasSettled (sound_traces g) mid last → Ready mid → Own mid last
   own_end mid last ends ready = ⊎_elim
       (λ same. own_same mid last ready same)
       (λ settled. own_settling g mid.store last.store settled.0 ready settled.1.0.0)
       ends
 
-  pub own_runs : {first last : Past D} {end : ServeEnd} {io : Exchange} → Runs Line (HasSettledPast g) first last end io → Ready first → Own first last
+  pub own_runs : {first last : Trace D} {end : ServeEnd} {io : Exchange} → Runs (sound_traces g) first last end io → Ready first → Own first last
   own_runs {first} {last} run ready =
       own_then g first.store run.mid.store last.store (own_lines first run.mid run.ran run.out run.answered ready) (λ ready. own_end run.mid last run.ends ready)
 
@@ -86,21 +81,21 @@ module _ {D : Type 0} {g : Ghosts D}
     ];
   }
 
-  ready : AreNames served.first.store.session.names served.first.store.waiting
-  ready = subst (AreNames served.first.store.session.names) (sym served.waits) tt
+  ready : AreNames served.first.store.session.names served.first.store.dirty
+  ready = subst (AreNames served.first.store.session.names) (sym served.dirty_files) tt
 
-  alone_to : (here : Past D) → g.honest served.first.store.disk → KeepsToItsOwn g served.first.store here.store → LeavesAlone g (IsForeign setup.names.items journal) disk here.store.disk
+  alone_to : (here : Trace D) → g.honest served.first.store.disk → KeepsToItsOwn g served.first.store here.store → LeavesAlone g (IsForeign setup.names.items journal) disk here.store.disk
   alone_to here began own =
       alone_then g (IsForeign setup.names.items journal) disk served.first.store.disk here.store.disk (served.alone began)
       (alone_fewer g (IsForeign setup.names.items journal) (IsApart served.first.store.session.names) served.first.store.disk here.store.disk own.alone apart)
 
   pub leaves_foreign : LeavesForeign served
   leaves_foreign here (inl way) honestly =
-      let whole = past_runs g (up_to served.run here way) honestly in
+      let whole = sound_traced g (up_to served.run here way) honestly in
       alone_to here whole.1 (own_runs g whole.0 ready)
   leaves_foreign here (inr same) honestly =
-      let whole = past_runs g served.run (subst (λ (p : Past D). g.honest p.store.disk) same honestly) in
-      subst (λ (p : Past D). LeavesAlone g (IsForeign setup.names.items journal) disk p.store.disk) (sym same)
+      let whole = sound_traced g served.run (subst (λ (p : Trace D). g.honest p.store.disk) same honestly) in
+      subst (λ (p : Trace D). LeavesAlone g (IsForeign setup.names.items journal) disk p.store.disk) (sym same)
       (alone_to served.last whole.1 (own_runs g whole.0 ready))
 
   -- at its end

@@ -11,40 +11,28 @@ use Rattle.org_fileset.proofs.Commits.{at_rest_recovers}
 use Rattle.org_fileset.proofs.Recovers.{recovers_as}
 use Rattle.org_commands.specs.declared.command.Command.{Command}
 use Rattle.org_commands.specs.InOrder.{with_texts}
-use Rattle.org_commands.specs.Session.{Session, Kept, Holds}
+use Rattle.org_commands.specs.Session.{Session, StoreView, Holds}
 use Rattle.org_commands.specs.Outcome.{outcome}
 use Rattle.org_commands.specs.Step.{Step}
-use Rattle.org_store.specs.History.{Past, Lists, HoldsPrefix}
+use Rattle.org_store.specs.History.{Trace, Lists, HoldsPrefix}
 use Rattle.org_commands.specs.Runs.{IsOnDisk}
 use Rattle.org_store.proofs.History.{Begin, Counts, Stands, Texts, adds, begin_adds, further, lists_settling, lists_step, same_or_sound, texts_after, torn}
 use Rattle.org_store.proofs.Runs.{Course, HaveTexts, IsBetween, course_none, course_run, course_settle, falls, holds_back, on_disk_after}
+use Rattle.org_store.specs.Calls.{Call, Machine, StepsBy, model, traces}
+use Rattle.org_store.specs.Calls.Call.{Grouped, Ran, Settled}
 use Rattle.org_serve.specs.Pipes.{Exchange}
-use Rattle.org_serve.specs.Parts.{WritesSome}
+use Rattle.org_serve.specs.Serving.{Answers, AnswersRead, HasSettled, Runs, RunsAndWrites, honest_stores, honest_traces}
 use Rattle.org_serve.specs.declared.fault.LineFault.{LineFault}
-use Rattle.org_serve.specs.Serving.{AnswersReadBy, AnswersLine}
-use Rattle.org_serve.specs.Crashes.{Runs, RunsHonest, RunsLine, HasSettledOver}
 use Rattle.org_serve.specs.declared.end.ServeEnd.{ServeEnd}
-use Rattle.org_serve.specs.History.{HoldsSince, LeadsBy, RunsPast as ToldRunsPast, PastLine as ToldPast, HasSettledPast as ToldSettledPast}
-use Rattle.org_serve.specs.Transcript.{Answers}
-use Rattle.org_serve.proofs.Honest.{RunsPast, PastLine, HasSettledPast, past_runs}
-use Rattle.org_serve.proofs.Crashes.{answers_by}
+use Rattle.org_serve.specs.History.{HoldsSince, Reaches}
+use Rattle.org_serve.proofs.Honest.{sound_traced, sound_traces}
+use Rattle.org_serve.proofs.Crashes.{lines_by}
 
--- A run of stores has such a list.
+-- A run of stores has a trace.
 module _ {D : Type 0} (g : Ghosts D) where
-  abbrev LineTold : Past D → List ℕ → List ℕ → Past D → Type 0
-  LineTold = ToldPast g
-
-  abbrev SettledTold : Past D → Past D → Type 0
-  SettledTold = ToldSettledPast g
-
-  abbrev ReadsTold : Past D → Result Command LineFault → List ℕ → Past D → Type 0
-  ReadsTold = AnswersReadBy (ToldRunsPast g) (λ past. past.store.session)
-
-  abbrev ReadsKept : Kept D → Result Command LineFault → List ℕ → Kept D → Type 0
-  ReadsKept = AnswersReadBy (RunsHonest g) (λ k. k.session)
-
-  lift_read : (old : Past D) (read : Result Command LineFault) (out : List ℕ) (new : Kept D) → ReadsKept old.store read out new → (texts : Texts) × ReadsTold old read out (record { store = new; texts = texts })
-  lift_read old (Err fault) out new ran = (old.texts, (ran.0, ap (λ (k : Kept D). record { store = k; texts = old.texts }) ran.1))
+  lift_read : (old : Trace D) (read : Result Command LineFault) (out : List ℕ) (new : StoreView D) → AnswersRead (honest_stores g) old.store read out new
+      → (texts : Texts) × AnswersRead (honest_traces g) old read out (record { store = new; texts = texts })
+  lift_read old (Err fault) out new ran = (old.texts, (ran.0, ap (λ (k : StoreView D). record { store = k; texts = old.texts }) ran.1))
   lift_read old (Ok command) out new ran = (
     texts_after (outcome old.store.session command) old.store.session.accepted new.session.accepted old.texts,
     (
@@ -54,29 +42,28 @@ module _ {D : Type 0} (g : Ghosts D) where
     ),
   )
 
-  pub lift_lines : (old : Past D) (lines : List (List ℕ)) (out : List ℕ) (new : Kept D) → Answers (RunsLine g) old.store lines out new
-      → (texts : Texts) × Answers LineTold old lines out (record { store = new; texts = texts })
-  lift_lines old [] out new a = (old.texts, (a.0, ap (λ (k : Kept D). record { store = k; texts = old.texts }) a.1))
+  lift_lines : (old : Trace D) (lines : List (List ℕ)) (out : List ℕ) (new : StoreView D) → Answers (honest_stores g) old.store lines out new
+      → (texts : Texts) × Answers (honest_traces g) old lines out (record { store = new; texts = texts })
+  lift_lines old [] out new a = (old.texts, (a.0, ap (λ (k : StoreView D). record { store = k; texts = old.texts }) a.1))
   lift_lines old (line ∷ lines) out new a =
       let one = lift_read old a.3.0 a.1 a.0 a.3.2 in
-      let mid : Past D = record { store = a.0; texts = one.0 } in
+      let mid : Trace D = record { store = a.0; texts = one.0 } in
       let rest = lift_lines mid lines a.2 new a.5 in
       (rest.0, (mid, a.1, a.2, (a.3.0, a.3.1, one.1), a.4, rest.1))
 
-  pub lift_end : (mid : Past D) (new : Kept D) → (new ≡ mid.store) ⊎ HasSettledOver g mid.store new
-      → let last : Past D = record { store = new; texts = mid.texts } in (last ≡ mid) ⊎ SettledTold mid last
+  lift_end : (mid : Trace D) (new : StoreView D) → (new ≡ mid.store) ⊎ HasSettled (honest_stores g) mid.store new
+      → let last : Trace D = record { store = new; texts = mid.texts } in (last ≡ mid) ⊎ HasSettled (honest_traces g) mid last
   lift_end mid new ends = ⊎_elim
-      (λ same. inl (ap (λ (k : Kept D). record { store = k; texts = mid.texts }) same))
+      (λ same. inl (ap (λ (k : StoreView D). record { store = k; texts = mid.texts }) same))
       (λ settled. inr (settled.0, record { before = settled.1.before; did = λ here. (settled.1.did here, refl) }))
       ends
 
   -- the whole run
-  pub lift_run : (first : Past D) {after : Kept D} {end : ServeEnd} {io : Exchange}
-      → Runs (RunsLine g) (HasSettledOver g) first.store after end io
-      → (texts : Texts) × Runs LineTold SettledTold first (record { store = after; texts = texts }) end io
+  pub lift_run : (first : Trace D) {after : StoreView D} {end : ServeEnd} {io : Exchange} → Runs (honest_stores g) first.store after end io
+      → (texts : Texts) × Runs (honest_traces g) first (record { store = after; texts = texts }) end io
   lift_run first {after} run =
       let lines = lift_lines first run.ran run.out run.mid run.answered in
-      let mid : Past D = record { store = run.mid; texts = lines.0 } in (
+      let mid : Trace D = record { store = run.mid; texts = lines.0 } in (
         lines.0,
         record {
           input = run.input;
@@ -93,79 +80,71 @@ module _ {D : Type 0} (g : Ghosts D) where
       )
 
   -- .. in which what was written is the same
-  pub lift_wrote : (first : Past D) {after : Kept D} {end : ServeEnd} {io : Exchange}
-      → (run : Runs (RunsLine g) (HasSettledOver g) first.store after end io)
-      → (acknowledged : ℕ) → WritesSome run.input run.others run.out acknowledged io.before.written io.after.written
-      → WritesSome (lift_run first run).1.input (lift_run first run).1.others (lift_run first run).1.out acknowledged io.before.written io.after.written
+  pub lift_wrote : (first : Trace D) {after : StoreView D} {end : ServeEnd} {io : Exchange} → (run : RunsAndWrites (honest_stores g) first.store after end io)
+      → RunsAndWrites (honest_traces g) first (record { store = after; texts = (lift_run first run.0).0 }) end io
   unfolding lift_run
-  lift_wrote first run acknowledged some = some
+  lift_wrote first run = ((lift_run first run.0).1, run.1)
 
 -- A run over a disk that is honest after each step.
 module _ {D : Type 0} (g : Ghosts D) where
-  abbrev Line : Past D → List ℕ → List ℕ → Past D → Type 0
-  Line = PastLine g
-
-  abbrev Settled : Past D → Past D → Type 0
-  Settled = HasSettledPast g
-
-  abbrev Reads : Past D → Result Command LineFault → List ℕ → Past D → Type 0
-  Reads = AnswersReadBy (RunsPast g) (λ past. past.store.session)
+  abbrev Sound : Machine (Trace D)
+  Sound = sound_traces g
 
   -- what is said of the sessions alone
-  session_of_read : (old : Past D) (read : Result Command LineFault) (out : List ℕ) (new : Past D) → Reads old read out new → AnswersReadBy Step (λ s. s) old.store.session read out new.store.session
-  session_of_read old (Err fault) out new ran = (ran.0, ap (λ (p : Past D). p.store.session) ran.1)
-  session_of_read old (Ok command) out new ran = (ran.0, ran.1.0.0.step, ran.2)
+  traced_calls : (old : Trace D) (call : Call) (new : Trace D) → Sound.makes old call new → StepsBy old.store.session call new.store.session
+  traced_calls old (Ran command answer) new made = made.0.0.step
+  traced_calls old (Settled answer) new made = made.0.0.step
+  traced_calls old (Grouped group) new made = ap (λ (store : StoreView D). store.session) made.0.0
 
-  pub session_of_past : (old : Past D) (lines : List (List ℕ)) (out : List ℕ) (new : Past D) → Answers Line old lines out new → Answers AnswersLine old.store.session lines out new.store.session
-  session_of_past old lines out new a =
-      answers_by (λ (p : Past D). p.store.session) Line AnswersLine (λ old line out new one. (one.0, one.1, session_of_read old one.0 out new one.2)) old lines out new a
+  pub session_of_traced : (old : Trace D) (lines : List (List ℕ)) (out : List ℕ) (new : Trace D) → Answers Sound old lines out new → Answers model old.store.session lines out new.store.session
+  session_of_traced old lines out new a = lines_by Sound model (λ (trace : Trace D). trace.store.session) (λ trace. refl) traced_calls old lines out new a
 
   -- What holds of each store of a run.
 
-  pub honest_lines : (old new : Past D) (lines : List (List ℕ)) (out : List ℕ) → Answers Line old lines out new → g.honest old.store.disk → g.honest new.store.disk
-  honest_lines old new [] out a here = subst (λ (p : Past D). g.honest p.store.disk) (sym a.1) here
+  pub honest_lines : (old new : Trace D) (lines : List (List ℕ)) (out : List ℕ) → Answers Sound old lines out new → g.honest old.store.disk → g.honest new.store.disk
+  honest_lines old new [] out a here = subst (λ (p : Trace D). g.honest p.store.disk) (sym a.1) here
   honest_lines old new (line ∷ lines) out a here = honest_lines a.0 new lines a.2 a.5 (honest_read old a.3.0 a.1 a.0 a.3.2 here)
     where
-      honest_read : (old : Past D) (read : Result Command LineFault) (out : List ℕ) (new : Past D) → Reads old read out new → g.honest old.store.disk → g.honest new.store.disk
-      honest_read old (Err fault) out new ran here = subst (λ (p : Past D). g.honest p.store.disk) (sym ran.1) here
+      honest_read : (old : Trace D) (read : Result Command LineFault) (out : List ℕ) (new : Trace D) → AnswersRead Sound old read out new → g.honest old.store.disk → g.honest new.store.disk
+      honest_read old (Err fault) out new ran here = subst (λ (p : Trace D). g.honest p.store.disk) (sym ran.1) here
       honest_read old (Ok command) out new ran here = ran.1.1
 
-  lists_read : (old : Past D) (read : Result Command LineFault) (out : List ℕ) (new : Past D) → Reads old read out new → Lists old.store.session old.texts → Lists new.store.session new.texts
-  lists_read old (Err fault) out new ran lists = subst (λ (p : Past D). Lists p.store.session p.texts) (sym ran.1) lists
+  lists_read : (old : Trace D) (read : Result Command LineFault) (out : List ℕ) (new : Trace D) → AnswersRead Sound old read out new → Lists old.store.session old.texts → Lists new.store.session new.texts
+  lists_read old (Err fault) out new ran lists = subst (λ (p : Trace D). Lists p.store.session p.texts) (sym ran.1) lists
   lists_read old (Ok command) out new ran lists = lists_step old.store.session new.store.session command ran.0 old.texts new.texts ran.1.0.0.step ran.1.0.1 lists
 
-  pub lists_lines : (old new : Past D) (lines : List (List ℕ)) (out : List ℕ) → Answers Line old lines out new → Lists old.store.session old.texts → Lists new.store.session new.texts
-  lists_lines old new [] out a lists = subst (λ (p : Past D). Lists p.store.session p.texts) (sym a.1) lists
+  pub lists_lines : (old new : Trace D) (lines : List (List ℕ)) (out : List ℕ) → Answers Sound old lines out new → Lists old.store.session old.texts → Lists new.store.session new.texts
+  lists_lines old new [] out a lists = subst (λ (p : Trace D). Lists p.store.session p.texts) (sym a.1) lists
   lists_lines old new (line ∷ lines) out a here = lists_lines a.0 new lines a.2 a.5 (lists_read old a.3.0 a.1 a.0 a.3.2 here)
 
-  pub lists_end : (mid last : Past D) → (last ≡ mid) ⊎ Settled mid last → Lists mid.store.session mid.texts → Lists last.store.session last.texts
+  pub lists_end : (mid last : Trace D) → (last ≡ mid) ⊎ HasSettled Sound mid last → Lists mid.store.session mid.texts → Lists last.store.session last.texts
   lists_end mid last ends lists = ⊎_elim
-      (λ same. subst (λ (p : Past D). Lists p.store.session p.texts) (sym same) lists)
+      (λ same. subst (λ (p : Trace D). Lists p.store.session p.texts) (sym same) lists)
       (λ settled. subst (Lists last.store.session) (sym settled.1.0.1) (lists_settling mid.store.session last.store.session settled.0 mid.texts settled.1.0.0.step lists))
       ends
 
-  begin_read : (old : Past D) (read : Result Command LineFault) (out : List ℕ) (new : Past D) → Reads old read out new → Begin old.texts new.texts
-  begin_read old (Err fault) out new ran = subst (λ (p : Past D). Begin old.texts p.texts) (sym ran.1) (λ k files is. is)
+  begin_read : (old : Trace D) (read : Result Command LineFault) (out : List ℕ) (new : Trace D) → AnswersRead Sound old read out new → Begin old.texts new.texts
+  begin_read old (Err fault) out new ran = subst (λ (p : Trace D). Begin old.texts p.texts) (sym ran.1) (λ k files is. is)
   begin_read old (Ok command) out new ran = begin_adds (outcome old.store.session command) old.store.session.accepted new.store.session.accepted old.texts new.texts ran.1.0.1
 
-  pub begin_lines : (old new : Past D) (lines : List (List ℕ)) (out : List ℕ) → Answers Line old lines out new → Begin old.texts new.texts
-  begin_lines old new [] out a = subst (λ (p : Past D). Begin old.texts p.texts) (sym a.1) (λ k files is. is)
+  pub begin_lines : (old new : Trace D) (lines : List (List ℕ)) (out : List ℕ) → Answers Sound old lines out new → Begin old.texts new.texts
+  begin_lines old new [] out a = subst (λ (p : Trace D). Begin old.texts p.texts) (sym a.1) (λ k files is. is)
   begin_lines old new (line ∷ lines) out a = λ k files is. begin_lines a.0 new lines a.2 a.5 k files (begin_read old a.3.0 a.1 a.0 a.3.2 k files is)
 
-  pub begin_end : (mid last : Past D) → (last ≡ mid) ⊎ Settled mid last → Begin mid.texts last.texts
+  pub begin_end : (mid last : Trace D) → (last ≡ mid) ⊎ HasSettled Sound mid last → Begin mid.texts last.texts
   begin_end mid last ends = ⊎_elim
-      (λ same. subst (λ (p : Past D). Begin mid.texts p.texts) (sym same) (λ k files is. is))
+      (λ same. subst (λ (p : Trace D). Begin mid.texts p.texts) (sym same) (λ k files is. is))
       (λ settled. subst (Begin mid.texts) (sym settled.1.0.1) (λ k files is. is))
       ends
 
   -- What is reached by lines.
 
-  abbrev Goes : Past D → Past D → (Session → Type 0) → Type 0
+  abbrev Goes : Trace D → Trace D → (Session → Type 0) → Type 0
   Goes old new P = Course g old.store new.store P
 
   -- one line, and the lines after it
-  module _ (old mid last : Past D) (course : Goes mid last (Counts last mid)) (lists : Lists old.store.session old.texts) (ends : Begin mid.texts last.texts) where
-    course_read : (read : Result Command LineFault) (out : List ℕ) → Reads old read out mid → Goes old last (Counts last old)
+  module _ (old mid last : Trace D) (course : Goes mid last (Counts last mid)) (lists : Lists old.store.session old.texts) (ends : Begin mid.texts last.texts) where
+    course_read : (read : Result Command LineFault) (out : List ℕ) → AnswersRead Sound old read out mid → Goes old last (Counts last old)
     course_read (Err fault) out ran = subst (λ p. Goes p last (Counts last p)) ran.1 course
     course_read (Ok command) out ran =
         let made = ran.1.0 in
@@ -176,9 +155,9 @@ module _ {D : Type 0} (g : Ghosts D) where
         (inl refl)
         (λ texts failed accepted full.
         let fell = falls old.store.session mid.store.session command (subst (λ a. Step old.store.session command a mid.store.session) failed made.0.step) in
-        torn old mid last command texts lists ends (ap (λ (k : Kept D). k.session.accepted) (course.stays fell)) made.1 accepted)
+        torn old mid last command texts lists ends (ap (λ (k : StoreView D). k.session.accepted) (course.stays fell)) made.1 accepted)
 
-  pub course_past : (old mid last : Past D) (lines : List (List ℕ)) (out : List ℕ) → Answers Line old lines out mid → Goes mid last (Counts last mid) → Begin mid.texts last.texts
+  pub course_past : (old mid last : Trace D) (lines : List (List ℕ)) (out : List ℕ) → Answers Sound old lines out mid → Goes mid last (Counts last mid) → Begin mid.texts last.texts
       → Lists old.store.session old.texts → Goes old last (Counts last old)
   course_past old mid last [] out a course ends lists = subst (λ p. Goes p last (Counts last p)) a.1 course
   course_past old mid last (line ∷ lines) out a course ends lists =
@@ -186,7 +165,7 @@ module _ {D : Type 0} (g : Ghosts D) where
       (course_past a.0 mid last lines a.2 a.5 course ends (lists_read old a.3.0 a.1 a.0 a.3.2 lists)) lists
       (λ k files is. ends k files (begin_lines a.0 mid lines a.2 a.5 k files is)) a.3.0 a.1 a.3.2
 
-  pub course_last : (mid last : Past D) → (last ≡ mid) ⊎ Settled mid last → Goes mid last (Counts last mid)
+  pub course_last : (mid last : Trace D) → (last ≡ mid) ⊎ HasSettled Sound mid last → Goes mid last (Counts last mid)
   course_last mid last ends = ⊎_elim
       (λ same. subst (λ p. Goes mid p (Counts p mid)) (sym same) (course_none g mid.store (Counts mid mid) (inl refl)))
       (λ settled. course_settle g mid.store last.store settled.0 (Counts last mid) settled.1.0.0 (inl refl))
@@ -194,7 +173,7 @@ module _ {D : Type 0} (g : Ghosts D) where
 
   -- What a crash leaves since a store of a run that wasn't broken.
   pub leaves_since : (only_now : (disk : D) (image : Image) → g.honest disk → g.left_since disk (g.moment disk) image → AreImages (g.files disk) image)
-      → (first here last : Past D) → g.honest here.store.disk → IsAtRest (g.files first.store.disk) → IsOnDisk first.store.session (contents (g.files first.store.disk)) → here.store.session.broken ≡ false
+      → (first here last : Trace D) → g.honest here.store.disk → IsAtRest (g.files first.store.disk) → IsOnDisk first.store.session (contents (g.files first.store.disk)) → here.store.session.broken ≡ false
       → Lists here.store.session here.texts → Lists last.store.session last.texts → Begin here.texts last.texts → (P : Session → Type 0) → Goes first here P → Goes here last (Counts last here)
       → LeavesOnly (g.moment here.store.disk) (g.moment last.store.disk) (g.left_since here.store.disk) (g.left_since last.store.disk)
       (HoldsSince first.store.session (contents (g.files first.store.disk)) here last)
@@ -236,9 +215,9 @@ module _ {D : Type 0} (g : Ghosts D) where
       (λ image left. settled_holds image (recovers_as (contents (g.files here.store.disk)) (with_texts here.store.session.names here.store.session.settled (contents (g.files here.store.disk))) image disk_here
       (at_rest_recovers (g.files here.store.disk) rest_here image (only_now here.store.disk image honestly left))))
 
-  -- What a crash leaves since each store on the way of a run, and at its end.
+  -- What a crash leaves since each intermediate store of a run, and at its end.
   module _ (only_now : (disk : D) (image : Image) → g.honest disk → g.left_since disk (g.moment disk) image → AreImages (g.files disk) image)
-      {first last : Past D} {end : ServeEnd} {io : Exchange} (run : Runs Line Settled first last end io)
+      {first last : Trace D} {end : ServeEnd} {io : Exchange} (run : Runs Sound first last end io)
       (honest_first : g.honest first.store.disk) (honest_last : g.honest last.store.disk) (rest : IsAtRest (g.files first.store.disk)) (disk : IsOnDisk first.store.session (contents (g.files first.store.disk)))
       (lists : Lists first.store.session first.texts) where
     course_to_last : Goes first last (Counts last first)
@@ -247,21 +226,21 @@ module _ {D : Type 0} (g : Ghosts D) where
     pub lists_last : Lists last.store.session last.texts
     lists_last = lists_end run.mid last run.ends (lists_lines first run.mid run.ran run.out run.answered lists)
 
-    pub since : (here : Past D) → LeadsBy Line first run.ran run.out run.mid here ⊎ (here ≡ last) → here.store.session.broken ≡ false
+    pub since : (here : Trace D) → Reaches Sound first run.ran run.out run.mid here ⊎ (here ≡ last) → here.store.session.broken ≡ false
         → LeavesOnly (g.moment here.store.disk) (g.moment last.store.disk) (g.left_since here.store.disk) (g.left_since last.store.disk)
         (HoldsSince first.store.session (contents (g.files first.store.disk)) here last)
-    since here (inl leads) sound =
-        leaves_since only_now first here last (honest_lines first here leads.answered leads.written leads.before honest_first) rest disk sound
-        (lists_lines first here leads.answered leads.written leads.before lists) lists_last
-        (λ k texts is. begin_end run.mid last run.ends k texts (begin_lines here run.mid leads.others leads.more leads.behind k texts is))
+    since here (inl reaches) sound =
+        leaves_since only_now first here last (honest_lines first here reaches.answered reaches.written reaches.before honest_first) rest disk sound
+        (lists_lines first here reaches.answered reaches.written reaches.before lists) lists_last
+        (λ k texts is. begin_end run.mid last run.ends k texts (begin_lines here run.mid reaches.others reaches.more reaches.behind k texts is))
         (Counts here first)
-        (course_past first here here leads.answered leads.written leads.before (course_none g here.store (Counts here here) (inl refl)) (λ k texts is. is) lists)
-        (course_past here run.mid last leads.others leads.more leads.behind (course_last run.mid last run.ends) (begin_end run.mid last run.ends)
-        (lists_lines first here leads.answered leads.written leads.before lists))
+        (course_past first here here reaches.answered reaches.written reaches.before (course_none g here.store (Counts here here) (inl refl)) (λ k texts is. is) lists)
+        (course_past here run.mid last reaches.others reaches.more reaches.behind (course_last run.mid last run.ends) (begin_end run.mid last run.ends)
+        (lists_lines first here reaches.answered reaches.written reaches.before lists))
     since here (inr same) sound =
-        subst (λ (h : Past D). LeavesOnly (g.moment h.store.disk) (g.moment last.store.disk) (g.left_since h.store.disk) (g.left_since last.store.disk)
+        subst (λ (h : Trace D). LeavesOnly (g.moment h.store.disk) (g.moment last.store.disk) (g.left_since h.store.disk) (g.left_since last.store.disk)
         (HoldsSince first.store.session (contents (g.files first.store.disk)) h last)) (sym same)
-        (leaves_since only_now first last last honest_last rest disk (ap (λ (h : Past D). h.store.session.broken) (sym same) ∙ sound) lists_last lists_last (λ k texts is. is) (Counts last first) course_to_last
+        (leaves_since only_now first last last honest_last rest disk (ap (λ (h : Trace D). h.store.session.broken) (sym same) ∙ sound) lists_last lists_last (λ k texts is. is) (Counts last first) course_to_last
         (course_none g last.store (Counts last last) (inl refl)))
 
     -- a prefix that has all commands
@@ -282,7 +261,7 @@ module _ {D : Type 0} (g : Ghosts D) where
             subst (λ t. Holds first.store.session (contents (g.files first.store.disk)) t image) (the_same texts last.store.session.files same) held
 
 -- no line was answered yet
-pub at_first : {S : Type 0} {AnswersLine : S → List ℕ → List ℕ → S → Type 0} (first new : S) (lines : List (List ℕ)) (out : List ℕ) → Answers AnswersLine first lines out new → LeadsBy AnswersLine first lines out new first
+pub at_first : {S : Type 0} {m : Machine S} (first new : S) (lines : List (List ℕ)) (out : List ℕ) → Answers m first lines out new → Reaches m first lines out new first
 at_first first new lines out answered = record {
   answered = [];
   others = lines;
@@ -297,17 +276,17 @@ at_first first new lines out answered = record {
 -- What a crash leaves of a run of a store that has such a list as it begins.
 pub run_leaves : {D : Type 0} (g : Ghosts D)
     → ((disk : D) (image : Image) → g.honest disk → g.left_since disk (g.moment disk) image → AreImages (g.files disk) image)
-    → (first : Past D) (new : Kept D) (end : ServeEnd) (io : Exchange) → g.honest new.disk → IsAtRest (g.files first.store.disk)
+    → (first : Trace D) (new : StoreView D) (end : ServeEnd) (io : Exchange) → g.honest new.disk → IsAtRest (g.files first.store.disk)
     → IsOnDisk first.store.session (contents (g.files first.store.disk)) → first.store.session.broken ≡ false → Lists first.store.session first.texts
-    → Runs (RunsLine g) (HasSettledOver g) first.store new end io
-    → (last : Past D) × (last.store ≡ new) × Lists last.store.session last.texts
-    × Runs (ToldPast g) (ToldSettledPast g) first last end io
+    → Runs (honest_stores g) first.store new end io
+    → (last : Trace D) × (last.store ≡ new) × Lists last.store.session last.texts
+    × Runs (honest_traces g) first last end io
     × LeavesOnly (g.moment first.store.disk) (g.moment last.store.disk) (g.left_since first.store.disk) (g.left_since last.store.disk)
     (HoldsSince first.store.session (contents (g.files first.store.disk)) first last)
 run_leaves g only_now first new end io honestly rest disk sound lists run =
     let lifted = lift_run g first run in
-    let last : Past _ = record { store = new; texts = lifted.0 } in
-    let told = past_runs g lifted.1 honestly in (
+    let last : Trace _ = record { store = new; texts = lifted.0 } in
+    let told = sound_traced g lifted.1 honestly in (
       last,
       refl,
       lists_last g only_now told.0 told.1 honestly rest disk lists,
@@ -316,7 +295,7 @@ run_leaves g only_now first new end io honestly rest disk sound lists run =
     )
 
 -- .. which is a prefix with at least the commands that were acknowledged
-pub since_prefix : {D : Type 0} (first : Session) (others image : Image) (here later : Past D) → here.store.session.acknowledged ≤ here.store.session.accepted
+pub since_prefix : {D : Type 0} (first : Session) (others image : Image) (here later : Trace D) → here.store.session.acknowledged ≤ here.store.session.accepted
     → HoldsSince first others here later image → HoldsPrefix first others later.texts here.store.session.acknowledged image
 since_prefix first others image here later order holds =
     (holds.count, elim holds.whole [ inl settled ↦ omega (arith, settled) | inr more ↦ omega (arith, more, order) ], holds.holds)

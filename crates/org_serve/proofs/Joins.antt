@@ -4,18 +4,19 @@ use Rattle.std.specs.Prelude.{OnOk, OnErr, IfErr, IsErr, IsErrAnd}
 use Rattle.std.specs.Io.KnownBytes.{Consumes, Appends, Keeps}
 use Rattle.org_disk.specs.Disk.{IsCounted}
 use Rattle.org_serve.specs.declared.pipes.Sink as sinks
-use Rattle.org_serve.specs.Parts.{AppendsSome}
+use Rattle.org_serve.specs.Pipes.{AppendsSome}
 use Rattle.org_serve.specs.Writes.{Writes}
-use Rattle.org_serve.specs.Transcript.{Answers}
+use Rattle.org_store.specs.Calls.{Machine}
+use Rattle.org_serve.specs.Serving.{Answers}
 
-pub Answers-append : {S : Type 0} (AnswersLine : S → List ℕ → List ℕ → S → Type 0) (old mid new : S) (ls ms : List (List ℕ)) (out more : List ℕ)
-    → Answers AnswersLine old ls out mid → Answers AnswersLine mid ms more new → Answers AnswersLine old (ls ++ ms) (out ++ more) new
-Answers-append {S} AnswersLine old mid new [] ms out more a b =
-    let P : S → Type 0 = λ s. Answers AnswersLine s ms ([] ++ more) new in
-    let Q : List ℕ → Type 0 = λ o. Answers AnswersLine old ms (o ++ more) new in
+pub Answers-append : {S : Type 0} (m : Machine S) (old mid new : S) (ls ms : List (List ℕ)) (out more : List ℕ)
+    → Answers m old ls out mid → Answers m mid ms more new → Answers m old (ls ++ ms) (out ++ more) new
+Answers-append {S} m old mid new [] ms out more a b =
+    let P : S → Type 0 = λ s. Answers m s ms ([] ++ more) new in
+    let Q : List ℕ → Type 0 = λ o. Answers m old ms (o ++ more) new in
     subst Q (sym a.0) (subst P a.1 b)
-Answers-append {S} AnswersLine old mid new (line ∷ ls) ms out more a b =
-    (a.0, a.1, a.2 ++ more, a.3, ap (λ o. o ++ more) a.4 ∙ append_assoc a.1 a.2 more, Answers-append AnswersLine a.0 mid new ls ms a.2 more a.5 b)
+Answers-append {S} m old mid new (line ∷ ls) ms out more a b =
+    (a.0, a.1, a.2 ++ more, a.3, ap (λ o. o ++ more) a.4 ∙ append_assoc a.1 a.2 more, Answers-append m a.0 mid new ls ms a.2 more a.5 b)
 
 pub Consumes-append : (x y z : Option (List ℕ)) (a b : List ℕ) → Consumes x y a → Consumes y z b → Consumes x z (a ++ b)
 Consumes-append None y z a b p q = tt

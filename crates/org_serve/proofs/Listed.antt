@@ -17,7 +17,7 @@ use Rattle.org_commands.specs.declared.command.Reply.TheVariants.{Done, Safe, Te
 use Rattle.org_commands.specs.declared.command.RunFault.{RunFault}
 use Rattle.org_commands.specs.declared.command.RunFault.TheVariants.{Refused, OutOfMemory, Device, Broken}
 use Rattle.org_commands.specs.InOrder.{text_at}
-use Rattle.org_store.specs.History.{Past, Adds, Lists, HoldsPrefix}
+use Rattle.org_store.specs.History.{Trace, Adds, Lists, HoldsPrefix}
 use Rattle.org_store.specs.OnePlace.{HaveSameNodes, HasNodesOf, HasNodesOfPrefix, IsSessionOf}
 use Rattle.org_commands.specs.Outcome.{Accepts, AsksToSettle, IsAccepted, outcome, show}
 use Rattle.org_store.specs.Reopening.{IsOpenable, AreSmall}
@@ -32,13 +32,10 @@ use Rattle.org_serve.specs.declared.whole.Setup.{Setup}
 use Rattle.org_serve.specs.Pipes.{Exchange}
 use Rattle.org_serve.specs.declared.end.ServeEnd.{ServeEnd}
 use Rattle.org_serve.specs.declared.fault.LineFault.{LineFault}
-use Rattle.org_serve.specs.History.{PastLine as ToldPast, HasSettledPast as ToldSettledPast}
-use Rattle.org_serve.specs.OnePlace.{OnlyRefiles}
-use Rattle.org_serve.specs.Serving.{AnswersReadBy, IsReadAs}
-use Rattle.org_serve.specs.Crashes.{Runs}
-use Rattle.org_serve.specs.Transcript.{Answers}
-use Rattle.org_serve.specs.Whole.{ServesOver, IsOnTheWay}
-use Rattle.org_serve.proofs.Honest.{RunsPast, PastLine, HasSettledPast, past_runs, up_to}
+use Rattle.org_serve.specs.History.{OnlyRefiles}
+use Rattle.org_serve.specs.Serving.{Answers, AnswersRead, IsReadAs, Runs, honest_traces}
+use Rattle.org_serve.specs.Whole.{ServesOver, IsIntermediate}
+use Rattle.org_serve.proofs.Honest.{sound_traced, sound_traces, up_to}
 use Rattle.org_serve.proofs.Opened.{lists_first}
 
 -- a broken store stays as it is
@@ -84,36 +81,36 @@ module _ (names : List (List ℕ)) (Q : List (List ℕ) → Type 0) (Allowed : L
       ]
 
   module _ {D : Type 0} (g : Ghosts D) where
-    each_read : (old : Past D) (line : List ℕ) (read : Result Command LineFault) (out : List ℕ) (new : Past D) → Allowed line → IsReadAs line read
-        → AnswersReadBy (RunsPast g) (λ past. past.store.session) old read out new → Each old.store.session old.texts → Each new.store.session new.texts
-    each_read old line (Err fault) out new allowed read ran each = subst (λ (p : Past D). Each p.store.session p.texts) (sym ran.1) each
+    each_read : (old : Trace D) (line : List ℕ) (read : Result Command LineFault) (out : List ℕ) (new : Trace D) → Allowed line → IsReadAs line read
+        → AnswersRead (sound_traces g) old read out new → Each old.store.session old.texts → Each new.store.session new.texts
+    each_read old line (Err fault) out new allowed read ran each = subst (λ (p : Trace D). Each p.store.session p.texts) (sym ran.1) each
     each_read old line (Ok command) out new allowed read ran each =
         each_step old.store.session new.store.session line command ran.0 old.texts new.texts allowed read ran.1.0.0.step ran.1.0.1 each
 
-    each_lines : (old new : Past D) (lines : List (List ℕ)) (out : List ℕ) → AllByRecursion Allowed lines → Answers (PastLine g) old lines out new
+    each_lines : (old new : Trace D) (lines : List (List ℕ)) (out : List ℕ) → AllByRecursion Allowed lines → Answers (sound_traces g) old lines out new
         → Each old.store.session old.texts → Each new.store.session new.texts
-    each_lines old new [] out allowed a each = subst (λ (p : Past D). Each p.store.session p.texts) (sym a.1) each
+    each_lines old new [] out allowed a each = subst (λ (p : Trace D). Each p.store.session p.texts) (sym a.1) each
     each_lines old new (line ∷ lines) out allowed a each = each_lines a.0 new lines a.2 allowed.1 a.5 (each_read old line a.3.0 a.1 a.0 allowed.0 a.3.1 a.3.2 each)
 
-    pub each_run : {first last : Past D} {end : ServeEnd} {io : Exchange}
-        (run : Runs (PastLine g) (HasSettledPast g) first last end io)
+    pub each_run : {first last : Trace D} {end : ServeEnd} {io : Exchange}
+        (run : Runs (sound_traces g) first last end io)
         → AllByRecursion Allowed run.ran → Each first.store.session first.texts → All Q last.texts
     each_run {first} run allowed each =
         let all = (each_lines first run.mid run.ran run.out allowed run.answered each).all in
-        ⊎_elim (λ same. subst (λ (p : Past D). All Q p.texts) (sym same) all) (λ settled. subst (All Q) (sym settled.1.0.1) all) run.ends
+        ⊎_elim (λ same. subst (λ (p : Trace D). All Q p.texts) (sym same) all) (λ settled. subst (All Q) (sym settled.1.0.1) all) run.ends
 
-  -- the same of a store on the way
+  -- the same of an intermediate store
   module _ {D : Type 0} {g : Ghosts D}
       {setup : Setup} {disk now : D} {end : ServeEnd} {io : Exchange}
       (served : ServesOver g setup disk now end io) (allowed : AllByRecursion Allowed served.run.ran)
       (first : g.honest served.first.store.disk → Each served.first.store.session served.first.texts) where
-    pub each_on_the_way : (here : Past D) → IsOnTheWay served here → g.honest here.store.disk → All Q here.texts
-    each_on_the_way here (inl way) honestly =
-        let told = past_runs g (up_to served.run here way) honestly in
+    pub each_intermediate : (here : Trace D) → IsIntermediate served here → g.honest here.store.disk → All Q here.texts
+    each_intermediate here (inl way) honestly =
+        let told = sound_traced g (up_to served.run here way) honestly in
         each_run g told.0 (all_first Allowed way.answered way.others (subst (AllByRecursion Allowed) way.all_lines allowed)) (first told.1)
-    each_on_the_way here (inr last) honestly =
-        let told = past_runs g served.run (subst (λ (p : Past D). g.honest p.store.disk) last honestly) in
-        subst (λ (p : Past D). All Q p.texts) (sym last) (each_run g told.0 allowed (first told.1))
+    each_intermediate here (inr last) honestly =
+        let told = sound_traced g served.run (subst (λ (p : Trace D). g.honest p.store.disk) last honestly) in
+        subst (λ (p : Trace D). All Q p.texts) (sym last) (each_run g told.0 allowed (first told.1))
 
 -- Texts that are within the limit.
 
@@ -141,8 +138,8 @@ line_keeps names base apart s line command files same only read kept accepts = �
     (only command read.1)
 
 -- a run of a store that has such a list as it begins
-module _ {D : Type 0} (g : Ghosts D) (given : List (List ℕ)) (first last : Past D) {end : ServeEnd}
-    {io : Exchange} (run : Runs (ToldPast g) (ToldSettledPast g) first last end io)
+module _ {D : Type 0} (g : Ghosts D) (given : List (List ℕ)) (first last : Trace D) {end : ServeEnd}
+    {io : Exchange} (run : Runs (honest_traces g) first last end io)
     (of : IsSessionOf given first.store.session) (lists : Lists first.store.session first.texts) (small : All (AreSmall first.store.session.names) first.texts) (honestly : g.honest last.store.disk)
     (others image : Image) (least : ℕ) where
   abbrev names : List (List ℕ)
@@ -150,7 +147,7 @@ module _ {D : Type 0} (g : Ghosts D) (given : List (List ℕ)) (first last : Pas
 
   run_small : All (AreSmall names) last.texts
   run_small =
-      let told = past_runs g run honestly in
+      let told = sound_traced g run honestly in
       each_run names (AreSmall names) Any (λ s line command texts same any read. keeps_small names s command texts same) g told.0 (any_line told.0.ran)
       (record { same_names = refl; lists = lists; all = small })
 
@@ -164,7 +161,7 @@ module _ {D : Type 0} (g : Ghosts D) (given : List (List ℕ)) (first last : Pas
       → HasNodesOf names first.store.session.files image
   run_same only same =
       let base = first.store.session.files in
-      let told = past_runs g run honestly in
+      let told = sound_traced g run honestly in
       prefix_same given first.store.session others last.texts least image of
       (each_run names (KeptNodes names base) OnlyRefiles (line_keeps names base (names_apart given first.store.session of)) g told.0 (recursion_from_All OnlyRefiles run.ran only)
       (record { same_names = refl; lists = lists; all = λ k d within. (small k d within, same k d within) }))
@@ -172,8 +169,8 @@ module _ {D : Type 0} (g : Ghosts D) (given : List (List ℕ)) (first last : Pas
 -- a whole run
 module _ {D : Type 0} {g : Ghosts D}
     {setup : Setup} {disk now : D} {end : ServeEnd} {io : Exchange}
-    (served : ServesOver g setup disk now end io) (here : Past D) (least : ℕ) (image : Image)
-    (way : IsOnTheWay served here) (honestly : g.honest here.store.disk) where
+    (served : ServesOver g setup disk now end io) (here : Trace D) (least : ℕ) (image : Image)
+    (way : IsIntermediate served here) (honestly : g.honest here.store.disk) where
   abbrev first : Session
   first = served.first.store.session
 
@@ -190,7 +187,7 @@ module _ {D : Type 0} {g : Ghosts D}
   first_lists = subst (Lists first) (sym served.texts) (lists_first setup others first served.begins)
 
   here_small : All (AreSmall first.names) here.texts
-  here_small = each_on_the_way first.names (AreSmall first.names) Any (λ s line command texts same any read. keeps_small first.names s command texts same) served (any_line served.run.ran)
+  here_small = each_intermediate first.names (AreSmall first.names) Any (λ s line command texts same any read. keeps_small first.names s command texts same) served (any_line served.run.ran)
       (λ began. record { same_names = refl; lists = first_lists; all = first_each (AreSmall first.names) (first_small began) }) here way honestly
 
   pub served_opens : HoldsPrefix first others here.texts least image → IsOpenable setup.names.items image

@@ -4,7 +4,7 @@ use Rattle.std.specs.Prelude.{IsErr, IsErrAnd}
 use Rattle.std.specs.Option.{option_map, option_and_then, ok_or}
 use Rattle.org_serve.specs.declared.fault.LineFault.{LineFault}
 use Rattle.org_serve.specs.declared.fault.LineFault.TheVariants.{BadLine, OutOfMemory}
-use Rattle.org_serve.specs.Gives.{Gives}
+use Rattle.org_serve.specs.Grammar.{Gives}
 
 -- what is refused isn't there
 pub refused : {A E : Type 0} (found : Option A) (fault e : E) → Err e ≡ ok_or found fault → found ≡ None

@@ -16,24 +16,23 @@ use Rattle.org_commands.specs.declared.command.RunFault.{RunFault}
 use Rattle.org_commands.specs.declared.command.RunFault.TheVariants as run
 use Rattle.org_commands.specs.declared.command.RunFault.TheVariants.{Refused, OutOfMemory, Broken}
 use Rattle.org_commands.specs.InOrder.{texts_of, with_texts}
+use Rattle.org_store.specs.Calls.{model}
 use Rattle.org_store.specs.Opening.{opened}
 use Rattle.org_commands.specs.Runs.{IsOnDisk}
-use Rattle.org_commands.specs.Session.{Session, Kept, Holds}
+use Rattle.org_commands.specs.Session.{Session, StoreView, Holds}
 use Rattle.org_commands.specs.Step.{Settles}
 use Rattle.org_commands.proofs.Keeping.{others_same}
 use Rattle.org_serve.specs.declared.whole.Setup.{Setup}
 use Rattle.org_serve.specs.Pipes.{Exchange}
 use Rattle.org_serve.specs.declared.end.ServeEnd.{ServeEnd}
 use Rattle.org_serve.specs.declared.end.ServeEnd.TheVariants.{End, Device, Read, Write}
-use Rattle.org_store.specs.History.{Past, Lists}
-use Rattle.org_serve.specs.History.{LeadsBy}
-use Rattle.org_serve.specs.Parts.{WritesSome}
-use Rattle.org_serve.specs.Serving.{EndsBy, Finishes, Serves, end_of}
-use Rattle.org_serve.specs.Crashes.{RunsLine, HasSettledOver, Runs}
-use Rattle.org_serve.specs.Whole.{Begins, ServesOver, ServesDisk, HoldsServed, IsForeign, IsOnTheWay, IsOnTheWayTo, Lasts}
+use Rattle.org_store.specs.History.{Trace, Lists}
+use Rattle.org_serve.specs.History.{Reaches}
+use Rattle.org_serve.specs.Serving.{EndsBy, Finishes, Runs, RunsAndWrites, Serves, end_of, honest_stores}
+use Rattle.org_serve.specs.Whole.{Begins, ServesOver, ServesDisk, HoldsServed, IsForeign, IsIntermediate, IsIntermediateTo, IsDurable}
 use Rattle.org_serve.proofs.Foreign.{leaves_foreign}
-use Rattle.org_serve.proofs.History.{at_first, lift_run, lift_wrote, session_of_past, since, whole_prefix}
-use Rattle.org_serve.proofs.Honest.{HasSettledPast, PastLine, past_last, past_leads, past_lines, past_runs, up_to}
+use Rattle.org_serve.proofs.History.{at_first, lift_run, lift_wrote, session_of_traced, since, whole_prefix}
+use Rattle.org_serve.proofs.Honest.{sound_last, sound_lines, sound_reaches, sound_traced, sound_traces, up_to}
 
 -- one run after another, of which each leaves something else
 leaves_then : {m n k : ℕ} {s u v : ℕ → Image → Type 0} {P Q : Image → Type 0} → LeavesOnly m n s u P → LeavesOnly n k u v Q → LeavesOnly m k s v (λ image. P image ⊎ Q image)
@@ -47,51 +46,50 @@ begins setup files store begun is opens few sorted =
     subst (λ (s : Session). Begins setup files s) (sym is) (record { few = few; names = sorted; session = ap (λ (s : Session). record s { group = setup.group }) opens })
 
 -- a store that was opened, and in which the group was set
-module _ {D : Type 0} (g : Ghosts D) (setup : Setup) (disk : D) (store begun : Kept D)
+module _ {D : Type 0} (g : Ghosts D) (setup : Setup) (disk : D) (store begun : StoreView D)
     (is : begun ≡ record store { session = record store.session { group = setup.group } })
     (opens : store.session ≡ opened setup.states store.session.names (texts_of (contents (g.files store.disk)) store.session.names)) where
   same_disk : begun.disk ≡ store.disk
-  same_disk = ap (λ (k : Kept D). k.disk) is
+  same_disk = ap (λ (k : StoreView D). k.disk) is
 
   -- what is known of its disk
   pub of_disk : (P : D → Type 0) → P store.disk → P begun.disk
   of_disk P known = subst P (sym same_disk) known
 
   pub is_sound : begun.session.broken ≡ false
-  is_sound = ap (λ (k : Kept D). k.session.broken) is ∙ ap (λ (s : Session). s.broken) opens
+  is_sound = ap (λ (k : StoreView D). k.session.broken) is ∙ ap (λ (s : Session). s.broken) opens
 
   -- the session that it begins with
-  begun_so : AreFew setup.names.items → AreSorted (with_archives setup.names.items) store.session.names → Begins setup (contents (g.files begun.disk)) begun.session
-  begun_so few sorted = of_disk (λ d. Begins setup (contents (g.files d)) begun.session)
-      (begins setup (contents (g.files store.disk)) store.session begun.session (ap (λ (k : Kept D). k.session) is) opens few sorted)
+  unedited_so : AreFew setup.names.items → AreSorted (with_archives setup.names.items) store.session.names → Begins setup (contents (g.files begun.disk)) begun.session
+  unedited_so few sorted = of_disk (λ d. Begins setup (contents (g.files d)) begun.session)
+      (begins setup (contents (g.files store.disk)) store.session begun.session (ap (λ (k : StoreView D). k.session) is) opens few sorted)
 
   pub serves : AreFew setup.names.items → AreSorted (with_archives setup.names.items) store.session.names
       → (g.honest store.disk → first_large (contents (g.files store.disk)) store.session.names ≡ None)
       → (g.honest begun.disk → g.honest disk) → (g.honest begun.disk → IsReopened (g.files disk) (g.files begun.disk))
-      → store.waiting ≡ [] → (g.honest begun.disk → LeavesAlone g (IsUnconcerned (contents (g.files disk) journal_name)) disk begun.disk)
-      → {end : ServeEnd} {io : Exchange} (after : Kept D) (now : D) → now ≡ after.disk
-      → (ran : Runs (RunsLine g) (HasSettledOver g) begun after end io)
-      → (end ≡ Write → WritesSome ran.input ran.others ran.out after.session.acknowledged io.before.written io.after.written)
+      → store.dirty ≡ [] → (g.honest begun.disk → LeavesAlone g (IsUnconcerned (contents (g.files disk) journal_name)) disk begun.disk)
+      → {end : ServeEnd} {io : Exchange} (after : StoreView D) (now : D) → now ≡ after.disk
+      → (ran : RunsAndWrites (honest_stores g) begun after end io)
       → (g.honest now → Serves begun.session end after.session io)
       → ServesOver g setup disk now end io
-  serves few sorted sized began reopened waits alone after now given_up run begins_replies told =
-      let first : Past D = record { store = begun; texts = begun.session.files ∷ [] } in
-      let past = lift_run g first run in record {
+  serves few sorted sized began reopened dirty_files alone after now given_up run told =
+      let first : Trace D = record { store = begun; texts = begun.session.files ∷ [] } in
+      let past = lift_wrote g first run in record {
         first = first;
-        last = record { store = after; texts = past.0 };
+        last = record { store = after; texts = (lift_run g first run.0).0 };
         began = began;
         reopened = reopened;
-        begins = begun_so few sorted;
-        sizes = subst (λ (k : Kept D). g.honest k.disk → first_large (contents (g.files k.disk)) k.session.names ≡ None) (sym is) sized;
+        begins = unedited_so few sorted;
+        sizes = subst (λ (k : StoreView D). g.honest k.disk → first_large (contents (g.files k.disk)) k.session.names ≡ None) (sym is) sized;
         texts = refl;
-        waits = ap (λ (k : Kept D). k.waiting) is ∙ waits;
+        dirty_files = ap (λ (k : StoreView D). k.dirty) is ∙ dirty_files;
         alone = λ h. alone_fewer g (IsForeign setup.names.items (contents (g.files disk) journal_name)) (IsUnconcerned (contents (g.files disk) journal_name)) disk begun.disk (alone h) (λ name foreign. foreign.unconcerned);
-        run = past.1;
+        run = past.0;
         given_up = given_up;
-        told = λ is. lift_wrote g first run after.session.acknowledged (begins_replies is);
+        told = past.1;
         so_far = λ here way honestly.
-            session_of_past g first way.answered way.written here
-            (past_lines g first way.answered way.written here way.before honestly).0;
+            session_of_traced g first way.answered way.written here
+            (sound_lines g first way.answered way.written here way.before honestly).0;
         serves = told;
       }
 
@@ -119,7 +117,7 @@ pub each_recovers : {D : Type 0} (g : Ghosts D) (disk now : D) (P : Image → Ty
 each_recovers g disk now P counts leaves each image left = let holds = each image (leaves.each image (counts image left)) in recovers_to image holds.0 holds.1
 
 -- a store that ended well has settled all
-ended : (broken pending : Bool) (s : Session) (out : List ℕ) (new : Session) → EndsBy Settles (λ s. s) broken pending s End out new → broken ≡ s.broken → (pending ≡ false → s.accepted ≤ s.acknowledged)
+ended : (broken pending : Bool) (s : Session) (out : List ℕ) (new : Session) → EndsBy model broken pending s End out new → broken ≡ s.broken → (pending ≡ false → s.accepted ≤ s.acknowledged)
     → (new.broken ≡ false) × (new.accepted ≤ new.acknowledged)
 ended true pending s out new ends is none = absurd (apart ends.0)
   where
@@ -143,12 +141,6 @@ module _ {D : Type 0} {g : Ghosts D}
   session_is : served.first.store.session ≡ record (opened setup.states served.first.store.session.names (texts_of (contents (g.files served.first.store.disk)) served.first.store.session.names)) { group = setup.group }
   session_is = served.begins.session
 
-  abbrev Line : Past D → List ℕ → List ℕ → Past D → Type 0
-  Line = PastLine g
-
-  abbrev Settled : Past D → Past D → Type 0
-  Settled = HasSettledPast g
-
   lists : Lists served.first.store.session served.first.texts
   lists =
       subst (Lists served.first.store.session) (sym served.texts) (lists_first setup (contents (g.files served.first.store.disk)) served.first.store.session served.begins)
@@ -158,9 +150,9 @@ module _ {D : Type 0} {g : Ghosts D}
 
   -- What a crash leaves of a run up to one store, over a disk that is honest there, where the
   -- opening left it at rest.
-  module _ (later : Past D) {crashes : ServeEnd} (run : Runs Line Settled served.first later crashes io) (began : g.honest served.first.store.disk) (honestly : g.honest later.store.disk)
+  module _ (later : Trace D) {crashes : ServeEnd} (run : Runs (sound_traces g) served.first later crashes io) (began : g.honest served.first.store.disk) (honestly : g.honest later.store.disk)
       (rest : IsAtRest (g.files served.first.store.disk)) where
-    since_in : (here : Past D) → LeadsBy Line served.first run.ran run.out run.mid here ⊎ (here ≡ later) → here.store.session.broken ≡ false
+    since_in : (here : Trace D) → Reaches (sound_traces g) served.first run.ran run.out run.mid here ⊎ (here ≡ later) → here.store.session.broken ≡ false
         → LeavesOnly (g.moment here.store.disk) (g.moment later.store.disk) (g.left_since here.store.disk) (g.left_since later.store.disk) (HoldsServed served here later)
     since_in here way sound = since g only_now run began honestly rest on_disk lists here way sound
 
@@ -191,7 +183,7 @@ module _ {D : Type 0} {g : Ghosts D}
   all_settled honest_now well =
       let whole = (served.serves honest_now).all (λ (read : end ≡ Read). apart_read (sym well ∙ read)) (λ (write : end ≡ Write). apart_write (sym well ∙ write)) in
       let tells = whole.4 in
-      let finish : Finishes tells.0 End tells.3 served.last.store.session = subst (λ e. Finishes tells.0 e tells.3 served.last.store.session) well tells.6 in
+      let finish : Finishes model tells.0 End tells.3 served.last.store.session = subst (λ e. Finishes model tells.0 e tells.3 served.last.store.session) well tells.6 in
       ended tells.0.broken (nat_lt tells.0.acknowledged tells.0.accepted) tells.0 tells.3 served.last.store.session finish refl (not_less tells.0.acknowledged tells.0.accepted)
 
   -- What a crash leaves of the whole run.
@@ -200,59 +192,59 @@ module _ {D : Type 0} {g : Ghosts D}
     moment_at_last : g.honest served.last.store.disk
         → LeavesOnly (g.moment disk) (g.moment served.last.store.disk) (g.left_since disk) (g.left_since served.last.store.disk) (λ image. RecoversAsBefore (g.files disk) image ⊎ HoldsServed served served.first served.last image)
     moment_at_last honestly =
-        let whole = past_runs g served.run honestly in
+        let whole = sound_traced g served.run honestly in
         moment_in served.last whole.0 whole.1 honestly (rest whole.1) (opening whole.1)
 
-    moment_at : (later : Past D) → IsOnTheWay served later → g.honest later.store.disk
+    moment_at : (later : Trace D) → IsIntermediate served later → g.honest later.store.disk
         → LeavesOnly (g.moment disk) (g.moment later.store.disk) (g.left_since disk) (g.left_since later.store.disk) (λ image. RecoversAsBefore (g.files disk) image ⊎ HoldsServed served served.first later image)
     moment_at later (inl way) honestly =
-        let whole = past_runs g (up_to served.run later way) honestly in
+        let whole = sound_traced g (up_to served.run later way) honestly in
         moment_in later whole.0 whole.1 honestly (rest whole.1) (opening whole.1)
     moment_at later (inr same) honestly =
-        subst (λ (p : Past D). LeavesOnly (g.moment disk) (g.moment p.store.disk) (g.left_since disk) (g.left_since p.store.disk) (λ image. RecoversAsBefore (g.files disk) image ⊎ HoldsServed served served.first p image)) (sym same)
-        (moment_at_last (subst (λ (p : Past D). g.honest p.store.disk) same honestly))
+        subst (λ (p : Trace D). LeavesOnly (g.moment disk) (g.moment p.store.disk) (g.left_since disk) (g.left_since p.store.disk) (λ image. RecoversAsBefore (g.files disk) image ⊎ HoldsServed served served.first p image)) (sym same)
+        (moment_at_last (subst (λ (p : Trace D). g.honest p.store.disk) same honestly))
 
-    since_at_last : (here : Past D) → IsOnTheWay served here → g.honest served.last.store.disk → here.store.session.broken ≡ false
+    since_at_last : (here : Trace D) → IsIntermediate served here → g.honest served.last.store.disk → here.store.session.broken ≡ false
         → LeavesOnly (g.moment here.store.disk) (g.moment served.last.store.disk) (g.left_since here.store.disk) (g.left_since served.last.store.disk) (HoldsServed served here served.last)
     since_at_last here way honestly sound =
-        let whole = past_runs g served.run honestly in
+        let whole = sound_traced g served.run honestly in
         since_in served.last whole.0 whole.1 honestly (rest whole.1) here
         (⊎_elim
-        (λ leads. inl (past_leads g served.first served.run.ran served.run.out served.run.mid here leads
-        (past_last g served.run.mid served.last served.run.ends honestly)))
+        (λ reaches. inl (sound_reaches g served.first served.run.ran served.run.out served.run.mid here reaches
+        (sound_last g served.run.mid served.last served.run.ends honestly)))
         (λ same. inr same)
         way)
         sound
 
-    since_at : (here later : Past D) → IsOnTheWayTo served here later → g.honest later.store.disk → here.store.session.broken ≡ false
+    since_at : (here later : Trace D) → IsIntermediateTo served here later → g.honest later.store.disk → here.store.session.broken ≡ false
         → LeavesOnly (g.moment here.store.disk) (g.moment later.store.disk) (g.left_since here.store.disk) (g.left_since later.store.disk) (HoldsServed served here later)
     since_at here later (inl to) honestly sound =
-        let whole = past_runs g (up_to served.run later to.0) honestly in
+        let whole = sound_traced g (up_to served.run later to.0) honestly in
         since_in later whole.0 whole.1 honestly (rest whole.1) here
-        (inl (past_leads g served.first to.0.answered to.0.written later here to.1 honestly)) sound
+        (inl (sound_reaches g served.first to.0.answered to.0.written later here to.1 honestly)) sound
     since_at here later (inr to) honestly sound =
-        subst (λ (p : Past D). LeavesOnly (g.moment here.store.disk) (g.moment p.store.disk) (g.left_since here.store.disk) (g.left_since p.store.disk) (HoldsServed served here p)) (sym to.0)
-        (since_at_last here to.1 (subst (λ (p : Past D). g.honest p.store.disk) to.0 honestly) sound)
+        subst (λ (p : Trace D). LeavesOnly (g.moment here.store.disk) (g.moment p.store.disk) (g.left_since here.store.disk) (g.left_since p.store.disk) (HoldsServed served here p)) (sym to.0)
+        (since_at_last here to.1 (subst (λ (p : Trace D). g.honest p.store.disk) to.0 honestly) sound)
 
-    pub lasts : Lasts served
+    pub lasts : IsDurable served
     lasts = record {
       any_moment = moment_at;
       since = since_at;
       ended = λ honest_now well image images.
           let honestly : g.honest served.last.store.disk = subst g.honest served.given_up honest_now in
-          let whole = past_runs g served.run honestly in
+          let whole = sound_traced g served.run honestly in
           let done = all_settled honest_now well in
           whole_in served.last whole.0 whole.1 honestly (rest whole.1) done.0 done.1 image (subst (λ d. AreImages (g.files d) image) served.given_up images);
     }
 
   -- what a crash leaves of it at the end
-  at_end : g.honest now → Lasts served → LeavesOnly (g.moment disk) (g.moment now) (g.left_since disk) (g.left_since now) (λ image. RecoversAsBefore (g.files disk) image ⊎ HoldsServed served served.first served.last image)
+  at_end : g.honest now → IsDurable served → LeavesOnly (g.moment disk) (g.moment now) (g.left_since disk) (g.left_since now) (λ image. RecoversAsBefore (g.files disk) image ⊎ HoldsServed served served.first served.last image)
   at_end honest_now lasts =
       subst (λ d. LeavesOnly (g.moment disk) (g.moment d) (g.left_since disk) (g.left_since d) (λ image. RecoversAsBefore (g.files disk) image ⊎ HoldsServed served served.first served.last image)) (sym served.given_up)
       (lasts.any_moment served.last (inr refl) (subst g.honest served.given_up honest_now))
 
   -- each image of the disk that is left recovers to files
-  pub left_recovers : g.honest now → Lasts served → EachRecovers (g.files now)
+  pub left_recovers : g.honest now → IsDurable served → EachRecovers (g.files now)
   left_recovers honest_now lasts =
       let leaves = at_end honest_now lasts in
       each_recovers g disk now (λ image. RecoversAsBefore (g.files disk) image ⊎ HoldsServed served served.first served.last image)
@@ -269,22 +261,21 @@ module _ {D : Type 0} {g : Ghosts D}
 module _ {D : Type 0} (g : Ghosts D)
     (only_now : (disk : D) (image : Image) → g.honest disk → g.left_since disk (g.moment disk) image → AreImages (g.files disk) image)
     (counts_now : (disk : D) (t : ℕ) (image : Image) → g.honest disk → t ≤ g.moment disk → AreImages (g.files disk) image → g.left_since disk t image)
-    (setup : Setup) (disk : D) (store begun : Kept D)
+    (setup : Setup) (disk : D) (store begun : StoreView D)
     (is : begun ≡ record store { session = record store.session { group = setup.group } })
     (opens : store.session ≡ opened setup.states store.session.names (texts_of (contents (g.files store.disk)) store.session.names)) where
   pub serves_lasting : AreFew setup.names.items → AreSorted (with_archives setup.names.items) store.session.names → (g.honest store.disk → first_large (contents (g.files store.disk)) store.session.names ≡ None)
       → (g.honest begun.disk → g.honest disk) → (g.honest begun.disk → IsReopened (g.files disk) (g.files begun.disk))
-      → store.waiting ≡ [] → (g.honest begun.disk → LeavesAlone g (IsUnconcerned (contents (g.files disk) journal_name)) disk begun.disk)
-      → {end : ServeEnd} {io : Exchange} (after : Kept D) (now : D) → now ≡ after.disk
-      → (ran : Runs (RunsLine g) (HasSettledOver g) begun after end io)
-      → (end ≡ Write → WritesSome ran.input ran.others ran.out after.session.acknowledged io.before.written io.after.written)
+      → store.dirty ≡ [] → (g.honest begun.disk → LeavesAlone g (IsUnconcerned (contents (g.files disk) journal_name)) disk begun.disk)
+      → {end : ServeEnd} {io : Exchange} (after : StoreView D) (now : D) → now ≡ after.disk
+      → (ran : RunsAndWrites (honest_stores g) begun after end io)
       → (g.honest now → Serves begun.session end after.session io)
       → (IsRecoverable (g.files disk) → EachRecovers (g.files disk) → g.honest begun.disk → LeavesOnly (g.moment disk) (g.moment begun.disk) (g.left_since disk) (g.left_since begun.disk) (RecoversAsBefore (g.files disk)))
       → (IsTrue after.session.broken → HasRisen (g.failures disk) (g.failures now)) × (IsFalse after.session.broken → g.failures now ≡ g.failures disk)
       → ServesDisk g setup disk now end io
   unfolding serves
-  serves_lasting few sorted sized began reopened waits alone after now given_up run begins_replies told opening counts =
-      let served = serves g setup disk store begun is opens few sorted sized began reopened waits alone after now given_up run begins_replies told in
+  serves_lasting few sorted sized began reopened dirty_files alone after now given_up run told opening counts =
+      let served = serves g setup disk store begun is opens few sorted sized began reopened dirty_files alone after now given_up run told in
       record {
         served = served;
         breaks = record { broken = counts.0; sound = counts.1 };

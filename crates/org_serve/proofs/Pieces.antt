@@ -5,7 +5,7 @@ use Rattle.std.specs.Io.KnownBytes.{Appends}
 use Rattle.std.specs.List.{flat_map}
 use Rattle.std.proofs.lemmas.List.{take_all, take_more, take-append-drop, flat_map_more}
 use Rattle.std.proofs.lemmas.List.Concat.{flat_map-append}
-use Rattle.org_serve.specs.Parts.{AppendsSome}
+use Rattle.org_serve.specs.Pipes.{AppendsSome}
 use Rattle.org_serve.proofs.Joins.{Appends-append, some_first, some_then}
 
 -- the bytes of all pieces

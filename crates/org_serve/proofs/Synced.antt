@@ -10,7 +10,7 @@ use Rattle.org_outline.specs.States.{Keywords}
 use Rattle.org_journal.specs.Recovered.{SameFiles, IsRecoverable, recovered, contents}
 use Rattle.org_fileset.specs.declared.open.OpenFault.{OpenFault}
 use Rattle.org_fileset.specs.declared.open.OpenFault.TheVariants as open_fault
-use Rattle.org_fileset.specs.Opening.{IsBroughtToAnEnd, IsReason}
+use Rattle.org_fileset.specs.Opening.{IsRecovered, IsReason}
 use Rattle.org_fileset.specs.Recovery.{EachRecovers, IsReopened, RecoversAsBefore, closed_journal, is_closed}
 use Rattle.org_fileset.specs.Writes.{LeavesAlone}
 use Rattle.org_fileset.proofs.Recovering.{as_before}
@@ -18,11 +18,11 @@ use Rattle.org_fileset.proofs.Writes.{alone_then}
 use Rattle.org_serve.specs.declared.whole.Setup.{Setup}
 use Rattle.org_serve.specs.Pipes.{Exchange}
 use Rattle.org_serve.specs.declared.end.ServeEnd.{ServeEnd}
-use Rattle.org_store.specs.History.{Past}
+use Rattle.org_store.specs.History.{Trace}
 use Rattle.org_serve.specs.Syncing.{AreSynced, IsNotStored, OutsideStable, IsAsFound, IsSyncFault, stored}
-use Rattle.org_serve.specs.Whole.{ServesOver, BreaksByCount, IsForeign, IsOnTheWay, IsOnTheWayTo, Lasts, LastsFrom, GivesBack, GivesBackSynced}
+use Rattle.org_serve.specs.Whole.{ServesOver, BreaksByCount, IsForeign, IsIntermediate, IsIntermediateTo, IsDurable, DurableFrom, GivesBack, GivesBackSynced}
 use Rattle.org_serve.proofs.Foreign.{synced_alone}
-use Rattle.org_serve.proofs.Honest.{past_runs, up_to}
+use Rattle.org_serve.proofs.Honest.{sound_traced, up_to}
 use Rattle.org_serve.proofs.Syncs.{all_images, each_image, some_or_none, still_recoverable, still_recovers, still_outside, as_at_first, as_read, now_recoverable, now_recovers, some_recovers}
 
 pub if_err : {A E : Type 0} {P Q : E → Type 0} (r : Result A E) → ((e : E) → P e → Q e) → IfErr r P → IfErr r Q
@@ -58,7 +58,7 @@ reason_before given Honest before mid now same open_fault.TooManyFiles why = why
 reason_before given Honest before mid now same open_fault.BadJournal why =
     (why.0, λ h. (subst (λ (f : Image). recovered f ≡ None) (same h) (why.1 h).0, (why.1 h).1 ∙ same h))
 reason_before given Honest before mid now same (open_fault.TooLarge name) why =
-    (why.0, λ h. let found = why.1 h in (found.0, found.1, found.2, subst (λ (f : Image). IsBroughtToAnEnd f now) (same h) found.3))
+    (why.0, λ h. let found = why.1 h in (found.0, found.1, found.2, subst (λ (f : Image). IsRecovered f now) (same h) found.3))
 reason_before given Honest before mid now same open_fault.Device why = why
 reason_before given Honest before mid now same open_fault.OutOfMemory why = tt
 
@@ -114,7 +114,7 @@ module _ {D : Type 0} (g : Ghosts D)
       begins = served.begins;
       sizes = served.sizes;
       texts = served.texts;
-      waits = served.waits;
+      dirty_files = served.dirty_files;
       alone = λ h. alone_behind served.first.store.disk (served.began h) (served.alone h);
       run = served.run;
       given_up = served.given_up;
@@ -130,22 +130,22 @@ module _ {D : Type 0} (g : Ghosts D)
       sound = λ sound. breaks.sound sound ∙ same;
     }
 
-    first_honest : (later : Past D) → IsOnTheWay served later → g.honest later.store.disk → g.honest served.first.store.disk
-    first_honest later (inl way) h = (past_runs g (up_to served.run later way) h).1
-    first_honest later (inr same) h = (past_runs g served.run (subst (λ (p : Past D). g.honest p.store.disk) same h)).1
+    first_honest : (later : Trace D) → IsIntermediate served later → g.honest later.store.disk → g.honest served.first.store.disk
+    first_honest later (inl way) h = (sound_traced g (up_to served.run later way) h).1
+    first_honest later (inr same) h = (sound_traced g served.run (subst (λ (p : Trace D). g.honest p.store.disk) same h)).1
 
-    to_later : (here later : Past D) → IsOnTheWayTo served here later → IsOnTheWay served later
+    to_later : (here later : Trace D) → IsIntermediateTo served here later → IsIntermediate served later
     to_later here later (inl to) = inl to.0
     to_later here later (inr to) = inr to.0
 
-    module _ (lasting : IsRecoverable (g.files mid) → EachRecovers (g.files mid) → Lasts served) (Before : Image → Type 0)
+    module _ (lasting : IsRecoverable (g.files mid) → EachRecovers (g.files mid) → IsDurable served) (Before : Image → Type 0)
         (ready : g.honest served.first.store.disk → IsRecoverable (g.files mid) × EachRecovers (g.files mid))
         (early : (image : Image) → AreImages (g.files disk) image → Before image)
         (late : g.honest served.first.store.disk → (image : Image) → RecoversAsBefore (g.files mid) image → Before image) where
-      lasts : g.honest served.first.store.disk → Lasts served
+      lasts : g.honest served.first.store.disk → IsDurable served
       lasts h = lasting (ready h).0 (ready h).1
 
-      pub lasts_from : LastsFrom served_from Before
+      pub lasts_from : DurableFrom served_from Before
       unfolding served_from
       lasts_from = record {
         any_moment = λ later way h.
@@ -155,11 +155,11 @@ module _ {D : Type 0} (g : Ghosts D)
         since = λ here later way h sound. (lasts (first_honest later (to_later here later way) h)).since here later way h sound;
         ended = λ h well image left.
             let last : g.honest served.last.store.disk = subst g.honest served.given_up h in
-            (lasts (past_runs g served.run last).1).ended h well image left;
+            (lasts (sound_traced g served.run last).1).ended h well image left;
       }
 
     -- over a disk that was recoverable
-    pub lasts_recoverable : (IsRecoverable (g.files mid) → EachRecovers (g.files mid) → Lasts served) → IsRecoverable (g.files disk) → EachRecovers (g.files disk) → Lasts served_from
+    pub lasts_recoverable : (IsRecoverable (g.files mid) → EachRecovers (g.files mid) → IsDurable served) → IsRecoverable (g.files disk) → EachRecovers (g.files disk) → IsDurable served_from
     lasts_recoverable lasting fit each =
         lasts_from lasting (RecoversAsBefore (g.files disk))
         (λ h.
@@ -169,7 +169,7 @@ module _ {D : Type 0} (g : Ghosts D)
         (λ h image before. let m = served.began h in as_at_first (g.files disk) (g.files mid) (own m) (images m) image before)
 
     -- over one of which the other files were on the disk
-    pub lasts_found : (IsRecoverable (g.files mid) → EachRecovers (g.files mid) → Lasts served) → OutsideStable setup.names.items (g.files disk) → LastsFrom served_from (IsAsFound (g.files disk))
+    pub lasts_found : (IsRecoverable (g.files mid) → EachRecovers (g.files mid) → IsDurable served) → OutsideStable setup.names.items (g.files disk) → DurableFrom served_from (IsAsFound (g.files disk))
     lasts_found lasting outside =
         lasts_from lasting (IsAsFound (g.files disk))
         (λ h.

@@ -1,5 +1,6 @@
--- Which command a line is. Its fields are separated by tabs; its first field is the command's word.
-use Rattle.std.specs.Prelude.{ℕ, ◌+◌, ◌-◌, ◌*◌, pos, Bool, true, false, ◌==◌, ◌&&◌, nat_lt, nat_le, List, [], ◌∷◌, length, map, take, drop, Option, None, Some, codes, if◌then◌else◌}
+-- Which command a line is, and what a reader of its fields answers. The fields of a line are
+-- separated by tabs; its first field is the command's word.
+use Rattle.std.specs.Prelude.{ℕ, ◌+◌, ◌-◌, ◌*◌, pos, Bool, true, false, ◌==◌, ◌&&◌, nat_lt, nat_le, List, [], ◌∷◌, length, map, take, drop, Option, None, Some, codes, if◌then◌else◌, ◌≡◌, Result, Ok, Err}
 use Rattle.std.specs.List.{slice_split, join_with_byte}
 use Rattle.std.specs.Option.{option_map, option_and_then}
 use Rattle.std.specs.Str.{bytes_eq, is_utf8}
@@ -12,6 +13,8 @@ use Rattle.org_capture.specs.declared.target.Target.TheVariants.{Top, Head, Path
 use Rattle.org_stamp.specs.Calendar.{CivilMinute, at_minute, civil_day}
 use Rattle.org_commands.specs.declared.command.Command.{Command}
 use Rattle.org_commands.specs.declared.command.Command.TheVariants.{Capture, Refile, Todo, ClockIn, ClockOut, Time, Archive, Show, Settle}
+use Rattle.org_serve.specs.declared.fault.LineFault.{LineFault}
+use Rattle.org_serve.specs.declared.fault.LineFault.TheVariants.{BadLine, OutOfMemory}
 
 -- what a letter behind a backslash stands for: `\n` a newline, `\t` a tab, `\\` a backslash, `\s` a
 -- slash
@@ -217,3 +220,14 @@ command_of_fields _ = None
 -- the command that a line is, without its newline
 abbrev pub command_of : List ℕ → Option Command
 command_of line = command_of_fields (slice_split (λ b. b == 9) line)
+
+-- What was read, as it is seen by view, is what the bytes are; or BadLine where they are nothing.
+-- Memory may be refused.
+abbrev pub GivesBy : {X Y : Type 0} → (X → Y) → Result X LineFault → Option Y → Type 0
+GivesBy view (Ok x) value = value ≡ Some (view x)
+GivesBy view (Err BadLine) value = value ≡ None
+GivesBy view (Err OutOfMemory) value = Unit {0}
+
+-- the same of what was read as it is
+abbrev pub Gives : {X : Type 0} → Result X LineFault → Option X → Type 0
+Gives result value = GivesBy (λ x. x) result value

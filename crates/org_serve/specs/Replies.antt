@@ -1,12 +1,24 @@
 -- The bytes of replies.
-use Rattle.std.specs.Prelude.{ℕ, List, [], ◌++◌, nat_lt, if◌then◌else◌, length, codes, decimal, Option, Some, None, Result, Ok, Err}
+use Rattle.std.specs.Prelude.{ℕ, List, codes, [], ◌++◌, nat_lt, if◌then◌else◌, length, decimal, Option, Some, None, Result, Ok, Err}
+use Rattle.org_serve.specs.declared.fault.LineFault.{LineFault}
+use Rattle.org_serve.specs.declared.fault.LineFault.TheVariants as line
 use Rattle.org_stamp.specs.Stamp.{duration_text}
 use Rattle.org_commands.specs.declared.command.Reply.{Reply}
 use Rattle.org_commands.specs.declared.command.Reply.TheVariants.{Done, Safe, Text, Time}
 use Rattle.org_commands.specs.declared.command.RunFault.{RunFault}
 use Rattle.org_commands.specs.declared.command.RunFault.TheVariants.{Refused, OutOfMemory, Device, Broken}
 use Rattle.org_commands.specs.Refusals.{code_of, name_of}
-use Rattle.org_serve.specs.Faults.{no_memory}
+
+abbrev pub bad_line : List ℕ
+bad_line = codes "refused 20 BadLine\n"
+
+abbrev pub no_memory : List ℕ
+no_memory = codes "fault OutOfMemory\n"
+
+-- what is written for a line that isn't run
+abbrev pub fault_text : LineFault → List ℕ
+fault_text line.BadLine = bad_line
+fault_text line.OutOfMemory = no_memory
 
 abbrev pub safe_line : ℕ → List ℕ
 safe_line n = codes "safe " ++ decimal n ++ codes "\n"

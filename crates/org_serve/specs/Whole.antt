@@ -12,21 +12,18 @@ use Rattle.org_fileset.specs.Names.{with_archives, AreFew, AreSorted, first_larg
 use Rattle.org_fileset.specs.Opening.{IsRefusedFor}
 use Rattle.org_fileset.specs.Recovery.{EachRecovers, IsReopened, RecoversAsBefore, is_closed}
 use Rattle.org_fileset.specs.Writes.{LeavesAlone, IsUnconcerned}
-use Rattle.org_store.specs.History.{Past}
+use Rattle.org_store.specs.History.{Trace}
 use Rattle.org_commands.specs.InOrder.{texts_of}
+use Rattle.org_store.specs.Calls.{model}
 use Rattle.org_store.specs.Opening.{opened}
 use Rattle.org_commands.specs.Session.{Session, Holds}
 use Rattle.org_serve.specs.declared.end.ServeEnd.{ServeEnd}
 use Rattle.org_serve.specs.declared.end.ServeEnd.TheVariants.{End, Unsettled, Device, Read, Write}
 use Rattle.org_serve.specs.declared.whole.Setup.{Setup}
-use Rattle.org_serve.specs.Counts.{EndsForCause}
-use Rattle.org_serve.specs.History.{PastLine, HasSettledPast, LeadsBy, HoldsSince}
-use Rattle.org_serve.specs.Parts.{WritesSome}
-use Rattle.org_serve.specs.Pipes.{Exchange}
-use Rattle.org_serve.specs.Serving.{AnswersLine, Serves}
-use Rattle.org_serve.specs.Crashes.{Runs}
+use Rattle.org_serve.specs.History.{HoldsSince, Reaches}
+use Rattle.org_serve.specs.Pipes.{EndsForCause, Exchange, output_of}
+use Rattle.org_serve.specs.Serving.{Answers, Runs, Serves, WritesSome, honest_traces}
 use Rattle.org_serve.specs.Syncing.{IsNotStored, OutsideStable, IsAsFound}
-use Rattle.org_serve.specs.Transcript.{Answers}
 
 -- The session of a store that was just opened over these files, as it was set up: it has the given
 -- names, which are few, and those of their archive files.
@@ -48,82 +45,82 @@ abbrev pub IsForeignTo : {D : Type 0} → Ghosts D → Setup → D → List ℕ 
 IsForeignTo g setup disk = IsForeign setup.names.items (contents (g.files disk) journal_name)
 
 -- A store was set up and opened over the disk `disk`, served to this end, and gave up the disk
--- `now`. Between the two stands each store on the way, and the list has the texts of all files as
+-- `now`. Between the two stands each intermediate store, and the list has the texts of all files as
 -- they were opened and after each accepted command. What is said of a step is said where the disk
 -- is honest after it.
 pub record ServesOver {D : Type 0} (g : Ghosts D) (setup : Setup) (disk now : D) (end : ServeEnd)
     (io : Exchange) : Type 0 where
-  pub first : Past D
-  pub last : Past D
+  pub first : Trace D
+  pub last : Trace D
   -- a disk that is honest behind the opening was so before it
   pub began : g.honest first.store.disk → g.honest disk
-  -- what a crash had cut short was brought to an end; a closed gate's byte was kept
+  -- what a crash had cut short was finished; a closed gate's byte was kept
   pub reopened : g.honest first.store.disk → IsReopened (g.files disk) (g.files first.store.disk)
   pub begins : Begins setup (contents (g.files first.store.disk)) first.store.session
   -- each of its files is within the limit then
   pub sizes : g.honest first.store.disk
       → first_large (contents (g.files first.store.disk)) first.store.session.names ≡ None
   pub texts : first.texts ≡ first.store.session.files ∷ []
-  -- no file waits for a commit then
-  pub waits : first.store.waiting ≡ []
+  -- no file is dirty then
+  pub dirty_files : first.store.dirty ≡ []
   -- files that are none of the run's were left alone
   pub alone : g.honest first.store.disk
       → LeavesAlone g (IsForeignTo g setup disk) disk first.store.disk
-  pub run : Runs (PastLine g) (HasSettledPast g) first last end io
+  pub run : Runs (honest_traces g) first last end io
   pub given_up : now ≡ last.store.disk
   -- where a write or a flush failed, what was written begins the replies to the lines that were
   -- run, and what is written at the end
   pub told : end ≡ Write
-      → WritesSome run.input run.others run.out last.store.session.acknowledged io.before.written
-      io.after.written
-  -- the lines that a store on the way had answered, and their replies
-  pub so_far : (here : Past D)
-      → (way : LeadsBy (PastLine g) first run.ran run.out run.mid here)
+      → WritesSome run.input run.others run.out last.store.session.acknowledged (output_of io)
+  -- the lines that an intermediate store had answered, and their replies
+  pub so_far : (here : Trace D)
+      → (way : Reaches (honest_traces g) first run.ran run.out run.mid here)
       → g.honest here.store.disk
-      → Answers AnswersLine first.store.session way.answered way.written here.store.session
+      → Answers model first.store.session way.answered way.written here.store.session
   pub serves : g.honest now → Serves first.store.session end last.store.session io
 
--- What is said of the stores on the way of a run.
+-- What is said of the intermediate stores of a run.
 module _ {D : Type 0} {g : Ghosts D} {setup : Setup} {disk now : D} {end : ServeEnd} {io : Exchange}
     (served : ServesOver g setup disk now end io) where
   -- The image recovers to the files after one prefix of the commands that were accepted at the one
   -- store: to the commands that were acknowledged at the other, or to no fewer than were accepted
   -- there.
-  abbrev pub HoldsServed : (here later : Past D) → Image → Type 0
+  abbrev pub HoldsServed : (here later : Trace D) → Image → Type 0
   HoldsServed here later =
       HoldsSince served.first.store.session (contents (g.files served.first.store.disk)) here later
 
-  -- a store on the way of a run: after some of its lines were answered, from the first on, or at
+  -- an intermediate store of a run: after some of its lines were answered, from the first on, or at
   -- its end
-  abbrev pub IsOnTheWay : Past D → Type 0
-  IsOnTheWay here =
-      LeadsBy (PastLine g) served.first served.run.ran served.run.out served.run.mid here
+  abbrev pub IsIntermediate : Trace D → Type 0
+  IsIntermediate here =
+      Reaches (honest_traces g) served.first served.run.ran served.run.out served.run.mid here
       ⊎ (here ≡ served.last)
 
-  -- a store on the way to another one on the way
-  abbrev pub IsOnTheWayTo : Past D → Past D → Type 0
-  IsOnTheWayTo here later =
-      ((way : LeadsBy (PastLine g) served.first served.run.ran served.run.out served.run.mid later)
-      × LeadsBy (PastLine g) served.first way.answered way.written later here)
-      ⊎ ((later ≡ served.last) × IsOnTheWay here)
+  -- an intermediate store before another one
+  abbrev pub IsIntermediateTo : Trace D → Trace D → Type 0
+  IsIntermediateTo here later =
+      ((way : Reaches (honest_traces g) served.first
+      served.run.ran served.run.out served.run.mid later)
+      × Reaches (honest_traces g) served.first way.answered way.written later here)
+      ⊎ ((later ≡ served.last) × IsIntermediate here)
 
-  -- Up to each store on the way over a disk that is honest there, files that are none of the run's
+  -- Up to each intermediate store over a disk that is honest there, files that are none of the run's
   -- were left alone.
   abbrev pub LeavesForeign : Type 0
   LeavesForeign =
-      (here : Past D) → IsOnTheWay here → g.honest here.store.disk
+      (here : Trace D) → IsIntermediate here → g.honest here.store.disk
       → LeavesAlone g (IsForeignTo g setup disk) disk here.store.disk
 
-  -- What a crash leaves of a run: up to each store on the way over a disk that is honest there, at
+  -- What a crash leaves of a run: up to each intermediate store over a disk that is honest there, at
   -- the last to the end. `Before` is what it leaves of what was there when the run began.
-  pub record LastsFrom (Before : Image → Type 0) : Type 0 where
+  pub record DurableFrom (Before : Image → Type 0) : Type 0 where
     -- since it began: what was there then, or the files after a prefix of the accepted commands
-    pub any_moment : (later : Past D) → IsOnTheWay later → g.honest later.store.disk
+    pub any_moment : (later : Trace D) → IsIntermediate later → g.honest later.store.disk
         → LeavesOver g disk later.store.disk
         (λ image. Before image ⊎ HoldsServed served.first later image)
-    -- since each store on the way that wasn't broken: the commands that were acknowledged there, or
+    -- since each intermediate store that wasn't broken: the commands that were acknowledged there, or
     -- no fewer than were accepted there
-    pub since : (here later : Past D) → IsOnTheWayTo here later → g.honest later.store.disk
+    pub since : (here later : Trace D) → IsIntermediateTo here later → g.honest later.store.disk
         → IsFalse here.store.session.broken
         → LeavesOver g here.store.disk later.store.disk (HoldsServed here later)
     -- at the end, where it ended well: all of them
@@ -132,11 +129,11 @@ module _ {D : Type 0} {g : Ghosts D} {setup : Setup} {disk now : D} {end : Serve
         (contents (g.files served.first.store.disk)) served.last.store.session.files image
 
   -- of a run over a disk that was recoverable: before, what the disk recovered to
-  abbrev pub Lasts : Type 0
-  Lasts = LastsFrom (RecoversAsBefore (g.files disk))
+  abbrev pub IsDurable : Type 0
+  IsDurable = DurableFrom (RecoversAsBefore (g.files disk))
 
-  -- The disk's count of failures tells whether the last store is broken: so the stores on the way
-  -- tell no Device unless a call of the disk failed in the run, and a run in which one failed has a
+  -- The disk's count of failures tells whether the last store is broken: so the intermediate stores
+  -- answer no Device unless a call of the disk failed in the run, and a run in which one failed has a
   -- broken store at its end.
   pub record BreaksByCount : Type 0 where
     pub broken : IsTrue served.last.store.session.broken
@@ -150,7 +147,7 @@ pub record ServesDisk {D : Type 0} (g : Ghosts D) (setup : Setup) (disk now : D)
   pub breaks : BreaksByCount served
   pub alone : LeavesForeign served
   -- over a disk that was recoverable, of which each image recovered to files
-  pub lasts : IsRecoverable (g.files disk) → EachRecovers (g.files disk) → Lasts served
+  pub lasts : IsRecoverable (g.files disk) → EachRecovers (g.files disk) → IsDurable served
 
 -- .. and of one that syncs the store's files before it opens the store
 pub record ServesSynced {D : Type 0} (g : Ghosts D) (setup : Setup) (disk now : D) (end : ServeEnd)
@@ -158,7 +155,7 @@ pub record ServesSynced {D : Type 0} (g : Ghosts D) (setup : Setup) (disk now : 
   pub serves : ServesDisk g setup disk now end io
   -- over a disk of which all other files were on the device
   pub lasts_found : OutsideStable setup.names.items (g.files disk)
-      → LastsFrom serves.served (IsAsFound (g.files disk))
+      → DurableFrom serves.served (IsAsFound (g.files disk))
 
 -- What a run makes of a disk that is honest at the end: `disk` is what it was given, and `now` what
 -- it gives back.
@@ -203,10 +200,9 @@ pub record GivesBackSynced {D : Type 0} (g : Ghosts D) (setup : Setup) (disk now
 abbrev pub HasFailed : Result ServeEnd OpenFault → ℕ → ℕ → Type 0
 HasFailed (Err fault) before now = fault ≡ open_fault.Device
 HasFailed (Ok Device) before now = Unit {0}
-HasFailed (Ok End) before now = ⊥
-HasFailed (Ok Unsettled) before now = ⊥
 HasFailed (Ok Read) before now = HasRisen before now
 HasFailed (Ok Write) before now = HasRisen before now
+HasFailed (Ok end) before now = ⊥
 
 -- All that is said of a run that syncs the store's files before it opens the store, in at most this
 -- many reads.

@@ -5,8 +5,7 @@ use Rattle.std.specs.Io.KnownBytes.{Appends}
 use Rattle.org_disk.specs.Disk.{IsCounted}
 use Rattle.org_serve.specs.declared.pipes.Source as sources
 use Rattle.org_serve.specs.declared.pipes.Sink as sinks
-use Rattle.org_serve.specs.Parts.{AppendsSome}
-use Rattle.org_serve.specs.Pipes.{Pipes, Exchange}
+use Rattle.org_serve.specs.Pipes.{AppendsSome, Exchange, Output, Pipes}
 
 -- a reader and a writer at one moment
 abbrev pub pipes : {R W : Type 0} → sources.Ghosts R → sinks.Ghosts W → R → W → Pipes
@@ -22,6 +21,16 @@ pipes r w reader writer = record {
 abbrev pub exchange : {R W : Type 0} → sources.Ghosts R → sinks.Ghosts W → R → R → W → W → Exchange
 exchange r w reader reader' writer writer' =
     record { before = pipes r w reader writer; after = pipes r w reader' writer' }
+
+-- the writer of a call, before it and after it
+abbrev pub output : {W : Type 0} → sinks.Ghosts W → W → W → Output
+output w old new = record { before = w.written old; after = w.written new }
+
+-- A call of the writer that failed is counted, and is the only one.
+pub record CountsFailure {W A E : Type 0} (w : sinks.Ghosts W) (old new : W) (result : Result A E)
+    : Type 0 where
+  pub same : OnOk result (w.failures new ≡ w.failures old)
+  pub counted : OnErr result (IsCounted (w.failures old) (w.failures new))
 
 -- A text was written: all of it, or, where a call of the writer failed, which is counted then, some
 -- of it from the first byte on.

@@ -1,4 +1,6 @@
 //! Readers and writers of std, as a source of lines and a sink of replies.
+//!
+//! They count what fails; nothing is read ahead, and each reply is flushed.
 ghost use Rattle.std.specs.Prelude.{◌≡◌, ◌<◌, ◌≤◌, length, IfOk, OnOk, OnErr};
 ghost use Rattle.std.specs.Io.KnownBytes.{WriteAppends};
 ghost use Rattle.org_disk.specs.Disk.{IsCounted};

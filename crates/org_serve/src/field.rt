@@ -1,9 +1,10 @@
-//! The fields of a command line.
+//! The fields of a command line: names, paths, targets, texts with escapes.
+//!
+//! A field without an escape is borrowed from the line.
 ghost use Rattle.std.specs.Prelude.{◌≡◌, ◌&&◌, true, false, Some, None, MatchOption, if◌then◌else◌};
 ghost use Rattle.std.specs.Str.{bytes_eq, is_utf8};
 ghost use Rattle.org_disk.specs.Names.{is_file_name};
-ghost use Rattle.org_serve.specs.Grammar.{escape, unescaped, file_of, path_of, target_of, place_of};
-ghost use Rattle.org_serve.specs.Gives.{Gives, GivesBy};
+ghost use Rattle.org_serve.specs.Grammar.{escape, unescaped, file_of, path_of, target_of, place_of, Gives, GivesBy};
 
 use crate::fault::LineFault;
 use org_capture::Target;
@@ -68,8 +69,12 @@ fn unescape(alloc: Global, field: &[u8]) -> Result<Vec<u8>, LineFault>
 }
 
 /// The text that a field TEMPLATE, INITIAL or STATE is: the field as it stands, which isn't copied,
-/// where it has no escape. `BadLine` comes only where it has a wrong escape; `OutOfMemory` where
-/// memory for it was refused.
+/// where it has no escape.
+///
+/// # Errors
+///
+/// - `BadLine`: it has a wrong escape.
+/// - `OutOfMemory`.
 pub fn text(alloc: Global, field: &[u8]) -> Result<TextOf<'_>, LineFault>
     ensures { Gives result (unescaped field.now) }
 {
@@ -105,8 +110,12 @@ fn named(alloc: Global, bytes: &[u8]) -> Result<FileName, LineFault>
     }
 }
 
-/// The name that a field FILE is. `BadLine` comes only where it is no file name; `OutOfMemory`
-/// where memory for it was refused.
+/// The name that a field FILE is.
+///
+/// # Errors
+///
+/// - `BadLine`: it is no file name.
+/// - `OutOfMemory`.
 #[tactic(auto, unfolding(crate::specs::Grammar::file_of))]
 pub fn file(alloc: Global, field: &[u8]) -> Result<FileName, LineFault>
     ensures { Gives result (file_of field.now) }
@@ -120,8 +129,12 @@ pub fn file(alloc: Global, field: &[u8]) -> Result<FileName, LineFault>
 }
 
 /// The path that a field PATH is: titles with slashes between them, of which there is one more than
-/// slashes. `BadLine` comes only where a title has a wrong escape; `OutOfMemory` where memory for
-/// it was refused.
+/// slashes.
+///
+/// # Errors
+///
+/// - `BadLine`: a title has a wrong escape.
+/// - `OutOfMemory`.
 pub fn path(alloc: Global, field: &[u8]) -> Result<Titles, LineFault>
     ensures { Gives result (path_of field.now) }
 {
@@ -132,8 +145,12 @@ pub fn path(alloc: Global, field: &[u8]) -> Result<Titles, LineFault>
     Ok(Titles::new(titles))
 }
 
-/// The target that a field TARGET is. `BadLine` comes only where it is none; `OutOfMemory` where
-/// memory for it was refused.
+/// The target that a field TARGET is.
+///
+/// # Errors
+///
+/// - `BadLine`: it is none.
+/// - `OutOfMemory`.
 #[tactic(auto, unfolding(crate::specs::Grammar::target_of))]
 pub fn target(alloc: Global, field: &[u8]) -> Result<Target, LineFault>
     ensures { Gives result (target_of field.now) }

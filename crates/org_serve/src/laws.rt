@@ -1,30 +1,31 @@
-//! Laws of the definitions, each the contract of a function that does nothing.
+//! Laws of the definitions of lines, replies and runs, for all values.
+//!
+//! Each is the contract of a function with nothing to do.
 ghost use Rattle.std.specs.Prelude.{ℕ, List, [], ◌≡◌, ◌≤◌, ◌∷◌, ◌++◌};
 ghost use Rattle.std.specs.Prelude.{All, Some, Result, IsFalse};
 ghost use Rattle.org_disk.specs.Accounts.{LeavesOver};
-ghost use Rattle.org_journal.specs.Recovered.{Image, contents};
-ghost use Rattle.org_fileset.specs.Replay.{IsAtRest};
+ghost use Rattle.org_journal.specs.Recovered.{Image};
+ghost use Rattle.org_fileset.specs.Replay.{RestsOn, files_on};
 ghost use Rattle.org_fileset.specs.Names.{AreFew};
 ghost use Rattle.org_fileset.specs.Writes.{LeavesAlone};
 ghost use Rattle.org_outline.specs.States.{Keywords};
 ghost use Rattle.org_commands.specs.declared.command.Command.{Command};
 ghost use Rattle.org_commands.specs.declared.command.Reply.{Reply};
 ghost use Rattle.org_commands.specs.declared.command.RunFault.{RunFault};
-ghost use Rattle.org_store.specs.History.{Past, Lists, HoldsPrefix};
+ghost use Rattle.org_store.specs.History.{Trace, Lists, HoldsPrefix};
 ghost use Rattle.org_commands.specs.InOrder.{AreNames};
 ghost use Rattle.org_commands.specs.Left.{IsApart};
 ghost use Rattle.org_store.specs.OnePlace.{HaveSameNodes, HasNodesOf, HasNodesOfPrefix, IsSessionOf};
 ghost use Rattle.org_store.specs.Opening.{opened};
 ghost use Rattle.org_store.specs.Reopening.{IsOpenable, AreSmall};
 ghost use Rattle.org_commands.specs.Runs.{IsOnDisk};
-ghost use Rattle.org_commands.specs.Session.{Session, Kept};
+ghost use Rattle.org_commands.specs.Session.{Session, StoreView};
 ghost use Rattle.org_commands.specs.Step.{Step};
-ghost use Rattle.org_serve.specs.OnePlace.{OnlyRefiles};
+ghost use Rattle.org_serve.specs.History.{HoldsSince, OnlyRefiles};
 ghost use Rattle.org_serve.specs.declared.end.ServeEnd.{ServeEnd};
-ghost use Rattle.org_serve.specs.Crashes.{Runs, RunsLine, HasSettledOver};
-ghost use Rattle.org_serve.specs.History.{PastLine, HasSettledPast, HoldsSince};
+ghost use Rattle.org_serve.specs.Serving.{Runs, honest_stores, honest_traces};
 ghost use Rattle.org_serve.specs.Pipes.{Exchange};
-ghost use Rattle.org_serve.specs.Whole.{IsOnTheWay, ServesOver};
+ghost use Rattle.org_serve.specs.Whole.{IsIntermediate, ServesOver};
 ghost use Rattle.org_serve.specs.declared.whole.Setup.{Setup};
 ghost use Rattle.org_serve.specs.Grammar.{escaped, unescaped, path_of, path_field};
 ghost use Rattle.org_serve.specs.Lines.{cut, joined, HasNoNewline};
@@ -76,18 +77,18 @@ pub fn crashes_leave_a_prefix<D: Disk>()
     ensures opened { (states : Keywords) (names texts : List (List ℕ))
         → Lists (opened states names texts) (texts ∷ []) }
     // one that the lines go on with has it too
-    ensures served { (first : Past D) (new : Kept D) (end : ServeEnd)
+    ensures served { (first : Trace D) (new : StoreView D) (end : ServeEnd)
         (io : Exchange) → D.honest new.disk
-        → IsAtRest (D.files first.store.disk)
-        → IsOnDisk first.store.session (contents (D.files first.store.disk))
+        → RestsOn D.Disk first.store.disk
+        → IsOnDisk first.store.session (files_on D.Disk first.store.disk)
         → IsFalse first.store.session.broken → Lists first.store.session first.texts
-        → Runs (RunsLine D.Disk) (HasSettledOver D.Disk) first.store new end io
-        → (last : Past D) × (last.store ≡ new) × Lists last.store.session last.texts
-        × Runs (PastLine D.Disk) (HasSettledPast D.Disk) first last end io
+        → Runs (honest_stores D.Disk) first.store new end io
+        → (last : Trace D) × (last.store ≡ new) × Lists last.store.session last.texts
+        × Runs (honest_traces D.Disk) first last end io
         × LeavesOver D.Disk first.store.disk last.store.disk
-        (HoldsSince first.store.session (contents (D.files first.store.disk)) first last) }
+        (HoldsSince first.store.session (files_on D.Disk first.store.disk) first last) }
     // such an image recovers to a prefix that has all commands that were acknowledged then
-    ensures prefix { (first : Session) (others image : Image) (here later : Past D)
+    ensures prefix { (first : Session) (others image : Image) (here later : Trace D)
         → here.store.session.acknowledged ≤ here.store.session.accepted
         → HoldsSince first others here later image
         → HoldsPrefix first others later.texts here.store.session.acknowledged image }
@@ -97,19 +98,19 @@ pub fn crashes_leave_a_prefix<D: Disk>()
 /// was opened with: what that says is told by `every_image_opens` of org_store's laws.
 pub fn every_image_opens<D: Disk>()
     // what `crashes_leave_a_prefix` tells of `serve`, where no text of the list was past the limit
-    ensures served { (given : List (List ℕ)) (first last : Past D) (end : ServeEnd)
+    ensures served { (given : List (List ℕ)) (first last : Trace D) (end : ServeEnd)
         (io : Exchange) (others image : Image) (least : ℕ)
         → AreFew given → IsSessionOf given first.store.session
         → Lists first.store.session first.texts
         → All (AreSmall first.store.session.names) first.texts → D.honest last.store.disk
-        → Runs (PastLine D.Disk) (HasSettledPast D.Disk) first last end io
+        → Runs (honest_traces D.Disk) first last end io
         → HoldsPrefix first.store.session others last.texts least image → IsOpenable given image }
-    // `Lasts` of `serve_disk`, behind the opening
+    // `IsDurable` of `serve_disk`, behind the opening
     ensures whole { (setup : Setup) (disk now : D) (end : ServeEnd) (io : Exchange)
-        (served : ServesOver D.Disk setup disk now end io) (here : Past D) (least : ℕ)
-        (image : Image) → IsOnTheWay served here → D.honest here.store.disk
+        (served : ServesOver D.Disk setup disk now end io) (here : Trace D) (least : ℕ)
+        (image : Image) → IsIntermediate served here → D.honest here.store.disk
         → HoldsPrefix served.first.store.session
-        (contents (D.files served.first.store.disk)) here.texts least image
+        (files_on D.Disk served.first.store.disk) here.texts least image
         → IsOpenable setup.names.items image }
 {}
 
@@ -118,17 +119,17 @@ pub fn every_image_opens<D: Disk>()
 /// file is as it was, and a crash meanwhile leaves of it what it might have left before. The files
 /// that wait at first are to be the store's own: where it was just opened, none does.
 pub fn only_own_files_are_written<D: Disk>()
-    ensures alone { (first last : Past D) (end : ServeEnd) (io : Exchange)
-        → AreNames first.store.session.names first.store.waiting → D.honest last.store.disk
-        → Runs (PastLine D.Disk) (HasSettledPast D.Disk) first last end io
+    ensures alone { (first last : Trace D) (end : ServeEnd) (io : Exchange)
+        → AreNames first.store.session.names first.store.dirty → D.honest last.store.disk
+        → Runs (honest_traces D.Disk) first last end io
         → LeavesAlone D.Disk (IsApart first.store.session.names)
         first.store.disk last.store.disk }
     // so it goes on
-    ensures waits { (first last : Past D) (end : ServeEnd) (io : Exchange)
-        → AreNames first.store.session.names first.store.waiting → D.honest last.store.disk
-        → Runs (PastLine D.Disk) (HasSettledPast D.Disk) first last end io
+    ensures dirty_files { (first last : Trace D) (end : ServeEnd) (io : Exchange)
+        → AreNames first.store.session.names first.store.dirty → D.honest last.store.disk
+        → Runs (honest_traces D.Disk) first last end io
         → (last.store.session.names ≡ first.store.session.names)
-        × AreNames last.store.session.names last.store.waiting }
+        × AreNames last.store.session.names last.store.dirty }
 {}
 
 /// Each node in one place, in what a crash leaves while lines are served
@@ -137,18 +138,18 @@ pub fn only_own_files_are_written<D: Disk>()
 /// Where no line that is run is a command but a refile, a show or a settling, that is as often as
 /// when serving began.
 pub fn one_place<D: Disk>()
-    ensures any_moment { (given : List (List ℕ)) (first last : Past D) (end : ServeEnd)
+    ensures any_moment { (given : List (List ℕ)) (first last : Trace D) (end : ServeEnd)
         (io : Exchange) (others image : Image) (least : ℕ)
         → IsSessionOf given first.store.session → Lists first.store.session first.texts
         → All (AreSmall first.store.session.names) first.texts → D.honest last.store.disk
-        → Runs (PastLine D.Disk) (HasSettledPast D.Disk) first last end io
+        → Runs (honest_traces D.Disk) first last end io
         → HoldsPrefix first.store.session others last.texts least image
         → HasNodesOfPrefix first.store.session.names last.texts least image }
-    ensures refiles { (given : List (List ℕ)) (first last : Past D) (end : ServeEnd)
+    ensures refiles { (given : List (List ℕ)) (first last : Trace D) (end : ServeEnd)
         (io : Exchange) (others image : Image) (least : ℕ)
         → IsSessionOf given first.store.session → Lists first.store.session first.texts
         → All (AreSmall first.store.session.names) first.texts → D.honest last.store.disk
-        → (run : Runs (PastLine D.Disk) (HasSettledPast D.Disk) first last end io)
+        → (run : Runs (honest_traces D.Disk) first last end io)
         → All OnlyRefiles run.ran
         → All (λ texts. HaveSameNodes texts first.store.session.files) first.texts
         → HoldsPrefix first.store.session others last.texts least image

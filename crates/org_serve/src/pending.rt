@@ -1,6 +1,8 @@
 //! The start of a line whose newline hasn't come.
+//!
+//! A line past the limit isn't kept: it is answered as no command, and the next one is read.
 ghost use Rattle.std.specs.Prelude.{◌≡◌, ◌↔◌, ◌<◌, ◌≤◌, ◌++◌, List, ℕ, [], length, IsTrue, MatchOption, MatchResult};
-ghost use Rattle.org_serve.specs.Pending.{limit, IsCause, Stands};
+ghost use Rattle.org_serve.specs.Lines.{limit, IsCause, Stands};
 
 use crate::fault::LineFault;
 use std::alloc::Global;

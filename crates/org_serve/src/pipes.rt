@@ -1,12 +1,15 @@
-//! Where lines come from and where replies go.
+//! Where lines come from and where replies go: two traits, and their one fault.
 ghost use Rattle.std.specs.Prelude.{◌≡◌, ℕ, List, Option, OnOk, OnErr};
 ghost use Rattle.std.specs.Io.{ReadsAtMost};
 ghost use Rattle.std.specs.Io.KnownBytes.{ReadConsumes, Appends, Keeps};
 ghost use Rattle.org_disk.specs.Disk.{IsCounted};
-ghost use Rattle.org_serve.specs.Parts.{AppendsSome};
+ghost use Rattle.org_serve.specs.Pipes.{AppendsSome};
+
+use thiserror::Error;
 
 /// A read, a write or a flush failed. It is the only fault.
-#[derive(Clone, Copy)]
+#[derive(Clone, Copy, Debug, PartialEq, Eq, Error)]
+#[error("a read or a write failed")]
 pub struct PipeFault;
 
 /// Gives bytes, and counts its reads and its failures. A count that has reached 2^64 - 1 stays

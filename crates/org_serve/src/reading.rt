@@ -1,8 +1,9 @@
-//! Command lines.
+//! Command lines: fields between tabs, read as one of the commands that FORMATS names.
+//!
+//! Nothing but the line decides which command it is: no file is looked at.
 ghost use Rattle.std.specs.Prelude.{◌∷◌, map};
 ghost use Rattle.std.specs.Option.{option_map, option_and_then};
-ghost use Rattle.org_serve.specs.Grammar.{file_of, path_of, show_of, capture_of, refile_of, todo_of, clock_in_of, clock_out_of, clocked_of, archive_of, command_of, command_of_fields};
-ghost use Rattle.org_serve.specs.Gives.{Gives};
+ghost use Rattle.org_serve.specs.Grammar.{file_of, path_of, show_of, capture_of, refile_of, todo_of, clock_in_of, clock_out_of, clocked_of, archive_of, command_of, command_of_fields, Gives};
 
 use crate::fault::LineFault;
 use crate::field::{file, is, path, place, target, text};
@@ -16,8 +17,12 @@ use std::alloc::Global;
 /// The most fields of a command, which a capture has.
 const MOST_FIELDS: usize = 7;
 
-/// The command that a line is, given without its newline. `BadLine` comes only where it is none;
-/// `OutOfMemory` where memory for it was refused.
+/// The command that a line is, given without its newline.
+///
+/// # Errors
+///
+/// - `BadLine`: exactly where it is none.
+/// - `OutOfMemory`.
 pub fn read_command(alloc: Global, line: &[u8]) -> Result<Command<'_>, LineFault>
     ensures { Gives result (command_of line.now) }
 {

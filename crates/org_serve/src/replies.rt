@@ -1,11 +1,12 @@
-//! Replies, written line by line.
+//! Replies, written line by line, and flushed one by one.
+//!
+//! What is written is exactly what FORMATS says of each answer, to the last byte.
 ghost use Rattle.std.specs.Prelude.{◌≡◌, ◌+◌, ◌≤◌, ◌++◌, length, Ok, codes, decimal};
 ghost use Rattle.std.specs.List.{flat_map};
 ghost use Rattle.arrayvec.specs.ArrayVec.{array_vec_len};
 ghost use Rattle.org_stamp.specs.Stamp.{duration_text};
 ghost use Rattle.org_commands.specs.declared.command.RunFault.TheVariants.{Refused};
-ghost use Rattle.org_serve.specs.Faults.{fault_text};
-ghost use Rattle.org_serve.specs.Replies.{safe_line, safe_if_risen, fault_line, answer_text, settled_text};
+ghost use Rattle.org_serve.specs.Replies.{fault_text, safe_line, safe_if_risen, fault_line, answer_text, settled_text};
 ghost use Rattle.org_serve.specs.Writes.{Writes};
 
 use crate::fault::LineFault;
@@ -20,6 +21,10 @@ const DONE_BYTES: usize = 50;
 
 /// Writes the answer to a command, and flushes. Before the command, `before` commands were on the
 /// disk; now `safe` are.
+///
+/// # Errors
+///
+/// `PipeFault`: a write or the flush failed; what was written begins the answer.
 pub fn write_answer<W: Sink>(
     writer: &mut W,
     answer: &Result<Reply, RunFault>,
@@ -36,6 +41,10 @@ pub fn write_answer<W: Sink>(
 }
 
 /// Writes why a line wasn't run, and flushes.
+///
+/// # Errors
+///
+/// `PipeFault`, as by `write_answer`.
 pub fn write_unread<W: Sink>(writer: &mut W, fault: LineFault) -> Result<(), PipeFault>
     ensures { Writes W.Sink writer.old writer.new result (fault_text fault) }
 {
@@ -48,6 +57,10 @@ pub fn write_unread<W: Sink>(writer: &mut W, fault: LineFault) -> Result<(), Pip
 }
 
 /// Writes what settling answered, and flushes. Now `safe` commands are on the disk.
+///
+/// # Errors
+///
+/// `PipeFault`, as by `write_answer`.
 pub fn write_settled<W: Sink>(
     writer: &mut W,
     answer: Result<(), RunFault>,

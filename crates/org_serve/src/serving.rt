@@ -1,19 +1,16 @@
 //! Lines answered one by one, to the end of the input.
-ghost use Rattle.std.specs.Prelude.{◌≡◌, ◌≢◌, ◌⊎◌, ◌++◌, List, ℕ, [], OnOk, OnErr, MatchResult, IsTrue, Result, Ok};
-ghost use Rattle.std.specs.Io.KnownBytes.{Appends};
+//!
+//! A line is answered before the next one is run. What isn't settled at the end of the input is
+//! settled.
+ghost use Rattle.std.specs.Prelude.{◌≡◌, ◌≢◌, ◌⊎◌, ◌++◌, List, ℕ, [], IsTrue, Result, Ok};
 ghost use Rattle.org_disk.specs.Disk.{IsCounted};
 ghost use Rattle.org_disk.specs.Accounts.{Accounts};
-ghost use Rattle.org_serve.specs.Counts.{EndsForCause};
-ghost use Rattle.org_serve.specs.Feeding.{FeedOk, FeedErr, EndsWith};
-ghost use Rattle.org_serve.specs.Lines.{cut};
-ghost use Rattle.org_serve.specs.Parts.{AppendsSome, EndsText, WritesSome};
-ghost use Rattle.org_serve.specs.Pending.{Stands};
-ghost use Rattle.org_serve.specs.Replies.{settled_text};
 ghost use Rattle.org_commands.specs.declared.command.RunFault.{RunFault};
-ghost use Rattle.org_serve.specs.Serving.{IsReadAs, AnswersReadBy, HasBroken, EndsBroken, end_of, Serves};
-ghost use Rattle.org_serve.specs.Crashes.{RunsHonest, RunsLine, HasSettledOver, FinishesOver, Runs, KeepsDisk};
-ghost use Rattle.org_serve.specs.Transcript.{AnswersRest};
-ghost use Rattle.org_serve.specs.Writes.{Writes, exchange};
+ghost use Rattle.org_serve.specs.Lines.{cut, Stands};
+ghost use Rattle.org_serve.specs.Pipes.{Adds, AddsSome, EndsForCause};
+ghost use Rattle.org_serve.specs.Replies.{settled_text};
+ghost use Rattle.org_serve.specs.Serving.{AnswersRead, AnswersRest, EndsBroken, EndsLine, EndsText, EndsWith, Feeds, Finishes, HasBroken, HasSettled, IsReadAs, KeepsDisk, RunsAndWrites, Serves, end_of, honest_stores};
+ghost use Rattle.org_serve.specs.Writes.{CountsFailure, Writes, exchange, output};
 
 use crate::end::ServeEnd;
 use crate::fault::LineFault;
@@ -60,10 +57,8 @@ pub fn serve<D: Disk, R: Source, W: Sink>(
         × KeepsDisk D.files store.old store.new }
     ensures causes { EndsForCause turns (Ok result)
         (exchange R.Source W.Sink reader.old reader.new writer.old writer.new) }
-    ensures calls { (run : Runs (RunsLine D.Disk) (HasSettledOver D.Disk) store.old store.new result
-        (exchange R.Source W.Sink reader.old reader.new writer.old writer.new))
-        × (result ≡ ServeEnd.Write → WritesSome run.input run.others run.out
-        store.new.session.acknowledged (W.written writer.old) (W.written writer.new)) }
+    ensures calls { RunsAndWrites (honest_stores D.Disk) store.old store.new result
+        (exchange R.Source W.Sink reader.old reader.new writer.old writer.new) }
     ensures broken { EndsBroken result store.new.session }
     ensures untouched { IsTrue store.old.session.broken → store.new ≡ store.old }
     ensures accounts { Accounts D.Disk store.old.disk store.new.disk
@@ -93,13 +88,9 @@ fn feed<D: Disk, W: Sink>(
     writer: &mut W,
 ) -> Result<(), PipeFault>
     ensures fed { (part : List ℕ) → (cut part).lines ≡ [] → Stands pending.old part
-        → MatchResult result
-        (λ _. FeedOk (RunsLine D.Disk) store.old (part ++ piece.now) store.new
-        (W.written writer.old) (W.written writer.new) pending.new)
-        (λ _. FeedErr (RunsLine D.Disk) store.old (part ++ piece.now) store.new
-        (W.written writer.old) (W.written writer.new)) }
-    ensures same { OnOk result (W.failures writer.new ≡ W.failures writer.old) }
-    ensures err { OnErr result (IsCounted (W.failures writer.old) (W.failures writer.new)) }
+        → Feeds (honest_stores D.Disk) store.old (part ++ piece.now) store.new
+        (output W.Sink writer.old writer.new) pending.new result }
+    ensures counts { CountsFailure W.Sink writer.old writer.new result }
     ensures untouched { IsTrue store.old.session.broken → store.new ≡ store.old }
     ensures accounts { Accounts D.Disk store.old.disk store.new.disk
         (HasBroken store.old.session store.new.session) }
@@ -121,15 +112,9 @@ fn answer<D: Disk, W: Sink>(
     last: &[u8],
     writer: &mut W,
 ) -> Result<(), PipeFault>
-    ensures step { (part : List ℕ) → Stands pending.old part
-        → (out : List ℕ) × RunsLine D.Disk store.old (part ++ last.now) out store.new
-        × Writes W.Sink writer.old writer.new result out }
+    ensures answers { EndsLine D.Disk W.Sink pending.old last.now result store.old store.new
+        writer.old writer.new }
     ensures cleared { Stands pending.new [] }
-    ensures same { OnOk result (W.failures writer.new ≡ W.failures writer.old) }
-    ensures err { OnErr result (IsCounted (W.failures writer.old) (W.failures writer.new)) }
-    ensures untouched { IsTrue store.old.session.broken → store.new ≡ store.old }
-    ensures accounts { Accounts D.Disk store.old.disk store.new.disk
-        (HasBroken store.old.session store.new.session) }
 {
     // Most lines lie whole in one piece, and are read where they stand.
     if !pending.is_whole(last) {
@@ -152,15 +137,9 @@ fn answer_kept<D: Disk, W: Sink>(
     last: &[u8],
     writer: &mut W,
 ) -> Result<(), PipeFault>
-    ensures step { (part : List ℕ) → Stands pending.old part
-        → (out : List ℕ) × RunsLine D.Disk store.old (part ++ last.now) out store.new
-        × Writes W.Sink writer.old writer.new result out }
+    ensures answers { EndsLine D.Disk W.Sink pending.old last.now result store.old store.new
+        writer.old writer.new }
     ensures cleared { Stands pending.new [] }
-    ensures same { OnOk result (W.failures writer.new ≡ W.failures writer.old) }
-    ensures err { OnErr result (IsCounted (W.failures writer.old) (W.failures writer.new)) }
-    ensures untouched { IsTrue store.old.session.broken → store.new ≡ store.old }
-    ensures accounts { Accounts D.Disk store.old.disk store.new.disk
-        (HasBroken store.old.session store.new.session) }
 {
     pending.add(last);
     let read = read_kept(alloc, pending);
@@ -187,7 +166,7 @@ fn answer_read<D: Disk, W: Sink>(
     writer: &mut W,
 ) -> Result<(), PipeFault>
     ensures step { (out : List ℕ)
-        × AnswersReadBy (RunsHonest D.Disk) (λ kept. kept.session) store.old read.now out store.new
+        × AnswersRead (honest_stores D.Disk) store.old read.now out store.new
         × Writes W.Sink writer.old writer.new result out }
     ensures untouched { IsTrue store.old.session.broken → store.new ≡ store.old }
     ensures accounts { Accounts D.Disk store.old.disk store.new.disk
@@ -208,14 +187,14 @@ fn finish<D: Disk, W: Sink>(store: &mut Store<D>, pending: &Pending, writer: &mu
     ensures never { result ≢ ServeEnd.Read }
     ensures told { result ≢ ServeEnd.Write → (W.failures writer.new ≡ W.failures writer.old)
         × ((part : List ℕ) → Stands pending.now part
-        → EndsWith (FinishesOver D.Disk)
-        part store.old result store.new (W.written writer.old) (W.written writer.new)) }
+        → EndsWith (honest_stores D.Disk) part store.old result store.new
+        (output W.Sink writer.old writer.new)) }
     ensures write { result ≡ ServeEnd.Write → ((store.new ≡ store.old)
-        ⊎ HasSettledOver D.Disk store.old store.new)
+        ⊎ HasSettled (honest_stores D.Disk) store.old store.new)
         × IsCounted (W.failures writer.old) (W.failures writer.new)
         × ((part : List ℕ) → Stands pending.now part
         → (text : List ℕ) × EndsText part store.new.session.acknowledged text
-        × AppendsSome (W.written writer.old) (W.written writer.new) text) }
+        × AddsSome (output W.Sink writer.old writer.new) text) }
     ensures broken { EndsBroken result store.new.session }
     ensures untouched { IsTrue store.old.session.broken → store.new ≡ store.old }
     ensures accounts { Accounts D.Disk store.old.disk store.new.disk
@@ -232,8 +211,7 @@ fn answer_rest<W: Sink>(pending: &Pending, writer: &mut W) -> Result<(), PipeFau
     ensures rest { (part : List ℕ) → Stands pending.now part
         → (last : List ℕ) × AnswersRest part last
         × Writes W.Sink writer.old writer.new result last }
-    ensures same { OnOk result (W.failures writer.new ≡ W.failures writer.old) }
-    ensures err { OnErr result (IsCounted (W.failures writer.old) (W.failures writer.new)) }
+    ensures counts { CountsFailure W.Sink writer.old writer.new result }
 {
     match pending.unended() {
         None => Ok(()),
@@ -246,13 +224,13 @@ fn settle<D: Disk, W: Sink>(store: &mut Store<D>, writer: &mut W) -> ServeEnd
     ensures never { result ≢ ServeEnd.Read }
     ensures told { result ≢ ServeEnd.Write → (W.failures writer.new ≡ W.failures writer.old)
         × (tail : List ℕ)
-        × FinishesOver D.Disk store.old result tail store.new
-        × Appends (W.written writer.old) (W.written writer.new) tail }
+        × Finishes (honest_stores D.Disk) store.old result tail store.new
+        × Adds (output W.Sink writer.old writer.new) tail }
     ensures write { result ≡ ServeEnd.Write
-        → HasSettledOver D.Disk store.old store.new
+        → HasSettled (honest_stores D.Disk) store.old store.new
         × IsCounted (W.failures writer.old) (W.failures writer.new)
         × (answer : Result (Unit {0}) RunFault)
-        × AppendsSome (W.written writer.old) (W.written writer.new)
+        × AddsSome (output W.Sink writer.old writer.new)
         (settled_text answer store.new.session.acknowledged) }
     ensures broken { EndsBroken result store.new.session }
     ensures untouched { IsTrue store.old.session.broken → store.new ≡ store.old }

@@ -1,4 +1,6 @@
 //! The files of a store, synced before it is opened over them.
+//!
+//! So what an editor has just saved counts as stable. Nothing is written.
 ghost use Rattle.std.specs.Prelude.{◌≡◌, ◌∷◌, Err, All, IfErr, IsErr, IsErrOf, OnOk};
 ghost use Rattle.org_disk.specs.Accounts.{Accounts, LeavesOver};
 ghost use Rattle.org_disk.specs.Disk.{AreImages};
@@ -19,8 +21,11 @@ use std::alloc::Global;
 /// leaves its content, and nothing else. Whatever it answers, a crash at any moment since it began
 /// leaves what it might have left before.
 ///
-/// It answers TooManyFiles where more names are given than a store may have, and no call is made of
-/// the disk then; Device where a sync failed; OutOfMemory.
+/// # Errors
+///
+/// - `TooManyFiles`: more names are given than a store may have. No call of the disk was made.
+/// - `Device`: a sync failed.
+/// - `OutOfMemory`.
 pub fn sync_files<D: Disk>(alloc: Global, disk: &mut D, given: &[FileName]) -> Result<(), OpenFault>
     requires { All IsOrgFile given.now }
     ensures syncs { D.honest disk.new →

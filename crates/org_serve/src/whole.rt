@@ -3,9 +3,9 @@ ghost use Rattle.std.specs.Prelude.{◌≡◌, Err, All, IfOk, IfErr};
 ghost use Rattle.org_disk.specs.Accounts.{Accounts};
 ghost use Rattle.org_disk.specs.Names.{IsOrgFile};
 ghost use Rattle.org_fileset.specs.Opening.{IsRefusedFor};
-ghost use Rattle.org_serve.specs.Counts.{EndsForCause};
+ghost use Rattle.org_serve.specs.Pipes.{EndsForCause};
 ghost use Rattle.org_store.specs.Group.{IsGroup};
-ghost use Rattle.org_serve.specs.Whole.{ServesDisk, ServesSynced, HasFailed, GivesBack, GivesBackSynced};
+ghost use Rattle.org_serve.specs.Whole.{GivesBack, HasFailed, RunsSynced, ServesDisk};
 ghost use Rattle.org_serve.specs.Writes.{exchange};
 
 use crate::end::ServeEnd;
@@ -39,26 +39,26 @@ pub struct Served<D> {
 }
 
 /// Opens a store over the files of a disk, answers the lines of a reader by it as `serve` does, and
-/// gives the disk back. It hands on each store on the way with one list: the texts of all files as
-/// they were opened, and after each accepted command.
+/// gives the disk back. It hands on each intermediate store with one list: the texts of all files
+/// as they were opened, and after each accepted command.
 ///
 /// What is said of a step is said where the disk is honest after it: a wrong answer later takes
-/// nothing from it. So are, up to each store on the way, the replies to the lines so far the
-/// model's; and an opening brings to an end what a crash had cut short, and leaves a journal whose
-/// gate is closed as it is.
+/// nothing from it. So are, up to each intermediate store, the replies to the lines so far the
+/// model's; and an opening finishes what a crash had cut short, and leaves a journal whose gate is
+/// closed as it is.
 ///
 /// On a disk that is recoverable, of which each image recovers to files, every image at every
-/// moment since the call began, up to a store on the way, recovers to what an image at the start
+/// moment since the call began, up to an intermediate store, recovers to what an image at the start
 /// recovered to, or to the files after one prefix of the commands accepted by then. Since an
-/// earlier store on the way that wasn't broken, that prefix is the commands that were acknowledged
-/// there, or it has all that were accepted there (`HoldsSince`): so at one moment nothing between
-/// the two is on the disk, and since a reply `safe a` was answered, the first a commands are
-/// (`laws::safe_tells_acknowledged`). Where it ends with `End`, each image at the end recovers to
-/// the files after all of them. The disk is as recoverable at the end, so that all this may be done
-/// again.
+/// earlier intermediate store that wasn't broken, that prefix is the commands that were
+/// acknowledged there, or it has all that were accepted there (`HoldsSince`): so at one moment
+/// nothing between the two is on the disk, and since a reply `safe a` was answered, the first a
+/// commands are (`laws::safe_tells_acknowledged`). Where it ends with `End`, each image at the end
+/// recovers to the files after all of them. The disk is as recoverable at the end, so that all this
+/// may be done again.
 ///
 /// No file is written but the store's own, the journal and those that the record of an open journal
-/// names: up to a store on the way, and at the end, each other file is as it was, and a crash
+/// names: up to an intermediate store, and at the end, each other file is as it was, and a crash
 /// leaves of it what it might have left before, on any disk (`LeavesForeign`).
 ///
 /// The faults are those of `Store::open`, and then nothing is read or written; the ends, when each
@@ -118,7 +118,7 @@ pub fn serve_disk<D: Disk, R: Source, W: Sink>(
 /// the disk at first: where they are, whatever the store's own files held that wasn't on the disk,
 /// a crash at any moment since this began leaves one image of the files as they were found, or what
 /// recovers to what they read as, or to the files after one prefix of the commands accepted by
-/// then; from each store on the way on, what it leaves is as after `serve_disk`. The disk is then
+/// then; from each intermediate store on, what it leaves is as after `serve_disk`. The disk is then
 /// left recoverable, and each image of it recovers to files; or the store wasn't opened, and the
 /// other files are on the disk as before.
 ///
@@ -134,18 +134,10 @@ pub fn serve_synced<D: Disk, R: Source, W: Sink>(
 ) -> Served<D>
     requires names { All IsOrgFile setup.names.items }
     requires group { IsGroup setup.group }
-    ensures served { IfOk result.end (λ end. ServesSynced D.Disk setup disk result.disk end
-        (exchange R.Source W.Sink reader.old reader.new writer.old writer.new)) }
-    ensures disk { D.honest result.disk →
-        GivesBackSynced D.Disk setup disk result.disk result.end }
-    ensures refused { IfErr result.end
-        (IsRefusedFor D.Disk setup.names.items disk result.disk) }
+    ensures runs { RunsSynced D.Disk setup turns disk result.disk result.end
+        (exchange R.Source W.Sink reader.old reader.new writer.old writer.new) }
     ensures unserved { IfErr result.end (λ _. (reader.new ≡ reader.old)
         × (writer.new ≡ writer.old)) }
-    ensures causes { EndsForCause turns result.end
-        (exchange R.Source W.Sink reader.old reader.new writer.old writer.new) }
-    ensures accounts { Accounts D.Disk disk result.disk
-        (HasFailed result.end (D.failures disk) (D.failures result.disk)) }
 {
     let mut disk = disk;
     match sync_files(alloc, &mut disk, &setup.names) {

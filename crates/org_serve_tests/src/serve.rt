@@ -4,7 +4,7 @@
 //! is dropped there, which the function's proof would have to follow.
 ghost use Rattle.std.specs.Prelude.{All};
 ghost use Rattle.org_disk.specs.Names.{IsOrgFile};
-ghost use Rattle.org_serve.specs.Group.{IsGroup};
+ghost use Rattle.org_store.specs.Group.{IsGroup};
 
 pub mod crashes;
 mod failures;

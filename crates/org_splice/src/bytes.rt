@@ -1,4 +1,6 @@
-//! Bytes that a value of another type holds.
+//! Bytes that a value of another type holds, so that values can be compared and copied.
+//!
+//! A clause sees the list of bytes. How many bytes there is room for is no part of the value.
 ghost use Rattle.std.specs.Prelude.{◌≡◌, ◌↔◌, [], length, nat_eq, IsTrue, IfOk};
 ghost use Rattle.std.specs.Cmp.Lexicographic.{pointwise, nat_list_eq_equiv};
 ghost use Rattle.std.specs.Cmp.{partial_equiv_from_equiv};

@@ -1,4 +1,7 @@
-//! What a commit is told of changed texts.
+//! What a commit is told of changed texts: names, and edited texts beside them.
+//!
+//! No name stands twice, and the order is that in which files are written. Nothing is said of
+//! disks.
 ghost use Rattle.std.specs.Prelude.{◌≡◌, ◌<◌, List, Some, length, slice_get};
 ghost use Rattle.std.specs.List.{IsDistinct};
 ghost use Rattle.std.specs.Map.{keys_of};

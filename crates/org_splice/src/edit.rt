@@ -1,4 +1,6 @@
 //! One change of a text, and what several make of its size.
+//!
+//! An edit is a value: `Editing` makes it, and can take it back.
 ghost use Rattle.std.specs.Prelude.{◌≡◌, ◌+◌, ◌<◌, ◌^◌, List, ℕ, length, sum_by, IfSome, IsSome};
 ghost use Rattle.org_splice.specs.Edits.{CanApply, applied_each};
 

@@ -1,4 +1,8 @@
 //! Texts under edit, whose edits can all be taken back.
+//!
+//! The bytes are those of the text now. `changed` rises, and covers each byte that may differ from
+//! the settled text; `undos` lead back to what was kept last. Nothing here knows of lines or
+//! headings, but for the last newline.
 ghost use Rattle.std.specs.Prelude.{◌≡◌, ◌+◌, ◌-◌, ◌<◌, ◌≤◌, length, map, slice_range, vec_capacity, vec_len, IsFalse, IfOk, OnOk, OnErr, List, ℕ};
 ghost use Rattle.org_splice.specs.Lines.{terminated};
 ghost use Rattle.org_splice.specs.Patches.{AreWellFormed, PatchedTo};
@@ -79,8 +83,11 @@ impl Editing {
     }
 
     /// Puts bytes in the place of `removed` bytes from the byte position `at` on. The text is
-    /// changed in place: what stands behind the removed bytes moves once. Where there is no memory
-    /// the text stays as it is.
+    /// changed in place: what stands behind the removed bytes moves once.
+    ///
+    /// # Errors
+    ///
+    /// `AllocError`: the text stays as it is.
     pub fn splice(&mut self, at: usize, removed: usize, bytes: &[u8]) -> Result<(), AllocError>
         requires { at + removed ≤ length self.old.text.bytes }
         ensures ok { OnOk result
@@ -99,7 +106,11 @@ impl Editing {
         )
     }
 
-    /// Makes one edit. Where there is no memory the text stays as it is.
+    /// Makes one edit.
+    ///
+    /// # Errors
+    ///
+    /// `AllocError`: the text stays as it is.
     pub fn apply(&mut self, edit: &Edit) -> Result<(), AllocError>
         requires { edit.now.at + edit.now.removed ≤ length self.old.text.bytes }
         ensures ok { OnOk result
@@ -112,8 +123,11 @@ impl Editing {
         self.splice(edit.at, edit.removed, edit.bytes.as_slice())
     }
 
-    /// Puts a newline at the end of a text that has bytes and doesn't end in one. Where there is no
-    /// memory the text stays as it is.
+    /// Puts a newline at the end of a text that has bytes and doesn't end in one.
+    ///
+    /// # Errors
+    ///
+    /// `AllocError`: the text stays as it is.
     pub fn terminate(&mut self) -> Result<(), AllocError>
         ensures ok { OnOk result (self.new ≡ revised self.old (terminated_text self.old.text)) }
         ensures bytes { OnOk result (self.new.text.bytes ≡ terminated self.old.text.bytes) }
@@ -157,6 +171,10 @@ impl Editing {
 
     /// What is to be written of the text, over any text that it was made from: the bytes of each
     /// changed range, and one empty patch where there is none.
+    ///
+    /// # Errors
+    ///
+    /// `AllocError`.
     pub fn patches(&self) -> Result<Vec<Patch>, AllocError>
         ensures exact { IfOk result (λ patches. pairs_of patches.items ≡ patches_of self.now.text) }
         ensures well_formed { IfOk result

@@ -1,4 +1,7 @@
-//! What is to be written of a text.
+//! What is to be written of a text: patches, each at a byte position.
+//!
+//! Patches rise and don't touch. Applied to any text that the edited one was made from, they make
+//! the edited one.
 ghost use Rattle.std.specs.Prelude.{◌≡◌, ◌≤◌, [], ◌∷◌, ◌++◌, length, map, IfOk, OnOk, List, ℕ};
 ghost use Rattle.org_splice.specs.Patches.{AreWellFormed, PatchedTo};
 ghost use Rattle.org_splice.specs.Ranges.{AreChanged};

@@ -1,4 +1,7 @@
 //! The changed ranges of a text, kept as lists that rise.
+//!
+//! No two ranges touch, none is empty, and there are at most a thousand: past that the last two
+//! become one. So a record has few patches, however many edits a command makes.
 ghost use Rattle.std.specs.Prelude.{◌≡◌, ◌<◌, ◌≤◌, IfOk};
 ghost use Rattle.org_splice.specs.Ranges.{AreChanged, cut_at, joined, a_thousand_of, with_range};
 

@@ -1,4 +1,6 @@
-//! Bytes put in the place of others.
+//! Bytes put in the place of others, in one move of what stands behind them.
+//!
+//! It is a splice of a vector, without an iterator; nothing is noted of what changed.
 ghost use Rattle.std.specs.Prelude.{◌≡◌, ◌+◌, ◌-◌, ◌≤◌, ◌++◌, length, take, drop, vec_len, vec_capacity, IsOk, OnOk, OnErr};
 
 use std::alloc::AllocError;

@@ -1,4 +1,6 @@
 //! What takes an edit of a text back.
+//!
+//! An undo fits in room that the text has had before, so it takes no memory and can't fail.
 ghost use Rattle.std.specs.Prelude.{◌≡◌, length, vec_capacity, []};
 ghost use Rattle.org_splice.specs.Ranges.{AreChanged};
 ghost use Rattle.org_splice.specs.Versions.{AreUndos, text_of_parts, undone_all};

@@ -1,4 +1,7 @@
-//! Days of the calendar, by jiff.
+//! Days of the calendar, by jiff: years 0001 to 9999, without a time zone.
+//!
+//! A day is valid from its making on. Days and months are added by the library; what has no day in
+//! its month goes to the month's last day.
 ghost use Rattle.std.specs.Prelude.{◌≡◌, ◌<◌, ◌^◌, ◌≤ℤ◌, IfSome, neg_ℤ, pos};
 ghost use Rattle.org_stamp.specs.Parts.{day_if_any};
 ghost use Rattle.jiff_core.specs.Calendar.{IsBetween};

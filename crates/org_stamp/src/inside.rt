@@ -1,4 +1,7 @@
-//! What stands behind the date of a timestamp.
+//! What stands behind the date of a timestamp: a day's name, a time, a repeater, a delay.
+//!
+//! Each may stand once, in any order, with blanks between. The bytes of cookies are kept, since
+//! they are printed again as they were.
 ghost use Rattle.std.specs.Prelude.{◌≡◌, Some, None, if◌then◌else◌};
 ghost use Rattle.std.specs.Option.{option_map};
 ghost use Rattle.std.specs.List.{slice_split};

@@ -1,4 +1,4 @@
-//! What the parts of a timestamp say.
+//! What the parts of a timestamp say: values without bytes.
 
 /// What a repeater counts (Org manual, "Repeated tasks").
 #[derive(Clone, Copy)]

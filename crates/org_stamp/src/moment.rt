@@ -1,4 +1,6 @@
-//! Moments: civil minutes.
+//! Moments: minutes of the civil calendar, in no time zone.
+//!
+//! A moment is valid from its making on. Seconds, and changes of a clock, are none of its matters.
 ghost use Rattle.std.specs.Prelude.{◌≡◌, ◌<◌, ◌+◌, ◌*◌, neg_ℤ, pos};
 ghost use Rattle.std.specs.Option.{SomeIff};
 ghost use Rattle.jiff_core.specs.Calendar.{IsBetween};

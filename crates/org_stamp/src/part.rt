@@ -1,4 +1,6 @@
-//! The parts of a timestamp's inside: the date, day names, times, repeaters and delays.
+//! The parts of a timestamp's inside, each read from a run of bytes without a blank.
+//!
+//! A run is one part or none: which parts may stand together is `inside`'s question.
 ghost use Rattle.std.specs.Prelude.{◌≡◌, ◌<◌, ◌≤◌, ◌^◌, ◌==◌, length, IfSome};
 ghost use Rattle.std.specs.List.{list_all, position};
 ghost use Rattle.org_stamp.specs.Parts.{is_blank, is_closing, is_name_byte, number_of, date_of, minute_if_any, clock_of, times_of, unit_of, interval_of, first_interval_of, marked, repeater_of, delay_of, kind_of};

@@ -1,4 +1,5 @@
-//! How often a repeater has to be applied to lead past a moment.
+//! How often a repeater has to be applied to lead past a moment: by arithmetic, without a loop over
+//! the steps.
 ghost use Rattle.std.specs.Prelude.{◌≡◌, ◌≤◌, ◌<◌, ◌*◌, ◌+◌, ◌^◌, ◌⊎◌, ℕ, pos, neg_ℤ, ◌+ℤ◌, ◌≤ℤ◌, ◌<ℤ◌};
 ghost use Rattle.jiff_core.specs.Calendar.{IsBetween};
 ghost use Rattle.org_stamp.specs.Calendar.{day_number, days_after, months_after, month_number};

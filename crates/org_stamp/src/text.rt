@@ -1,4 +1,6 @@
-//! What timestamps are written as.
+//! What timestamps are written as: one text for each value.
+//!
+//! The functions append, so that a stamp is one buffer.
 ghost use Rattle.std.specs.Prelude.{◌≡◌, ◌+◌, ◌%◌, [], ◌∷◌, ◌++◌, OnOk};
 ghost use Rattle.org_stamp.specs.Calendar.{weekday_of};
 ghost use Rattle.org_stamp.specs.Stamp.{date_text, day_name, clock_text, end_text, time_text, cookies_text};

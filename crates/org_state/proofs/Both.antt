@@ -146,7 +146,7 @@ switch_starved now t u from i closing fault text other closes memory =
     let can = subst (λ (u : List ℕ). ClosesSection now (tree u) from (Ok closing)) text closes in
     rw memory (switch_refused now t t from i OutOfMemory refl other (can.0, can.1))
 
-module _ (t : List ℕ) (i from : ℕ) (now : CivilMinute) (opening closing : Edit) (new : List (List ℕ)) (shut : terminated t ≡ t) (lt : i < node_count (tree t)) (there : from < node_count (tree t))
+module _ (t : List ℕ) (i from : ℕ) (now : CivilMinute) (opening closing : Edit) (new : List (List ℕ)) (stays_terminated : terminated t ≡ t) (lt : i < node_count (tree t)) (there : from < node_count (tree t))
     (opens : EditsSection opening (tree t) i (opened_section now (tree t) i)) (closes : EditsSection closing (tree t) from new) where
   -- what both make
   both_is : i ≢ from → with_own_lines i (node_at (tree t) i).node.rest (opened_section now (tree t) i) (with_section_at from (tree t) new) ≡ with_opened now i (with_section_at from (tree t) new)
@@ -168,7 +168,7 @@ module _ (t : List ℕ) (i from : ℕ) (now : CivilMinute) (opening closing : Ed
       let second = earlier_made d from (node_at d from).node.rest new i opening (opened_section now d i) less lt opens in
       let rest : (node_at middle i).node.rest ≡ (node_at d i).node.rest = own_rest d from (node_at d from).node.rest new i ne in
       let last : with_section_at i middle (opened_section now d i) ≡ with_opened now i middle = ap (λ r. with_own_lines i r (opened_section now d i) middle) rest ∙ both_is other in
-      subst (λ (u : List ℕ). AreEdits (closing ∷ opening ∷ []) u (print (with_opened now i middle))) (prints t shut)
+      subst (λ (u : List ℕ). AreEdits (closing ∷ opening ∷ []) u (print (with_opened now i middle))) (prints t stays_terminated)
       (AreEdits-join (closing ∷ []) (opening ∷ []) (print d) (print middle) (print (with_opened now i middle)) first
       (subst (λ (n : Document). AreEdits (opening ∷ []) (print middle) (print n)) last second))
 
@@ -187,7 +187,7 @@ module _ (t : List ℕ) (i from : ℕ) (now : CivilMinute) (opening closing : Ed
       let last : with_section_at from middle new ≡ final =
       ap (λ r. with_own_lines from r new middle) (own_rest d i rest section from other)
       ∙ ap D (in_either_order head rest new section from i d.forest less) ∙ both_is other in
-      subst (λ (u : List ℕ). AreEdits (opening ∷ closing ∷ []) u (print final)) (prints t shut)
+      subst (λ (u : List ℕ). AreEdits (opening ∷ closing ∷ []) u (print final)) (prints t stays_terminated)
       (AreEdits-join (opening ∷ []) (closing ∷ []) (print d) (print middle) (print final) first
       (subst (λ (n : Document). AreEdits (closing ∷ []) (print middle) (print n)) last second))
 
@@ -195,7 +195,7 @@ pub switch_made : (t u : List ℕ) (i from : ℕ) (now : CivilMinute) (opening c
     → EditsSection opening (tree t) i (opened_section now (tree t) i) → ClosesSection now (tree u) from (Ok closing)
     → ((from < i) × (items ≡ opening ∷ closing ∷ [])) ⊎ ((i ≤ from) × (items ≡ closing ∷ opening ∷ []))
     → (new : Option Document) × (switched now from (tree t) i ≡ Ok new) × Makes new t items
-switch_made t u i from now opening closing items text shut lt there other opens closes order =
+switch_made t u i from now opening closing items text stays_terminated lt there other opens closes order =
     let d : Document = tree t in
     let c = subst (λ (u : List ℕ). ClosesSection now (tree u) from (Ok closing)) text closes in
     let final : Document = with_opened now i (with_section_at from d c.0) in
@@ -204,8 +204,8 @@ switch_made t u i from now opening closing items text shut lt there other opens 
       Some final,
       is,
       elim order [
-        | inl o ↦ made (opening ∷ closing ∷ []) items final o.1 (λ none. absurd cc) (opened_behind t i from now opening closing c.0 shut lt there opens c.2 o.0)
-        | inr o ↦ made (closing ∷ opening ∷ []) items final o.1 (λ none. absurd cc) (closed_behind t i from now opening closing c.0 shut lt there opens c.2 (apart i from o.0 other))
+        | inl o ↦ made (opening ∷ closing ∷ []) items final o.1 (λ none. absurd cc) (opened_behind t i from now opening closing c.0 stays_terminated lt there opens c.2 o.0)
+        | inr o ↦ made (closing ∷ opening ∷ []) items final o.1 (λ none. absurd cc) (closed_behind t i from now opening closing c.0 stays_terminated lt there opens c.2 (apart i from o.0 other))
       ],
     )
   where

@@ -10,10 +10,10 @@ use Rattle.org_meta.proofs.Puts.{section_bytes, joined_split}
 -- a section's bytes without those of its rest
 pub front_bytes : (section : List ℕ) (slices : Sections) → terminated section ≡ section → AreSections slices (split (lines_of section))
     → take (length section - length slices.rest.now) section ≡ print_lines (joined (record (split (lines_of section)) { rest = [] }))
-front_bytes section slices shut are =
+front_bytes section slices stays_terminated are =
     let p : SectionParts = split (lines_of section) in
     let a : List ℕ = slices.planning.now ++ slices.drawer.now in
-    let whole : section ≡ a ++ slices.rest.now = section_bytes section slices shut are ∙ sym (append_assoc slices.planning.now slices.drawer.now slices.rest.now) in
+    let whole : section ≡ a ++ slices.rest.now = section_bytes section slices stays_terminated are ∙ sym (append_assoc slices.planning.now slices.drawer.now slices.rest.now) in
     let size : length section - length slices.rest.now ≡ length a = omega (arith, ap length whole, length-append a slices.rest.now) in
     let printed : print_lines (p.planning ++ (p.drawer ++ [])) ≡ slices.planning.now ++ slices.drawer.now =
     ap (λ (d : List (List ℕ)). print_lines (p.planning ++ d)) (append-nil p.drawer) ∙ print_lines-append p.planning p.drawer

@@ -24,7 +24,7 @@ use Rattle.org_meta.specs.Sections.{SectionParts, split, joined, put, put_in_dra
 use Rattle.org_state.specs.Edits.{rest_start, section_start, moved, GivesRest, EditsRest}
 
 pub prints : (t : List ℕ) → terminated t ≡ t → print (tree t) ≡ t
-prints t shut = (tree-is t).prints ∙ shut
+prints t stays_terminated = (tree-is t).prints ∙ stays_terminated
 
 -- an edit of the first lines of a text leaves those behind them as they are
 pub gives_in_front : (e : Edit) (front new other : List (List ℕ)) → Gives e (print_lines front) new → Gives e (print_lines (front ++ other)) (new ++ other)
@@ -105,11 +105,11 @@ module _ (i : ℕ) (r : List ℕ) (s : List (List ℕ)) (d : Document) (lt : i <
 
 -- where a section begins and ends
 pub section_bounds : (t : List ℕ) (i : ℕ) (s : Span) → terminated t ≡ t → i < node_count (tree t) → IsSection t (node_at (tree t) i) s → (s.start ≤ s.end) × (s.end ≤ length t)
-section_bounds t i s shut lt is =
+section_bounds t i s stays_terminated lt is =
     let d : Document = tree t in
     let n : Node = (node_at d i).node in
     let line : List ℕ = heading_line n.level n.rest in
-    let whole : print (with_own_lines i n.rest n.section d) ≡ t = ap print (same-rewritten i d) ∙ prints t shut in
+    let whole : print (with_own_lines i n.rest n.section d) ≡ t = ap print (same-rewritten i d) ∙ prints t stays_terminated in
     let long : length line ≡ n.level + length n.rest = length-append (replicate n.level 42) n.rest ∙ omega (arith, length-replicate {A = ℕ} n.level 42) in
     let own : length (print_lines (line ∷ n.section)) ≡ length line + (1 + length (print_lines n.section)) = length-append line (10 ∷ print_lines n.section) ∙ omega arith in
     (omega (arith, is.start, is.end, own), omega (arith, is.end, own, long, room i n.rest n.section d lt, ap length whole))
@@ -161,10 +161,10 @@ section_steps i r (e ∷ es) s new d lt same all =
 pub own_edits : (t : List ℕ) (i : ℕ) (es : List Edit) (k : Edit) (s : List (List ℕ)) (r : List ℕ) → terminated t ≡ t → i < node_count (tree t)
     → EditLines es (node_at (tree t) i).node.section s → EditsRest k (tree t) i r
     → AreEdits (map (moved (section_start (tree t) i)) es ++ k ∷ []) t (print (with_own_lines i r s (tree t)))
-own_edits t i es k s r shut lt all rest =
+own_edits t i es k s r stays_terminated lt all rest =
     let d : Document = tree t in
     let n : Node = (node_at d i).node in
-    let begin : print (with_own_lines i n.rest n.section d) ≡ t = ap print (same-rewritten i d) ∙ prints t shut in
+    let begin : print (with_own_lines i n.rest n.section d) ≡ t = ap print (same-rewritten i d) ∙ prints t stays_terminated in
     let keyword : AreEdits (k ∷ []) (print (with_own_lines i n.rest s d)) (print (with_own_lines i r s d)) =
     subst (λ (e : Edit). AreEdits (e ∷ []) (print (with_own_lines i n.rest s d)) (print (with_own_lines i r s d))) (sym rest.is) (rest_step i n.rest s d lt rest.own r refl rest.gives) in
     subst (λ (u : List ℕ). AreEdits (map (moved (section_start d i)) es ++ k ∷ []) u (print (with_own_lines i r s d))) begin
@@ -177,15 +177,15 @@ own_edits t i es k s r shut lt all rest =
 pub one_made : (t : List ℕ) (i : ℕ) (k : Edit) (r : List ℕ) (edits : List Edit) → terminated t ≡ t → i < node_count (tree t)
     → EditsRest k (tree t) i r → edits ≡ k ∷ []
     → (edits ≢ []) × AreEdits edits t (print (with_own_lines i r (node_at (tree t) i).node.section (tree t)))
-one_made t i k r edits shut lt rest is =
-    let made = own_edits t i [] k (node_at (tree t) i).node.section r shut lt refl rest in
+one_made t i k r edits stays_terminated lt rest is =
+    let made = own_edits t i [] k (node_at (tree t) i).node.section r stays_terminated lt refl rest in
     (λ none. absurd (let no : k ∷ [] ≡ [] = sym is ∙ none in cc), subst (λ (es : List Edit). AreEdits es t (print (with_own_lines i r (node_at (tree t) i).node.section (tree t)))) (sym is) made)
 
 pub two_made : (t : List ℕ) (i : ℕ) (e e2 k : Edit) (new : List (List ℕ)) (r : List ℕ) (edits : List Edit) → terminated t ≡ t → i < node_count (tree t)
     → e2 ≡ moved (section_start (tree t) i) e → Gives e (print_lines (node_at (tree t) i).node.section) new → EditsRest k (tree t) i r → edits ≡ e2 ∷ k ∷ []
     → (edits ≢ []) × AreEdits edits t (print (with_own_lines i r new (tree t)))
-two_made t i e e2 k new r edits shut lt at gives rest is =
-    let made = own_edits t i (e ∷ []) k new r shut lt (new, gives, refl) rest in
+two_made t i e e2 k new r edits stays_terminated lt at gives rest is =
+    let made = own_edits t i (e ∷ []) k new r stays_terminated lt (new, gives, refl) rest in
     let all : edits ≡ moved (section_start (tree t) i) e ∷ k ∷ [] = is ∙ ap (λ (e : Edit). e ∷ k ∷ []) at in
     (λ none. absurd (let no : e2 ∷ k ∷ [] ≡ [] = sym is ∙ none in cc), subst (λ (es : List Edit). AreEdits es t (print (with_own_lines i r new (tree t)))) (sym all) made)
 
@@ -216,9 +216,9 @@ pub four_made : (t : List ℕ) (i : ℕ) (a b c a2 b2 c2 k : Edit) (new : List (
     → a2 ≡ moved (section_start (tree t) i) a → b2 ≡ moved (section_start (tree t) i) b → c2 ≡ moved (section_start (tree t) i) c
     → EditLines (a ∷ b ∷ c ∷ []) (node_at (tree t) i).node.section new → EditsRest k (tree t) i r → edits ≡ a2 ∷ b2 ∷ c2 ∷ k ∷ []
     → (edits ≢ []) × AreEdits edits t (print (with_own_lines i r new (tree t)))
-four_made t i a b c a2 b2 c2 k new r edits shut lt at_a at_b at_c lines rest is =
+four_made t i a b c a2 b2 c2 k new r edits stays_terminated lt at_a at_b at_c lines rest is =
     let start : ℕ = section_start (tree t) i in
-    let made = own_edits t i (a ∷ b ∷ c ∷ []) k new r shut lt lines rest in
+    let made = own_edits t i (a ∷ b ∷ c ∷ []) k new r stays_terminated lt lines rest in
     let all : edits ≡ moved start a ∷ moved start b ∷ moved start c ∷ k ∷ [] =
     is ∙ ap (λ (e : Edit). e ∷ b2 ∷ c2 ∷ k ∷ []) at_a ∙ ap (λ (e : Edit). moved start a ∷ e ∷ c2 ∷ k ∷ []) at_b ∙ ap (λ (e : Edit). moved start a ∷ moved start b ∷ e ∷ k ∷ []) at_c in
     (λ none. absurd (let no : a2 ∷ b2 ∷ c2 ∷ k ∷ [] ≡ [] = sym is ∙ none in cc), subst (λ (es : List Edit). AreEdits es t (print (with_own_lines i r new (tree t)))) (sym all) made)

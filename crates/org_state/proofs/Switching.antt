@@ -44,8 +44,8 @@ section_made_in d i e new lt edits =
 
 pub section_made : (t : List ℕ) (i : ℕ) (e : Edit) (new : List (List ℕ)) → terminated t ≡ t → i < node_count (tree t) → EditsSection e (tree t) i new
     → AreEdits (e ∷ []) t (print (with_section_at i (tree t) new))
-section_made t i e new shut lt edits =
-    subst (λ (u : List ℕ). AreEdits (e ∷ []) u (print (with_section_at i (tree t) new))) (prints t shut) (section_made_in (tree t) i e new lt edits)
+section_made t i e new stays_terminated lt edits =
+    subst (λ (u : List ℕ). AreEdits (e ∷ []) u (print (with_section_at i (tree t) new))) (prints t stays_terminated) (section_made_in (tree t) i e new lt edits)
 
 pub opening_edits : (d : Document) (i : ℕ) (now : CivilMinute) (section : List ℕ) (e e2 : Edit)
     → section ≡ print_lines (node_at d i).node.section → lines_of section ≡ (node_at d i).node.section
@@ -158,7 +158,7 @@ one_of (x ∷ a) l b p = one_of a l b p.1
 
 stands_at : (t : List ℕ) (i : ℕ) (span : Span) → terminated t ≡ t → i < node_count (tree t) → open_line (node_at (tree t) i).node.section ≡ Some span
     → Stands t (record { heading = i; line = span_from (section_start (tree t) i) span })
-stands_at t i span shut lt e =
+stands_at t i span stays_terminated lt e =
     let d : Document = tree t in
     let n : Node = (node_at d i).node in
     let f : FirstOpen n.section span = first_open n.section span e in
@@ -169,7 +169,7 @@ stands_at t i span shut lt e =
     let back : List ℕ = print_lines f.after ++ local.back in
     let shape : local.front ++ ((h ++ 10 ∷ (print_lines f.before ++ (f.line ++ 10 ∷ print_lines f.after))) ++ local.back) ≡ front ++ (own ++ back) = simp append_assoc in
     let whole : t ≡ front ++ (own ++ back) =
-    sym (prints t shut) ∙ local.was
+    sym (prints t stays_terminated) ∙ local.was
     ∙ ap (λ (s : List ℕ). local.front ++ ((h ++ 10 ∷ s) ++ local.back)) (ap print_lines f.is ∙ print_lines-append f.before (f.line ∷ f.after)) ∙ shape in
     let long : length front ≡ section_start d i + span.start =
     length-append local.front (h ++ (10 ∷ print_lines f.before)) ∙ omega (arith, local.at, f.start, length-append h (10 ∷ print_lines f.before)) in
@@ -191,13 +191,13 @@ stands_at t i span shut lt e =
     }
 
 pub stands : (t : List ℕ) (r : Running) → terminated t ≡ t → running_in (tree t) ≡ Some r → Stands t r
-stands t r shut runs =
+stands t r stays_terminated runs =
     let d : Document = tree t in
     let found = bind_ok (running_heading d) (running_at d) r runs in
     let R : Span → Running = λ span. record { heading = found.0; line = span_from (section_start d found.0) span } in
     let line = map_some R (open_line (node_at d found.0).node.section) r found.2 in
     let first = position-Some runs_at (nodes d) found.0 no_node found.1 in
-    subst (Stands t) line.2 (stands_at t found.0 line.0 shut first.0 line.1)
+    subst (Stands t) line.2 (stands_at t found.0 line.0 stays_terminated first.0 line.1)
 
 -- ---- the line alone
 
@@ -263,7 +263,7 @@ module _ (t : List ℕ) (r : Running) (s : Stands t r) where
 
   -- it lies in the text
   pub closing_in : (e2 : Edit) (new : List (List ℕ)) → terminated t ≡ t → EditsSection e2 (tree t) r.heading new → e2.at + e2.removed ≤ length t
-  closing_in e2 new shut edits = (section_made t r.heading e2 new shut s.heading edits).0
+  closing_in e2 new stays_terminated edits = (section_made t r.heading e2 new stays_terminated s.heading edits).0
 
   pub closing_refused : (now : CivilMinute) (fault : ClockFault) → ClosesNot now (part t r.line) (record { start = 0; end = length (part t r.line) }) fault
       → ClosesSection now (tree t) r.heading (Err (fault_of_clock fault))
@@ -273,14 +273,14 @@ module _ (t : List ℕ) (r : Running) (s : Stands t r) where
       let can = why [] s.first.line [] line_alone in (s.first.before ++ (can.0 ∷ s.first.after), s.first.closes now can.0 can.1)
 
   pub closing_answers : (now : CivilMinute) (result : Result Edit StateFault) → terminated t ≡ t → ClosesSection now (tree t) r.heading result → AnswersClosing now t r.heading result
-  closing_answers now (Ok e) shut a =
+  closing_answers now (Ok e) stays_terminated a =
       let d : Document = tree t in
-      (with_section_at r.heading d a.0, ap (result_map_both (with_section_at r.heading d) fault_of_clock) a.1, section_made t r.heading e a.0 shut s.heading a.2)
-  closing_answers now (Err NotFound) shut a = a
-  closing_answers now (Err NotUnique) shut a = a
-  closing_answers now (Err UnknownState) shut a = a
-  closing_answers now (Err OddPlanning) shut a = a
-  closing_answers now (Err BadRepeat) shut a = a
-  closing_answers now (Err DateRange) shut a = a
-  closing_answers now (Err ClockBackwards) shut a = a
-  closing_answers now (Err OutOfMemory) shut a = (with_section_at r.heading (tree t) a.0, ap (result_map_both (with_section_at r.heading (tree t)) fault_of_clock) a.1)
+      (with_section_at r.heading d a.0, ap (result_map_both (with_section_at r.heading d) fault_of_clock) a.1, section_made t r.heading e a.0 stays_terminated s.heading a.2)
+  closing_answers now (Err NotFound) stays_terminated a = a
+  closing_answers now (Err NotUnique) stays_terminated a = a
+  closing_answers now (Err UnknownState) stays_terminated a = a
+  closing_answers now (Err OddPlanning) stays_terminated a = a
+  closing_answers now (Err BadRepeat) stays_terminated a = a
+  closing_answers now (Err DateRange) stays_terminated a = a
+  closing_answers now (Err ClockBackwards) stays_terminated a = a
+  closing_answers now (Err OutOfMemory) stays_terminated a = (with_section_at r.heading (tree t) a.0, ap (result_map_both (with_section_at r.heading (tree t)) fault_of_clock) a.1)

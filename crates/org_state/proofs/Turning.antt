@@ -197,7 +197,7 @@ pub repeat_made : (states : Keywords) (state : List ℕ) (now : CivilMinute) (t 
     → items ≡ a2 ∷ b2 ∷ c2 ∷ k ∷ []
     → (own : Own) × TurnsDone states state now (own_at (tree t) i) (repeating (split (own_at (tree t) i).section).planning) (Ok own)
     × ((items ≢ []) × AreEdits items t (print (with_own_at i (tree t) own)))
-repeat_made states state now t i section front old stamp active a b c a2 b2 c2 k items shut lt bytes lines front_is old_is stamp_is active_is note property plan at_a at_b at_c rest is =
+repeat_made states state now t i section front old stamp active a b c a2 b2 c2 k items stays_terminated lt bytes lines front_is old_is stamp_is active_is note property plan at_a at_b at_c rest is =
     let own : Own = own_at (tree t) i in
     let ls : List (List ℕ) = own.section in
     let all : AllByRecursion IsLine ls = section_is_lines t i lt in
@@ -215,7 +215,7 @@ repeat_made states state now t i section front old stamp active a b c a2 b2 c2 k
     let steps = repeat_lines ls a b c n (codes "LAST_REPEAT") (moment_text now) line noted put_in r.gives in
     let keyword : EditsRest k (tree t) i (with_keyword states (first_active states) own.rest) = subst (λ (w : List ℕ). EditsRest k (tree t) i (with_keyword states w own.rest)) active_is rest in
     let P : Option PlanningLine → Type 0 = λ o. TurnsDone states state now own o (Ok new) in
-    (new, subst P (sym r.is) (Ok r.text, r.are, refl), four_made t i a b c a2 b2 c2 k (joined final) (with_keyword states (first_active states) own.rest) items shut lt at_a at_b at_c steps keyword is)
+    (new, subst P (sym r.is) (Ok r.text, r.are, refl), four_made t i a b c a2 b2 c2 k (joined final) (with_keyword states (first_active states) own.rest) items stays_terminated lt at_a at_b at_c steps keyword is)
 
 -- ---- the keyword alone
 

@@ -1,4 +1,6 @@
-//! A heading put into another state.
+//! A heading put into another state, with what its planning line and notes get from it.
+//!
+//! Edits are answered the last first, so that each stands where it does in the text as it was.
 ghost use Rattle.std.specs.Prelude.{◌≡◌, ◌<◌, ◌≤◌, ◌+◌, [], ◌∷◌, ℕ, List, length, codes, Some, Ok, IfOk, IfErr};
 ghost use Rattle.org_splice.specs.Lines.{print_lines, terminated};
 ghost use Rattle.org_meta.specs.Edits.{Gives, GivesParts};
@@ -238,6 +240,7 @@ fn change(
 /// without its keyword is `* TODO A`.
 ///
 /// # Errors
+///
 /// In this order: `NotFound` or `NotUnique` of `path`; `UnknownState`; for an entry that turns done
 /// or back, `OddPlanning` where its planning line isn't well formed; for one that is repeated,
 /// `BadRepeat` or `DateRange`, of several the first entry's; and `OutOfMemory`.

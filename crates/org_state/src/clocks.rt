@@ -1,4 +1,7 @@
 //! Clocks of a text: which one runs, clocking in and out, and the time clocked.
+//!
+//! One clock runs in a text, the first open line of a heading's section. Other texts aren't known
+//! here.
 ghost use Rattle.std.specs.Prelude.{◌≡◌, ◌≢◌, ◌<◌, ◌≤◌, length, Some, Ok, IfOk};
 ghost use Rattle.org_splice.specs.Lines.{terminated, print_lines};
 ghost use Rattle.org_outline.specs.Paths.{find_path, titles_of};
@@ -69,6 +72,7 @@ fn opening(
 /// section. A clock that runs elsewhere, or there already, isn't closed by it.
 ///
 /// # Errors
+///
 /// `NotFound` or `NotUnique` of `path`, and `OutOfMemory`.
 pub fn clock_in(
     alloc: Global,
@@ -106,6 +110,7 @@ fn closing(alloc: Global, text: &[u8], running: Running, now: Moment) -> Result<
 /// follows the timestamp in its line.
 ///
 /// # Errors
+///
 /// In this order: `ClockBackwards` where the moment is before the clock's start, and `OutOfMemory`.
 pub fn clock_out(
     alloc: Global,
@@ -150,6 +155,7 @@ fn switch(
 /// moment.
 ///
 /// # Errors
+///
 /// In this order: `NotFound` or `NotUnique` of `path`; `ClockBackwards` where the moment is before
 /// the start of the clock that is to be closed; and `OutOfMemory`.
 pub fn switch_clock(
@@ -191,6 +197,7 @@ fn clocked_below(outline: &Outline<'_>, node: Node) -> u64
 /// the written durations aren't read. Takes no memory.
 ///
 /// # Errors
+///
 /// `NotFound` or `NotUnique` of `path`.
 pub fn clocked(outline: &Outline<'_>, path: &[Vec<u8>]) -> Result<u64, PathFault>
     ensures { result

@@ -10,12 +10,12 @@ use Rattle.org_commands.specs.declared.kind.Change.{Change}
 use Rattle.org_commands.specs.declared.kind.Change.TheVariants as change
 use Rattle.org_commands.specs.declared.kind.Question.{Question}
 use Rattle.org_commands.specs.declared.kind.Question.TheVariants as question
-use Rattle.org_commands.specs.Keeping.{Acts}
+use Rattle.org_commands.specs.Keeping.{ExecutesTo}
 use Rattle.org_commands.specs.Kinds.{asking, changing}
 use Rattle.org_commands.specs.Outcome.{outcome}
 use Rattle.org_commands.specs.Runs.{IsBrokenBy, IsIdle, RunsOver}
-use Rattle.org_commands.specs.Session.{Kept}
-use Rattle.org_commands.specs.Waiting.{Waits}
+use Rattle.org_commands.specs.Session.{StoreView}
+use Rattle.org_commands.specs.Dirty.{DirtyAfter}
 
 -- no change and no question is the settling
 pub no_settling_changes : (asked : Change) → changing asked ≡ Settle → ⊥
@@ -30,15 +30,15 @@ pub no_settling_asks : (asked : Question) → asking asked ≡ Settle → ⊥
 no_settling_asks (question.Time file path) is = absurd (cc)
 no_settling_asks (question.Show file) is = absurd (cc)
 
-module _ {D : Type 0} (g : Ghosts D) (old new : Kept D) (command : Command) (answer : Result Reply RunFault) where
-  pub runs_idle : (command ≡ Settle → ⊥) → Acts g old (outcome old.session command) answer new → IsIdle (command ≡ Settle) old answer new
-  runs_idle apart acts = record { untouched = λ broken. absurd (acts.works broken); nothing = λ asks none. absurd (apart asks); unneeded = λ asks none. absurd (apart asks) }
+module _ {D : Type 0} (g : Ghosts D) (old new : StoreView D) (command : Command) (answer : Result Reply RunFault) where
+  pub runs_idle : (command ≡ Settle → ⊥) → ExecutesTo g old (outcome old.session command) answer new → IsIdle (command ≡ Settle) old answer new
+  runs_idle apart executes = record { untouched = λ broken. absurd (executes.works broken); nothing = λ asks none. absurd (apart asks); unneeded = λ asks none. absurd (apart asks) }
 
-  pub ran : (command ≡ Settle → ⊥) → Acts g old (outcome old.session command) answer new → (g.honest new.disk → Waits old (outcome old.session command) answer new) → g.honest new.disk → RunsOver g old command answer new
-  ran apart acts waits honest = record { step = acts.does honest; disk = acts.disk honest; waits = waits honest; idle = runs_idle apart acts }
+  pub ran : (command ≡ Settle → ⊥) → ExecutesTo g old (outcome old.session command) answer new → (g.honest new.disk → DirtyAfter old (outcome old.session command) answer new) → g.honest new.disk → RunsOver g old command answer new
+  ran apart executes dirty_files honest = record { step = executes.does honest; disk = executes.disk honest; dirty_files = dirty_files honest; idle = runs_idle apart executes }
 
-  pub runs_broken : old.session.broken ≡ false → Acts g old (outcome old.session command) answer new → IsBrokenBy old.session answer new.session
-  runs_broken unbroken acts = record {
-    before = (λ broken. absurd (acts.works broken), λ broken. absurd (false≢true (sym unbroken ∙ broken)));
-    behind = (λ broken. inr (acts.breaks.1 broken), ⊎_elim (λ broken. absurd (false≢true (sym unbroken ∙ broken))) acts.breaks.0);
+  pub runs_broken : old.session.broken ≡ false → ExecutesTo g old (outcome old.session command) answer new → IsBrokenBy old.session answer new.session
+  runs_broken unbroken executes = record {
+    before = (λ broken. absurd (executes.works broken), λ broken. absurd (false≢true (sym unbroken ∙ broken)));
+    behind = (λ broken. inr (executes.breaks.1 broken), ⊎_elim (λ broken. absurd (false≢true (sym unbroken ∙ broken))) executes.breaks.0);
   }

@@ -13,15 +13,15 @@ use Rattle.org_commands.specs.declared.command.Reply.{Reply}
 use Rattle.org_commands.specs.declared.command.Reply.TheVariants.{Safe}
 use Rattle.org_commands.specs.declared.command.RunFault.{RunFault}
 use Rattle.org_commands.specs.declared.command.RunFault.TheVariants.{Refused, OutOfMemory, Device, Broken}
-use Rattle.org_store.specs.Calls.{Call, grouped, CallOver, CallPast, CallsPast}
+use Rattle.org_store.specs.Calls.{Call, grouped, MakesAll, MakesOver, Traces, traces}
 use Rattle.org_store.specs.Calls.Call.{Ran, Settled, Grouped}
-use Rattle.org_store.specs.History.{Past, Lists, HoldsPrefix}
+use Rattle.org_store.specs.History.{Trace, Lists, HoldsPrefix}
 use Rattle.org_commands.specs.Left.{IsLeftAlone, MayHaveWritten}
 use Rattle.org_commands.specs.Outcome.{AsksToSettle, outcome}
 use Rattle.org_commands.specs.Runs.{RunsOver, SettlesOver, IsOnDisk}
-use Rattle.org_commands.specs.Session.{Session, Kept, Holds}
+use Rattle.org_commands.specs.Session.{Session, StoreView, Holds}
 use Rattle.org_commands.specs.Step.{Step, Settles}
-use Rattle.org_commands.specs.Waiting.{Waits, WaitsSettled}
+use Rattle.org_commands.specs.Dirty.{DirtyAfter, DirtyAfterSettled}
 use Rattle.org_store.proofs.History.{Begin, Counts, adds, begin_adds, further, lists_settling, lists_step, none_added, same_or_sound, texts_after, torn}
 use Rattle.org_commands.proofs.Keeping.{left_as}
 use Rattle.org_store.proofs.Runs.{Course, answers_broken, course_none, course_run, course_leaves, falls, leaves_as, no_settling, settling_ends}
@@ -48,20 +48,20 @@ settle_wrote n (Ok _) wrote = wrote
 settle_wrote n (Err fault) wrote = wrote
 
 module _ {D : Type 0} (g : Ghosts D) where
-  abbrev Goes : Kept D → Kept D → (Session → Type 0) → Type 0
+  abbrev Goes : StoreView D → StoreView D → (Session → Type 0) → Type 0
   Goes old new P = Course g old new P
 
-  abbrev Made : Past D → Call → Past D → Type 0
-  Made old call new = CallPast g old call new
+  abbrev Made : Trace D → Call → Trace D → Type 0
+  Made old call new = Traces g old call new
 
-  abbrev AllMade : Past D → List Call → Past D → Type 0
-  AllMade old calls new = CallsPast g old calls new
+  abbrev AllMade : Trace D → List Call → Trace D → Type 0
+  AllMade old calls new = MakesAll (traces g) old calls new
 
-  waits_settled : (old new : Kept D) (n : ℕ) (answer : Result (Unit {0}) RunFault) → WaitsSettled old.waiting answer new.waiting → Waits old AsksToSettle (reply_of n answer) new
-  waits_settled old new n (Ok done) waits = waits
-  waits_settled old new n (Err fault) waits = waits
+  dirty_settled : (old new : StoreView D) (n : ℕ) (answer : Result (Unit {0}) RunFault) → DirtyAfterSettled old.dirty answer new.dirty → DirtyAfter old AsksToSettle (reply_of n answer) new
+  dirty_settled old new n (Ok done) dirty_files = dirty_files
+  dirty_settled old new n (Err fault) dirty_files = dirty_files
 
-  pub settling_runs : (old new : Kept D) (answer : Result (Unit {0}) RunFault) → SettlesOver g old answer new
+  pub settling_runs : (old new : StoreView D) (answer : Result (Unit {0}) RunFault) → SettlesOver g old answer new
       → RunsOver g old Settle (reply_of old.session.accepted answer) new
   settling_runs old new answer ran =
       let n = old.session.accepted in
@@ -73,10 +73,10 @@ module _ {D : Type 0} (g : Ghosts D) where
           others = λ fine. ran.disk.others (λ failed. fine (ap (reply_of n) failed));
           rest = λ fine. ran.disk.rest (λ failed. fine (ap (reply_of n) failed));
           recoverable = ran.disk.recoverable;
-          alone = alone_fewer g (IsLeftAlone old.session old.waiting AsksToSettle (reply_of n answer) new.session.accepted) (IsLeftAlone old.session old.waiting AsksToSettle answer new.session.accepted)
+          alone = alone_fewer g (IsLeftAlone old.session old.dirty AsksToSettle (reply_of n answer) new.session.accepted) (IsLeftAlone old.session old.dirty AsksToSettle answer new.session.accepted)
               old.disk new.disk ran.disk.alone (λ name this wrote. this (settle_wrote n answer wrote));
         };
-        waits = waits_settled old new n answer ran.waits;
+        dirty_files = dirty_settled old new n answer ran.dirty_files;
         idle = record {
           untouched = λ broken. ran.idle.untouched (fault_of_reply n answer Broken broken);
           nothing = λ is. ran.idle.nothing tt;
@@ -86,7 +86,7 @@ module _ {D : Type 0} (g : Ghosts D) where
 
   -- The list goes on with each call.
 
-  pub call_listed : (old : Past D) (new : Kept D) (call : Call) → CallOver g old.store call new → (now : Past D) × (now.store ≡ new) × Made old call now
+  pub call_listed : (old : Trace D) (new : StoreView D) (call : Call) → MakesOver g old.store call new → (now : Trace D) × (now.store ≡ new) × Made old call now
   call_listed old new (Ran command answer) ran = (
     record { store = new; texts = texts_after (outcome old.store.session command) old.store.session.accepted new.session.accepted old.texts },
     refl,
@@ -95,53 +95,53 @@ module _ {D : Type 0} (g : Ghosts D) where
   call_listed old new (Settled answer) ran = (record { store = new; texts = old.texts }, refl, (ran, refl))
   call_listed old new (Grouped group) set = (record { store = new; texts = old.texts }, refl, (set, refl))
 
-  pub call_lists : (old new : Past D) (call : Call) → Made old call new → Lists old.store.session old.texts → Lists new.store.session new.texts
+  pub call_lists : (old new : Trace D) (call : Call) → Made old call new → Lists old.store.session old.texts → Lists new.store.session new.texts
   call_lists old new (Ran command answer) made lists = lists_step old.store.session new.store.session command answer old.texts new.texts made.0.step made.1 lists
   call_lists old new (Settled answer) made lists = subst (Lists new.store.session) (sym made.1) (lists_settling old.store.session new.store.session answer old.texts made.0.step lists)
   call_lists old new (Grouped group) made lists =
-      subst (λ (k : Kept D). Lists k.session new.texts) (sym made.0)
+      subst (λ (k : StoreView D). Lists k.session new.texts) (sym made.0)
       (subst (Lists (grouped group old.store).session) (sym made.1) (record { size = lists.size; order = lists.order; files = lists.files; settled = lists.settled }))
 
-  pub calls_list : (old new : Past D) (calls : List Call) → Lists old.store.session old.texts → AllMade old calls new → Lists new.store.session new.texts
-  calls_list old new [] lists run = subst (λ (p : Past D). Lists p.store.session p.texts) (sym run) lists
+  pub calls_list : (old new : Trace D) (calls : List Call) → Lists old.store.session old.texts → AllMade old calls new → Lists new.store.session new.texts
+  calls_list old new [] lists run = subst (λ (p : Trace D). Lists p.store.session p.texts) (sym run) lists
   calls_list old new (call ∷ calls) lists run = calls_list run.0 new calls (call_lists old run.0 call run.1 lists) run.2
 
-  begin_call : (old new : Past D) (call : Call) → Made old call new → Begin old.texts new.texts
+  begin_call : (old new : Trace D) (call : Call) → Made old call new → Begin old.texts new.texts
   begin_call old new (Ran command answer) made = begin_adds (outcome old.store.session command) old.store.session.accepted new.store.session.accepted old.texts new.texts made.1
   begin_call old new (Settled answer) made = subst (Begin old.texts) (sym made.1) (λ k texts is. is)
   begin_call old new (Grouped group) made = subst (Begin old.texts) (sym made.1) (λ k texts is. is)
 
-  begin_calls : (old new : Past D) (calls : List Call) → AllMade old calls new → Begin old.texts new.texts
-  begin_calls old new [] run = subst (λ (p : Past D). Begin old.texts p.texts) (sym run) (λ k texts is. is)
+  begin_calls : (old new : Trace D) (calls : List Call) → AllMade old calls new → Begin old.texts new.texts
+  begin_calls old new [] run = subst (λ (p : Trace D). Begin old.texts p.texts) (sym run) (λ k texts is. is)
   begin_calls old new (call ∷ calls) run = λ k texts is. begin_calls run.0 new calls run.2 k texts (begin_call old run.0 call run.1 k texts is)
 
   -- A store that was broken stays as it is, but for the size of its group.
 
-  pub record Keeps (old new : Past D) : Type 0 where
+  pub record Keeps (old new : Trace D) : Type 0 where
     pub store : new.store ≡ grouped new.store.session.group old.store
     pub texts : new.texts ≡ old.texts
 
-  keeps_same : (old new : Past D) → new.store ≡ old.store → new.texts ≡ old.texts → Keeps old new
+  keeps_same : (old new : Trace D) → new.store ≡ old.store → new.texts ≡ old.texts → Keeps old new
   keeps_same old new same texts = record {
-    store = subst (λ (k : Kept D). k ≡ grouped k.session.group old.store) (sym same) refl;
+    store = subst (λ (k : StoreView D). k ≡ grouped k.session.group old.store) (sym same) refl;
     texts = texts;
   }
 
-  kept_broken : (old new : Past D) → Keeps old new → new.store.session.broken ≡ old.store.session.broken
-  kept_broken old new keeps = ap (λ (k : Kept D). k.session.broken) keeps.store
+  kept_broken : (old new : Trace D) → Keeps old new → new.store.session.broken ≡ old.store.session.broken
+  kept_broken old new keeps = ap (λ (k : StoreView D). k.session.broken) keeps.store
 
-  broken_call : (old new : Past D) (call : Call) → old.store.session.broken ≡ true → Made old call new → Keeps old new
+  broken_call : (old new : Trace D) (call : Call) → old.store.session.broken ≡ true → Made old call new → Keeps old new
   broken_call old new (Ran command answer) fell made =
       let same = made.0.idle.untouched (answers_broken old.store.session new.store.session command answer made.0.step fell) in
       keeps_same old new same
-      (none_added (outcome old.store.session command) old.store.session.accepted new.store.session.accepted old.texts new.texts made.1 (ap (λ (k : Kept D). k.session.accepted) same))
+      (none_added (outcome old.store.session command) old.store.session.accepted new.store.session.accepted old.texts new.texts made.1 (ap (λ (k : StoreView D). k.session.accepted) same))
   broken_call old new (Settled answer) fell made =
       keeps_same old new (made.0.idle.untouched ((settling_ends old.store.session new.store.session answer made.0.step).2 fell)) made.1
   broken_call old new (Grouped group) fell made =
-      record { store = subst (λ (k : Kept D). k ≡ grouped k.session.group old.store) (sym made.0) refl; texts = made.1 }
+      record { store = subst (λ (k : StoreView D). k ≡ grouped k.session.group old.store) (sym made.0) refl; texts = made.1 }
 
-  pub broken_calls : (old new : Past D) (calls : List Call) → old.store.session.broken ≡ true → AllMade old calls new → Keeps old new
-  broken_calls old new [] fell run = keeps_same old new (ap (λ (p : Past D). p.store) run) (ap (λ (p : Past D). p.texts) run)
+  pub broken_calls : (old new : Trace D) (calls : List Call) → old.store.session.broken ≡ true → AllMade old calls new → Keeps old new
+  broken_calls old new [] fell run = keeps_same old new (ap (λ (p : Trace D). p.store) run) (ap (λ (p : Trace D). p.texts) run)
   broken_calls old new (call ∷ calls) fell run =
       let first = broken_call old run.0 call fell run.1 in
       let rest = broken_calls run.0 new calls (kept_broken old run.0 first ∙ fell) run.2 in
@@ -149,38 +149,38 @@ module _ {D : Type 0} (g : Ghosts D) where
 
   -- What the disk is after the calls.
 
-  rest_call : (old new : Past D) (call : Call) → new.store.session.broken ≡ false → IsAtRest (g.files old.store.disk) → Made old call new → IsAtRest (g.files new.store.disk)
+  rest_call : (old new : Trace D) (call : Call) → new.store.session.broken ≡ false → IsAtRest (g.files old.store.disk) → Made old call new → IsAtRest (g.files new.store.disk)
   rest_call old new (Ran command answer) sound rest made =
       made.0.disk.rest
       (λ failed. false≢true (sym sound ∙ falls old.store.session new.store.session command (subst (λ a. Step old.store.session command a new.store.session) failed made.0.step)))
       rest
   rest_call old new (Settled answer) sound rest made = made.0.disk.rest ((settling_ends old.store.session new.store.session answer made.0.step).1 sound).0 rest
-  rest_call old new (Grouped group) sound rest made = subst (λ (k : Kept D). IsAtRest (g.files k.disk)) (sym made.0) rest
+  rest_call old new (Grouped group) sound rest made = subst (λ (k : StoreView D). IsAtRest (g.files k.disk)) (sym made.0) rest
 
-  fit_call : (old new : Past D) (call : Call) → IsAtRest (g.files old.store.disk) → Made old call new → IsRecoverable (g.files new.store.disk)
+  fit_call : (old new : Trace D) (call : Call) → IsAtRest (g.files old.store.disk) → Made old call new → IsRecoverable (g.files new.store.disk)
   fit_call old new (Ran command answer) rest made = made.0.disk.recoverable rest
   fit_call old new (Settled answer) rest made = made.0.disk.recoverable rest
-  fit_call old new (Grouped group) rest made = subst (λ (k : Kept D). IsRecoverable (g.files k.disk)) (sym made.0) (inl (λ name not. rest.stable name))
+  fit_call old new (Grouped group) rest made = subst (λ (k : StoreView D). IsRecoverable (g.files k.disk)) (sym made.0) (inl (λ name not. rest.stable name))
 
-  same_disk : (old new : Past D) → Keeps old new → new.store.disk ≡ old.store.disk
-  same_disk old new keeps = ap (λ (k : Kept D). k.disk) keeps.store
+  same_disk : (old new : Trace D) → Keeps old new → new.store.disk ≡ old.store.disk
+  same_disk old new keeps = ap (λ (k : StoreView D). k.disk) keeps.store
 
-  pub calls_recoverable : (old new : Past D) (calls : List Call) → IsAtRest (g.files old.store.disk) → AllMade old calls new → IsRecoverable (g.files new.store.disk)
-  calls_recoverable old new [] rest run = subst (λ (p : Past D). IsRecoverable (g.files p.store.disk)) (sym run) (inl (λ name not. rest.stable name))
+  pub calls_recoverable : (old new : Trace D) (calls : List Call) → IsAtRest (g.files old.store.disk) → AllMade old calls new → IsRecoverable (g.files new.store.disk)
+  calls_recoverable old new [] rest run = subst (λ (p : Trace D). IsRecoverable (g.files p.store.disk)) (sym run) (inl (λ name not. rest.stable name))
   calls_recoverable old new (call ∷ calls) rest run = ⊎_elim
       (λ fell. subst (λ d. IsRecoverable (g.files d)) (sym (same_disk run.0 new (broken_calls run.0 new calls fell run.2))) (fit_call old run.0 call rest run.1))
       (λ sound. calls_recoverable run.0 new calls (rest_call old run.0 call sound rest run.1) run.2)
       (cases_Bool run.0.store.session.broken)
 
-  pub calls_rest : (old new : Past D) (calls : List Call) → new.store.session.broken ≡ false → IsAtRest (g.files old.store.disk) → AllMade old calls new → IsAtRest (g.files new.store.disk)
-  calls_rest old new [] sound rest run = subst (λ (p : Past D). IsAtRest (g.files p.store.disk)) (sym run) rest
+  pub calls_rest : (old new : Trace D) (calls : List Call) → new.store.session.broken ≡ false → IsAtRest (g.files old.store.disk) → AllMade old calls new → IsAtRest (g.files new.store.disk)
+  calls_rest old new [] sound rest run = subst (λ (p : Trace D). IsAtRest (g.files p.store.disk)) (sym run) rest
   calls_rest old new (call ∷ calls) sound rest run = ⊎_elim
       (λ fell. absurd (false≢true (sym sound ∙ kept_broken run.0 new (broken_calls run.0 new calls fell run.2) ∙ fell)))
       (λ still. calls_rest run.0 new calls sound (rest_call old run.0 call still rest run.1) run.2)
       (cases_Bool run.0.store.session.broken)
 
   -- the group is set, and a run after it
-  course_group : (old new : Kept D) (group : ℕ) (P Later : Session → Type 0) → old.session.broken ≡ false → Goes (grouped group old) new Later → ((s : Session) → Later s → P s) → Goes old new P
+  course_group : (old new : StoreView D) (group : ℕ) (P Later : Session → Type 0) → old.session.broken ≡ false → Goes (grouped group old) new Later → ((s : Session) → Later s → P s) → Goes old new P
   course_group old new group P Later sound course later = record {
     passes = λ rest disk ok. passes_as (course.passes rest disk ok) (λ image left. ⊎_elim
         (λ held. inl held)
@@ -195,14 +195,14 @@ module _ {D : Type 0} (g : Ghosts D) where
   }
 
   -- A run of calls as far as a call at which the disk failed; behind it the disk stays.
-  pub record CourseTo (old new : Past D) : Type 0 where
-    pub last : Kept D
+  pub record CourseTo (old new : Trace D) : Type 0 where
+    pub last : StoreView D
     pub course : Goes old.store last (Counts new old)
     pub disk : new.store.disk ≡ last.disk
     pub accepted : new.store.session.accepted ≡ last.session.accepted
 
   -- one call, and a run after it
-  module _ (old mid new : Past D) (lists : Lists old.store.session old.texts) (ends : Begin mid.texts new.texts) (sound : old.store.session.broken ≡ false) (to : CourseTo mid new) where
+  module _ (old mid new : Trace D) (lists : Lists old.store.session old.texts) (ends : Begin mid.texts new.texts) (sound : old.store.session.broken ≡ false) (to : CourseTo mid new) where
     course_call : (call : Call) → Made old call mid → CourseTo old new
     course_call (Ran command answer) made = record {
       last = to.last;
@@ -212,7 +212,7 @@ module _ {D : Type 0} (g : Ghosts D) where
           (inl refl)
           (λ texts failed accepted full.
           let fell = falls old.store.session mid.store.session command (subst (λ a. Step old.store.session command a mid.store.session) failed made.0.step) in
-          torn old mid new command texts lists ends (to.accepted ∙ ap (λ (k : Kept D). k.session.accepted) (to.course.stays fell)) made.1 accepted);
+          torn old mid new command texts lists ends (to.accepted ∙ ap (λ (k : StoreView D). k.session.accepted) (to.course.stays fell)) made.1 accepted);
       disk = to.disk;
       accepted = to.accepted;
     }
@@ -231,18 +231,18 @@ module _ {D : Type 0} (g : Ghosts D) where
         }
     course_call (Grouped group) made = record {
       last = to.last;
-      course = course_group old.store to.last group (Counts new old) (Counts new mid) sound (subst (λ (k : Kept D). Goes k to.last (Counts new mid)) made.0 to.course)
-          (λ s later. further old mid new (call_lists old mid (Grouped group) made lists) ends (inr (ap (λ (k : Kept D). k.session.broken) made.0 ∙ sound)) s later);
+      course = course_group old.store to.last group (Counts new old) (Counts new mid) sound (subst (λ (k : StoreView D). Goes k to.last (Counts new mid)) made.0 to.course)
+          (λ s later. further old mid new (call_lists old mid (Grouped group) made lists) ends (inr (ap (λ (k : StoreView D). k.session.broken) made.0 ∙ sound)) s later);
       disk = to.disk;
       accepted = to.accepted;
     }
 
-  course_to : (old new : Past D) (calls : List Call) → Lists old.store.session old.texts → AllMade old calls new → CourseTo old new
+  course_to : (old new : Trace D) (calls : List Call) → Lists old.store.session old.texts → AllMade old calls new → CourseTo old new
   course_to old new [] lists run = record {
     last = old.store;
     course = course_none g old.store (Counts new old) (inl refl);
-    disk = ap (λ (p : Past D). p.store.disk) run;
-    accepted = ap (λ (p : Past D). p.store.session.accepted) run;
+    disk = ap (λ (p : Trace D). p.store.disk) run;
+    accepted = ap (λ (p : Trace D). p.store.session.accepted) run;
   }
   course_to old new (call ∷ calls) lists run = ⊎_elim
       (λ fell.
@@ -251,7 +251,7 @@ module _ {D : Type 0} (g : Ghosts D) where
         last = old.store;
         course = course_none g old.store (Counts new old) (inl refl);
         disk = same_disk old new keeps;
-        accepted = ap (λ (k : Kept D). k.session.accepted) keeps.store;
+        accepted = ap (λ (k : StoreView D). k.session.accepted) keeps.store;
       })
       (λ sound.
       course_call old run.0 new lists (begin_calls run.0 new calls run.2) sound
@@ -259,7 +259,7 @@ module _ {D : Type 0} (g : Ghosts D) where
       (cases_Bool old.store.session.broken)
 
   -- What a crash leaves.
-  module _ (first last : Past D) (calls : List Call) (lists : Lists first.store.session first.texts) (run : AllMade first calls last) (sound : first.store.session.broken ≡ false) where
+  module _ (first last : Trace D) (calls : List Call) (lists : Lists first.store.session first.texts) (run : AllMade first calls last) (sound : first.store.session.broken ≡ false) where
     abbrev others : Image
     others = contents (g.files first.store.disk)
 

@@ -8,14 +8,14 @@ use Rattle.org_commands.specs.declared.command.RunFault.{RunFault}
 use Rattle.org_commands.specs.declared.command.RunFault.TheVariants.{Refused, OutOfMemory, Device, Broken}
 use Rattle.org_commands.specs.Session.{Session}
 use Rattle.org_commands.specs.Outcome.{Outcome, Accepts, Shows, Tells, AsksToSettle, Refuses, outcome}
-use Rattle.org_commands.specs.Step.{fills, done, settled, Does, Step, Run, IsReply}
+use Rattle.org_commands.specs.Step.{fills, done, settled, Steps, Step, Run, IsReply}
 
 same_done : (old new other : Session) (names others files more : List (List ℕ)) → Accepts names files ≡ Accepts others more → new ≡ done old files → other ≡ done old more → new ≡ other
 same_done old new other names others files more is first second =
     let same : files ≡ more = cc in
     first ∙ ap (done old) same ∙ sym second
 
-does_one : (old new other : Session) (outcome : Outcome) (answer second : Result Reply RunFault) → IsReply answer → IsReply second → Does old outcome answer new → Does old outcome second other
+does_one : (old new other : Session) (outcome : Outcome) (answer second : Result Reply RunFault) → IsReply answer → IsReply second → Steps old outcome answer new → Steps old outcome second other
     → (answer ≡ second) × (new ≡ other)
 does_one old new other outcome (Ok (Done n)) (Ok (Done m)) a b x y =
     (ap (λ (k : ℕ). Ok (Done k)) (x.1.2 ∙ sym y.1.2), same_done old new other x.1.1.0 y.1.1.0 x.1.0 y.1.0 (sym x.1.1.1 ∙ y.1.1.1) x.1.3 y.1.3)

@@ -9,7 +9,7 @@ use Rattle.org_commands.specs.declared.command.Reply.{Reply}
 use Rattle.org_commands.specs.declared.command.Reply.TheVariants.{Done, Safe, Text, Time}
 use Rattle.org_commands.specs.declared.command.RunFault.{RunFault}
 use Rattle.org_commands.specs.declared.command.RunFault.TheVariants.{Refused, OutOfMemory, Device, Broken}
-use Rattle.org_store.specs.History.{Past, Adds, Lists}
+use Rattle.org_store.specs.History.{Trace, Adds, Lists}
 use Rattle.org_commands.specs.Outcome.{IsAccepted, Outcome, Accepts, Shows, Tells, AsksToSettle, Refuses, outcome}
 use Rattle.org_commands.specs.Session.{Session}
 use Rattle.org_commands.specs.Step.{Step, Settles, fills, done, settled}
@@ -187,16 +187,16 @@ before_end (one ∷ texts) files (suc k) at is = ⊎_elim (λ old. inl old) (λ 
 -- What is reached by calls.
 
 -- the session's texts stand in the list
-abbrev pub Stands : {D : Type 0} → Past D → Session → Type 0
+abbrev pub Stands : {D : Type 0} → Trace D → Session → Type 0
 Stands last s = slice_get last.texts s.accepted ≡ Some s.files
 
 -- a session that is reached from here: it is the one here, or its texts stand in the list, or it
 -- isn't counted at the end
-abbrev pub Counts : {D : Type 0} → Past D → Past D → Session → Type 0
+abbrev pub Counts : {D : Type 0} → Trace D → Trace D → Session → Type 0
 Counts last here s = (s ≡ here.store.session) ⊎ (Stands last s ⊎ (last.store.session.accepted < s.accepted))
 
 -- .. so it is reached from one call earlier
-pub further : {D : Type 0} (old mid last : Past D) → Lists mid.store.session mid.texts → Begin mid.texts last.texts → (mid.store.session ≡ old.store.session) ⊎ (mid.store.session.broken ≡ false)
+pub further : {D : Type 0} (old mid last : Trace D) → Lists mid.store.session mid.texts → Begin mid.texts last.texts → (mid.store.session ≡ old.store.session) ⊎ (mid.store.session.broken ≡ false)
     → (s : Session) → Counts last mid s → Counts last old s
 further old mid last lists ends whole s (inr counts) = inr counts
 further old mid last lists ends whole s (inl same) = ⊎_elim
@@ -205,7 +205,7 @@ further old mid last lists ends whole s (inl same) = ⊎_elim
     whole
 
 -- a command that was to be accepted, and in which the disk failed
-pub torn : {D : Type 0} (old mid last : Past D) (command : Command) (texts : List (List ℕ)) → Lists old.store.session old.texts → Begin mid.texts last.texts
+pub torn : {D : Type 0} (old mid last : Trace D) (command : Command) (texts : List (List ℕ)) → Lists old.store.session old.texts → Begin mid.texts last.texts
     → last.store.session.accepted ≡ mid.store.session.accepted → Adds (outcome old.store.session command) old.store.session.accepted mid.store.session.accepted old.texts mid.texts
     → IsAccepted (outcome old.store.session command) texts → Counts last old (done old.store.session texts)
 torn old mid last command texts lists ends same added accepted =

@@ -16,13 +16,13 @@ use Rattle.org_commands.specs.declared.command.Reply.{Reply}
 use Rattle.org_commands.specs.declared.command.Reply.TheVariants.{Done, Safe, Text, Time}
 use Rattle.org_commands.specs.declared.command.RunFault.{RunFault}
 use Rattle.org_commands.specs.declared.command.RunFault.TheVariants.{Refused, OutOfMemory, Device, Broken}
-use Rattle.org_store.specs.Calls.{Call, CallPast, CallsPast}
+use Rattle.org_store.specs.Calls.{Call, MakesAll, Traces, traces}
 use Rattle.org_store.specs.Calls.Call.{Ran, Settled, Grouped}
-use Rattle.org_store.specs.History.{Past, Lists, HoldsPrefix}
+use Rattle.org_store.specs.History.{Trace, Lists, HoldsPrefix}
 use Rattle.org_store.specs.OnePlace.{HaveSameNodes, HasNodesOf, HasNodesOfPrefix, IsRefile, IsSessionOf, MayBeAccepted, MayRefile}
 use Rattle.org_commands.specs.Outcome.{IsAccepted, outcome}
 use Rattle.org_store.specs.Reopening.{IsOpenable, AreSmall}
-use Rattle.org_commands.specs.Session.{Session, Kept, Holds}
+use Rattle.org_commands.specs.Session.{Session, StoreView, Holds}
 use Rattle.org_commands.specs.Step.{Step}
 use Rattle.org_store.proofs.Calls.{call_lists, reply_of, settle_steps}
 use Rattle.org_store.proofs.Follows.{step_setting}
@@ -56,7 +56,7 @@ module _ (names : List (List ℕ)) (P : Texts → Type 0) (Allowed : Call → Ty
     pub has : P texts
 
   module _ {D : Type 0} (g : Ghosts D) where
-    has_call : (old new : Past D) (call : Call) → Allowed call → CallPast g old call new → Has old.store.session old.texts → Has new.store.session new.texts
+    has_call : (old new : Trace D) (call : Call) → Allowed call → Traces g old call new → Has old.store.session old.texts → Has new.store.session new.texts
     has_call old new (Ran command answer) allowed made had = record {
       same_names = (step_setting old.store.session new.store.session command answer made.0.step).1 ∙ had.same_names;
       lists = call_lists g old new (Ran command answer) made had.lists;
@@ -71,7 +71,7 @@ module _ (names : List (List ℕ)) (P : Texts → Type 0) (Allowed : Call → Ty
             (λ fell. absurd (omega (
               arith,
               risen,
-              ap (λ (k : Kept D). k.session.accepted) (made.0.idle.untouched (answers_broken old.store.session new.store.session command answer made.0.step fell)),
+              ap (λ (k : StoreView D). k.session.accepted) (made.0.idle.untouched (answers_broken old.store.session new.store.session command answer made.0.step fell)),
             )))
             (λ sound.
             keeps old.store.session command answer old.texts texts had.same_names had.lists sound allowed (may_be old.store.session new.store.session command answer made.0.step risen) accepts had.has)
@@ -83,13 +83,13 @@ module _ (names : List (List ℕ)) (P : Texts → Type 0) (Allowed : Call → Ty
       has = subst P (sym made.1) had.has;
     }
     has_call old new (Grouped group) allowed made had = record {
-      same_names = ap (λ (k : Kept D). k.session.names) made.0 ∙ had.same_names;
+      same_names = ap (λ (k : StoreView D). k.session.names) made.0 ∙ had.same_names;
       lists = call_lists g old new (Grouped group) made had.lists;
       has = subst P (sym made.1) had.has;
     }
 
-    pub has_calls : (old new : Past D) (calls : List Call) → AllByRecursion Allowed calls → CallsPast g old calls new → Has old.store.session old.texts → P new.texts
-    has_calls old new [] allowed run had = subst (λ (p : Past D). P p.texts) (sym run) had.has
+    pub has_calls : (old new : Trace D) (calls : List Call) → AllByRecursion Allowed calls → MakesAll (traces g) old calls new → Has old.store.session old.texts → P new.texts
+    has_calls old new [] allowed run had = subst (λ (p : Trace D). P p.texts) (sym run) had.has
     has_calls old new (call ∷ calls) allowed run had = has_calls run.0 new calls allowed.1 run.2 (has_call old run.0 call allowed.0 run.1 had)
 
 -- Texts that are within the limit.
@@ -147,8 +147,8 @@ prefix_same given first others texts least image of all =
     (λ files kept held. nodes_as first.names files first.files image kept.1 (holds_nodes given first of others files image kept.0 held))
 
 -- A run of a store that has such a list as it begins.
-module _ {D : Type 0} (g : Ghosts D) (first last : Past D) (calls : List Call)
-    (run : CallsPast g first calls last) (lists : Lists first.store.session first.texts) (small : All (AreSmall first.store.session.names) first.texts) where
+module _ {D : Type 0} (g : Ghosts D) (first last : Trace D) (calls : List Call)
+    (run : MakesAll (traces g) first calls last) (lists : Lists first.store.session first.texts) (small : All (AreSmall first.store.session.names) first.texts) where
   abbrev names : List (List ℕ)
   names = first.store.session.names
 

@@ -18,8 +18,8 @@ use Rattle.org_move.specs.Location.{Destination}
 use Rattle.org_commands.specs.declared.command.Archive.{Archive as Archiving}
 use Rattle.org_commands.specs.declared.command.Command.{Command}
 use Rattle.org_commands.specs.declared.command.Command.TheVariants.{Archive}
-use Rattle.org_store.specs.Calls.{Call, CallsPast}
-use Rattle.org_store.specs.History.{Past, Adds, Lists}
+use Rattle.org_store.specs.Calls.{Call, MakesAll, traces}
+use Rattle.org_store.specs.History.{Trace, Adds, Lists}
 use Rattle.org_store.specs.OnePlace.{ArchivesOne, HaveNodesButFew, IsArchiving, IsRefile, MayMove, NewSection}
 use Rattle.org_commands.specs.Outcome.{IsAccepted, Accepts, outcome}
 use Rattle.org_store.specs.Reopening.{AreSmall}
@@ -122,8 +122,8 @@ moved_first n texts size i k one other low at later =
     let texts_same : one ≡ other = cc in
     moved_none k other one (sym texts_same)
 
-module _ {D : Type 0} (g : Ghosts D) (first last : Past D) (calls : List Call)
-    (run : CallsPast g first calls last) (lists : Lists first.store.session first.texts) (small : All (AreSmall first.store.session.names) first.texts)
+module _ {D : Type 0} (g : Ghosts D) (first last : Trace D) (calls : List Call)
+    (run : MakesAll (traces g) first calls last) (lists : Lists first.store.session first.texts) (small : All (AreSmall first.store.session.names) first.texts)
     (apart : IsDistinct bytes_eq first.store.session.names) where
   abbrev names : List (List ℕ)
   names = first.store.session.names
@@ -147,7 +147,7 @@ module _ {D : Type 0} (g : Ghosts D) (first last : Past D) (calls : List Call)
       g first last calls only run (record { same_names = refl; lists = lists; has = (small, moved_first base first.texts lists.size) })).1
 
 -- what an archiving adds to the list
-pub archive_moves : {D : Type 0} (first last : Past D) → Lists first.store.session first.texts → IsDistinct bytes_eq first.store.session.names → (it : Archiving)
+pub archive_moves : {D : Type 0} (first last : Trace D) → Lists first.store.session first.texts → IsDistinct bytes_eq first.store.session.names → (it : Archiving)
     → IsDiskName it.file → length first.store.session.files ≡ length first.store.session.names → first.store.session.broken ≡ false
     → Adds (outcome first.store.session (Archive it)) first.store.session.accepted last.store.session.accepted first.texts last.texts
     → (k : ℕ) (texts : List (List ℕ)) → first.store.session.accepted ≤ k → slice_get last.texts k ≡ Some texts → (texts ≡ first.store.session.files) ⊎ ArchivesOne first.store.session it.file it.path it.moment texts

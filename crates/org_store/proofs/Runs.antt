@@ -16,9 +16,9 @@ use Rattle.org_commands.specs.declared.command.Reply.TheVariants.{Done, Safe, Te
 use Rattle.org_commands.specs.declared.command.RunFault.{RunFault}
 use Rattle.org_commands.specs.declared.command.RunFault.TheVariants.{Refused, OutOfMemory, Device, Broken}
 use Rattle.org_commands.specs.InOrder.{text_at, with_all, with_text, with_texts}
-use Rattle.org_commands.specs.Session.{Session, Kept, Holds}
+use Rattle.org_commands.specs.Session.{Session, StoreView, Holds}
 use Rattle.org_commands.specs.Outcome.{IsAccepted, Outcome, Accepts, Shows, Tells, AsksToSettle, Refuses, outcome}
-use Rattle.org_commands.specs.Step.{Does, Step, Settles, fills, done, settled}
+use Rattle.org_commands.specs.Step.{Steps, Step, Settles, fills, done, settled}
 use Rattle.org_commands.specs.Left.{IsLeft, PutsOnDisk}
 use Rattle.org_store.proofs.Accepted.{accepted_puts}
 use Rattle.org_commands.specs.Runs.{RunsOver, SettlesOver, IsOnDisk}
@@ -179,7 +179,7 @@ left_of old others outcome answer accepted image IsReached self full left = ⊎_
     some (Refuses why) full texts puts now = absurd puts
 
 -- a command that is counted, and met no failure of the disk, is done
-is_done : (old new : Session) (outcome : Outcome) (answer : Result Reply RunFault) (files : List (List ℕ)) → (IsErrOf answer Device → ⊥) → Does old outcome answer new → IsAccepted outcome files
+is_done : (old new : Session) (outcome : Outcome) (answer : Result Reply RunFault) (files : List (List ℕ)) → (IsErrOf answer Device → ⊥) → Steps old outcome answer new → IsAccepted outcome files
     → new.accepted ≡ old.accepted + 1 → new ≡ done old files
 is_done old new outcome (Ok (Done n)) files fine does accepts counted = let same : does.1.0 ≡ files = one does.1.1.0 accepts.0 does.1.0 files (sym does.1.1.1 ∙ accepts.1) in does.1.3 ∙ ap (done old) same
   where
@@ -231,7 +231,7 @@ abbrev Reached : Session → Session → (Session → Type 0) → Session → Ty
 Reached old new P s = HaveTexts old.names old.files s.files × IsBetween old new s × P s
 
 -- What a run of calls does, from the one store to the other; the sessions that are reached have P.
-pub record Course {D : Type 0} (g : Ghosts D) (old new : Kept D) (P : Session → Type 0) : Type 0 where
+pub record Course {D : Type 0} (g : Ghosts D) (old new : StoreView D) (P : Session → Type 0) : Type 0 where
   pub passes : IsAtRest (g.files old.disk) → IsOnDisk old.session (contents (g.files old.disk)) → old.session.broken ≡ false
       → Passes (g.moment old.disk) (g.moment new.disk) (g.left_since old.disk) (g.left_since new.disk) (IsLeftOf old.session (contents (g.files old.disk)) (Reached old.session new.session P))
   pub rest : new.session.broken ≡ false → IsAtRest (g.files old.disk) → IsAtRest (g.files new.disk)
@@ -292,10 +292,10 @@ settling_ends old new (Err Broken) step = (
 )
 
 module _ {D : Type 0} (g : Ghosts D) where
-  abbrev Goes : Kept D → Kept D → (Session → Type 0) → Type 0
+  abbrev Goes : StoreView D → StoreView D → (Session → Type 0) → Type 0
   Goes old new P = Course g old new P
 
-  pub course_none : (old : Kept D) (P : Session → Type 0) → P old.session → Goes old old P
+  pub course_none : (old : StoreView D) (P : Session → Type 0) → P old.session → Goes old old P
   course_none old P self = record {
     passes = λ rest disk sound. passes_none _ _ _;
     rest = λ sound rest. rest;
@@ -307,7 +307,7 @@ module _ {D : Type 0} (g : Ghosts D) where
   }
 
   -- more sessions may count as reached
-  pub course_as : (old new : Kept D) (P Q : Session → Type 0) → Goes old new P → ((s : Session) → P s → Q s) → Goes old new Q
+  pub course_as : (old new : StoreView D) (P Q : Session → Type 0) → Goes old new P → ((s : Session) → P s → Q s) → Goes old new Q
   course_as old new P Q course weaker = record {
     passes = λ rest disk sound.
         passes_as (course.passes rest disk sound) (λ image left. ⊎_elim (λ held. inl held) (λ reached. inr (reached.0, (reached.1.0, reached.1.1, weaker reached.0 reached.1.2), reached.2)) left);
@@ -320,12 +320,12 @@ module _ {D : Type 0} (g : Ghosts D) where
   }
 
   -- a run that was unbroken at its end was so at its start
-  sound_before : (old new : Kept D) → (old.session.broken ≡ true → new ≡ old) → new.session.broken ≡ false → old.session.broken ≡ false
+  sound_before : (old new : StoreView D) → (old.session.broken ≡ true → new ≡ old) → new.session.broken ≡ false → old.session.broken ≡ false
   sound_before old new stays sound =
-      ⊎_elim (λ fell. absurd (false≢true (sym sound ∙ ap (λ (k : Kept D). k.session.broken) (stays fell) ∙ fell))) (λ f. f) (cases_Bool old.session.broken)
+      ⊎_elim (λ fell. absurd (false≢true (sym sound ∙ ap (λ (k : StoreView D). k.session.broken) (stays fell) ∙ fell))) (λ f. f) (cases_Bool old.session.broken)
 
   -- one call, and a run after it
-  module _ (old mid new : Kept D) (command : Command) (answer : Result Reply RunFault) (P Later : Session → Type 0) (ran : RunsOver g old command answer mid) (course : Goes mid new Later)
+  module _ (old mid new : StoreView D) (command : Command) (answer : Result Reply RunFault) (P Later : Session → Type 0) (ran : RunsOver g old command answer mid) (course : Goes mid new Later)
       (self : P old.session) (later : (IsErrOf answer Device → ⊥) → (s : Session) → Later s → P s) (first : Later mid.session)
       (torn : (texts : List (List ℕ)) → IsErrOf answer Device → IsAccepted (outcome old.session command) texts → IsTrue (fills old.session) → P (done old.session texts)) where
     rises : old.session.accepted ≤ new.session.accepted
@@ -334,7 +334,7 @@ module _ {D : Type 0} (g : Ghosts D) where
     stays : old.session.broken ≡ true → new ≡ old
     stays fell =
         let same = ran.idle.untouched (answers_broken old.session mid.session command answer ran.step fell) in
-        course.stays (ap (λ (k : Kept D). k.session.broken) same ∙ fell) ∙ same
+        course.stays (ap (λ (k : StoreView D). k.session.broken) same ∙ fell) ∙ same
 
     self_reached : Reached old.session new.session P old.session
     self_reached = (λ name. refl, self_between old.session new.session rises, self)
@@ -343,7 +343,7 @@ module _ {D : Type 0} (g : Ghosts D) where
     after_failure failed =
         let fallen = falls old.session mid.session command (subst (λ a. Step old.session command a mid.session) failed ran.step) in
         let same : new ≡ mid = course.stays fallen in
-        let broken : new.session.broken ≡ true = ap (λ (k : Kept D). k.session.broken) same ∙ fallen in
+        let broken : new.session.broken ≡ true = ap (λ (k : StoreView D). k.session.broken) same ∙ fallen in
         let reached : (texts : List (List ℕ)) → IsAccepted (outcome old.session command) texts → IsTrue (fills old.session) → mid.session.accepted ≡ old.session.accepted + 1
         → Reached old.session new.session P (done old.session texts) =
         λ texts accepted full counted. (
@@ -353,12 +353,12 @@ module _ {D : Type 0} (g : Ghosts D) where
         ) in
         record {
           passes = λ rest disk sound.
-              subst (λ (k : Kept D). Passes (g.moment old.disk) (g.moment k.disk) (g.left_since old.disk) (g.left_since k.disk) (IsLeftOf old.session (contents (g.files old.disk)) (Reached old.session new.session P)))
+              subst (λ (k : StoreView D). Passes (g.moment old.disk) (g.moment k.disk) (g.left_since old.disk) (g.left_since k.disk) (IsLeftOf old.session (contents (g.files old.disk)) (Reached old.session new.session P)))
               (sym same)
               (passes_as (ran.disk.any_moment rest).passes
               (λ image left. left_of old.session (contents (g.files old.disk)) (outcome old.session command) answer mid.session.accepted image (Reached old.session new.session P) self_reached reached left));
           rest = λ sound. absurd (false≢true (sym sound ∙ broken));
-          recoverable = λ rest. subst (λ (k : Kept D). IsRecoverable (g.files k.disk)) (sym same) (ran.disk.recoverable rest);
+          recoverable = λ rest. subst (λ (k : StoreView D). IsRecoverable (g.files k.disk)) (sym same) (ran.disk.recoverable rest);
           others = λ sound. absurd (false≢true (sym sound ∙ broken));
           onward = λ sound. absurd (false≢true (sym sound ∙ broken));
           stays = stays;
@@ -419,7 +419,7 @@ module _ {D : Type 0} (g : Ghosts D) where
     course_run = ⊎_elim after_failure after_answer (device_or_not answer)
 
   -- a settling
-  module _ (old new : Kept D) (answer : Result (Unit {0}) RunFault) (P : Session → Type 0) (ran : SettlesOver g old answer new) (self : P old.session) where
+  module _ (old new : StoreView D) (answer : Result (Unit {0}) RunFault) (P : Session → Type 0) (ran : SettlesOver g old answer new) (self : P old.session) where
     pub course_settle : Goes old new P
     course_settle =
         let ends = settling_ends old.session new.session answer ran.step in
@@ -437,7 +437,7 @@ module _ {D : Type 0} (g : Ghosts D) where
         }
 
   -- what is left of a run, with no word of how it is proved
-  pub course_leaves : (old new : Kept D) (P : Session → Type 0) → Goes old new P → IsAtRest (g.files old.disk) → IsOnDisk old.session (contents (g.files old.disk)) → old.session.broken ≡ false
+  pub course_leaves : (old new : StoreView D) (P : Session → Type 0) → Goes old new P → IsAtRest (g.files old.disk) → IsOnDisk old.session (contents (g.files old.disk)) → old.session.broken ≡ false
       → ((image : Image) → g.left_since old.disk (g.moment old.disk) image → AreImages (g.files old.disk) image)
       → LeavesOnly (g.moment old.disk) (g.moment new.disk) (g.left_since old.disk) (g.left_since new.disk)
       (IsLeftOf old.session (contents (g.files old.disk)) (λ mid. P mid × IsBetween old.session new.session mid))

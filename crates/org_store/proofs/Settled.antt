@@ -10,10 +10,10 @@ use Rattle.org_commands.specs.declared.command.RunFault.{RunFault}
 use Rattle.org_commands.specs.declared.command.RunFault.TheVariants.{Refused, OutOfMemory, Device, Broken}
 use Rattle.org_commands.specs.declared.tally.Tally.{Tally}
 use Rattle.org_commands.specs.Files.{OpenFiles}
-use Rattle.org_commands.specs.Session.{Session, kept_over}
+use Rattle.org_commands.specs.Session.{Session, view_over}
 use Rattle.org_commands.specs.Outcome.{Outcome}
-use Rattle.org_commands.specs.Step.{Does, IsSettled, done, fills}
-use Rattle.org_commands.specs.Waiting.{NoneWaits}
+use Rattle.org_commands.specs.Step.{Steps, IsSettled, done, fills}
+use Rattle.org_commands.specs.Dirty.{NoneDirty}
 
 -- a session that is broken
 settled_broken : (s : Session) → s.broken ≡ true → IsSettled s
@@ -25,7 +25,7 @@ settled_done s files counted = elim (cases_Bool (fills s)) [
   | inr f ↦ rw f (λ sound all. absurd (omega (arith, counted, all)))
 ]
 
-pub settled_on : (old new : Session) (outcome : Outcome) (answer : Result Reply RunFault) → Does old outcome answer new → old.acknowledged ≤ old.accepted → IsSettled old → IsSettled new
+pub settled_on : (old new : Session) (outcome : Outcome) (answer : Result Reply RunFault) → Steps old outcome answer new → old.acknowledged ≤ old.accepted → IsSettled old → IsSettled new
 settled_on old new outcome (Ok (Done n)) does counted was = subst IsSettled (sym does.1.3) (settled_done old does.1.0 counted)
 settled_on old new outcome (Ok (Text bytes)) does counted was = subst IsSettled (sym does.2) was
 settled_on old new outcome (Ok (Time minutes)) does counted was = subst IsSettled (sym does.2) was
@@ -43,8 +43,8 @@ settled_on old new outcome (Err Device) does counted was = elim does.1 [
 
 -- a store over files of which nothing is held
 pub settled_new : {D : Type 0} (files : D → List ℕ → FileState) (states : Keywords) (opened : OpenFiles D) (tally : Tally) → opened.held.before ≡ nothing_held
-    → IsSettled (kept_over files states opened tally).session × NoneWaits (kept_over files states opened tally)
-settled_new files states opened tally none = (rw none (λ whole all. refl), λ all. ap (λ (s : TextSet). s.waiting) none)
+    → IsSettled (view_over files states opened tally).session × NoneDirty (view_over files states opened tally)
+settled_new files states opened tally none = (rw none (λ whole all. refl), λ all. ap (λ (s : TextSet). s.dirty) none)
 
 pub none_counted : 0 ≤ 0
 none_counted = omega arith

@@ -1,14 +1,13 @@
--- A store over a disk with the one list by which a whole run is told: the texts of all files after
--- each accepted command.
+-- A store over a disk with its trace: the texts of all files after each accepted command.
 use Rattle.std.specs.Prelude.{◌≡◌, ◌⊎◌, ℕ, ◌+◌, ◌≤◌, List, [], ◌∷◌, ◌++◌, length, slice_get, Some, IsFalse, IsSomeAnd}
 use Rattle.org_journal.specs.Recovered.{Image}
 use Rattle.org_commands.specs.Outcome.{Outcome, IsAccepted}
-use Rattle.org_commands.specs.Session.{Session, Kept, Holds}
+use Rattle.org_commands.specs.Session.{Session, StoreView, Holds}
 
--- A store, and at place k of the list the texts of all its files after the first k accepted
--- commands.
-pub record Past (D : Type 0) : Type 0 where
-  pub store : Kept D
+-- A store with its trace: at place k of the list, the texts of all its files after the first k
+-- accepted commands.
+pub record Trace (D : Type 0) : Type 0 where
+  pub store : StoreView D
   pub texts : List (List (List ℕ))
 
 -- The list has the texts that the session tells: those of all accepted commands, and those that are

@@ -56,26 +56,19 @@ IsRefile command = (it : Refiling) × (command ≡ Refile it)
 -- A command that got this answer is accepted, or, where the disk failed, may be.
 abbrev pub MayBeAccepted : Result Reply RunFault → Type 0
 MayBeAccepted (Ok (Done n)) = Unit {0}
-MayBeAccepted (Ok (Text text)) = ⊥
-MayBeAccepted (Ok (Time minutes)) = ⊥
-MayBeAccepted (Ok (Safe n)) = ⊥
-MayBeAccepted (Err (Refused why)) = ⊥
-MayBeAccepted (Err OutOfMemory) = ⊥
 MayBeAccepted (Err Device) = Unit {0}
-MayBeAccepted (Err Broken) = ⊥
+MayBeAccepted answer = ⊥
 
 -- These commands got these answers, and none but refiles were accepted.
 abbrev pub OnlyRefiles : List Command → List (Result Reply RunFault) → Type 0
 OnlyRefiles (command ∷ commands) (answer ∷ answers) =
     (MayBeAccepted answer → IsRefile command) × OnlyRefiles commands answers
-OnlyRefiles [] answers = Unit {0}
-OnlyRefiles (command ∷ commands) [] = Unit {0}
+OnlyRefiles commands answers = Unit {0}
 
 -- A call that changes files as a refile alone, where it may be accepted.
 abbrev pub MayRefile : Call → Type 0
 MayRefile (Ran command answer) = MayBeAccepted answer → IsRefile command
-MayRefile (Settled answer) = Unit {0}
-MayRefile (Grouped group) = Unit {0}
+MayRefile call = Unit {0}
 
 -- These texts of all files have one entry archived, the one at a path of a session's file, and each
 -- other node as often (Org manual, "Moving a tree to an archive file").
@@ -109,8 +102,7 @@ IsArchiving command = (it : Archiving) × IsDiskName it.file × (command ≡ Arc
 -- A call that changes files as a refile or an archiving alone, where it may be accepted.
 abbrev pub MayMove : Call → Type 0
 MayMove (Ran command answer) = MayBeAccepted answer → IsRefile command ⊎ IsArchiving command
-MayMove (Settled answer) = Unit {0}
-MayMove (Grouped group) = Unit {0}
+MayMove call = Unit {0}
 
 -- a node whose section became another one; the rest of its heading line stays
 pub record NewSection : Type 0 where

@@ -9,7 +9,7 @@ use Rattle.org_fileset.specs.declared.open.OpenFault.TheVariants.{Device, OutOfM
 use Rattle.org_outline.specs.States.{Keywords}
 use Rattle.org_commands.specs.InOrder.{texts_of}
 use Rattle.org_store.specs.Reopening.{IsOpenable}
-use Rattle.org_commands.specs.Session.{Session, Kept}
+use Rattle.org_commands.specs.Session.{Session, StoreView}
 
 -- a store that was just opened, over files of these names that have these texts
 abbrev pub opened : Keywords → List (List ℕ) → List (List ℕ) → Session
@@ -26,18 +26,18 @@ opened states names texts =
     }
 
 -- the disk in the store that was opened, or the one that was handed back
-abbrev pub disk_of : {D : Type 0} → Result (Kept D) (OpenRefused D) → D
+abbrev pub disk_of : {D : Type 0} → Result (StoreView D) (OpenRefused D) → D
 disk_of result = disk_in result (λ store. store.disk)
 
 -- A store that was just opened with these states and the given names.
 pub record IsOpened {D : Type 0} (g : Ghosts D) (states : Keywords) (given : List (List ℕ))
-    (store : Kept D) : Type 0 where
+    (store : StoreView D) : Type 0 where
   pub session : store.session
       ≡ opened states store.session.names
       (texts_of (contents (g.files store.disk)) store.session.names)
   pub set : IsOpenedFor given store.session.names (g.honest store.disk)
       (contents (g.files store.disk))
-  pub waits : store.waiting ≡ []
+  pub dirty_files : store.dirty ≡ []
 
 -- An opening over the disk `before` that was refused for this fault, and handed it back as `now`.
 pub record IsRefused {D : Type 0} (g : Ghosts D) (given : List (List ℕ)) (before now : D)

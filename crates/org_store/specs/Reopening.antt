@@ -1,6 +1,8 @@
 -- Opening again what a crash left of a store's disk.
 use Rattle.std.specs.Prelude.{◌≡◌, ◌≤◌, ◌↔◌, ℕ, List, length, None}
 use Rattle.std.specs.List.{All, Contains}
+use Rattle.org_disk.specs.declared.disk.Disk.{Ghosts}
+use Rattle.org_disk.specs.Disk.{HasRisen}
 use Rattle.org_fileset.specs.Names.{with_archives, AreSorted, AreFew, first_large, limit}
 use Rattle.org_journal.specs.Recovered.{Image, RecoversTo}
 
@@ -22,3 +24,7 @@ pub record IsOpenable (given : List (List ℕ)) (image : Image) : Type 0 where
 pub record AreSmall (names texts : List (List ℕ)) : Type 0 where
   pub one_each : length texts ≡ length names
   pub small : All (λ text. length text ≤ limit) texts
+
+-- the disk counted a failure meanwhile
+abbrev pub CountsFailure : {D : Type 0} → Ghosts D → D → D → Type 0
+CountsFailure g before now = HasRisen (g.failures before) (g.failures now)

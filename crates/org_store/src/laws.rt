@@ -1,15 +1,16 @@
-//! What follows from the relation between a store before and after a call.
+//! What follows from the relation between a store before and after a call, for all values.
+//!
+//! Each law is the contract of a function with nothing to do.
 ghost use Rattle.std.specs.Prelude.{◌≡◌, ◌<◌, ◌≤◌, ◌+◌, ◌++◌, ◌⊎◌, List, [], ◌∷◌, ℕ, length, slice_get, None, Some, Result, Ok, IsTrue, IsFalse, IsErrOf};
 ghost use Rattle.std.specs.List.{All, IsDistinct};
 ghost use Rattle.std.specs.Str.{bytes_eq};
-ghost use Rattle.org_disk.specs.Disk.{HasRisen};
 ghost use Rattle.org_disk.specs.Accounts.{LeavesOver};
-ghost use Rattle.org_journal.specs.Recovered.{Image, IsRecoverable, contents};
+ghost use Rattle.org_journal.specs.Recovered.{Image, IsRecoverable};
 ghost use Rattle.org_disk.specs.Names.{IsDiskName, IsOrgFile};
 ghost use Rattle.org_fileset.specs.Names.{with_archives, AreSorted, AreFew, first_large};
 ghost use Rattle.org_fileset.specs.Laws.{AreOtherFiles, IsBetween};
 ghost use Rattle.org_fileset.specs.Opening.{IsReason};
-ghost use Rattle.org_fileset.specs.Replay.{IsAtRest};
+ghost use Rattle.org_fileset.specs.Replay.{RestsOn, files_on};
 ghost use Rattle.org_fileset.specs.Writes.{LeavesAlone};
 ghost use Rattle.org_fileset.specs.declared.open.OpenFault.{OpenFault};
 ghost use Rattle.org_fileset.specs.declared.open.OpenFault.TheVariants.{OutOfMemory, Device};
@@ -23,17 +24,17 @@ ghost use Rattle.org_commands.specs.declared.command.Reply.{Reply};
 ghost use Rattle.org_commands.specs.declared.command.Reply.TheVariants.{Done};
 ghost use Rattle.org_commands.specs.declared.command.RunFault.{RunFault};
 ghost use Rattle.org_commands.specs.declared.command.RunFault.TheVariants as run_fault;
-ghost use Rattle.org_store.specs.Calls.{Call, CallOver, CallPast, CallsPast, grouped};
+ghost use Rattle.org_store.specs.Calls.{Call, MakesAll, MakesOver, Traces, grouped, traces};
 ghost use Rattle.org_store.specs.Calls.Call.{Ran};
-ghost use Rattle.org_store.specs.History.{Past, Lists, HoldsPrefix};
+ghost use Rattle.org_store.specs.History.{Trace, Lists, HoldsPrefix};
 ghost use Rattle.org_commands.specs.Left.{IsApart, IsLeft, PutsOnDisk};
 ghost use Rattle.org_store.specs.OnePlace.{ArchivesOne, HaveNodesButFew, HaveSameNodes, HasNodesOf, HasNodesOfPrefix, IsSessionOf, MayMove, MayRefile, OnlyRefiles};
 ghost use Rattle.org_commands.specs.Outcome.{AsksToSettle, IsAccepted, outcome, written};
-ghost use Rattle.org_store.specs.Reopening.{AreSameNames, AreSmall, IsOpenable};
+ghost use Rattle.org_store.specs.Reopening.{AreSameNames, AreSmall, IsOpenable, CountsFailure};
 ghost use Rattle.org_store.specs.Opening.{opened};
 ghost use Rattle.org_commands.specs.Runs.{RunsOver, SettlesOver, IsOnDisk};
 ghost use Rattle.org_commands.specs.InOrder.{AreNames, texts_of, with_texts};
-ghost use Rattle.org_commands.specs.Session.{Session, Kept, Holds};
+ghost use Rattle.org_commands.specs.Session.{Session, StoreView, Holds};
 ghost use Rattle.org_commands.specs.Step.{Step, Run, IsReply};
 
 use org_disk::Disk;
@@ -72,34 +73,34 @@ pub fn runs_join()
 pub fn settled_is_on_disk<D: Disk>()
     ensures opened { (states : Keywords) (names : List (List ℕ)) (files : Image)
         → IsOnDisk (opened states names (texts_of files names)) files }
-    ensures run { (old new : Kept D) (command : Command) (answer : Result Reply RunFault)
+    ensures run { (old new : StoreView D) (command : Command) (answer : Result Reply RunFault)
         → (IsErrOf answer run_fault.Device → ⊥)
         → RunsOver D.Disk old command answer new
-        → IsOnDisk new.session (contents (D.files new.disk)) }
-    ensures settle { (old new : Kept D) (answer : Result (Unit {0}) RunFault)
+        → IsOnDisk new.session (files_on D.Disk new.disk) }
+    ensures settle { (old new : StoreView D) (answer : Result (Unit {0}) RunFault)
         → (IsErrOf answer run_fault.Device → ⊥)
         → SettlesOver D.Disk old answer new
-        → IsOnDisk new.session (contents (D.files new.disk)) }
+        → IsOnDisk new.session (files_on D.Disk new.disk) }
 {}
 
 /// A store writes no file but its own and the journal: the files that a command gives new texts,
-/// and so those that wait for a commit, are files of the store's names. Calls of a store that was
+/// and so those that are dirty, are files of the store's names. Calls of a store that was
 /// just opened (`Store::open`), for which no file waits, leave every other file alone: each is as
 /// it was, and a crash meanwhile leaves of it what it might have left before, whatever lies in the
 /// folder and whether it is on the disk or not.
 pub fn only_its_own_files_are_written<D: Disk>()
     ensures written { (s : Session) (command : Command)
         → AreNames s.names (written (outcome s command)) }
-    ensures calls { (first last : Past D) (calls : List Call)
-        → AreNames first.store.session.names first.store.waiting
-        → CallsPast D.Disk first calls last
+    ensures calls { (first last : Trace D) (calls : List Call)
+        → AreNames first.store.session.names first.store.dirty
+        → MakesAll (traces D.Disk) first calls last
         → LeavesAlone D.Disk (IsApart first.store.session.names) first.store.disk last.store.disk }
     // so it goes on with further calls
-    ensures waits { (first last : Past D) (calls : List Call)
-        → AreNames first.store.session.names first.store.waiting
-        → CallsPast D.Disk first calls last
+    ensures dirty_files { (first last : Trace D) (calls : List Call)
+        → AreNames first.store.session.names first.store.dirty
+        → MakesAll (traces D.Disk) first calls last
         → (last.store.session.names ≡ first.store.session.names)
-        × AreNames last.store.session.names last.store.waiting }
+        × AreNames last.store.session.names last.store.dirty }
 {}
 
 /// What a crash leaves of a run of the calls that change a store: commands, settlings and new sizes
@@ -110,37 +111,37 @@ pub fn only_its_own_files_are_written<D: Disk>()
 /// failed may be the last of them. What is settled is on the disk between calls
 /// (`settled_is_on_disk`).
 ///
-/// `CallPast` is what a call promises where the disk is honest after it, with what it adds to the
+/// `Traces` is what a call promises where the disk is honest after it, with what it adds to the
 /// list. The list needs the texts only where the session tells them: others may be any.
 pub fn calls_leave_a_prefix<D: Disk>()
     // a store that was just opened has such a list
     ensures opened { (states : Keywords) (names texts : List (List ℕ))
         → Lists (opened states names texts) (texts ∷ []) }
     // with each call it goes on
-    ensures goes_on { (old : Past D) (new : Kept D) (call : Call)
-        → CallOver D.Disk old.store call new
-        → (now : Past D) × (now.store ≡ new)
-        × CallPast D.Disk old call now }
-    ensures lists { (first last : Past D) (calls : List Call)
+    ensures goes_on { (old : Trace D) (new : StoreView D) (call : Call)
+        → MakesOver D.Disk old.store call new
+        → (now : Trace D) × (now.store ≡ new)
+        × Traces D.Disk old call now }
+    ensures lists { (first last : Trace D) (calls : List Call)
         → Lists first.store.session first.texts
-        → CallsPast D.Disk first calls last
+        → MakesAll (traces D.Disk) first calls last
         → Lists last.store.session last.texts }
-    ensures any_moment { (first last : Past D) (calls : List Call) → D.honest first.store.disk
-        → IsAtRest (D.files first.store.disk)
-        → IsOnDisk first.store.session (contents (D.files first.store.disk))
+    ensures any_moment { (first last : Trace D) (calls : List Call) → D.honest first.store.disk
+        → RestsOn D.Disk first.store.disk
+        → IsOnDisk first.store.session (files_on D.Disk first.store.disk)
         → IsFalse first.store.session.broken → Lists first.store.session first.texts
-        → CallsPast D.Disk first calls last
-        → let begin = first.store.session in let others = contents (D.files first.store.disk) in
+        → MakesAll (traces D.Disk) first calls last
+        → let begin = first.store.session in let others = files_on D.Disk first.store.disk in
         LeavesOver D.Disk first.store.disk last.store.disk
         (λ image. Holds begin others begin.settled image
         ⊎ HoldsPrefix begin others last.texts begin.accepted image) }
     // what a crash leaves of such a run is opened again, as in `every_image_opens`
-    ensures opens { (given : List (List ℕ)) (first last : Past D) (calls : List Call)
+    ensures opens { (given : List (List ℕ)) (first last : Trace D) (calls : List Call)
         (others image : Image) (least : ℕ) → AreFew given
         → AreSorted (with_archives given) first.store.session.names
         → Lists first.store.session first.texts
         → All (AreSmall first.store.session.names) first.texts
-        → CallsPast D.Disk first calls last
+        → MakesAll (traces D.Disk) first calls last
         → HoldsPrefix first.store.session others last.texts least image
         → IsOpenable given image }
 {}
@@ -149,19 +150,19 @@ pub fn calls_leave_a_prefix<D: Disk>()
 /// and at rest where the store isn't broken.
 pub fn calls_keep_the_disk_recoverable<D: Disk>()
     // A broken store leaves its disk as it is, and all else but the size of the group.
-    ensures broken { (first last : Past D) (calls : List Call)
+    ensures broken { (first last : Trace D) (calls : List Call)
         → IsTrue first.store.session.broken
-        → CallsPast D.Disk first calls last
+        → MakesAll (traces D.Disk) first calls last
         → (last.store ≡ grouped last.store.session.group first.store)
         × (last.texts ≡ first.texts) }
-    ensures recoverable { (first last : Past D) (calls : List Call)
-        → IsAtRest (D.files first.store.disk)
-        → CallsPast D.Disk first calls last
+    ensures recoverable { (first last : Trace D) (calls : List Call)
+        → RestsOn D.Disk first.store.disk
+        → MakesAll (traces D.Disk) first calls last
         → IsRecoverable (D.files last.store.disk) }
-    ensures rest { (first last : Past D) (calls : List Call) → IsFalse last.store.session.broken
-        → IsAtRest (D.files first.store.disk)
-        → CallsPast D.Disk first calls last
-        → IsAtRest (D.files last.store.disk) }
+    ensures rest { (first last : Trace D) (calls : List Call) → IsFalse last.store.session.broken
+        → RestsOn D.Disk first.store.disk
+        → MakesAll (traces D.Disk) first calls last
+        → RestsOn D.Disk last.store.disk }
 {}
 
 /// The middle of a call counts. What a call of a store promises of a crash at any moment since it
@@ -169,27 +170,28 @@ pub fn calls_keep_the_disk_recoverable<D: Disk>()
 /// after the commands that were acknowledged when it began, or to those that the call puts on the
 /// disk.
 pub fn middle_of_a_call_counts<D: Disk>()
-    ensures run { (old new : Kept D) (mid : D) (command : Command) (answer : Result Reply RunFault)
-        → D.honest mid → IsAtRest (D.files old.disk)
+    ensures run { (old new : StoreView D) (mid : D) (command : Command)
+        (answer : Result Reply RunFault)
+        → D.honest mid → RestsOn D.Disk old.disk
         → IsBetween D.Disk old.disk mid new.disk
         → RunsOver D.Disk old command answer new
-        → IsLeft old.session (contents (D.files old.disk)) (outcome old.session command) answer
-        new.session.accepted (contents (D.files mid)) }
-    ensures settle { (old new : Kept D) (mid : D) (answer : Result (Unit {0}) RunFault)
-        → D.honest mid → IsAtRest (D.files old.disk)
+        → IsLeft old.session (files_on D.Disk old.disk) (outcome old.session command) answer
+        new.session.accepted (files_on D.Disk mid) }
+    ensures settle { (old new : StoreView D) (mid : D) (answer : Result (Unit {0}) RunFault)
+        → D.honest mid → RestsOn D.Disk old.disk
         → IsBetween D.Disk old.disk mid new.disk
         → SettlesOver D.Disk old answer new
-        → IsLeft old.session (contents (D.files old.disk)) AsksToSettle answer
-        new.session.accepted (contents (D.files mid)) }
+        → IsLeft old.session (files_on D.Disk old.disk) AsksToSettle answer
+        new.session.accepted (files_on D.Disk mid) }
     // So the promise is false of a body that puts other files on the disk on its way, as one does
     // that takes an acknowledged subtree away and puts it back.
-    ensures apart { (old new : Kept D) (mid : D) (command : Command)
-        (answer : Result Reply RunFault) → D.honest mid → IsAtRest (D.files old.disk)
-        → IsAtRest (D.files mid) → IsBetween D.Disk old.disk mid new.disk
-        → let s = old.session in let others = contents (D.files old.disk) in
-        AreOtherFiles (contents (D.files mid)) (with_texts s.names s.settled others)
+    ensures apart { (old new : StoreView D) (mid : D) (command : Command)
+        (answer : Result Reply RunFault) → D.honest mid → RestsOn D.Disk old.disk
+        → RestsOn D.Disk mid → IsBetween D.Disk old.disk mid new.disk
+        → let s = old.session in let others = files_on D.Disk old.disk in
+        AreOtherFiles (files_on D.Disk mid) (with_texts s.names s.settled others)
         → ((texts : List (List ℕ)) → PutsOnDisk s (outcome s command) new.session.accepted texts
-        → AreOtherFiles (contents (D.files mid)) (with_texts s.names texts others))
+        → AreOtherFiles (files_on D.Disk mid) (with_texts s.names texts others))
         → RunsOver D.Disk old command answer new → ⊥ }
 {}
 
@@ -203,18 +205,18 @@ pub fn one_place<D: Disk>()
     ensures held { (given : List (List ℕ)) (s : Session) (others image : Image)
         (texts : List (List ℕ)) → IsSessionOf given s → AreSmall s.names texts
         → Holds s others texts image → HasNodesOf s.names texts image }
-    ensures any_moment { (given : List (List ℕ)) (first last : Past D) (calls : List Call)
+    ensures any_moment { (given : List (List ℕ)) (first last : Trace D) (calls : List Call)
         (others image : Image) (least : ℕ) → IsSessionOf given first.store.session
         → Lists first.store.session first.texts
         → All (AreSmall first.store.session.names) first.texts
-        → CallsPast D.Disk first calls last
+        → MakesAll (traces D.Disk) first calls last
         → HoldsPrefix first.store.session others last.texts least image
         → HasNodesOfPrefix first.store.session.names last.texts least image }
-    ensures refiles { (given : List (List ℕ)) (first last : Past D) (calls : List Call)
+    ensures refiles { (given : List (List ℕ)) (first last : Trace D) (calls : List Call)
         (others image : Image) (least : ℕ) → IsSessionOf given first.store.session
         → Lists first.store.session first.texts
         → All (AreSmall first.store.session.names) first.texts
-        → CallsPast D.Disk first calls last → All MayRefile calls
+        → MakesAll (traces D.Disk) first calls last → All MayRefile calls
         → All (λ texts. HaveSameNodes texts first.store.session.files) first.texts
         → HoldsPrefix first.store.session others last.texts least image
         → HasNodesOf first.store.session.names first.store.session.files image }
@@ -226,21 +228,21 @@ pub fn one_place<D: Disk>()
         × (HaveSameNodes old.settled old.files → HaveSameNodes new.settled new.files) }
     // One archiving: what may be on the disk then is as before, or each node of its subtree is in
     // the old place or the new, the root there with its properties.
-    ensures archive { (given : List (List ℕ)) (first last : Past D) (it : Archiving)
+    ensures archive { (given : List (List ℕ)) (first last : Trace D) (it : Archiving)
         (answer : Result Reply RunFault)
         → IsSessionOf given first.store.session → IsFalse first.store.session.broken
         → Lists first.store.session first.texts → IsDiskName it.file
-        → CallPast D.Disk first (Ran (Archive it) answer) last
+        → Traces D.Disk first (Ran (Archive it) answer) last
         → (k : ℕ) (texts : List (List ℕ)) → first.store.session.accepted ≤ k
         → slice_get last.texts k ≡ Some texts → (texts ≡ first.store.session.files)
         ⊎ ArchivesOne first.store.session it.file it.path it.moment texts }
     // Where none but refiles and archivings are accepted: from one text of the list to another,
     // which is k commands later, as often, but that for each of these at most one node has another
     // section under the same heading line, and at most one heading is made.
-    ensures moves { (given : List (List ℕ)) (first last : Past D) (calls : List Call)
+    ensures moves { (given : List (List ℕ)) (first last : Trace D) (calls : List Call)
         → IsSessionOf given first.store.session → Lists first.store.session first.texts
         → All (AreSmall first.store.session.names) first.texts
-        → CallsPast D.Disk first calls last → All MayMove calls
+        → MakesAll (traces D.Disk) first calls last → All MayMove calls
         → (i k : ℕ) (one other : List (List ℕ)) → first.store.session.accepted ≤ i
         → slice_get last.texts i ≡ Some one → slice_get last.texts (i + k) ≡ Some other
         → HaveNodesButFew k other one }
@@ -290,10 +292,10 @@ pub fn archives_keep_counts()
 pub fn every_image_opens<D: Disk>()
     // what a refused opening of such an image tells
     ensures faults { (given : List (List ℕ)) (disk now : D) (fault : OpenFault)
-        → All IsOrgFile given → D.honest now → IsOpenable given (contents (D.files disk))
-        → IsReason given (D.honest now) (contents (D.files disk)) (contents (D.files now)) fault
-        → (fault ≡ Device → HasRisen (D.failures disk) (D.failures now))
-        → (fault ≡ OutOfMemory) ⊎ ((fault ≡ Device) × HasRisen (D.failures disk) (D.failures now)) }
+        → All IsOrgFile given → D.honest now → IsOpenable given (files_on D.Disk disk)
+        → IsReason given (D.honest now) (files_on D.Disk disk) (files_on D.Disk now) fault
+        → (fault ≡ Device → CountsFailure D.Disk disk now)
+        → (fault ≡ OutOfMemory) ⊎ ((fault ≡ Device) × CountsFailure D.Disk disk now) }
     // what a crash left of a store's files is such an image, as long as no text of them was past
     // the limit
     ensures held { (given : List (List ℕ)) (s : Session) (others image : Image)

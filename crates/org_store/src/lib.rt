@@ -1,8 +1,8 @@
 //! A store of Org files: commands over all files, one at a time, each of them one step.
 //!
-//! What a store has done is told as a `Session` (org_commands): the texts of all its files, and how
+//! What a store has done is a `Session` (org_commands): the texts of all its files, and how
 //! many commands were accepted and acknowledged. One relation says what a call does to it: `Step`
-//! for `run` and `Settles` for `settle`. What one call after another does is told by `laws`.
+//! for `run` and `Settles` for `settle`. `laws` says what one call after another does.
 #![tactic(auto)]
 
 pub mod laws;

@@ -1,4 +1,7 @@
-//! A store over a disk.
+//! A store over a disk: commands over all files, one at a time.
+//!
+//! Between two calls the texts are those of the session, and the disk has those that were
+//! acknowledged. After a failure of the disk the store is broken, and makes no call.
 ghost use Rattle.std.specs.Prelude.{◌≡◌, IfOk, IfErr, IsErrOf};
 ghost use Rattle.std.specs.List.{All};
 ghost use Rattle.org_disk.specs.Accounts.{Accounts};
@@ -10,7 +13,7 @@ ghost use Rattle.org_store.specs.Opening.{IsOpened, IsRefused, disk_of};
 ghost use Rattle.org_commands.specs.Runs.{IsBrokenBy, IsIdle, Runs, SettlesAll};
 ghost use Rattle.org_commands.specs.Counts.{Counts, SettledCounts};
 
-use org_commands::{Command, Files, Kind, Reply, RunFault, Tally, answer, change};
+use org_commands::{Command, Executor, Files, Kind, Reply, RunFault, Tally};
 use org_disk::{Disk, FileName};
 use org_fileset::OpenRefused;
 use org_outline::States;
@@ -26,36 +29,31 @@ use std::marker::Model;
 /// broken does nothing any more: open its files anew.
 #[derive(Drop)]
 pub struct Store<D: Disk> {
-    files: Files<D>,
-    states: States,
-    tally: Tally,
+    executor: Executor<D>,
 }
 
 impl<D: Disk> Model for Store<D> {
-    ghost use Rattle.std.specs.Prelude.{◌≡◌, ◌≤◌};
-    ghost use Rattle.org_commands.specs.Session.{Kept, kept_over};
+    ghost use Rattle.org_commands.specs.Executing.{IsUnedited, view_of};
+    ghost use Rattle.org_commands.specs.Session.{StoreView};
     ghost use Rattle.org_commands.specs.Step.{IsSettled};
-    ghost use Rattle.org_commands.specs.Waiting.{NoneWaits};
+    ghost use Rattle.org_commands.specs.Dirty.{NoneDirty};
 
-    ghost Value = { Kept D };
+    ghost Value = { StoreView D };
 
-    ghost view = { λ s. kept_over D.files s.states s.files s.tally };
+    ghost view = { λ s. view_of D.Disk s.executor };
 
     // Between commands nothing is edited that isn't kept, and where all commands are acknowledged,
-    // none of their texts waits, and they are on the disk.
-    ghost invariant = { λ s. (s.tally.acknowledged ≤ s.tally.accepted)
-        × (s.files.held.now ≡ s.files.held.before)
-        × (D.honest s.files.disk
-        → IsSettled (kept_over D.files s.states s.files s.tally).session
-        × NoneWaits (kept_over D.files s.states s.files s.tally)) };
+    // none of their texts is dirty, and they are on the disk.
+    ghost invariant = { λ s. IsUnedited s.executor × (D.honest s.executor.files.disk
+        → IsSettled (view_of D.Disk s.executor).session × NoneDirty (view_of D.Disk s.executor)) };
 }
 
 impl<D: Disk> Store<D> {
     /// A store over the files of the given names and of their archive files, with nothing accepted
     /// and a group of 1. No name is an archive file's or the journal's; a repeated one counts once.
-    /// What a crash cut short is brought to an end first; after Ok a whole journal whose gate was
-    /// closed is as it was. No file is written but the journal and those that the record of an open
-    /// one names.
+    /// What a crash cut short is finished first; after Ok a whole journal whose gate was closed is
+    /// as it was. No file is written but the journal and those that the record of an open one
+    /// names.
     ///
     /// On a disk that is recoverable, and honest after the call, of which each image recovers to
     /// files, every image at every moment since the call began recovers to what an image at the
@@ -63,9 +61,10 @@ impl<D: Disk> Store<D> {
     /// journal is bad, as it reads, or is whole and its gate is closed, a crash leaves what it
     /// might have left before.
     ///
-    /// The faults come in the order of `OpenFault`; `Device` and `OutOfMemory` as they are met, and
-    /// they alone on a disk that recovers to files of these names, none past the limit. A refused
-    /// call hands the disk back.
+    /// # Errors
+    ///
+    /// Those of `FileSet::open`, with the disk handed back. On a disk that recovers to files of
+    /// these names, none past the limit, `Device` and `OutOfMemory` alone.
     pub fn open(
         alloc: Global,
         disk: D,
@@ -81,12 +80,14 @@ impl<D: Disk> Store<D> {
     {
         match Files::open(alloc, disk, names) {
             Ok(files) => Ok(Store {
-                files,
-                states,
-                tally: Tally {
-                    accepted: 0,
-                    acknowledged: 0,
-                    group: 1,
+                executor: Executor {
+                    files,
+                    states,
+                    tally: Tally {
+                        accepted: 0,
+                        acknowledged: 0,
+                        group: 1,
+                    },
                 },
             }),
             Err(refused) => Err(refused),
@@ -97,21 +98,21 @@ impl<D: Disk> Store<D> {
     pub fn accepted(&self) -> u64
         ensures { result ≡ self.now.session.accepted }
     {
-        self.tally.accepted
+        self.executor.tally.accepted
     }
 
     /// How many of the accepted commands are on the disk for certain.
     pub fn acknowledged(&self) -> u64
         ensures { result ≡ self.now.session.acknowledged }
     {
-        self.tally.acknowledged
+        self.executor.tally.acknowledged
     }
 
     /// Whether the store is broken: a call of its disk failed since it was opened.
     pub fn is_broken(&self) -> bool
         ensures { result ≡ self.now.session.broken }
     {
-        self.files.is_broken()
+        self.executor.files.is_broken()
     }
 
     /// Sets how many commands are accepted before they are settled, from 1 to 1,000. It settles
@@ -123,26 +124,30 @@ impl<D: Disk> Store<D> {
               { group = group };
         } }
     {
-        self.tally.group = group;
+        self.executor.tally.group = group;
     }
 
     /// The disk. What is accepted and not acknowledged is given up.
     pub fn into_disk(self) -> D
         ensures { result ≡ self.disk }
     {
-        let Store { files, .. } = self;
+        let Store { executor } = self;
+        let Executor { files, .. } = executor;
         files.into_disk()
     }
 
-    /// Puts all accepted commands on the disk.
+    /// Puts all accepted commands on the disk. Where none of them is pending, it does nothing;
+    /// where no file is dirty, it makes no call of the disk. No file is written but the dirty ones
+    /// and the journal.
     ///
     /// At every moment since the call began, what a crash leaves recovers to the files after the
-    /// commands that were acknowledged then, or for those after all that are accepted.
-    /// `OutOfMemory` leaves files and counts as they were. `Device` comes only where the disk
-    /// counted a failure in this call, and breaks the store; `Broken` comes exactly where it was
-    /// broken before. No file is written but those that wait for a commit, and the journal. Where
-    /// no accepted command waits to be acknowledged, it does nothing; where no file waits, it makes
-    /// no call of the disk.
+    /// commands that were acknowledged then, or to those after all that are accepted.
+    ///
+    /// # Errors
+    ///
+    /// - `Broken`: exactly where the store was broken before.
+    /// - `OutOfMemory`: files and counts are as they were.
+    /// - `Device`: the disk counted a failure in this call; the store is broken.
     pub fn settle(&mut self) -> Result<(), RunFault>
         ensures did { SettlesAll D.Disk self.old result self.new }
         ensures counts { SettledCounts self.old.session result self.new.session }
@@ -151,30 +156,31 @@ impl<D: Disk> Store<D> {
         ensures accounts { Accounts D.Disk self.old.disk self.new.disk
             (IsErrOf result RunFault.Device) }
     {
-        if self.files.is_broken() {
+        if self.executor.files.is_broken() {
             return Err(RunFault::Broken);
         }
-        if self.tally.acknowledged == self.tally.accepted {
+        if self.executor.tally.acknowledged == self.executor.tally.accepted {
             return Ok(());
         }
-        self.files.commit()?;
-        self.tally.acknowledged = self.tally.accepted;
+        self.executor.files.commit()?;
+        self.executor.tally.acknowledged = self.executor.tally.accepted;
         Ok(())
     }
 
-    /// Runs one command.
+    /// Runs one command. `Settle` does as `settle` does.
     ///
     /// At every moment since the call began, what a crash leaves recovers to the files after the
-    /// commands that were acknowledged then, or, where this command settles, for those after all
-    /// that are accepted when it ends. It writes only where it settles, and no file then but those
-    /// that wait for a commit, those that it gives new texts, and the journal; where no file waits
-    /// and it gives none a new text, it writes nothing (`IsLeftAlone` of org_commands).
+    /// commands that were acknowledged then, or, where this command settles, to those after all
+    /// that are accepted when it ends. It writes only where it settles, and no file then but the
+    /// dirty ones, those that it gives new texts, and the journal; where no file is dirty and it
+    /// gives none a new text, it writes nothing (`IsLeftAlone` of org_commands).
     ///
-    /// `Refused` and `OutOfMemory` leave files and counts as they were; where a settling finds no
-    /// memory, this command is undone, and those before it stay pending. `Device` comes only where
-    /// the disk counted a failure in this call, and breaks the store; `Broken` comes exactly where
-    /// it was broken before. `Settle` does nothing where no accepted command waits to be
-    /// acknowledged, and makes no call of the disk where no file waits for a commit.
+    /// # Errors
+    ///
+    /// - `Broken`: exactly where the store was broken before.
+    /// - `Refused`, `OutOfMemory`: files and counts are as they were; where a settling finds no
+    ///   memory, this command is undone, and those before it stay pending.
+    /// - `Device`: the disk counted a failure in this call; the store is broken.
     pub fn run(&mut self, command: &Command<'_>) -> Result<Reply, RunFault>
         ensures did { Runs D.Disk self.old command.now result self.new }
         ensures counts { Counts self.old.session result self.new.session }
@@ -183,15 +189,15 @@ impl<D: Disk> Store<D> {
         ensures accounts { Accounts D.Disk self.old.disk self.new.disk
             (IsErrOf result RunFault.Device) }
     {
-        if self.files.is_broken() {
+        if self.executor.files.is_broken() {
             return Err(RunFault::Broken);
         }
         match command.kind() {
-            Kind::Change(asked) => change(&mut self.files, &self.states, &mut self.tally, &asked),
-            Kind::Question(asked) => answer(&mut self.files, &self.states, &asked),
+            Kind::Change(asked) => self.executor.change(&asked),
+            Kind::Question(asked) => self.executor.answer(&asked),
             Kind::Settle => {
                 self.settle()?;
-                Ok(Reply::Safe(self.tally.acknowledged))
+                Ok(Reply::Safe(self.executor.tally.acknowledged))
             }
         }
     }

@@ -2,16 +2,16 @@
 #![tactic(auto)]
 
 #[cfg(test)]
-mod edits;
+mod capture;
 #[cfg(test)]
-mod held_texts;
+mod meta;
 #[cfg(test)]
 mod outline;
 #[cfg(test)]
-mod sections;
+mod shared;
 #[cfg(test)]
 mod splice;
 #[cfg(test)]
 mod stamp;
 #[cfg(test)]
-mod templates;
+mod texts;

@@ -9,22 +9,22 @@ use Rattle.org_outline.specs.declared.heads.Heading.{Heading}
 use Rattle.org_texts.specs.Held.{AreHeadsOf}
 
 pub is_terminated-terminated : (t : List ℕ) → terminated t ≡ t → is_terminated t ≡ true
-is_terminated-terminated [] shut = refl
-is_terminated-terminated (b ∷ []) shut = elim (cases_Bool (eqb b 10)) [
+is_terminated-terminated [] stays_terminated = refl
+is_terminated-terminated (b ∷ []) stays_terminated = elim (cases_Bool (eqb b 10)) [
   | inl t ↦ t
   | inr f ↦
       let open_end : terminated (b ∷ []) ≡ b ∷ 10 ∷ [] = rw f refl in
-      let two : b ∷ 10 ∷ [] ≡ b ∷ [] = sym open_end ∙ shut in
+      let two : b ∷ 10 ∷ [] ≡ b ∷ [] = sym open_end ∙ stays_terminated in
       absurd (cc)
 ]
-is_terminated-terminated (b ∷ c ∷ bs) shut =
+is_terminated-terminated (b ∷ c ∷ bs) stays_terminated =
     let rest : terminated (c ∷ bs) ≡ c ∷ bs = cc in
     is_terminated-terminated (c ∷ bs) rest
 
 -- a text whose headings are held is as closing it makes it
 pub terminated_text-ready : (text : EditedText) (heads : Option (List Heading)) → AreHeadsOf text.bytes heads → is_some heads ≡ true → terminated_text text ≡ text
 terminated_text-ready text None are ready = absurd (cc)
-terminated_text-ready text (Some heads) are ready = let shut = is_terminated-terminated text.bytes are.0 in rw shut refl
+terminated_text-ready text (Some heads) are ready = let stays_terminated = is_terminated-terminated text.bytes are.0 in rw stays_terminated refl
 
 pub terminated-is_terminated : (t : List ℕ) → is_terminated t ≡ true → terminated t ≡ t
 terminated-is_terminated [] ends = refl

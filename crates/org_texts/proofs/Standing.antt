@@ -16,7 +16,7 @@ use Rattle.org_splice.specs.Texts.{EditedText, IsEditOf, terminated_text, settle
 use Rattle.org_splice.proofs.Applying.{AreChanged-spliced, IsEditOf-spliced_each}
 use Rattle.org_splice.proofs.Edited.{IsEditOf-spliced}
 use Rattle.org_texts.specs.declared.plan.FileEdits.{FileEdits}
-use Rattle.org_texts.specs.Files.{IsTextOf, StandOver, waits}
+use Rattle.org_texts.specs.Files.{IsTextOf, StandOver, is_dirty}
 use Rattle.org_texts.specs.Inside.{AreAmong}
 use Rattle.org_texts.specs.Plan.{CanEdit, with_edits}
 use Rattle.org_texts.specs.Texts.{TextSet, terminated_in, settled_set, text_of, with_name, with_text}
@@ -69,22 +69,22 @@ StandOver-edits change files set can stand =
             let was = stand.each own old.0 old.1 in
             let able : CanApply es old.0.bytes = subst (λ o. IsSomeAnd o (λ (x : EditedText). CanApply es x.bytes)) old.1 can in
             let made = IsEditOf-spliced_each es (files own) old.0 able was.ranges was.edit in
-            let is : IsTextOf (files own) (waits (with_edits change set) own) (spliced_each es old.0) = record {
+            let is : IsTextOf (files own) (is_dirty (with_edits change set) own) (spliced_each es old.0) = record {
               edit = made.0;
               ranges = made.1;
-              same = λ none. let no : true ≡ false = sym (marked own set.waiting) ∙ none in absurd (cc);
+              same = λ none. let no : true ≡ false = sym (marked own set.dirty) ∙ none in absurd (cc);
             } in
-            subst (λ (n : List ℕ). IsTextOf (files n) (waits (with_edits change set) n) text) same
-            (subst (IsTextOf (files own) (waits (with_edits change set) own)) (sym old.2) is)
+            subst (λ (n : List ℕ). IsTextOf (files n) (is_dirty (with_edits change set) n) text) same
+            (subst (IsTextOf (files own) (is_dirty (with_edits change set) own)) (sym old.2) is)
         | inr f ↦
             let apart : own ≡ name → ⊥ = λ same. let yes : true ≡ false = sym ((bytes_eq-Decides own name).1 same) ∙ f in absurd (cc) in
             let was = stand.each name text (sym (change_other own name (spliced_each es) set.texts apart) ∙ at) in
-            record { edit = was.edit; ranges = was.ranges; same = λ none. was.same (not_marked own name set.waiting none) }
+            record { edit = was.edit; ranges = was.ranges; same = λ none. was.same (not_marked own name set.dirty none) }
       ];
       held =
           let some = some_of (λ (x : EditedText). CanApply es x.bytes) (text_of set own) can in
-          subst (λ (l : List (List ℕ)). AreAmong l (with_name own set.waiting)) (sym (change_names own (spliced_each es) set.texts))
-          (among_name (keys_of set.texts) set.waiting own stand.held (held_name set own some));
+          subst (λ (l : List (List ℕ)). AreAmong l (with_name own set.dirty)) (sym (change_names own (spliced_each es) set.texts))
+          (among_name (keys_of set.texts) set.dirty own stand.held (held_name set own some));
     }
 
 pub StandOver-held : (own : List ℕ) (files : List ℕ → List ℕ) (set : TextSet) → text_of set own ≡ None → StandOver files set → StandOver files (with_text own (files own) set)
@@ -92,20 +92,20 @@ StandOver-held own files set none stand = record {
   each = λ name text at. go set.texts name text (λ was. stand.each name text was) at;
   held =
       let names : keys_of (with_text own (files own) set).texts ≡ keys_of set.texts ++ own ∷ [] = map-append (λ (e : List ℕ × EditedText). e.0) set.texts ((own, settled (files own)) ∷ []) in
-      subst (λ (l : List (List ℕ)). AreAmong l set.waiting) (sym names) (among_more (keys_of set.texts) (own ∷ []) set.waiting stand.held);
+      subst (λ (l : List (List ℕ)). AreAmong l set.dirty) (sym names) (among_more (keys_of set.texts) (own ∷ []) set.dirty stand.held);
 }
   where
-    new : IsTextOf (files own) (waits set own) (settled (files own))
+    new : IsTextOf (files own) (is_dirty set own) (settled (files own))
     new = record { edit = record { same = λ i below outside. refl }; ranges = record { apart = tt; few = omega arith }; same = λ none. refl }
 
-    go : (es : List (List ℕ × EditedText)) (name : List ℕ) (text : EditedText) → (lookup (bytes_eq name) es ≡ Some text → IsTextOf (files name) (waits set name) text)
-        → lookup (bytes_eq name) (es ++ (own, settled (files own)) ∷ []) ≡ Some text → IsTextOf (files name) (waits set name) text
+    go : (es : List (List ℕ × EditedText)) (name : List ℕ) (text : EditedText) → (lookup (bytes_eq name) es ≡ Some text → IsTextOf (files name) (is_dirty set name) text)
+        → lookup (bytes_eq name) (es ++ (own, settled (files own)) ∷ []) ≡ Some text → IsTextOf (files name) (is_dirty set name) text
     go [] name text was at = elim (cases_Bool (bytes_eq name own)) [
       | inl t ↦
           let same : name ≡ own = (bytes_eq-Decides name own).0 t in
           let here : Some (settled (files own)) ≡ Some text = rw t at at in
           let is : settled (files own) ≡ text = cc in
-          subst (λ (n : List ℕ). IsTextOf (files n) (waits set n) text) (sym same) (subst (IsTextOf (files own) (waits set own)) is new)
+          subst (λ (n : List ℕ). IsTextOf (files n) (is_dirty set n) text) (sym same) (subst (IsTextOf (files own) (is_dirty set own)) is new)
       | inr f ↦ let no : None ≡ Some text = rw f at at in absurd (cc)
     ]
     go (e ∷ es) name text was at = elim (cases_Bool (bytes_eq name e.0)) [
@@ -141,21 +141,21 @@ StandOver-terminated own files set some stand = record {
         let old = the_old terminated_text (text_of set own) text (sym (change_this own terminated_text set.texts) ∙ at_own) in
         let was = stand.each own old.0 old.1 in
         let made = terminated_one (files own) old.0 was.ranges was.edit in
-        let is : IsTextOf (files own) (waits (terminated_in own set) own) (terminated_text old.0) = record {
+        let is : IsTextOf (files own) (is_dirty (terminated_in own set) own) (terminated_text old.0) = record {
           edit = made.0;
           ranges = made.1;
-          same = λ none. let no : true ≡ false = sym (marked own set.waiting) ∙ none in absurd (cc);
+          same = λ none. let no : true ≡ false = sym (marked own set.dirty) ∙ none in absurd (cc);
         } in
-        subst (λ (n : List ℕ). IsTextOf (files n) (waits (terminated_in own set) n) text) same
-        (subst (IsTextOf (files own) (waits (terminated_in own set) own)) (sym old.2) is)
+        subst (λ (n : List ℕ). IsTextOf (files n) (is_dirty (terminated_in own set) n) text) same
+        (subst (IsTextOf (files own) (is_dirty (terminated_in own set) own)) (sym old.2) is)
     | inr f ↦
         let apart : own ≡ name → ⊥ = λ same. let yes : true ≡ false = sym ((bytes_eq-Decides own name).1 same) ∙ f in absurd (cc) in
         let was = stand.each name text (sym (change_other own name terminated_text set.texts apart) ∙ at) in
-        record { edit = was.edit; ranges = was.ranges; same = λ none. was.same (not_marked own name set.waiting none) }
+        record { edit = was.edit; ranges = was.ranges; same = λ none. was.same (not_marked own name set.dirty none) }
   ];
   held =
-      subst (λ (l : List (List ℕ)). AreAmong l (with_name own set.waiting)) (sym (change_names own terminated_text set.texts))
-      (among_name (keys_of set.texts) set.waiting own stand.held (held_name set own some));
+      subst (λ (l : List (List ℕ)). AreAmong l (with_name own set.dirty)) (sym (change_names own terminated_text set.texts))
+      (among_name (keys_of set.texts) set.dirty own stand.held (held_name set own some));
 }
 
 -- edits of one text leave what can be done to another

@@ -25,9 +25,9 @@ module _ {X : Type 0} where
   this_value (x ∷ es) (suc i) w e is = this_value es i w e is
 
   -- what holds of the first values, this many, and of the next one as it is written
-  pub begun_more : (P : X → Type 0) (es : List (List ℕ × X)) (i : ℕ) (w : X) → ((k : ℕ) (e : List ℕ × X) → k < i → slice_get es k ≡ Some e → P e.1) → P w
+  pub unedited_more : (P : X → Type 0) (es : List (List ℕ × X)) (i : ℕ) (w : X) → ((k : ℕ) (e : List ℕ × X) → k < i → slice_get es k ≡ Some e → P e.1) → P w
       → (k : ℕ) (e : List ℕ × X) → k < i + 1 → slice_get (set_value_at es i w) k ≡ Some e → P e.1
-  begun_more P es i w so_far is k e below at = elim (cases_Bool (eqb k i)) [
+  unedited_more P es i w so_far is k e below at = elim (cases_Bool (eqb k i)) [
     | inl t ↦
         let same : k ≡ i = eqb-true k i t in
         let here : slice_get (set_value_at es i w) i ≡ Some e = ap (slice_get (set_value_at es i w)) (sym same) ∙ at in

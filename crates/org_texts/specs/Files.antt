@@ -12,22 +12,22 @@ use Rattle.org_texts.specs.declared.plan.Plan.{Plan}
 use Rattle.org_texts.specs.Inside.{AreAmong}
 use Rattle.org_texts.specs.Texts.{TextSet, text_of}
 
--- whether the text of a name waits for a commit
-abbrev pub waits : TextSet → List ℕ → Bool
-waits set name = list_any (bytes_eq name) set.waiting
+-- whether the text of a name is dirty
+abbrev pub is_dirty : TextSet → List ℕ → Bool
+is_dirty set name = list_any (bytes_eq name) set.dirty
 
 -- A text made of a file: outside the ranges that were changed it has the file's bytes, and it is
--- the file where it doesn't wait for a commit.
-pub record IsTextOf (file : List ℕ) (waiting : Bool) (text : EditedText) : Type 0 where
+-- the file where it isn't dirty.
+pub record IsTextOf (file : List ℕ) (dirty : Bool) (text : EditedText) : Type 0 where
   pub edit : IsEditOf file text
   pub ranges : AreChanged (length text.bytes) text.changed
-  pub same : waiting ≡ false → text.bytes ≡ file
+  pub same : dirty ≡ false → text.bytes ≡ file
 
 -- Each text is made of its file, and each name that waits has a text.
 pub record StandOver (files : List ℕ → List ℕ) (set : TextSet) : Type 0 where
   pub each : (name : List ℕ) (text : EditedText) → text_of set name ≡ Some text
-      → IsTextOf (files name) (waits set name) text
-  pub held : AreAmong (keys_of set.texts) set.waiting
+      → IsTextOf (files name) (is_dirty set name) text
+  pub held : AreAmong (keys_of set.texts) set.dirty
 
 -- the files with the edits of one of them
 abbrev pub files_with : FileEdits → (List ℕ → List ℕ) → List ℕ → List ℕ

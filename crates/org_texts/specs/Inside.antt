@@ -8,6 +8,6 @@ abbrev pub AreAmong : List (List ℕ) → List (List ℕ) → Type 0
 AreAmong all names = AllByRecursion (λ name. list_any (bytes_eq name) all ≡ true) names
 
 -- each waiting name is held, and those that waited before the command still do
-pub record IsHolding (names waiting : List (List ℕ)) (waited : ℕ) : Type 0 where
-  pub held : AreAmong names waiting
-  pub first : waited ≤ length waiting
+pub record IsHolding (names dirty : List (List ℕ)) (dirty_before : ℕ) : Type 0 where
+  pub held : AreAmong names dirty
+  pub first : dirty_before ≤ length dirty

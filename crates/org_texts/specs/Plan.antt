@@ -12,7 +12,7 @@ use Rattle.org_texts.specs.Texts.{TextSet, text_of, with_change, with_name}
 abbrev pub with_edits : FileEdits → TextSet → TextSet
 with_edits change set = record {
   texts = with_change change.file (spliced_each change.edits.items) set.texts;
-  waiting = with_name change.file set.waiting;
+  dirty = with_name change.file set.dirty;
 }
 
 abbrev pub with_second : Option FileEdits → TextSet → TextSet

@@ -10,7 +10,7 @@ use Rattle.org_texts.specs.Held.{HeldText}
 -- commit, in the order of their first touch.
 pub record TextSet : Type 0 where
   pub texts : List (List ℕ × EditedText)
-  pub waiting : List (List ℕ)
+  pub dirty : List (List ℕ)
 
 -- The texts as they are, and as they were before the command that runs; and for each whether its
 -- headings are held.
@@ -21,7 +21,7 @@ pub record Holding : Type 0 where
 
 -- no text
 abbrev pub nothing_held : TextSet
-nothing_held = record { texts = []; waiting = [] }
+nothing_held = record { texts = []; dirty = [] }
 
 -- the text of a name
 abbrev pub text_of : TextSet → List ℕ → Option EditedText
@@ -38,7 +38,7 @@ held_over set files name = bytes_or (files name) (text_of set name)
 -- the texts with one more, which the disk has
 abbrev pub with_text : List ℕ → List ℕ → TextSet → TextSet
 with_text name bytes set =
-    record { texts = set.texts ++ (name, settled bytes) ∷ []; waiting = set.waiting }
+    record { texts = set.texts ++ (name, settled bytes) ∷ []; dirty = set.dirty }
 
 -- the values by name, with the one of this name changed
 abbrev pub with_change : {X : Type 0} → List ℕ → (X → X) → List (List ℕ × X) → List (List ℕ × X)
@@ -54,12 +54,12 @@ with_name name names = if list_any (bytes_eq name) names then names else names +
 abbrev pub terminated_in : List ℕ → TextSet → TextSet
 terminated_in name set = record {
   texts = with_change name terminated_text set.texts;
-  waiting = with_name name set.waiting;
+  dirty = with_name name set.dirty;
 }
 
 -- the texts as the disk has them behind a commit: none waits
 abbrev pub settled_set : TextSet → TextSet
-settled_set set = record { texts = map (λ e. (e.0, settled e.1.bytes)) set.texts; waiting = [] }
+settled_set set = record { texts = map (λ e. (e.0, settled e.1.bytes)) set.texts; dirty = [] }
 
 abbrev pub text_or_none : Option EditedText → EditedText
 text_or_none None = settled []
@@ -67,7 +67,7 @@ text_or_none (Some text) = text
 
 -- what a commit is told of: each waiting name with its text
 abbrev pub pairs : TextSet → List (List ℕ × EditedText)
-pairs set = map (λ name. (name, text_or_none (text_of set name))) set.waiting
+pairs set = map (λ name. (name, text_or_none (text_of set name))) set.dirty
 
 -- a held text by its name, as it is, and as it was before the command
 abbrev pub now_of : List ℕ × HeldText → List ℕ × EditedText

@@ -1,4 +1,7 @@
 //! The text of one file, edited in place, with its headings.
+//!
+//! The headings, where they are held, are those of the text as it is. A command's edits can be
+//! taken back without memory.
 ghost use Rattle.std.specs.Prelude.{◌≡◌, ◌+◌, ◌≤◌, false, true, is_some, length, IfSome, OnOk};
 ghost use Rattle.org_splice.specs.Edits.{CanApply, applied};
 ghost use Rattle.org_splice.specs.Lines.{terminated};
@@ -64,15 +67,18 @@ impl Held {
     pub fn heads(&self) -> Option<&Heads>
         ensures ready { is_some result ≡ self.now.ready }
         ensures heads { IfSome result (λ heads. heads.now ≡ headings_of self.now.text.bytes) }
-        ensures shut { IfSome result
+        ensures stays_terminated { IfSome result
             (λ heads. terminated self.now.text.bytes ≡ self.now.text.bytes) }
     {
         self.heads.as_ref()
     }
 
     /// Makes the text ready for a command: a last line without a newline gets one, and the headings
-    /// are read where they aren't held. `AllocError` comes where there is no memory; the text may
-    /// be terminated then.
+    /// are read where they aren't held.
+    ///
+    /// # Errors
+    ///
+    /// `AllocError`: the text may be terminated already.
     pub fn make_ready(&mut self, alloc: Global) -> Result<(), AllocError>
         ensures ok { OnOk result
             (self.new
@@ -89,8 +95,11 @@ impl Held {
         Ok(())
     }
 
-    /// Makes edits, one after another, in place. The headings follow. `AllocError` comes where
-    /// there is no memory; some of the edits may be made then.
+    /// Makes edits, one after another, in place. The headings follow.
+    ///
+    /// # Errors
+    ///
+    /// `AllocError`: some of the edits may be made already.
     pub fn apply(&mut self, edits: &Edits) -> Result<(), AllocError>
         requires { CanApply edits.now.items self.old.text.bytes }
         ensures text { OnOk result
@@ -117,7 +126,7 @@ impl Held {
     // Makes one edit. Where it is made and the headings find no memory, they are let go.
     fn apply_one(&mut self, edit: &Edit) -> Result<(), AllocError>
         requires within { edit.now.at + edit.now.removed ≤ length self.old.text.bytes }
-        requires shut { terminated (applied edit.now self.old.text.bytes)
+        requires stays_terminated { terminated (applied edit.now self.old.text.bytes)
             ≡ applied edit.now self.old.text.bytes }
         ensures text { OnOk result
             (self.new.text ≡ spliced edit.now.at edit.now.removed edit.now.bytes self.old.text) }

@@ -1,5 +1,6 @@
-//! What the edits of held texts make of the files that they stand for, for all values: each law is
-//! the contract of a function with nothing to do.
+//! What the edits of held texts make of the files that they stand for, for all values.
+//!
+//! Each law is the contract of a function with nothing to do.
 ghost use Rattle.std.specs.Prelude.{◌≡◌, ◌≢◌, ℕ, List, Some, None, IsSome};
 ghost use Rattle.org_splice.specs.Texts.{EditedText};
 ghost use Rattle.org_texts.specs.declared.plan.FileEdits.{FileEdits};

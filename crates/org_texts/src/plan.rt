@@ -1,4 +1,6 @@
-//! What a command changes.
+//! What a command changes: edits of one text or of two, as a value.
+//!
+//! The first text is written first. Nothing is edited yet.
 ghost use Rattle.std.specs.Prelude.{◌≡◌, ◌∷◌};
 
 use org_disk::FileName;

@@ -1,4 +1,7 @@
-//! Texts by the names of their files.
+//! Texts by the names of their files, and which of them are dirty.
+//!
+//! A dirty text differs, or may differ, from what the disk has. `keep` closes a command, `undo`
+//! takes it back, `settle` says that the disk has all. Nothing here calls a disk.
 ghost use Rattle.std.specs.Prelude.{◌≡◌, ◌<◌, ◌≤◌, [], ◌∷◌, ◌++◌, List, ℕ, map, take, length, slice_get, Some, None, true, false, IfSome, IsSome, IsSomeAnd, OnOk, OnErr};
 ghost use Rattle.std.specs.List.{IsDistinct, list_any, position};
 ghost use Rattle.std.specs.Map.{keys_of, lookup, set_value, values_of};
@@ -23,14 +26,14 @@ use std::marker::Model;
 /// command finds no memory, it takes all of the command's edits back.
 ///
 /// A clause sees the texts as they are and as they were before the command, each time with the
-/// names of those that wait for a commit (specs/Texts.antt).
+/// names of those that are dirty (specs/Texts.antt).
 #[derive(Drop)]
 pub struct Texts {
     held: IndexMap<FileName, Held>,
-    // The names of the texts that wait for a commit, in the order of their first touch.
-    waiting: IndexSet<FileName>,
+    // The names of the texts that are dirty, in the order of their first touch.
+    dirty: IndexSet<FileName>,
     // How many of them waited before the command.
-    waited: usize,
+    dirty_before: usize,
     // Where the text that was made ready last stands: the next command mostly asks for it again.
     // Only a guess.
     last: usize,
@@ -45,13 +48,13 @@ impl Model for Texts {
     ghost Value = { Holding };
 
     ghost view = { λ t. record {
-      now = record { texts = map now_of t.held.entries; waiting = t.waiting.keys };
+      now = record { texts = map now_of t.held.entries; dirty = t.dirty.keys };
       before = record
-          { texts = map before_of t.held.entries; waiting = take t.waited t.waiting.keys };
+          { texts = map before_of t.held.entries; dirty = take t.dirty_before t.dirty.keys };
       ready = map ready_of t.held.entries;
     } };
 
-    ghost invariant = { λ t. IsHolding (keys_of t.held.entries) t.waiting.keys t.waited };
+    ghost invariant = { λ t. IsHolding (keys_of t.held.entries) t.dirty.keys t.dirty_before };
 }
 
 impl Texts {
@@ -61,13 +64,17 @@ impl Texts {
     {
         Texts {
             held: IndexMap::new(alloc),
-            waiting: IndexSet::new(alloc),
-            waited: 0,
+            dirty: IndexSet::new(alloc),
+            dirty_before: 0,
             last: 0,
         }
     }
 
-    /// Holds one more text, as the disk has it. `AllocError` leaves all as it is.
+    /// Holds one more text, as the disk has it.
+    ///
+    /// # Errors
+    ///
+    /// `AllocError`: all is as it was.
     pub fn hold(&mut self, name: FileName, bytes: Vec<u8>) -> Result<(), AllocError>
         requires { text_of self.old.now name ≡ None }
         ensures now { OnOk result (self.new.now ≡ with_text name bytes.items self.old.now) }
@@ -95,9 +102,13 @@ impl Texts {
     }
 
     /// Makes the text of this name, which is held, ready for a command: a last line without a
-    /// newline gets one, and the headings are read where they aren't held. It waits for a commit
-    /// from then on, also where it stays as it is, so that texts wait in the order in which a
-    /// command makes them ready. `AllocError` takes all edits of the command back.
+    /// newline gets one, and the headings are read where they aren't held. It is dirty from then
+    /// on, also where it stays as it is, so that texts are committed in the order in which a
+    /// command makes them ready.
+    ///
+    /// # Errors
+    ///
+    /// `AllocError`: all edits of the command are taken back.
     pub fn make_ready(&mut self, name: &FileName) -> Result<(), AllocError>
         requires { IsSome (text_of self.old.now name.now) }
         ensures now { OnOk result (self.new.now ≡ terminated_in name.now self.old.now) }
@@ -121,11 +132,15 @@ impl Texts {
             (self.new.ready ≡ with_change name.now (λ _. true) self.old.ready) }
         ensures before { self.new.before ≡ self.old.before }
     {
-        wait(&mut self.waiting, name)?;
+        wait(&mut self.dirty, name)?;
         ready_at(&mut self.held, &mut self.last, name)
     }
 
-    /// Makes the edits of a plan, in place. `AllocError` takes all edits of the command back.
+    /// Makes the edits of a plan, in place.
+    ///
+    /// # Errors
+    ///
+    /// `AllocError`: all edits of the command are taken back.
     pub fn apply(&mut self, plan: &Plan<'_>) -> Result<(), AllocError>
         requires { IsPlan plan.now self.old.now }
         ensures now { OnOk result (self.new.now ≡ planned plan.now self.old.now) }
@@ -159,7 +174,7 @@ impl Texts {
         ensures before { self.new.before ≡ self.old.before }
     {
         let name = change.file.name();
-        wait(&mut self.waiting, name)?;
+        wait(&mut self.dirty, name)?;
         apply_at(&mut self.held, self.last, name, &change.edits)
     }
 
@@ -169,7 +184,7 @@ impl Texts {
         ensures before { self.new.before ≡ self.old.before }
     {
         undo_each(&mut self.held);
-        self.waiting.truncate(self.waited);
+        self.dirty.truncate(self.dirty_before);
     }
 
     /// Keeps all edits of the command. Takes no memory, and can't fail.
@@ -178,7 +193,7 @@ impl Texts {
         ensures before { self.new.before ≡ self.old.now }
     {
         keep_each(&mut self.held);
-        self.waited = self.waiting.len();
+        self.dirty_before = self.dirty.len();
     }
 
     /// Takes all texts as they are for what the disk has: a commit put them there. None waits.
@@ -188,25 +203,25 @@ impl Texts {
         ensures before { self.new.before ≡ settled_set self.old.now }
     {
         settle_each(&mut self.held);
-        self.waiting.clear();
-        self.waited = 0;
+        self.dirty.clear();
+        self.dirty_before = 0;
     }
 
-    /// How many texts wait for a commit. Takes no memory.
-    pub fn waiting_len(&self) -> usize
+    /// How many texts are dirty. Takes no memory.
+    pub fn dirty_len(&self) -> usize
         ensures len { result ≡ length (pairs self.now.now) }
         ensures distinct { IsDistinct bytes_eq (keys_of (pairs self.now.now)) }
     {
-        self.waiting.len()
+        self.dirty.len()
     }
 
-    /// The name and the text of one that waits for a commit, counted from 0 in the order of their
+    /// The name and the text of one that is dirty, counted from 0 in the order of their
     /// first touch. Nothing is copied.
-    pub fn waiting(&self, index: usize) -> (&FileName, &Editing)
+    pub fn dirty(&self, index: usize) -> (&FileName, &Editing)
         requires { index < length (pairs self.now.now) }
         ensures { slice_get (pairs self.now.now) index ≡ Some (result.0.now, result.1.now.text) }
     {
-        let Some(name) = self.waiting.get_index(index) else {
+        let Some(name) = self.dirty.get_index(index) else {
             unreachable!();
         };
         match self.held.get(name) {
@@ -217,16 +232,16 @@ impl Texts {
 }
 
 impl Changes<FileName> for Texts {
-    ghost use Rattle.org_texts.specs.Texts.{pairs as waiting_pairs};
+    ghost use Rattle.org_texts.specs.Texts.{pairs as dirty_pairs};
 
-    ghost pairs = { λ texts. waiting_pairs texts.now };
+    ghost pairs = { λ texts. dirty_pairs texts.now };
 
     fn len(&self) -> usize {
-        self.waiting_len()
+        self.dirty_len()
     }
 
     fn pair(&self, index: usize) -> (&FileName, &Editing) {
-        self.waiting(index)
+        self.dirty(index)
     }
 }
 

@@ -3,7 +3,7 @@
 //! fault is a line on standard error and the exit status.
 #![tactic(auto)]
 
-use org_program::{Fault, Ran, Unknown, input, output, run};
+use org_program::{Fault, Ran, Unknown, given_words, input, output, run};
 use std::process::ExitCode;
 
 fn main(rt: HostRuntime) -> ExitCode {
@@ -11,20 +11,22 @@ fn main(rt: HostRuntime) -> ExitCode {
         Ok(()) => ExitCode::SUCCESS,
         Err(fault) => {
             // Where standard error can't be written either, the status alone tells.
-            let _ = eprint!(rt; "{fault}");
+            let _ = eprintln!(rt; "{fault}");
             ExitCode::from(fault.status())
         }
     }
 }
 
-// `run` over the standard streams, and a folder of which nothing is known.
+// `run` of the words of the command line over the standard streams, and a folder of which nothing
+// is known.
 fn run_streams(rt: &HostRuntime) -> Result<(), Fault> {
+    let words = given_words(rt)?;
     let mut reader = input(rt);
     let mut writer = output(rt)?;
     let Ran {
         arguments: _,
         disk: _,
         end,
-    } = run::<Unknown, _, _>(rt, &mut reader, &mut writer)?;
+    } = run::<Unknown, _, _>(rt, &words, &mut reader, &mut writer)?;
     end
 }

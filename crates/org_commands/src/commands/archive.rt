@@ -1,4 +1,4 @@
-//! Subtrees moved to their archives.
+//! Subtrees moved to their archives, within a file or across two.
 ghost use Rattle.std.specs.Prelude.{◌≡◌, [], ◌∷◌, List, ℕ, Some, IfOk, false, true};
 ghost use Rattle.org_outline.specs.Tree.{tree};
 ghost use Rattle.org_texts.specs.Texts.{bytes_or, text_of};

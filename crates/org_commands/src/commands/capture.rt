@@ -1,4 +1,4 @@
-//! New entries.
+//! New entries: the template is filled in before the file is read.
 ghost use Rattle.std.specs.Prelude.{◌≡◌, [], Ok, IfOk, true};
 ghost use Rattle.std.specs.Option.{unwrap_or};
 ghost use Rattle.org_outline.specs.Tree.{Node, tree};

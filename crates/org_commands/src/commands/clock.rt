@@ -1,4 +1,6 @@
-//! Clocks, started and stopped.
+//! Clocks, started and stopped, where one clock runs over all files.
+//!
+//! Clocking in stops the clock that runs, in the same step, in whatever file it runs.
 ghost use Rattle.std.specs.Prelude.{◌≡◌, ◌≢◌, [], None, Some, IfOk, OnOk, true};
 ghost use Rattle.std.specs.Option.{ForSome, unwrap_or};
 ghost use Rattle.std.specs.Result.{result_map_both};
@@ -175,7 +177,7 @@ fn look_up_in<D: Disk>(
     ensures finds { BetweenSessions D.Disk states.now files.old files.new
         (λ old new. let text = unwrap_or (text_at old.names old.files command.now.file) [] in
         LooksUp old (find_path states.now (tree text) command.now.path) result new) }
-    ensures begun { OnOk result (files.new.held.now ≡ files.new.held.before) }
+    ensures unedited { OnOk result (files.new.held.now ≡ files.new.held.before) }
     ensures disk { OnlyReads D.Disk files.old files.new result }
 {
     files.ready(&command.file)?;

@@ -1,4 +1,4 @@
-//! Plans of edits that are made.
+//! Plans of edits: one file or two, at most two edits in one.
 ghost use Rattle.std.specs.Prelude.{◌≡◌, ◌≢◌, ◌∷◌, [], None, IfNone, IfOk, IfSome, IsSomeAnd};
 
 use org_disk::FileName;

@@ -1,4 +1,4 @@
-//! Subtrees moved to other headings.
+//! Subtrees moved to other headings, within a file or across two.
 ghost use Rattle.std.specs.Prelude.{◌≡◌, ◌≢◌, ◌∷◌, ℕ, List, IfOk, OnOk, false, true};
 ghost use Rattle.org_outline.specs.States.{Keywords};
 ghost use Rattle.org_outline.specs.Tree.{tree};

@@ -1,4 +1,6 @@
-//! The clock that runs over all files.
+//! The clock that runs over all files: the first in byte order of their names.
+//!
+//! A file that was searched and has none isn't searched again until it changes.
 ghost use Rattle.std.specs.Prelude.{◌≡◌, IfOk, OnOk, true};
 ghost use Rattle.std.specs.Option.{ForSome, option_map};
 ghost use Rattle.org_commands.specs.Clocks.{RunsHeld, RunsIn, running_over};
@@ -33,7 +35,7 @@ fn running_in_file<D: Disk>(
     ensures runs { IfOk result (λ found. RunsIn files.new.held.before file.now found) }
     ensures reads { BetweenSessions D.Disk states.now files.old files.new
         (λ old new. Reads old result new) }
-    ensures begun { OnOk result (files.new.held.now ≡ files.new.held.before) }
+    ensures unedited { OnOk result (files.new.held.now ≡ files.new.held.before) }
     ensures keeps { KeepsHeld files.old.held files.new.held }
     ensures disk { OnlyReads D.Disk files.old files.new result }
 {
@@ -59,19 +61,19 @@ pub(crate) fn running_clock<D: Disk>(
     ensures found { IfOk result (λ found. ForSome found
         (λ clock. RunsHeld files.new.held clock.file clock.running
         × (is_name files.new.names clock.file ≡ true))) }
-    ensures begun { OnOk result (files.new.held.now ≡ files.new.held.before) }
+    ensures unedited { OnOk result (files.new.held.now ≡ files.new.held.before) }
     ensures keeps { KeepsHeld files.old.held files.new.held }
     ensures disk { OnlyReads D.Disk files.old files.new result }
 {
     for index in 0..files.count() {
-        if files.is_quiet(index) {
+        if files.is_clockless(index) {
             continue;
         }
         let file = files.name(index)?;
         if let Some(running) = running_in_file(files, states, &file)? {
             return Ok(Some(Clock { file, running }));
         }
-        files.note_quiet(index);
+        files.note_clockless(index);
     }
     Ok(None)
 }

@@ -1,19 +1,18 @@
-//! The time clocked at a heading.
+//! The time clocked at a heading and below it.
 ghost use Rattle.std.specs.Prelude.{◌≡◌, IsErrOf, true};
 ghost use Rattle.std.specs.Result.{result_map_both};
 ghost use Rattle.org_disk.specs.Accounts.{Accounts};
-ghost use Rattle.org_commands.specs.declared.tally.Tally.{Tally};
+ghost use Rattle.org_commands.specs.Executing.{Executes, IsUnedited, LeavesDirty};
 ghost use Rattle.org_commands.specs.Files.{AreBetweenCommands};
 ghost use Rattle.org_commands.specs.InOrder.{is_name, text_at};
-ghost use Rattle.org_commands.specs.Keeping.{Acts};
 ghost use Rattle.org_commands.specs.Outcome.{time};
 ghost use Rattle.org_commands.specs.Reading.{OnlyReads};
-ghost use Rattle.org_commands.specs.Session.{BetweenSessions, kept_over};
-ghost use Rattle.org_commands.specs.Step.{Does};
-ghost use Rattle.org_commands.specs.Waiting.{Waits};
+ghost use Rattle.org_commands.specs.Session.{BetweenSessions};
+ghost use Rattle.org_commands.specs.Step.{Steps};
 
-use crate::command::{Refusal, Reply, RunFault};
+use crate::command::{Command, Refusal, Reply, RunFault};
 use crate::commands::outline::outline_of;
+use crate::executor::Executor;
 use crate::files::Files;
 use org_disk::{Disk, FileName};
 use org_outline::{States, Titles};
@@ -30,7 +29,7 @@ fn clocked_in_file<D: Disk>(
     requires name { is_name files.old.names file.now ≡ true }
     requires between { AreBetweenCommands files.old }
     ensures does { BetweenSessions D.Disk states.now files.old files.new
-        (λ old new. Does old (time old path.now (text_at old.names old.files file.now))
+        (λ old new. Steps old (time old path.now (text_at old.names old.files file.now))
         (result_map_both Reply.Time (λ fault. fault) result) new) }
     ensures disk { OnlyReads D.Disk files.old files.new result }
 {
@@ -39,35 +38,27 @@ fn clocked_in_file<D: Disk>(
     Ok(clocked(&outline_of(held, states), path.as_slice())?)
 }
 
-/// Answers the time clocked at a heading and below it. `NoSuchFile` where the file is none of the
-/// store's; then `NotFound` or `NotUnique` of the path. `Device`, which leaves the files broken,
-/// comes only where reading the file failed, and `OutOfMemory` where memory ran out. All texts stay
-/// as they are.
-pub(crate) fn time<D: Disk>(
-    files: &mut Files<D>,
-    states: &States,
-    file: &FileName,
-    path: &Titles,
-) -> Result<Reply, RunFault>
-    requires between { AreBetweenCommands files.old }
-    ensures acts { (tally : Tally)
-        → let old = kept_over D.files states.now files.old tally in
-        Acts D.Disk old
-        (time old.session path.now (text_at old.session.names old.session.files file.now)) result
-        (kept_over D.files states.now files.new tally) }
-    ensures waits { (tally : Tally)
-        → let old = kept_over D.files states.now files.old tally in
-        Waits old
-        (time old.session path.now (text_at old.session.names old.session.files file.now)) result
-        (kept_over D.files states.now files.new tally) }
-    ensures begun { files.new.held.now ≡ files.new.held.before }
-    ensures accounts { Accounts D.Disk files.old.disk files.new.disk
-        (IsErrOf result RunFault.Device) }
-{
-    if !files.has(file) {
-        return Err(RunFault::Refused(Refusal::NoSuchFile));
+impl<D: Disk> Executor<D> {
+    /// Answers the time clocked at a heading and below it. `NoSuchFile` where the file is none of
+    /// the store's; then `NotFound` or `NotUnique` of the path. `Device`, which leaves the files
+    /// broken, comes only where reading the file failed, and `OutOfMemory` where memory ran out.
+    /// All texts stay as they are.
+    pub(crate) fn time(&mut self, file: &FileName, path: &Titles) -> Result<Reply, RunFault>
+        requires between { AreBetweenCommands self.old.files }
+        ensures executes { Executes D.Disk self.old (Command.Time file.now path.now) result
+            self.new }
+        ensures dirty_files { LeavesDirty D.Disk self.old (Command.Time file.now path.now) result
+            self.new }
+        ensures tally { self.new.tally ≡ self.old.tally }
+        ensures unedited { IsUnedited self.new }
+        ensures accounts { Accounts D.Disk self.old.files.disk self.new.files.disk
+            (IsErrOf result RunFault.Device) }
+    {
+        if !self.files.has(file) {
+            return Err(RunFault::Refused(Refusal::NoSuchFile));
+        }
+        let minutes = clocked_in_file(&mut self.files, &self.states, file, path);
+        self.files.undo();
+        Ok(Reply::Time(minutes?))
     }
-    let minutes = clocked_in_file(files, states, file, path);
-    files.undo();
-    Ok(Reply::Time(minutes?))
 }

@@ -136,7 +136,7 @@ fn opens_large(rt: &impl Abort, alloc: Global, length: usize, file: Option<&str>
 
 const LARGE: &[(usize, Option<&str>)] = &[(LIMIT, None), (LIMIT + 1, Some("a.org"))];
 
-// What the crash had cut short is brought to an end, also where the opening is refused.
+// What the crash had cut short is finished, also where the opening is refused.
 #[test]
 fn files_up_to_the_limit_are_taken(rt: HostRuntime) {
     let alloc = rt.alloc();

@@ -1,6 +1,8 @@
-//! The calls of the operating system. Each method makes the call that the trait names, again where
-//! a signal interrupts it, and what it takes to reach the file, and then notes what the trait's
-//! clauses say.
+//! The calls of the operating system.
+//!
+//! Each method makes the call that the trait names, again where a signal interrupts it, and what it
+//! takes to reach the file; then it notes what the trait's clauses say. To be read against its
+//! calls: no contract says what a system does.
 ghost use Rattle.std.specs.Prelude.{◌≡◌, [], ◌∷◌, string_bytes, IfOk};
 ghost use Rattle.std.specs.Path.{path_buf_bytes, path_join};
 ghost use Rattle.org_folder.specs.Note.{event_of};

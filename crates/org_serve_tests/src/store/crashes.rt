@@ -47,7 +47,7 @@ fn captured_twice(
     (acknowledged, accepted, store.into_disk())
 }
 
-// Makes two captures, in groups, over a disk that crashes on the way, and tells how many were
+// Makes two captures, in groups, over a disk that crashes meanwhile, and tells how many were
 // acknowledged, how many accepted, and how many are in the files that the crash left.
 fn crashed(rt: &(impl Abort + AllocGlobal), group: u32, at: (u64, Outcome)) -> (u64, u64, u64) {
     let mut disk = two(rt, CAPTURED.a, CAPTURED.b);

@@ -3,7 +3,7 @@ ghost use Rattle.std.specs.Prelude.{◌≡◌, ◌+◌, ◌++◌, ◌≤◌, len
 ghost use Rattle.org_splice.specs.Lines.{terminated};
 ghost use Rattle.org_outline.specs.Outline.{IsEdit, headings_of};
 
-use crate::edits::states;
+use crate::shared::states;
 use org_outline::{Heads, Outline, States, is_terminated};
 use std::alloc::Global;
 use std::process::Abort;
@@ -154,8 +154,8 @@ fn edits_follow_readings(rt: HostRuntime) {
     drop(states);
 }
 
-/// A text, a place in it, how many bytes are removed there, and those added. The headings after that stand in
-/// `headings`.
+/// A text, a place in it, how many bytes are removed there, and those added. The headings after
+/// that stand in `headings`.
 const ROWS: &[(&[u8], usize, usize, &[u8])] = &[
     (b"x\n* A\n", 1, 1, b""),
     (b"*A\n", 1, 0, b" "),

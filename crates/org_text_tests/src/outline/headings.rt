@@ -1,10 +1,11 @@
-//! What an outline says of its headings: where they, their subtrees and their sections lie, which of them paths name, and
-//! their parts. Where subtrees go in below them, and which of them titles name, commands show (tests/commands).
+//! What an outline says of its headings: where they, their subtrees and their sections lie, which
+//! of them paths name, and their parts. Where subtrees go in below them, and which of them titles
+//! name, commands show (tests/commands).
 ghost use Rattle.std.specs.Prelude.{◌≡◌, ◌<◌};
 ghost use Rattle.org_splice.specs.Lines.{terminated};
 ghost use Rattle.org_outline.specs.Tree.{node_count, tree};
 
-use crate::edits::{states, titles};
+use crate::shared::{states, titles};
 use org_outline::{
     HeadParts, Heads, Node, Outline, PathFault, States, heading_level, is_terminated,
 };
@@ -12,8 +13,8 @@ use org_splice::Span;
 use std::alloc::Global;
 use std::process::Abort;
 
-/// Of a heading its level, its subtree and its section, the number of its parent, how many headings its subtree has, and
-/// what stands behind its stars.
+/// Of a heading its level, its subtree and its section, the number of its parent, how many headings
+/// its subtree has, and what stands behind its stars.
 type Heading<'a> = (usize, Span, Span, Option<usize>, usize, &'a [u8]);
 
 /// The gap, the keyword, the priority, the title and the tags of a heading.

@@ -1,6 +1,6 @@
 //! Texts that are edited in place, whose edits are taken back, kept or settled, and what their
 //! patches are.
-use crate::edits::{NONE, Patched, Splice, edit_of, edits_of, has, make, patch_count};
+use crate::shared::{NONE, Patched, Splice, edit_of, edits_of, has, make, patch_count};
 use org_splice::{Editing, Patch, size_after};
 use std::alloc::Global;
 use std::process::Abort;

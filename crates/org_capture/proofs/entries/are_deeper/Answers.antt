@@ -4,7 +4,7 @@ use Rattle.org_capture.proofs.OneHeading.{deeper_all, deeper_on, not_deeper}
 use Rattle.org_capture.proofs.entries.are_deeper.Goals as goal
 
 pub loop-line-init : goal.loop-line-init
-loop-line-init c = record { shut = c.requires; same = refl }
+loop-line-init c = record { stays_terminated = c.requires; same = refl }
 
 pub loop-line-preserved : goal.loop-line-preserved
 loop-line-preserved c =

@@ -7,8 +7,8 @@ use Rattle.org_capture.proofs.entries.entry.Goals as goal
 
 pub is_one_heading-requires : goal.is_one_heading-requires
 is_one_heading-requires c =
-    let shut : c.as_slice.result.now ≡ terminated c.args.text.items = c.as_slice.ensures.value ∙ c.in_ok-terminate.ensures in
-    ap terminated shut ∙ terminated_twice c.args.text.items ∙ sym shut
+    let stays_terminated : c.as_slice.result.now ≡ terminated c.args.text.items = c.as_slice.ensures.value ∙ c.in_ok-terminate.ensures in
+    ap terminated stays_terminated ∙ terminated_twice c.args.text.items ∙ sym stays_terminated
 
 pub returns-then-not-is_one_heading-clause-value : goal.returns-then-not-is_one_heading-clause-value
 returns-then-not-is_one_heading-clause-value c =

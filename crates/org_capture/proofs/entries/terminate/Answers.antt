@@ -9,4 +9,4 @@ returns-in_ok-push c =
     let old : List ℕ = c.args.text.now.items in
     let read : c.as_slice.result.now ≡ old = c.as_slice.ensures.value in
     c.in_ok-push.ensures.items
-    ∙ sym (terminated_ends old (λ shut. false≢true (sym c.if-not-is_terminated.true ∙ c.is_terminated.ensures.1 (ap terminated read ∙ shut ∙ sym read))))
+    ∙ sym (terminated_ends old (λ stays_terminated. false≢true (sym c.if-not-is_terminated.true ∙ c.is_terminated.ensures.1 (ap terminated read ∙ stays_terminated ∙ sym read))))

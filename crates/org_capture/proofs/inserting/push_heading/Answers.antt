@@ -12,8 +12,8 @@ one_star_more out now next n so_far pushed =
 whole_line : (out stars blank titled line title : List ℕ) (n level : ℕ) → n ≡ level → stars ≡ out ++ replicate n 42 → blank ≡ stars ++ 32 ∷ [] → titled ≡ blank ++ title → line ≡ titled ++ 10 ∷ []
     → line ≡ out ++ (heading_line level (rest_of title) ++ 10 ∷ [])
 whole_line out stars blank titled line title n level all pushed_stars pushed_blank pushed_title pushed_end =
-    let begun : stars ≡ out ++ replicate level 42 = pushed_stars ∙ ap (λ (k : ℕ). out ++ replicate k 42) all in
-    pushed_end ∙ ap (λ (l : List ℕ). l ++ 10 ∷ []) (pushed_title ∙ ap (λ (l : List ℕ). l ++ title) (pushed_blank ∙ ap (λ (l : List ℕ). l ++ 32 ∷ []) begun)
+    let unedited : stars ≡ out ++ replicate level 42 = pushed_stars ∙ ap (λ (k : ℕ). out ++ replicate k 42) all in
+    pushed_end ∙ ap (λ (l : List ℕ). l ++ 10 ∷ []) (pushed_title ∙ ap (λ (l : List ℕ). l ++ title) (pushed_blank ∙ ap (λ (l : List ℕ). l ++ 32 ∷ []) unedited)
     ∙ append_assoc (out ++ replicate level 42) (32 ∷ []) title ∙ append_assoc out (replicate level 42) (32 ∷ title)) ∙ append_assoc out (replicate level 42 ++ 32 ∷ title) (10 ∷ [])
 
 pub loop-preserved : goal.loop-preserved

@@ -2,7 +2,7 @@ use Rattle.std.proofs.Common.{◌≡◌, ℕ, ◌+◌, ◌≤◌, List, length, 
 use Rattle.std.proofs.lemmas.Option.{get_or_from_slice_get}
 use Rattle.std.specs.Global.{Global}
 use Rattle.std.specs.Str.{bytes_eq}
-use Rattle.org_commands.proofs.Quiet.{ForgetsBelow, forgets_all, forgets_other, forgets_past, forgets_this}
+use Rattle.org_commands.proofs.Clockless.{ForgetsBelow, forgets_all, forgets_other, forgets_past, forgets_this}
 use Rattle.org_commands.proofs.files.forget.Goals as goal
 use Rattle.org_commands.proofs.files.forget.Goals.{then-index-len+then-eq, else-index-len, else-index-len-via-then-index-len+else-eq, else-index-len-via-else-index-len}
 
@@ -11,13 +11,13 @@ loop-index-preserved c =
     let names = c.args.names.now in
     let file = c.args.file.now in
     let index = c.loop-index.index in
-    let old = c.args.quiet.now.items in
-    let mid = c.loop-index.quiet.items in
-    let next = c.if-index-len.quiet.items in
+    let old = c.args.clockless.now.items in
+    let mid = c.loop-index.clockless.items in
+    let next = c.if-index-len.clockless.items in
     elim c.if-index-len.branch [
-      | then-index-len+then-eq w ↦ forgets_this names file index old mid next (ap (λ (q : Vec Bool Global). q.items) w.quiet-is) c.loop-index.invariant
+      | then-index-len+then-eq w ↦ forgets_this names file index old mid next (ap (λ (q : Vec Bool Global). q.items) w.clockless-is) c.loop-index.invariant
       | else-index-len w ↦
-          let same : mid ≡ next = sym (ap (λ (q : Vec Bool Global). q.items) w.quiet-is) in
+          let same : mid ≡ next = sym (ap (λ (q : Vec Bool Global). q.items) w.clockless-is) in
           elim w.else-index-len.branch [
             | else-index-len-via-then-index-len+else-eq v ↦
                 let apart : bytes_eq file c.index-names-index.result ≡ false = sym v.eq.ensures ∙ v.if-eq.false in
@@ -32,4 +32,4 @@ loop-index-preserved c =
     ]
 
 pub returns : goal.returns
-returns c = forgets_all c.args.names.now c.args.file.now c.loop-index.index c.args.quiet.now.items c.loop-index.quiet.items c.loop-index-test.false c.loop-index.invariant
+returns c = forgets_all c.args.names.now c.args.file.now c.loop-index.index c.args.clockless.now.items c.loop-index.clockless.items c.loop-index-test.false c.loop-index.invariant

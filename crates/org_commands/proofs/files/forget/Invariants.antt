@@ -1,5 +1,5 @@
-use Rattle.org_commands.proofs.Quiet.{ForgetsBelow}
+use Rattle.org_commands.proofs.Clockless.{ForgetsBelow}
 use Rattle.org_commands.proofs.files.forget.Given as goal
 
 abbrev pub invariant-loop-index : goal.invariant-loop-index
-invariant-loop-index l = ForgetsBelow l.names l.file l.index l.fn.quiet.items l.quiet.items
+invariant-loop-index l = ForgetsBelow l.names l.file l.index l.fn.clockless.items l.clockless.items

@@ -4,8 +4,8 @@ use Rattle.org_meta.specs.Planning.{PlanningEntry, entry_text, word_text}
 use Rattle.org_meta.proofs.Pushed.{put_same}
 use Rattle.org_meta.proofs.planning.push_with_stamp.Goals as goal
 
-same_entry : (old begun named word gap stamp after : List ℕ) → begun ≡ old ++ named → named ≡ word → begun ++ (gap ++ (stamp ++ (after ++ []))) ≡ old ++ (word ++ (gap ++ (stamp ++ after)))
-same_entry old begun named word gap stamp after e is =
+same_entry : (old unedited named word gap stamp after : List ℕ) → unedited ≡ old ++ named → named ≡ word → unedited ++ (gap ++ (stamp ++ (after ++ []))) ≡ old ++ (word ++ (gap ++ (stamp ++ after)))
+same_entry old unedited named word gap stamp after e is =
     ap (λ (l : List ℕ). l ++ (gap ++ (stamp ++ (after ++ [])))) (e ∙ ap (λ (w : List ℕ). old ++ w) is) ∙ append_assoc old word (gap ++ (stamp ++ (after ++ []))) ∙ ap (λ (t : List ℕ). old ++ (word ++ (gap ++ (stamp ++ t)))) (append-nil after)
 
 pub returns : goal.returns

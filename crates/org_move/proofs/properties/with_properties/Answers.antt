@@ -20,11 +20,11 @@ loop-property-preserved c =
         parts =
             value_more ps i _ w.in-Some.value _ _ _ so_far.parts c.loop-property-test.true w.in-Some.is
             (w.in_ok-new-2.ensures.parts ∙ ap (λ (l : List ℕ). put _ w.in-Some.value.now (parts_of l)) w.deref.ensures.value);
-        shut = w.in_ok-new-2.ensures.terminated;
+        stays_terminated = w.in_ok-new-2.ensures.terminated;
       })
       | in_default w ↦ rw w.new-is (record {
         parts = none_more ps i _ _ _ so_far.parts c.loop-property-test.true w.in_default.is;
-        shut = so_far.shut;
+        stays_terminated = so_far.stays_terminated;
       })
     ]
 

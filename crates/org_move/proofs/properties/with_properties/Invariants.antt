@@ -9,5 +9,5 @@ abbrev pub invariant-loop-property : goal.invariant-loop-property
 invariant-loop-property l =
     record {
       parts : parts_of l.new.items ≡ put_each (given (take l.property-index l.properties)) (parts_of l.section);
-      shut : terminated l.new.items ≡ l.new.items;
+      stays_terminated : terminated l.new.items ≡ l.new.items;
     }

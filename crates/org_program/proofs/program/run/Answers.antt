@@ -6,8 +6,7 @@ pub returns-in_err-disk-clause-fault : goal.returns-in_err-disk-clause-fault
 returns-in_err-disk-clause-fault g c =
     let told = err_from_is_err_and c.from_residual-in_err-disk.result c.from_residual-in_err-disk.ensures.1 in
     rw (told.1, told.2) (inr (record {
-      words = c.in_ok-arguments.ensures.told.0;
       arguments = c.in_ok-arguments.arguments;
-      told = c.in_ok-arguments.ensures.told.1;
+      told = c.in_ok-arguments.ensures.told;
       cause = c.in_err-disk.ensures.cause;
     }))

@@ -5,7 +5,6 @@ use Rattle.org_program.proofs.program.serve.Goals as goal
 
 pub returns-clause-serves : goal.returns-clause-serves
 returns-clause-serves g c =
-    let made = c.serve_synced.ensures in
     record {
       disk = c.in_ok-disk.disk;
       path = c.in_ok-disk.ensures.path ∙ c.in_ok-setup.ensures.folder;
@@ -13,12 +12,5 @@ returns-clause-serves g c =
       failures = c.in_ok-disk.ensures.failures;
       setup = c.in_ok-setup.setup;
       is_set_up = c.in_ok-setup.ensures.is_set_up;
-      runs = record {
-        served = made.served;
-        gives_back = made.disk;
-        refused = made.refused;
-        unserved = IfErr-weaker c.serve_synced.result.end _ _ (λ fault same. ap₂ (pipes g.R.Source g.W.Sink) same.0 same.1) made.unserved;
-        causes = made.causes;
-        accounts = made.accounts;
-      };
+      runs = c.serve_synced.ensures.runs;
     }

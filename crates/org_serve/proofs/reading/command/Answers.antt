@@ -1,5 +1,5 @@
 use Rattle.std.proofs.Common.{arith, sym, subst, ◌∙◌}
-use Rattle.org_serve.specs.Gives.{Gives}
+use Rattle.org_serve.specs.Grammar.{Gives}
 use Rattle.org_serve.proofs.Fields.{is_settle, is_show, is_clock_out, no_field, no_settle, no_show}
 use Rattle.org_serve.proofs.reading.command.Goals as goal
 use Rattle.org_serve.proofs.reading.command.Goals.{in_default-via-then-fields-lt1, in_default-via-in-len1+else-is, in_default-via-in-len2-2+else-is-3}

@@ -1,5 +1,5 @@
 use Rattle.std.proofs.Common.{arith, sym, subst, ◌∙◌}
-use Rattle.org_serve.specs.Gives.{Gives}
+use Rattle.org_serve.specs.Grammar.{Gives}
 use Rattle.org_serve.proofs.Fields.{is_time, is_archive, is_clock_in, is_todo, is_refile, is_capture, no_time, no_clock, no_todo, no_refile, no_capture, no_longer}
 use Rattle.org_serve.proofs.reading.command_within.Goals as goal
 use Rattle.org_serve.proofs.reading.command_within.Goals.{in_default-via-in-empty+else-is, in_default-via-in-len1-2+else-is-3, in_default-via-in-len2+else-is-4, in_default-via-in-len3+else-is-5, in_default-via-in-len4+else-is-6, in_default-via-else-more-lt1+else-more-lt2+else-more-lt3+else-more-lt4+else-more-lt5}

@@ -1,5 +1,5 @@
 use Rattle.std.proofs.Common.{refl, sym, subst}
-use Rattle.org_serve.specs.Gives.{Gives}
+use Rattle.org_serve.specs.Grammar.{Gives}
 use Rattle.org_serve.proofs.Fields.{front_more, front_all, too_many}
 use Rattle.org_serve.proofs.reading.read_command.Goals as goal
 

@@ -1,5 +1,5 @@
 use Rattle.std.proofs.Common.{◌≡◌, refl}
-use Rattle.org_serve.specs.Faults.{fault_text}
+use Rattle.org_serve.specs.Replies.{fault_text}
 use Rattle.org_serve.specs.Writes.{Writes}
 use Rattle.org_serve.proofs.Joins.{then_flushed, passed_on}
 use Rattle.org_serve.proofs.replies.write_unread.Goals as goal

@@ -1,31 +1,37 @@
+use Rattle.std.proofs.Common.{◌≡◌, ◌≤◌, ◌++◌, inr, [], List, ℕ, length, Result, Ok, Err, sym, subst}
+use Rattle.std.specs.Prelude.{IsTrue}
+use Rattle.org_commands.specs.declared.command.Command.{Command}
+use Rattle.org_serve.specs.declared.fault.LineFault.{LineFault}
+use Rattle.org_serve.specs.declared.fault.LineFault.TheVariants.{BadLine, OutOfMemory}
+use Rattle.org_serve.specs.Grammar.{Gives, command_of}
+use Rattle.org_serve.specs.Lines.{limit}
+use Rattle.org_serve.specs.Serving.{IsReadAs}
 use Rattle.org_serve.proofs.serving.answer.Goals as goal
 
-pub returns-then-not-is_whole-clause-step : goal.returns-then-not-is_whole-clause-step
-returns-then-not-is_whole-clause-step g c = c.answer_kept.ensures.step
+-- a line within the limit is read as the command that it is
+read_as : (line : List ℕ) (read : Result Command LineFault) → length line ≤ limit → Gives read (command_of line) → IsReadAs line read
+read_as line (Ok command) within gives = (within, gives)
+read_as line (Err BadLine) within gives = inr gives
+read_as line (Err OutOfMemory) within gives = tt
+
+pub returns-then-not-is_whole-clause-answers : goal.returns-then-not-is_whole-clause-answers
+returns-then-not-is_whole-clause-answers g c = c.answer_kept.ensures.answers
 
 pub returns-then-not-is_whole-clause-cleared : goal.returns-then-not-is_whole-clause-cleared
 returns-then-not-is_whole-clause-cleared g c = c.answer_kept.ensures.cleared
 
-pub returns-then-not-is_whole-clause-same : goal.returns-then-not-is_whole-clause-same
-returns-then-not-is_whole-clause-same g c = c.answer_kept.ensures.same
-
-pub returns-then-not-is_whole-clause-err : goal.returns-then-not-is_whole-clause-err
-returns-then-not-is_whole-clause-err g c = c.answer_kept.ensures.err
-
-pub returns-then-not-is_whole-clause-untouched : goal.returns-then-not-is_whole-clause-untouched
-returns-then-not-is_whole-clause-untouched g c = c.answer_kept.ensures.untouched
-
-pub returns-then-not-is_whole-clause-accounts : goal.returns-then-not-is_whole-clause-accounts
-returns-then-not-is_whole-clause-accounts g c = c.answer_kept.ensures.accounts
-
-pub returns-clause-same : goal.returns-clause-same
-returns-clause-same g c = c.answer_read-answered.ensures.step.2.same
-
-pub returns-clause-err : goal.returns-clause-err
-returns-clause-err g c = c.answer_read-answered.ensures.step.2.counted
-
-pub returns-clause-untouched : goal.returns-clause-untouched
-returns-clause-untouched g c = c.answer_read-answered.ensures.untouched
-
-pub returns-clause-accounts : goal.returns-clause-accounts
-returns-clause-accounts g c = c.answer_read-answered.ensures.accounts
+-- nothing is kept of the line
+pub returns-clause-answers : goal.returns-clause-answers
+returns-clause-answers g c =
+    let made = c.answer_read-answered.ensures in
+    let line = c.args.last.now in
+    let whole : IsTrue c.is_whole.result = c.if-not-is_whole.false in
+    record {
+      step = λ part stands.
+          let is = (c.is_whole.ensures.exact part stands).0 whole in
+          let read = read_as line c.read_command-read.result is.1 c.read_command-read.ensures in
+          (made.step.0, (c.read_command-read.result, subst (λ (p : List ℕ). IsReadAs (p ++ line) c.read_command-read.result) (sym is.0) read, made.step.1), made.step.2);
+      counts = record { same = made.step.2.same; counted = made.step.2.counted };
+      untouched = made.untouched;
+      accounts = made.accounts;
+    }

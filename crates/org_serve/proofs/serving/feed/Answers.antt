@@ -10,7 +10,7 @@ pub returns-in_err-answer-clause-fed : goal.returns-in_err-answer-clause-fed
 returns-in_err-answer-clause-fed g c = λ part free stands.
     let p = err_from_is_err_and c.from_residual.result c.from_residual.ensures.1 in
     let f = c.loop-line.invariant.0 part free stands in
-    let s = c.in_err-answer.ensures.step f.part f.stands in
+    let s = c.in_err-answer.ensures.answers.step f.part f.stands in
     rw p.1 (Fed-err f c.in-Some.line.now c.in-Some.more.now c.in-Some.ensures.whole c.in-Some.ensures.free c.answer.new.store (g.W.Sink.written c.answer.new.writer) s.0 s.1 s.2.part)
 
 pub loop-line-preserved : goal.loop-line-preserved
@@ -18,10 +18,10 @@ loop-line-preserved g c = (
   λ part free stands.
       Fed-step (c.loop-line.invariant.0 part free stands) c.in-Some.line.now c.in-Some.more.now c.in-Some.ensures.whole c.in-Some.ensures.free
       c.answer.new.store (g.W.Sink.written c.answer.new.writer) c.answer.new.pending
-      (λ had stood. let s = c.in_ok-answer.ensures.step had stood in (s.0, s.1, s.2.ok)) c.in_ok-answer.ensures.cleared,
-  untouched_then c.loop-line.invariant.1 c.in_ok-answer.ensures.untouched,
-  breaks_then c.loop-line.invariant.1 c.in_ok-answer.ensures.untouched c.loop-line.invariant.2 c.in_ok-answer.ensures.accounts,
-  c.in_ok-answer.ensures.same ∙ c.loop-line.invariant.3,
+      (λ had stood. let s = c.in_ok-answer.ensures.answers.step had stood in (s.0, s.1, s.2.ok)) c.in_ok-answer.ensures.cleared,
+  untouched_then c.loop-line.invariant.1 c.in_ok-answer.ensures.answers.untouched,
+  breaks_then c.loop-line.invariant.1 c.in_ok-answer.ensures.answers.untouched c.loop-line.invariant.2 c.in_ok-answer.ensures.answers.accounts,
+  c.in_ok-answer.ensures.answers.counts.same ∙ c.loop-line.invariant.3,
 )
 
 pub returns-clause-fed : goal.returns-clause-fed
@@ -29,10 +29,10 @@ returns-clause-fed g c = λ part free stands.
     Fed-end (c.loop-line.invariant.0 part free stands) c.in_default.ensures.free c.add.new.self c.add.ensures
 
 pub returns-in_err-answer-clause-untouched : goal.returns-in_err-answer-clause-untouched
-returns-in_err-answer-clause-untouched g c = untouched_then c.loop-line.invariant.1 c.in_err-answer.ensures.untouched
+returns-in_err-answer-clause-untouched g c = untouched_then c.loop-line.invariant.1 c.in_err-answer.ensures.answers.untouched
 
 pub returns-in_err-answer-clause-accounts : goal.returns-in_err-answer-clause-accounts
-returns-in_err-answer-clause-accounts g c = breaks_then c.loop-line.invariant.1 c.in_err-answer.ensures.untouched c.loop-line.invariant.2 c.in_err-answer.ensures.accounts
+returns-in_err-answer-clause-accounts g c = breaks_then c.loop-line.invariant.1 c.in_err-answer.ensures.answers.untouched c.loop-line.invariant.2 c.in_err-answer.ensures.answers.accounts
 
 pub returns-clause-untouched : goal.returns-clause-untouched
 returns-clause-untouched g c = c.loop-line.invariant.1
@@ -40,18 +40,14 @@ returns-clause-untouched g c = c.loop-line.invariant.1
 pub returns-clause-accounts : goal.returns-clause-accounts
 returns-clause-accounts g c = c.loop-line.invariant.2
 
-pub returns-in_err-answer-clause-same : goal.returns-in_err-answer-clause-same
-returns-in_err-answer-clause-same g c = passed_never _ _ c.from_residual.result c.from_residual.ensures.1
+pub returns-in_err-answer-clause-counts : goal.returns-in_err-answer-clause-counts
+returns-in_err-answer-clause-counts g c = record {
+  same = passed_never _ _ c.from_residual.result c.from_residual.ensures.1;
+  counted = on_err c.from_residual.result (subst (λ (n : ℕ). IsCounted n (g.W.Sink.failures c.answer.new.writer)) c.loop-line.invariant.3 c.in_err-answer.ensures.answers.counts.counted);
+}
 
-pub returns-in_err-answer-clause-err : goal.returns-in_err-answer-clause-err
-returns-in_err-answer-clause-err g c =
-    on_err c.from_residual.result (subst (λ (n : ℕ). IsCounted n (g.W.Sink.failures c.answer.new.writer)) c.loop-line.invariant.3 c.in_err-answer.ensures.err)
-
-pub returns-clause-same : goal.returns-clause-same
-returns-clause-same g c = c.loop-line.invariant.3
-
-pub returns-clause-err : goal.returns-clause-err
-returns-clause-err g c = tt
+pub returns-clause-counts : goal.returns-clause-counts
+returns-clause-counts g c = record { same = c.loop-line.invariant.3; counted = tt }
 
 pub loop-line-smaller : goal.loop-line-smaller
 loop-line-smaller g c = less_left _ _ _ c.in-Some.ensures.whole

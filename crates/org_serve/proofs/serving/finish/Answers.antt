@@ -6,7 +6,7 @@ use Rattle.org_serve.proofs.serving.finish.Goals as goal
 pub returns-in-Ok-clause-told : goal.returns-in-Ok-clause-told
 returns-in-Ok-clause-told g c = λ not.
     let told = c.settle.ensures.told not in (
-      told.0 ∙ c.in-Ok.ensures.same,
+      told.0 ∙ c.in-Ok.ensures.counts.same,
       λ part stands. let rest = c.in-Ok.ensures.rest part stands in (rest.0, told.1, rest.1, told.2, Appends-append _ _ _ rest.0 told.1 rest.2.ok told.3),
     )
 
@@ -15,7 +15,7 @@ returns-in-Ok-clause-write g c = λ is.
     let some = c.settle.ensures.write is in
     let tail = settled_text some.2 c.settle.new.store.session.acknowledged in (
       inr some.0,
-      rw c.in-Ok.ensures.same at some.1,
+      rw c.in-Ok.ensures.counts.same at some.1,
       λ part stands.
           let rest = c.in-Ok.ensures.rest part stands in
           (rest.0 ++ tail, (rest.0, some.2, rest.1, refl), some_then _ _ _ rest.0 tail rest.2.ok some.3),
@@ -28,7 +28,7 @@ pub returns-in-Err-clause-write : goal.returns-in-Err-clause-write
 returns-in-Err-clause-write g c = λ is.
     let tail = settled_text (Ok tt) c.args.store.now.session.acknowledged in (
       inl refl,
-      c.in-Err.ensures.err,
+      c.in-Err.ensures.counts.counted,
       λ part stands.
           let rest = c.in-Err.ensures.rest part stands in
           (rest.0 ++ tail, (rest.0, Ok tt, rest.1, refl), some_first _ _ rest.0 tail rest.2.part),

@@ -1,16 +1,16 @@
 use Rattle.std.proofs.Common.{◌≡◌, ◌∙◌, arith, ◌<◌, length, take, inl, inr, refl, subst}
 use Rattle.org_serve.specs.declared.end.ServeEnd.TheVariants.{Write}
-use Rattle.org_serve.specs.Counts.{HasRisenBy, HasRead}
+use Rattle.org_serve.specs.Pipes.{HasRisenBy, HasRead}
 use Rattle.org_serve.specs.Lines.{cut}
-use Rattle.org_serve.specs.Crashes.{HasSettledOver}
-use Rattle.org_serve.specs.Writes.{exchange}
+use Rattle.org_store.specs.Calls.{model}
+use Rattle.org_serve.specs.Writes.{exchange, output}
 use Rattle.org_serve.proofs.Cuts.{rest-free}
 use Rattle.org_serve.proofs.Inputs.{Served-none, Served-more, Served-some, Served-some_wrote, Served-no_more, serves_read, serves_some, serves_end}
 use Rattle.org_serve.proofs.Joins.{Consumes-kept}
 use Rattle.org_serve.proofs.Counting.{HasRisenBy-counted, within_counted, within_all, read_none, read_more, ended_read, ended_otherwise}
 use Rattle.org_serve.proofs.Breaking.{untouched_then, breaks_then, accounts_still}
-use Rattle.org_serve.proofs.Honest.{kept_end, kept_runs, kept_served, kept_settled, kept_some}
-use Rattle.org_serve.proofs.Crashes.{session_of_served, session_of_ends, session_of_settled, session_of_some, runs_read, runs_finish, runs_some, runs_keep}
+use Rattle.org_serve.proofs.Honest.{sound_end, sound_runs, sound_served, sound_settled, sound_some, sound_stores}
+use Rattle.org_serve.proofs.Crashes.{ends_by, runs_finish, runs_keep, runs_read, runs_some, served_by, session_calls, settled_by, some_by}
 use Rattle.org_serve.proofs.serving.serve.Goals as goal
 
 pub returns-in-Ok-eq0-clause-causes : goal.returns-in-Ok-eq0-clause-causes
@@ -33,45 +33,42 @@ returns-in-Ok-eq0-clause-did g c = λ honest.
     let d = g.D.Disk in
     let zero : c.in-Ok-eq0.field-0 ≡ 0 = omega arith in
     let read = rw zero at c.in-Ok-eq0.ensures.bytes in
-    let s = kept_served d (Served-no_more c.loop.invariant.0 (g.R.Source.left c.read.new.self) read.0) (c.finish.ensures.accounts.was_honest honest) in
+    let s = sound_served d (Served-no_more c.loop.invariant.0 (g.R.Source.left c.read.new.self) read.0) (c.finish.ensures.accounts.was_honest honest) in
     let room : 0 < length c.read.new.into = omega (arith, c.read.auto.into) in (
-      serves_end (exchange g.R.Source g.W.Sink c.args.reader.now c.read.new.self c.args.writer.now c.finish.new.writer) (session_of_served d s) c.finish.result c.finish.new.store.session (c.in-Ok-eq0.ensures.bytes.1 zero room) c.finish.ensures.never
-          (λ no_write. session_of_ends d (cut s.input).rest c.loop.store c.finish.result c.finish.new.store (g.W.Sink.written c.loop.writer) (g.W.Sink.written c.finish.new.writer)
-          (kept_end d (cut s.input).rest c.loop.store c.finish.result c.finish.new.store (g.W.Sink.written c.loop.writer) (g.W.Sink.written c.finish.new.writer)
+      serves_end (exchange g.R.Source g.W.Sink c.args.reader.now c.read.new.self c.args.writer.now c.finish.new.writer) (served_by (sound_stores d) model (λ store. store.session) (λ store. refl) (session_calls d) s) c.finish.result c.finish.new.store.session (c.in-Ok-eq0.ensures.bytes.1 zero room) c.finish.ensures.never
+          (λ no_write. ends_by (sound_stores d) model (λ store. store.session) (λ store. refl) (session_calls d) (cut s.input).rest c.loop.store c.finish.result c.finish.new.store (output g.W.Sink c.loop.writer c.finish.new.writer)
+          (sound_end d (cut s.input).rest c.loop.store c.finish.result c.finish.new.store (output g.W.Sink c.loop.writer c.finish.new.writer)
           ((c.finish.ensures.told no_write).1 (cut s.input).rest s.stands) honest))
           (λ e. elim ((c.finish.ensures.write e).0) [
             | inl same ↦ inl (rw same refl)
-            | inr settled ↦ inr (session_of_settled d c.loop.store c.finish.new.store (kept_settled d c.loop.store c.finish.new.store settled honest))
+            | inr settled ↦ inr (settled_by (sound_stores d) model (λ store. store.session) (λ store. refl) (session_calls d) c.loop.store c.finish.new.store (sound_settled d c.loop.store c.finish.new.store settled honest))
           ]),
-      runs_keep d (kept_runs d (returns-in-Ok-eq0-clause-calls g c).0 honest),
+      runs_keep d (sound_runs d (returns-in-Ok-eq0-clause-calls g c).0 honest),
     )
 
 pub returns-in-Err-feed-clause-causes : goal.returns-in-Err-feed-clause-causes
 returns-in-Err-feed-clause-causes g c =
     ended_otherwise (exchange g.R.Source g.W.Sink c.args.reader.now c.read.new.self c.args.writer.now c.feed.new.writer) Write (λ e. absurd (cc))
     (within_all c.args.turns c.loop.counter (g.R.Source.reads c.args.reader.now) (g.R.Source.reads c.read.new.self) (within_counted c.loop.counter (g.R.Source.reads c.args.reader.now) (g.R.Source.reads c.loop.reader) (g.R.Source.reads c.read.new.self) c.loop.invariant.6 c.in-Ok.ensures.counted) (omega arith))
-    (c.in-Ok.ensures.ok ∙ c.loop.invariant.4) c.loop.invariant.5 (λ e. c.in-Err-feed.ensures.err) (λ not. absurd (not refl))
+    (c.in-Ok.ensures.ok ∙ c.loop.invariant.4) c.loop.invariant.5 (λ e. c.in-Err-feed.ensures.counts.counted) (λ not. absurd (not refl))
 
 pub returns-in-Err-feed-clause-calls : goal.returns-in-Err-feed-clause-calls
 returns-in-Err-feed-clause-calls g c =
-    let d = g.D.Disk in
     let s = c.loop.invariant.0 in
     let piece = take c.in-Ok.n c.read.new.into in
-    let left = g.R.Source.left c.read.new.self in
     let fed = c.in-Err-feed.ensures.fed (cut s.input).rest (rest-free s.input) s.stands in
-    runs_some (HasSettledOver d) (exchange g.R.Source g.W.Sink c.args.reader.now c.read.new.self c.args.writer.now c.feed.new.writer) c.feed.new.store.session.acknowledged
-    (Served-some s piece c.feed.new.store left (g.W.Sink.written c.feed.new.writer) c.in-Ok.ensures.bytes.0 fed)
-    (Served-some_wrote s piece c.feed.new.store left (g.W.Sink.written c.feed.new.writer) c.in-Ok.ensures.bytes.0 fed)
+    let io = exchange g.R.Source g.W.Sink c.args.reader.now c.read.new.self c.args.writer.now c.feed.new.writer in
+    runs_some io (Served-some io s piece c.feed.new.store c.in-Ok.ensures.bytes.0 fed) (Served-some_wrote io s piece c.feed.new.store c.in-Ok.ensures.bytes.0 fed)
 
 pub returns-in-Err-feed-clause-did : goal.returns-in-Err-feed-clause-did
 returns-in-Err-feed-clause-did g c = λ honest.
     let d = g.D.Disk in
-    let s = c.loop.invariant.0 in (
-      serves_some (exchange g.R.Source g.W.Sink c.args.reader.now c.read.new.self c.args.writer.now c.feed.new.writer)
-          (session_of_some d c.args.store.now c.feed.new.store _ _ (kept_some d c.args.store.now c.feed.new.store _ _
-          (Served-some s (take c.in-Ok.n c.read.new.into) c.feed.new.store (g.R.Source.left c.read.new.self) (g.W.Sink.written c.feed.new.writer) c.in-Ok.ensures.bytes.0
-          (c.in-Err-feed.ensures.fed (cut s.input).rest (rest-free s.input) s.stands)) honest)),
-      runs_keep d (kept_runs d (returns-in-Err-feed-clause-calls g c).0 honest),
+    let s = c.loop.invariant.0 in
+    let io = exchange g.R.Source g.W.Sink c.args.reader.now c.read.new.self c.args.writer.now c.feed.new.writer in (
+      serves_some io
+          (some_by (sound_stores d) model (λ store. store.session) (λ store. refl) (session_calls d) c.args.store.now c.feed.new.store io (sound_some d c.args.store.now c.feed.new.store io
+          (Served-some io s (take c.in-Ok.n c.read.new.into) c.feed.new.store c.in-Ok.ensures.bytes.0 (c.in-Err-feed.ensures.fed (cut s.input).rest (rest-free s.input) s.stands)) honest)),
+      runs_keep d (sound_runs d (returns-in-Err-feed-clause-calls g c).0 honest),
     )
 
 pub returns-in-Err-clause-causes : goal.returns-in-Err-clause-causes
@@ -83,15 +80,15 @@ returns-in-Err-clause-causes g c =
 pub returns-in-Err-clause-calls : goal.returns-in-Err-clause-calls
 returns-in-Err-clause-calls g c =
     let d = g.D.Disk in
-    runs_read (HasSettledOver d) (exchange g.R.Source g.W.Sink c.args.reader.now c.read.new.self c.args.writer.now c.loop.writer) c.loop.store.session.acknowledged
+    runs_read (exchange g.R.Source g.W.Sink c.args.reader.now c.read.new.self c.args.writer.now c.loop.writer)
     (Served-no_more c.loop.invariant.0 (g.R.Source.left c.read.new.self) (Consumes-kept _ _ c.in-Err.ensures.bytes))
 
 pub returns-in-Err-clause-did : goal.returns-in-Err-clause-did
 returns-in-Err-clause-did g c = λ honest.
     let d = g.D.Disk in (
-      serves_read (exchange g.R.Source g.W.Sink c.args.reader.now c.read.new.self c.args.writer.now c.loop.writer) (session_of_served d
-          (kept_served d (Served-no_more c.loop.invariant.0 (g.R.Source.left c.read.new.self) (Consumes-kept _ _ c.in-Err.ensures.bytes)) honest)),
-      runs_keep d (kept_runs d (returns-in-Err-clause-calls g c).0 honest),
+      serves_read (exchange g.R.Source g.W.Sink c.args.reader.now c.read.new.self c.args.writer.now c.loop.writer) (served_by (sound_stores d) model (λ store. store.session) (λ store. refl) (session_calls d)
+          (sound_served d (Served-no_more c.loop.invariant.0 (g.R.Source.left c.read.new.self) (Consumes-kept _ _ c.in-Err.ensures.bytes)) honest)),
+      runs_keep d (sound_runs d (returns-in-Err-clause-calls g c).0 honest),
     )
 
 pub returns-in-Err-clause-broken : goal.returns-in-Err-clause-broken
@@ -107,13 +104,13 @@ returns-clause-causes g c =
 pub returns-clause-calls : goal.returns-clause-calls
 returns-clause-calls g c =
     let d = g.D.Disk in
-    runs_read (HasSettledOver d) (exchange g.R.Source g.W.Sink c.args.reader.now c.loop.reader c.args.writer.now c.loop.writer) c.loop.store.session.acknowledged c.loop.invariant.0
+    runs_read (exchange g.R.Source g.W.Sink c.args.reader.now c.loop.reader c.args.writer.now c.loop.writer) c.loop.invariant.0
 
 pub returns-clause-did : goal.returns-clause-did
 returns-clause-did g c = λ honest.
     let d = g.D.Disk in (
-      serves_read (exchange g.R.Source g.W.Sink c.args.reader.now c.loop.reader c.args.writer.now c.loop.writer) (session_of_served d (kept_served d c.loop.invariant.0 honest)),
-      runs_keep d (kept_runs d (returns-clause-calls g c).0 honest),
+      serves_read (exchange g.R.Source g.W.Sink c.args.reader.now c.loop.reader c.args.writer.now c.loop.writer) (served_by (sound_stores d) model (λ store. store.session) (λ store. refl) (session_calls d) (sound_served d c.loop.invariant.0 honest)),
+      runs_keep d (sound_runs d (returns-clause-calls g c).0 honest),
     )
 
 pub loop-preserved : goal.loop-preserved
@@ -125,7 +122,7 @@ loop-preserved g c = (
   breaks_then c.loop.invariant.1 c.in-Ok-feed.ensures.untouched c.loop.invariant.2 c.in-Ok-feed.ensures.accounts,
   HasRisenBy-counted c.loop.counter _ _ _ c.loop.invariant.3 c.in-Ok.ensures.counted,
   c.in-Ok.ensures.ok ∙ c.loop.invariant.4,
-  c.in-Ok-feed.ensures.same ∙ c.loop.invariant.5,
+  c.in-Ok-feed.ensures.counts.same ∙ c.loop.invariant.5,
   within_counted c.loop.counter (g.R.Source.reads c.args.reader.now) (g.R.Source.reads c.loop.reader) (g.R.Source.reads c.read.new.self) c.loop.invariant.6 c.in-Ok.ensures.counted,
   read_more c.loop.counter (g.R.Source.left c.args.reader.now) (g.R.Source.left c.loop.reader) (g.R.Source.left c.read.new.self) (take c.in-Ok.n c.read.new.into) c.loop.invariant.7
       c.in-Ok.ensures.bytes.0 (omega (arith, c.in-Ok.ensures.bound.1)),

@@ -28,9 +28,9 @@ returns-in-Ok-clause-served g c =
     serves_lasting d laws.only_now laws.counts_now setup c.args.disk store begun c.set_group.ensures opens
     c.in-Ok.ensures.opened.set.few c.in-Ok.ensures.opened.set.sorted c.in-Ok.ensures.opened.set.sizes (here (λ k. d.honest k → d.honest c.args.disk) c.in-Ok.ensures.accounts.was_honest)
     (here (λ k. d.honest k → IsReopened (d.files c.args.disk) (d.files k)) (λ honestly. (reopens honestly).done))
-    c.in-Ok.ensures.opened.waits
+    c.in-Ok.ensures.opened.dirty_files
     (here (λ k. d.honest k → LeavesAlone d (IsUnconcerned (contents (d.files c.args.disk) journal_name)) c.args.disk k) (λ honestly. (reopens honestly).alone))
-    c.serve-end.new.store c.into_disk.result c.into_disk.ensures c.serve-end.ensures.calls.0 c.serve-end.ensures.calls.1
+    c.serve-end.new.store c.into_disk.result c.into_disk.ensures c.serve-end.ensures.calls
     (λ honest. (c.serve-end.ensures.did (rw (← c.into_disk.ensures) honest)).0)
     (λ fit each. here (λ k. d.honest k → LeavesOver d c.args.disk k (RecoversAsBefore (d.files c.args.disk))) (λ honestly. (reopens honestly).any_moment fit each))
     (breaks_by_count begun c.serve-end.new.store (here (λ k. Accounts d c.args.disk k ⊥) c.in-Ok.ensures.accounts) c.serve-end.ensures.accounts

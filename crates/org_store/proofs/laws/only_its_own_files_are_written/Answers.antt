@@ -10,8 +10,8 @@ returns-clause-written g c = λ s command. written_named s command
 pub returns-clause-calls : goal.returns-clause-calls
 returns-clause-calls g c = λ first last calls named run. let d = g.D.Disk in (own_calls d first last calls named run).alone
 
-pub returns-clause-waits : goal.returns-clause-waits
-returns-clause-waits g c = λ first last calls named run.
+pub returns-clause-dirty_files : goal.returns-clause-dirty_files
+returns-clause-dirty_files g c = λ first last calls named run.
     let d = g.D.Disk in
     let own = own_calls d first last calls named run in
-    (own.names, subst (λ (ns : List (List ℕ)). AreNames ns last.store.waiting) (sym own.names) own.waits)
+    (own.names, subst (λ (ns : List (List ℕ)). AreNames ns last.store.dirty) (sym own.names) own.dirty_files)

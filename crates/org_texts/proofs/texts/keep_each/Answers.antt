@@ -1,7 +1,7 @@
 use Rattle.std.proofs.Common.{◌≡◌, ◌∙◌, length, sym, ap, arith}
 use Rattle.std.proofs.lemmas.Map.Entries.{length-keys_of}
 use Rattle.org_texts.specs.Held.{HeldText}
-use Rattle.org_texts.proofs.Values.{begun_more, map_kept, map_same, names_kept}
+use Rattle.org_texts.proofs.Values.{unedited_more, map_kept, map_same, names_kept}
 use Rattle.org_texts.proofs.texts.keep_each.Goals as goal
 
 pub loop-place-preserved : goal.loop-place-preserved
@@ -13,7 +13,7 @@ loop-place-preserved c =
     let text : w.text ≡ r.text = ap (λ (h : HeldText). h.text) c.keep.ensures in
     let before : w.before ≡ r.text = ap (λ (h : HeldText). h.before) c.keep.ensures in
     record {
-      so_far = begun_more (λ (h : HeldText). h.before ≡ h.text) es i w c.loop-place.invariant.so_far (before ∙ sym text);
+      so_far = unedited_more (λ (h : HeldText). h.before ≡ h.text) es i w c.loop-place.invariant.so_far (before ∙ sym text);
       now = map_kept (λ (h : HeldText). h.text) es i r w c.index_mut.ensures.value text ∙ c.loop-place.invariant.now;
       names = names_kept es i w ∙ c.loop-place.invariant.names;
     }

@@ -2,7 +2,7 @@ use Rattle.std.proofs.Common.{◌≡◌, ◌∙◌, length, sym, ap, arith}
 use Rattle.std.proofs.lemmas.Map.Entries.{length-keys_of}
 use Rattle.org_splice.specs.Texts.{settled}
 use Rattle.org_texts.specs.Held.{HeldText}
-use Rattle.org_texts.proofs.Values.{begun_more, map_kept, map_same, names_kept}
+use Rattle.org_texts.proofs.Values.{unedited_more, map_kept, map_same, names_kept}
 use Rattle.org_texts.proofs.texts.settle_each.Goals as goal
 
 pub loop-place-preserved : goal.loop-place-preserved
@@ -15,8 +15,8 @@ loop-place-preserved c =
     let before : w.before ≡ settled r.text.bytes = ap (λ (h : HeldText). h.before) c.settle.ensures in
     let bytes : w.text.bytes ≡ r.text.bytes = ap (λ (h : HeldText). h.text.bytes) c.settle.ensures in
     record {
-      now = begun_more (λ (h : HeldText). h.text ≡ settled h.text.bytes) es i w c.loop-place.invariant.now (text ∙ ap settled (sym bytes));
-      before = begun_more (λ (h : HeldText). h.before ≡ settled h.text.bytes) es i w c.loop-place.invariant.before (before ∙ ap settled (sym bytes));
+      now = unedited_more (λ (h : HeldText). h.text ≡ settled h.text.bytes) es i w c.loop-place.invariant.now (text ∙ ap settled (sym bytes));
+      before = unedited_more (λ (h : HeldText). h.before ≡ settled h.text.bytes) es i w c.loop-place.invariant.before (before ∙ ap settled (sym bytes));
       bytes = map_kept (λ (h : HeldText). settled h.text.bytes) es i r w c.index_mut.ensures.value (ap settled bytes) ∙ c.loop-place.invariant.bytes;
       names = names_kept es i w ∙ c.loop-place.invariant.names;
     }

@@ -1,7 +1,7 @@
 use Rattle.std.proofs.Common.{◌≡◌, ◌∙◌, length, sym, ap, arith}
 use Rattle.std.proofs.lemmas.Map.Entries.{length-keys_of}
 use Rattle.org_texts.specs.Held.{HeldText}
-use Rattle.org_texts.proofs.Values.{begun_more, map_kept, map_same, names_kept}
+use Rattle.org_texts.proofs.Values.{unedited_more, map_kept, map_same, names_kept}
 use Rattle.org_texts.proofs.texts.undo_each.Goals as goal
 
 pub loop-place-preserved : goal.loop-place-preserved
@@ -10,7 +10,7 @@ loop-place-preserved c =
     let i = c.loop-place.place in
     let w = c.undo.new.self in
     record {
-      so_far = begun_more (λ (h : HeldText). h.text ≡ h.before) es i w c.loop-place.invariant.so_far (c.undo.ensures.text ∙ sym c.undo.ensures.before);
+      so_far = unedited_more (λ (h : HeldText). h.text ≡ h.before) es i w c.loop-place.invariant.so_far (c.undo.ensures.text ∙ sym c.undo.ensures.before);
       before = map_kept (λ (h : HeldText). h.before) es i c.index_mut.result.now w c.index_mut.ensures.value c.undo.ensures.before ∙ c.loop-place.invariant.before;
       names = names_kept es i w ∙ c.loop-place.invariant.names;
     }

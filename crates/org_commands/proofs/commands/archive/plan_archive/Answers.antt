@@ -8,7 +8,7 @@ use Rattle.org_commands.specs.InOrder.{is_name, text_at}
 use Rattle.org_commands.specs.Keeping.{Plans, Reads, fault_of_move}
 use Rattle.org_commands.specs.Outcome.{Outcome, archive, archive_to}
 use Rattle.org_commands.specs.Session.{Session, session_over}
-use Rattle.org_commands.specs.Step.{Does}
+use Rattle.org_commands.specs.Step.{Steps}
 use Rattle.org_commands.proofs.Archives.{held_bytes, place_found, place_refused, store_text}
 use Rattle.org_commands.proofs.Held.{none_ready}
 use Rattle.org_commands.proofs.InOrder.{none_at}
@@ -43,7 +43,7 @@ pub find_location-requires : goal.find_location-requires
 find_location-requires g c =
     let held = c.ready.new.self.held in
     let file = c.args.command.now.file in
-    let ready : AreReady (file ∷ []) held = c.in_ok-ready.ensures.ready [] (none_ready c.args.files.now.held c.requires.between.begun) in
+    let ready : AreReady (file ∷ []) held = c.in_ok-ready.ensures.ready [] (none_ready c.args.files.now.held c.requires.between.unedited) in
     is_ready (file ∷ []) held file ready (one_name file)
 
 pub returns-in_err-to-clause-plans : goal.returns-in_err-to-clause-plans
@@ -58,7 +58,7 @@ returns-in_err-to-clause-plans g c tally honest =
     let why = c.in_err-to.field-0.0 in
     let given : c.from_residual-in_err-to.result ≡ Err (fault_of_move why) = handed_on c.from_residual-in_err-to.result _ c.from_residual-in_err-to.ensures.1 in
     let read : new ≡ s = c.in_ok-ready.ensures.reads a.states.now tally honest in
-    let ready : AreReady (file ∷ []) files.held = c.in_ok-ready.ensures.ready [] (none_ready a.files.now.held c.requires.between.begun) in
+    let ready : AreReady (file ∷ []) files.held = c.in_ok-ready.ensures.ready [] (none_ready a.files.now.held c.requires.between.unedited) in
     let there : is_name a.files.now.names file ≡ true = sym c.if-not-has.ensures in
     let named : is_name files.names file ≡ true = ap (λ (ns : List (List ℕ)). is_name ns file) c.ready.ensures.disk.names ∙ there in
     let own = store_text texts a.states.now files tally s (file ∷ []) file read ready (one_name file) named in
@@ -66,10 +66,10 @@ returns-in_err-to-clause-plans g c tally honest =
     let gives = c.find_location.ensures in
     let refused = place_refused s file a.command.now.path a.command.now.moment own.0 seen c.find_location.result why c.requires.between.unbroken own.1 own.2 c.in_err-to.was gives in
     subst (λ (r : Result Plan RunFault). Plans s told r files.held new) (sym given)
-    (subst (λ (t : Session). Does s told (Err (fault_of_move why)) t) (sym read) refused)
+    (subst (λ (t : Session). Steps s told (Err (fault_of_move why)) t) (sym read) refused)
 
 pub plan_archive_to-requires-clause-ready : goal.plan_archive_to-requires-clause-ready
-plan_archive_to-requires-clause-ready g c = c.in_ok-ready.ensures.ready [] (none_ready c.args.files.now.held c.requires.between.begun)
+plan_archive_to-requires-clause-ready g c = c.in_ok-ready.ensures.ready [] (none_ready c.args.files.now.held c.requires.between.unedited)
 
 pub returns-clause-plans : goal.returns-clause-plans
 returns-clause-plans g c tally honest =
@@ -84,7 +84,7 @@ returns-clause-plans g c tally honest =
     let to = c.in_ok-to.to in
     let told = archive s file a.command.now.path a.command.now.moment (text_at s.names s.files file) in
     let read : one ≡ s = c.in_ok-ready.ensures.reads a.states.now tally (c.plan_archive_to.ensures.disk.accounts.was_honest honest) in
-    let ready : AreReady (file ∷ []) files.held = c.in_ok-ready.ensures.ready [] (none_ready a.files.now.held c.requires.between.begun) in
+    let ready : AreReady (file ∷ []) files.held = c.in_ok-ready.ensures.ready [] (none_ready a.files.now.held c.requires.between.unedited) in
     let there : is_name a.files.now.names file ≡ true = sym c.if-not-has.ensures in
     let named : is_name files.names file ≡ true = ap (λ (ns : List (List ℕ)). is_name ns file) c.ready.ensures.disk.names ∙ there in
     let own = store_text texts a.states.now files tally s (file ∷ []) file read ready (one_name file) named in

@@ -17,8 +17,8 @@ use Rattle.org_commands.specs.Keeping.{Plans, Reads, fault_of_move}
 use Rattle.org_commands.specs.Outcome.{archive_to}
 use Rattle.org_commands.specs.Refile.{MakesDocument, MakesDocuments, text_within, texts_across}
 use Rattle.org_commands.specs.Session.{Session, session_over}
-use Rattle.org_commands.specs.Step.{Does}
-use Rattle.org_commands.proofs.Archives.{across_fits, across_is, across_texts, held_bytes, no_place, no_text, same_shut, store_text, within_fits, within_is, within_texts}
+use Rattle.org_commands.specs.Step.{Steps}
+use Rattle.org_commands.proofs.Archives.{across_fits, across_is, across_texts, held_bytes, no_place, no_text, same_terminated, store_text, within_fits, within_is, within_texts}
 use Rattle.org_commands.proofs.Plans.{first_name, is_ready, one_name, second_name}
 use Rattle.org_commands.proofs.Reading.{only_reads_fault, only_reads_fine, only_reads_none}
 use Rattle.org_commands.proofs.Refiles.{move_planned, move_refused}
@@ -64,7 +64,7 @@ returns-in_err-plan_within-clause-plans g c tally honest text at =
     let same : file ≡ to.file = same_name file c.file-to_file.result.now to.file c.if-eq.ensures c.file-to_file.ensures in
     let own = store_text texts a.states.now files tally s (file ∷ []) file refl c.requires.ready (one_name file) c.requires.name in
     let seen = held_bytes files.held file in
-    let is = within_is s file a.command.now.path a.command.now.moment text seen to at (same_shut text own.0 seen (sym at ∙ own.1) own.2) same in
+    let is = within_is s file a.command.now.path a.command.now.moment text seen to at (same_terminated text own.0 seen (sym at ∙ own.1) own.2) same in
     let gives = c.plan_within.ensures in
     let refused = move_refused s (text_within file) told (archive_within a.states.now file a.command.now.path a.command.now.moment to (tree seen)) (MakesDocument file seen) c.plan_within.result why c.requires.unbroken is c.in_err-plan_within.was gives in
     subst (λ (r : Result Plan RunFault). Plans s told r files.held s) (sym given) refused
@@ -93,7 +93,7 @@ returns-then-eq-clause-plans g c tally honest text at =
     let same : file ≡ to.file = same_name file c.file-to_file.result.now to.file c.if-eq.ensures c.file-to_file.ensures in
     let own = store_text texts a.states.now files tally s (file ∷ []) file refl c.requires.ready (one_name file) c.requires.name in
     let seen = held_bytes files.held file in
-    let is = within_is s file a.command.now.path a.command.now.moment text seen to at (same_shut text own.0 seen (sym at ∙ own.1) own.2) same in
+    let is = within_is s file a.command.now.path a.command.now.moment text seen to at (same_terminated text own.0 seen (sym at ∙ own.1) own.2) same in
     let made = c.in_ok-plan_within.ensures in (
       move_planned s (text_within file) told (archive_within a.states.now file a.command.now.path a.command.now.moment to (tree seen)) made.0 (new_texts plan files.held.now) is made.1 (within_texts plan files.held file made.0 made.2 c.requires.ready),
       refl,
@@ -172,12 +172,12 @@ returns-in_err-plan_across-clause-plans g c tally honest text at =
     let other = store_text texts a.states.now later tally s (to.file ∷ file ∷ []) to.file read both (first_name to.file (file ∷ [])) also in
     let seen = held_bytes later.held file in
     let target = held_bytes later.held to.file in
-    let is = across_is s file a.command.now.path a.command.now.moment text seen other.0 target to other.1 (same_shut text own.0 seen (sym at ∙ own.1) own.2) other.2 apart in
+    let is = across_is s file a.command.now.path a.command.now.moment text seen other.0 target to other.1 (same_terminated text own.0 seen (sym at ∙ own.1) own.2) other.2 apart in
     let gives = c.plan_across.ensures in
     let refused = move_refused s (texts_across file to.file) told (archive_across a.states.now file a.command.now.path a.command.now.moment (tree seen) a.states.now to (tree target)) (MakesDocuments file to.file seen target) c.plan_across.result why
     c.requires.unbroken is c.in_err-plan_across.was gives in
     subst (λ (r : Result Plan RunFault). Plans s told r later.held new) (sym given)
-    (subst (λ (t : Session). Does s told (Err (fault_of_move why)) t) (sym read) refused)
+    (subst (λ (t : Session). Steps s told (Err (fault_of_move why)) t) (sym read) refused)
 
 pub returns-in_err-plan_across-clause-disk : goal.returns-in_err-plan_across-clause-disk
 returns-in_err-plan_across-clause-disk g c =
@@ -229,7 +229,7 @@ returns-clause-plans g c tally honest text at =
     let other = store_text texts a.states.now later tally s (to.file ∷ file ∷ []) to.file read both (first_name to.file (file ∷ [])) also in
     let seen = held_bytes later.held file in
     let target = held_bytes later.held to.file in
-    let is = across_is s file a.command.now.path a.command.now.moment text seen other.0 target to other.1 (same_shut text own.0 seen (sym at ∙ own.1) own.2) other.2 apart in
+    let is = across_is s file a.command.now.path a.command.now.moment text seen other.0 target to other.1 (same_terminated text own.0 seen (sym at ∙ own.1) own.2) other.2 apart in
     let made = c.in_ok-plan_across.ensures in (
       move_planned s (texts_across file to.file) told (archive_across a.states.now file a.command.now.path a.command.now.moment (tree seen) a.states.now to (tree target)) made.0 (new_texts plan later.held.now) is made.1
           (across_texts plan later.held file to.file made.0 apart made.2 both),

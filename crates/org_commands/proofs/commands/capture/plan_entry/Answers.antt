@@ -12,7 +12,7 @@ use Rattle.org_commands.specs.InOrder.{is_name, text_at}
 use Rattle.org_commands.specs.Keeping.{Plans, Reads, fault_of_capture}
 use Rattle.org_commands.specs.Outcome.{with_entry}
 use Rattle.org_commands.specs.Session.{Session, session_over}
-use Rattle.org_commands.specs.Step.{Does}
+use Rattle.org_commands.specs.Step.{Steps}
 use Rattle.org_commands.proofs.Captures.{target_planned, target_refused}
 use Rattle.org_commands.proofs.Held.{none_ready}
 use Rattle.org_commands.proofs.Plans.{is_ready, one_name, one_text, plan_of_one, ready_text, text_held}
@@ -36,7 +36,7 @@ pub held-held-requires : goal.held-held-requires
 held-held-requires g c =
     let held = c.ready.new.self.held in
     let file = c.args.command.now.file in
-    let ready : AreReady (file ∷ []) held = c.in_ok-ready.ensures.ready [] (none_ready c.args.files.now.held c.requires.between.begun) in
+    let ready : AreReady (file ∷ []) held = c.in_ok-ready.ensures.ready [] (none_ready c.args.files.now.held c.requires.between.unedited) in
     is_ready (file ∷ []) held file ready (one_name file)
 
 pub returns-in_err-edit-clause-plans : goal.returns-in_err-edit-clause-plans
@@ -52,7 +52,7 @@ returns-in_err-edit-clause-plans g c tally honest node entry =
     let why = c.in_err-edit.field-0.0 in
     let given : c.from_residual-in_err-edit.result ≡ Err (fault_of_capture why) = handed_on c.from_residual-in_err-edit.result _ c.from_residual-in_err-edit.ensures.1 in
     let read : new ≡ s = c.in_ok-ready.ensures.reads a.states.now tally honest in
-    let ready : AreReady (file ∷ []) held = c.in_ok-ready.ensures.ready [] (none_ready a.files.now.held c.requires.between.begun) in
+    let ready : AreReady (file ∷ []) held = c.in_ok-ready.ensures.ready [] (none_ready a.files.now.held c.requires.between.unedited) in
     let named : is_name c.ready.new.self.names file ≡ true = ap (λ (ns : List (List ℕ)). is_name ns file) c.ready.ensures.disk.names ∙ c.requires.file in
     let at : text_of held.now file ≡ Some text = c.held-held.ensures.text in
     let old = ready_text (file ∷ []) held file text ready (one_name file) at in
@@ -60,15 +60,15 @@ returns-in_err-edit-clause-plans g c tally honest node entry =
     let found : text_at s.names s.files file ≡ Some old.0.bytes = subst (λ (t : Session). text_at t.names t.files file ≡ Some old.0.bytes) read seen in
     let refused = target_refused s file a.command.now.target a.command.now.place a.command.now.moment old.0.bytes text.bytes node old.2 c.insertion.result why c.requires.between.unbroken c.in_err-edit.was (c.insertion.ensures node entry) in
     subst (λ (r : Result Plan RunFault). Plans s (said (text_at s.names s.files file)) r held new) (sym given)
-    (subst (λ (o : Option (List ℕ)). Does s (said o) (Err (fault_of_capture why)) new) (sym found)
-    (subst (λ (t : Session). Does s (said (Some old.0.bytes)) (Err (fault_of_capture why)) t) (sym read) refused))
+    (subst (λ (o : Option (List ℕ)). Steps s (said o) (Err (fault_of_capture why)) new) (sym found)
+    (subst (λ (t : Session). Steps s (said (Some old.0.bytes)) (Err (fault_of_capture why)) t) (sym read) refused))
 
 pub returns-clause-plan : goal.returns-clause-plan
 returns-clause-plan g c =
     let a = c.args in
     let held = c.ready.new.self.held in
     let file = a.command.now.file in
-    let ready : AreReady (file ∷ []) held = c.in_ok-ready.ensures.ready [] (none_ready a.files.now.held c.requires.between.begun) in
+    let ready : AreReady (file ∷ []) held = c.in_ok-ready.ensures.ready [] (none_ready a.files.now.held c.requires.between.unedited) in
     let named : is_name c.ready.new.self.names file ≡ true = ap (λ (ns : List (List ℕ)). is_name ns file) c.ready.ensures.disk.names ∙ c.requires.file in
     let at : text_of held.now file ≡ Some c.held-held.result.now.text = c.held-held.ensures.text in
     let text = c.held-held.result.now.text in
@@ -89,7 +89,7 @@ returns-clause-plans g c tally honest node entry =
     let plan = c.plan_of_one.result in
     let made = c.plan_of_one.ensures in
     let read : new ≡ s = c.in_ok-ready.ensures.reads a.states.now tally honest in
-    let ready : AreReady (file ∷ []) held = c.in_ok-ready.ensures.ready [] (none_ready a.files.now.held c.requires.between.begun) in
+    let ready : AreReady (file ∷ []) held = c.in_ok-ready.ensures.ready [] (none_ready a.files.now.held c.requires.between.unedited) in
     let named : is_name c.ready.new.self.names file ≡ true = ap (λ (ns : List (List ℕ)). is_name ns file) c.ready.ensures.disk.names ∙ c.requires.file in
     let at : text_of held.now file ≡ Some text = c.held-held.ensures.text in
     let old = ready_text (file ∷ []) held file text ready (one_name file) at in

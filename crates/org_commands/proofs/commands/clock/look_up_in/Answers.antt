@@ -10,8 +10,8 @@ use Rattle.org_commands.specs.declared.command.RunFault.{RunFault}
 use Rattle.org_commands.specs.Files.{AreReady}
 use Rattle.org_commands.specs.InOrder.{is_name, text_at}
 use Rattle.org_commands.specs.Keeping.{LooksUp, Reads, fault_of_state}
-use Rattle.org_commands.specs.Session.{Kept, session_over}
-use Rattle.org_commands.proofs.Acting.{kept_same}
+use Rattle.org_commands.specs.Session.{StoreView, session_over}
+use Rattle.org_commands.proofs.Acting.{view_same}
 use Rattle.org_commands.proofs.Clocks.{looked_up, not_looked_up, reads_look_up, ready_document}
 use Rattle.org_commands.proofs.Held.{none_ready}
 use Rattle.org_commands.proofs.Plans.{is_ready, one_name}
@@ -34,7 +34,7 @@ pub held-requires : goal.held-requires
 held-requires g c =
     let held = c.ready.new.self.held in
     let file = c.args.command.now.file in
-    let ready : AreReady (file ∷ []) held = c.in_ok-ready.ensures.ready [] (none_ready c.args.files.now.held c.requires.between.begun) in
+    let ready : AreReady (file ∷ []) held = c.in_ok-ready.ensures.ready [] (none_ready c.args.files.now.held c.requires.between.unedited) in
     is_ready (file ∷ []) held file ready (one_name file)
 
 pub returns-in_err-look_up-clause-finds : goal.returns-in_err-look_up-clause-finds
@@ -49,7 +49,7 @@ returns-in_err-look_up-clause-finds g c tally honest =
     let why = c.in_err-look_up.field-0.0 in
     let given : c.from_residual-in_err-look_up.result ≡ Err (fault_of_state why) = handed_on c.from_residual-in_err-look_up.result _ c.from_residual-in_err-look_up.ensures.1 in
     let read : new ≡ s = c.in_ok-ready.ensures.reads a.states.now tally honest in
-    let ready : AreReady (file ∷ []) held = c.in_ok-ready.ensures.ready [] (none_ready a.files.now.held c.requires.between.begun) in
+    let ready : AreReady (file ∷ []) held = c.in_ok-ready.ensures.ready [] (none_ready a.files.now.held c.requires.between.unedited) in
     let named : is_name c.ready.new.self.names file ≡ true = ap (λ (ns : List (List ℕ)). is_name ns file) c.ready.ensures.disk.names ∙ c.requires.file in
     let at : text_of held.now file ≡ Some seen = c.held.ensures.text in
     let document = ready_document texts a.states.now c.ready.new.self tally s (file ∷ []) file seen read ready (one_name file) named at in
@@ -69,11 +69,11 @@ returns-clause-finds g c tally honest =
     let file = a.command.now.file in
     let seen = c.held.result.now.text in
     let read : session_over texts a.states.now c.ready.new.self tally ≡ s = c.in_ok-ready.ensures.reads a.states.now tally (subst d.honest undone.memory.disk honest) in
-    let same = kept_same d.files a.states.now c.ready.new.self c.undo.new.self tally undone.memory undone.before in
-    let ready : AreReady (file ∷ []) held = c.in_ok-ready.ensures.ready [] (none_ready a.files.now.held c.requires.between.begun) in
+    let same = view_same d.files a.states.now c.ready.new.self c.undo.new.self tally undone.memory undone.before in
+    let ready : AreReady (file ∷ []) held = c.in_ok-ready.ensures.ready [] (none_ready a.files.now.held c.requires.between.unedited) in
     let named : is_name c.ready.new.self.names file ≡ true = ap (λ (ns : List (List ℕ)). is_name ns file) c.ready.ensures.disk.names ∙ c.requires.file in
     let at : text_of held.now file ≡ Some seen = c.held.ensures.text in
     let document = ready_document texts a.states.now c.ready.new.self tally s (file ∷ []) file seen read ready (one_name file) named at in
     let found : result_map_both {U = Unit {0}} (λ _. tt) fault_of_path (find_path a.states.now (tree seen.bytes) a.command.now.path) ≡ Ok tt = sym c.look_up.ensures ∙ c.in_ok-look_up.was in
     let there = looked_up (find_path a.states.now (tree seen.bytes) a.command.now.path) found in
-    ((there.0, ap (λ (t : Document). find_path a.states.now t a.command.now.path) document ∙ there.1), ap (λ (k : Kept g.row.D.Denot). k.session) same ∙ read)
+    ((there.0, ap (λ (t : Document). find_path a.states.now t a.command.now.path) document ∙ there.1), ap (λ (k : StoreView g.row.D.Denot). k.session) same ∙ read)

@@ -15,7 +15,7 @@ use Rattle.org_commands.specs.InOrder.{is_name, text_at}
 use Rattle.org_commands.specs.Keeping.{PlansOrStays, Reads, fault_of_state}
 use Rattle.org_commands.specs.Outcome.{changed, with_clock_moved}
 use Rattle.org_commands.specs.Session.{Session, session_over}
-use Rattle.org_commands.specs.Step.{Does}
+use Rattle.org_commands.specs.Step.{Steps}
 use Rattle.org_commands.proofs.Clocks.{move_not_made, ready_document, still_runs}
 use Rattle.org_commands.proofs.Held.{none_ready}
 use Rattle.org_commands.proofs.Plans.{first_name, is_ready, plan_of_two, second_name, two_texts}
@@ -43,7 +43,7 @@ held-other-requires g c =
     let held = c.both_ready.new.files.held in
     let file = c.args.clock.now.file in
     let two = c.args.command.now.file ∷ file ∷ [] in
-    let ready : AreReady two held = c.in_ok-both_ready.ensures.ready [] (none_ready c.args.files.now.held c.requires.between.begun) in
+    let ready : AreReady two held = c.in_ok-both_ready.ensures.ready [] (none_ready c.args.files.now.held c.requires.between.unedited) in
     is_ready two held file ready (second_name c.args.command.now.file file)
 
 pub held-held-requires : goal.held-held-requires
@@ -51,7 +51,7 @@ held-held-requires g c =
     let held = c.both_ready.new.files.held in
     let to_file = c.args.command.now.file in
     let two = to_file ∷ c.args.clock.now.file ∷ [] in
-    let ready : AreReady two held = c.in_ok-both_ready.ensures.ready [] (none_ready c.args.files.now.held c.requires.between.begun) in
+    let ready : AreReady two held = c.in_ok-both_ready.ensures.ready [] (none_ready c.args.files.now.held c.requires.between.unedited) in
     is_ready two held to_file ready (first_name to_file (c.args.clock.now.file ∷ []))
 
 pub plan_move-requires-clause-runs : goal.plan_move-requires-clause-runs
@@ -60,7 +60,7 @@ plan_move-requires-clause-runs g c =
     let clock = c.args.clock.now in
     let two = c.args.command.now.file ∷ clock.file ∷ [] in
     let seen = c.held-other.result.now.text in
-    let ready : AreReady two held = c.in_ok-both_ready.ensures.ready [] (none_ready c.args.files.now.held c.requires.between.begun) in
+    let ready : AreReady two held = c.in_ok-both_ready.ensures.ready [] (none_ready c.args.files.now.held c.requires.between.unedited) in
     let at : text_of held.now clock.file ≡ Some seen = c.held-other.ensures.text in
     still_runs c.args.files.now.held held two clock.file clock.running seen c.requires.runs c.both_ready.ensures.keeps ready (second_name c.args.command.now.file clock.file) at
 
@@ -84,7 +84,7 @@ returns-in_err-plan-clause-plans g c tally honest =
     let why = c.in_err-plan.field-0.0 in
     let given : c.from_residual-in_err-plan.result ≡ Err (fault_of_state why) = handed_on c.from_residual-in_err-plan.result _ c.from_residual-in_err-plan.ensures.1 in
     let read : new ≡ s = c.in_ok-both_ready.ensures.reads a.states.now tally honest in
-    let ready : AreReady two held = c.in_ok-both_ready.ensures.ready [] (none_ready a.files.now.held c.requires.between.begun) in
+    let ready : AreReady two held = c.in_ok-both_ready.ensures.ready [] (none_ready a.files.now.held c.requires.between.unedited) in
     let names = c.both_ready.new.files.names in
     let named : is_name names file ≡ true = ap (λ (ns : List (List ℕ)). is_name ns file) c.both_ready.ensures.disk.names ∙ c.requires.other in
     let also : is_name names to_file ≡ true = ap (λ (ns : List (List ℕ)). is_name ns to_file) c.both_ready.ensures.disk.names ∙ c.requires.file in
@@ -94,7 +94,7 @@ returns-in_err-plan-clause-plans g c tally honest =
     ∙ ap (λ (d : Document). with_clock_moved s file to_file (said (tree seen.bytes) d)) (ready_document texts a.states.now c.both_ready.new.files tally s two to_file found read ready (first_name to_file (file ∷ [])) also there) in
     let refused = move_not_made s file to_file seen.bytes found.bytes told (said (tree seen.bytes) (tree found.bytes)) c.plan_move.result why c.requires.between.unbroken is c.in_err-plan.was c.plan_move.ensures in
     subst (λ (r : Result (Option Plan) RunFault). PlansOrStays s told r held new) (sym given)
-    (subst (λ (t : Session). Does s told (Err (fault_of_state why)) t) (sym read) refused)
+    (subst (λ (t : Session). Steps s told (Err (fault_of_state why)) t) (sym read) refused)
 
 pub returns-clause-plan : goal.returns-clause-plan
 returns-clause-plan g c = λ given is.
@@ -106,7 +106,7 @@ returns-clause-plan g c = λ given is.
     let seen = c.held-other.result.now.text in
     let found = c.held-held.result.now.text in
     let plan = c.in_ok-plan.plan in
-    let ready : AreReady two held = c.in_ok-both_ready.ensures.ready [] (none_ready a.files.now.held c.requires.between.begun) in
+    let ready : AreReady two held = c.in_ok-both_ready.ensures.ready [] (none_ready a.files.now.held c.requires.between.unedited) in
     let names = c.both_ready.new.files.names in
     let named : is_name names file ≡ true = ap (λ (ns : List (List ℕ)). is_name ns file) c.both_ready.ensures.disk.names ∙ c.requires.other in
     let also : is_name names to_file ≡ true = ap (λ (ns : List (List ℕ)). is_name ns to_file) c.both_ready.ensures.disk.names ∙ c.requires.file in
@@ -136,7 +136,7 @@ returns-clause-plans g c tally honest =
     let second = tree (unwrap_or (text_at s.names s.files to_file) []) in
     let plan = c.in_ok-plan.plan in
     let read : new ≡ s = c.in_ok-both_ready.ensures.reads a.states.now tally honest in
-    let ready : AreReady two held = c.in_ok-both_ready.ensures.ready [] (none_ready a.files.now.held c.requires.between.begun) in
+    let ready : AreReady two held = c.in_ok-both_ready.ensures.ready [] (none_ready a.files.now.held c.requires.between.unedited) in
     let names = c.both_ready.new.files.names in
     let named : is_name names file ≡ true = ap (λ (ns : List (List ℕ)). is_name ns file) c.both_ready.ensures.disk.names ∙ c.requires.other in
     let also : is_name names to_file ≡ true = ap (λ (ns : List (List ℕ)). is_name ns to_file) c.both_ready.ensures.disk.names ∙ c.requires.file in

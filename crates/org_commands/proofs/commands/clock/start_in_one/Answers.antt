@@ -12,7 +12,7 @@ use Rattle.org_commands.specs.InOrder.{is_name, text_at}
 use Rattle.org_commands.specs.Keeping.{PlansOrStays, Reads, fault_of_state}
 use Rattle.org_commands.specs.Outcome.{with_state}
 use Rattle.org_commands.specs.Session.{Session, session_over}
-use Rattle.org_commands.specs.Step.{Does}
+use Rattle.org_commands.specs.Step.{Steps}
 use Rattle.org_commands.proofs.Clocks.{ready_document, still_runs}
 use Rattle.org_commands.proofs.Held.{none_ready}
 use Rattle.org_commands.proofs.Plans.{is_ready, one_name}
@@ -38,7 +38,7 @@ pub held-held-requires : goal.held-held-requires
 held-held-requires g c =
     let held = c.ready.new.self.held in
     let file = c.args.command.now.file in
-    let ready : AreReady (file ∷ []) held = c.in_ok-ready.ensures.ready [] (none_ready c.args.files.now.held c.requires.between.begun) in
+    let ready : AreReady (file ∷ []) held = c.in_ok-ready.ensures.ready [] (none_ready c.args.files.now.held c.requires.between.unedited) in
     is_ready (file ∷ []) held file ready (one_name file)
 
 pub plan_in_text-requires-clause-runs : goal.plan_in_text-requires-clause-runs
@@ -46,7 +46,7 @@ plan_in_text-requires-clause-runs g c running is =
     let held = c.ready.new.self.held in
     let file = c.args.command.now.file in
     let seen = c.held-held.result.now.text in
-    let ready : AreReady (file ∷ []) held = c.in_ok-ready.ensures.ready [] (none_ready c.args.files.now.held c.requires.between.begun) in
+    let ready : AreReady (file ∷ []) held = c.in_ok-ready.ensures.ready [] (none_ready c.args.files.now.held c.requires.between.unedited) in
     let at : text_of held.now file ≡ Some seen = c.held-held.ensures.text in
     still_runs c.args.files.now.held held (file ∷ []) file running seen (c.requires.runs running is) c.ready.ensures.keeps ready (one_name file) at
 
@@ -64,13 +64,13 @@ returns-in_err-plan_in_text-clause-plans g c tally honest =
     let why = c.in_err-plan_in_text.field-0.0 in
     let given : c.from_residual-in_err-plan_in_text.result ≡ Err (fault_of_state why) = handed_on c.from_residual-in_err-plan_in_text.result _ c.from_residual-in_err-plan_in_text.ensures.1 in
     let read : new ≡ s = c.in_ok-ready.ensures.reads a.states.now tally honest in
-    let ready : AreReady (file ∷ []) held = c.in_ok-ready.ensures.ready [] (none_ready a.files.now.held c.requires.between.begun) in
+    let ready : AreReady (file ∷ []) held = c.in_ok-ready.ensures.ready [] (none_ready a.files.now.held c.requires.between.unedited) in
     let named : is_name c.ready.new.self.names file ≡ true = ap (λ (ns : List (List ℕ)). is_name ns file) c.ready.ensures.disk.names ∙ c.requires.file in
     let at : text_of held.now file ≡ Some seen = c.held-held.ensures.text in
     let is = ap (λ (d : Document). with_state s file (said d)) (ready_document texts a.states.now c.ready.new.self tally s (file ∷ []) file seen read ready (one_name file) named at) in
     let refused = state_not_made s file seen.bytes told (said (tree seen.bytes)) c.plan_in_text.result why c.requires.between.unbroken is c.in_err-plan_in_text.was c.plan_in_text.ensures in
     subst (λ (r : Result (Option Plan) RunFault). PlansOrStays s told r held new) (sym given)
-    (subst (λ (t : Session). Does s told (Err (fault_of_state why)) t) (sym read) refused)
+    (subst (λ (t : Session). Steps s told (Err (fault_of_state why)) t) (sym read) refused)
 
 pub returns-clause-plan : goal.returns-clause-plan
 returns-clause-plan g c =
@@ -78,7 +78,7 @@ returns-clause-plan g c =
     let held = c.ready.new.self.held in
     let file = a.command.now.file in
     let seen = c.held-held.result.now.text in
-    let ready : AreReady (file ∷ []) held = c.in_ok-ready.ensures.ready [] (none_ready a.files.now.held c.requires.between.begun) in
+    let ready : AreReady (file ∷ []) held = c.in_ok-ready.ensures.ready [] (none_ready a.files.now.held c.requires.between.unedited) in
     let named : is_name c.ready.new.self.names file ≡ true = ap (λ (ns : List (List ℕ)). is_name ns file) c.ready.ensures.disk.names ∙ c.requires.file in
     let at : text_of held.now file ≡ Some seen = c.held-held.ensures.text in
     state_fits c.ready.new.self.names held file seen (clocked_in a.command.now.moment a.running (tree seen.bytes) (find_path a.states.now (tree seen.bytes) a.command.now.path)) c.in_ok-plan_in_text.field-0 c.in_ok-plan_in_text.ensures at named ready
@@ -95,7 +95,7 @@ returns-clause-plans g c tally honest =
     let said = λ (d : Document). clocked_in a.command.now.moment a.running d (find_path a.states.now d a.command.now.path) in
     let told = with_state s file (said (tree (unwrap_or (text_at s.names s.files file) []))) in
     let read : new ≡ s = c.in_ok-ready.ensures.reads a.states.now tally honest in
-    let ready : AreReady (file ∷ []) held = c.in_ok-ready.ensures.ready [] (none_ready a.files.now.held c.requires.between.begun) in
+    let ready : AreReady (file ∷ []) held = c.in_ok-ready.ensures.ready [] (none_ready a.files.now.held c.requires.between.unedited) in
     let named : is_name c.ready.new.self.names file ≡ true = ap (λ (ns : List (List ℕ)). is_name ns file) c.ready.ensures.disk.names ∙ c.requires.file in
     let at : text_of held.now file ≡ Some seen = c.held-held.ensures.text in
     let is = ap (λ (d : Document). with_state s file (said d)) (ready_document texts a.states.now c.ready.new.self tally s (file ∷ []) file seen read ready (one_name file) named at) in

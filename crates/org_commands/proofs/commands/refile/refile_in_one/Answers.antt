@@ -11,7 +11,7 @@ use Rattle.org_commands.specs.Keeping.{Plans, Reads, fault_of_move}
 use Rattle.org_commands.specs.Outcome.{refile}
 use Rattle.org_commands.specs.Refile.{MakesDocument, text_within}
 use Rattle.org_commands.specs.Session.{Session, session_over}
-use Rattle.org_commands.specs.Step.{Does}
+use Rattle.org_commands.specs.Step.{Steps}
 use Rattle.org_commands.proofs.Held.{none_ready}
 use Rattle.org_commands.proofs.Plans.{is_ready, one_name, one_text, plan_of_one, ready_text, text_held}
 use Rattle.org_commands.proofs.Refiles.{move_planned, move_refused, within_is}
@@ -36,7 +36,7 @@ pub held-held-requires : goal.held-held-requires
 held-held-requires g c =
     let held = c.ready.new.self.held in
     let file = c.args.command.now.file in
-    let ready : AreReady (file ∷ []) held = c.in_ok-ready.ensures.ready [] (none_ready c.args.files.now.held c.requires.between.begun) in
+    let ready : AreReady (file ∷ []) held = c.in_ok-ready.ensures.ready [] (none_ready c.args.files.now.held c.requires.between.unedited) in
     is_ready (file ∷ []) held file ready (one_name file)
 
 pub returns-in_err-plan_within-clause-plans : goal.returns-in_err-plan_within-clause-plans
@@ -53,7 +53,7 @@ returns-in_err-plan_within-clause-plans g c tally honest =
     let why = c.in_err-plan_within.field-0.0 in
     let given : c.from_residual-in_err-plan_within.result ≡ Err (fault_of_move why) = handed_on c.from_residual-in_err-plan_within.result _ c.from_residual-in_err-plan_within.ensures.1 in
     let read : new ≡ s = c.in_ok-ready.ensures.reads a.states.now tally honest in
-    let ready : AreReady (file ∷ []) held = c.in_ok-ready.ensures.ready [] (none_ready a.files.now.held c.requires.between.begun) in
+    let ready : AreReady (file ∷ []) held = c.in_ok-ready.ensures.ready [] (none_ready a.files.now.held c.requires.between.unedited) in
     let named : is_name c.ready.new.self.names file ≡ true = ap (λ (ns : List (List ℕ)). is_name ns file) c.ready.ensures.disk.names ∙ c.requires.file in
     let at : text_of held.now file ≡ Some seen = c.held-held.ensures.text in
     let old = ready_text (file ∷ []) held file seen ready (one_name file) at in
@@ -62,7 +62,7 @@ returns-in_err-plan_within-clause-plans g c tally honest =
     let is = ap (λ o. refile s file a.command.now.path file a.command.now.to_path a.command.now.place o o) found ∙ within_is s file a.command.now.path a.command.now.to_path a.command.now.place old.0.bytes seen.bytes old.2 in
     let refused = move_refused s (text_within file) told (refile_within a.states.now a.command.now.path a.command.now.to_path a.command.now.place (tree seen.bytes)) (MakesDocument file seen.bytes) c.plan_within.result why c.requires.between.unbroken is c.in_err-plan_within.was c.plan_within.ensures in
     subst (λ (r : Result Plan RunFault). Plans s told r held new) (sym given)
-    (subst (λ (t : Session). Does s told (Err (fault_of_move why)) t) (sym read) refused)
+    (subst (λ (t : Session). Steps s told (Err (fault_of_move why)) t) (sym read) refused)
 
 pub returns-clause-plan : goal.returns-clause-plan
 returns-clause-plan g c =
@@ -71,7 +71,7 @@ returns-clause-plan g c =
     let file = a.command.now.file in
     let seen = c.held-held.result.now.text in
     let plan = c.in_ok-plan_within.field-0 in
-    let ready : AreReady (file ∷ []) held = c.in_ok-ready.ensures.ready [] (none_ready a.files.now.held c.requires.between.begun) in
+    let ready : AreReady (file ∷ []) held = c.in_ok-ready.ensures.ready [] (none_ready a.files.now.held c.requires.between.unedited) in
     let named : is_name c.ready.new.self.names file ≡ true = ap (λ (ns : List (List ℕ)). is_name ns file) c.ready.ensures.disk.names ∙ c.requires.file in
     let at : text_of held.now file ≡ Some seen = c.held-held.ensures.text in
     let made = c.in_ok-plan_within.ensures in
@@ -90,7 +90,7 @@ returns-clause-plans g c tally honest =
     let told = refile s file a.command.now.path file a.command.now.to_path a.command.now.place text text in
     let plan = c.in_ok-plan_within.field-0 in
     let read : new ≡ s = c.in_ok-ready.ensures.reads a.states.now tally honest in
-    let ready : AreReady (file ∷ []) held = c.in_ok-ready.ensures.ready [] (none_ready a.files.now.held c.requires.between.begun) in
+    let ready : AreReady (file ∷ []) held = c.in_ok-ready.ensures.ready [] (none_ready a.files.now.held c.requires.between.unedited) in
     let named : is_name c.ready.new.self.names file ≡ true = ap (λ (ns : List (List ℕ)). is_name ns file) c.ready.ensures.disk.names ∙ c.requires.file in
     let at : text_of held.now file ≡ Some seen = c.held-held.ensures.text in
     let old = ready_text (file ∷ []) held file seen ready (one_name file) at in

@@ -14,7 +14,7 @@ use Rattle.org_commands.specs.Keeping.{Plans, Reads, fault_of_move}
 use Rattle.org_commands.specs.Outcome.{refile}
 use Rattle.org_commands.specs.Refile.{MakesDocuments, texts_across}
 use Rattle.org_commands.specs.Session.{Session, session_over}
-use Rattle.org_commands.specs.Step.{Does}
+use Rattle.org_commands.specs.Step.{Steps}
 use Rattle.org_commands.proofs.Held.{none_ready}
 use Rattle.org_commands.proofs.Plans.{first_name, is_ready, plan_of_two, ready_text, second_name, text_held, two_texts}
 use Rattle.org_commands.proofs.Refiles.{across_is, move_planned, move_refused}
@@ -39,7 +39,7 @@ held-source-requires g c =
     let held = c.both_ready.new.files.held in
     let file = c.args.command.now.file in
     let two = c.args.command.now.to_file ∷ file ∷ [] in
-    let ready : AreReady two held = c.in_ok-both_ready.ensures.ready [] (none_ready c.args.files.now.held c.requires.between.begun) in
+    let ready : AreReady two held = c.in_ok-both_ready.ensures.ready [] (none_ready c.args.files.now.held c.requires.between.unedited) in
     is_ready two held file ready (second_name c.args.command.now.to_file file)
 
 pub held-target-requires : goal.held-target-requires
@@ -47,7 +47,7 @@ held-target-requires g c =
     let held = c.both_ready.new.files.held in
     let to_file = c.args.command.now.to_file in
     let two = to_file ∷ c.args.command.now.file ∷ [] in
-    let ready : AreReady two held = c.in_ok-both_ready.ensures.ready [] (none_ready c.args.files.now.held c.requires.between.begun) in
+    let ready : AreReady two held = c.in_ok-both_ready.ensures.ready [] (none_ready c.args.files.now.held c.requires.between.unedited) in
     is_ready two held to_file ready (first_name to_file (c.args.command.now.file ∷ []))
 
 pub returns-in_err-plan_across-clause-plans : goal.returns-in_err-plan_across-clause-plans
@@ -68,7 +68,7 @@ returns-in_err-plan_across-clause-plans g c tally honest =
     let why = c.in_err-plan_across.field-0.0 in
     let given : c.from_residual-in_err-plan_across.result ≡ Err (fault_of_move why) = handed_on c.from_residual-in_err-plan_across.result _ c.from_residual-in_err-plan_across.ensures.1 in
     let read : new ≡ s = c.in_ok-both_ready.ensures.reads a.states.now tally honest in
-    let ready : AreReady two held = c.in_ok-both_ready.ensures.ready [] (none_ready a.files.now.held c.requires.between.begun) in
+    let ready : AreReady two held = c.in_ok-both_ready.ensures.ready [] (none_ready a.files.now.held c.requires.between.unedited) in
     let names = c.both_ready.new.files.names in
     let named : is_name names file ≡ true = ap (λ (ns : List (List ℕ)). is_name ns file) c.both_ready.ensures.disk.names ∙ c.requires.file in
     let also : is_name names to_file ≡ true = ap (λ (ns : List (List ℕ)). is_name ns to_file) c.both_ready.ensures.disk.names ∙ c.requires.to_file in
@@ -84,7 +84,7 @@ returns-in_err-plan_across-clause-plans g c tally honest =
     let refused = move_refused s (texts_across file to_file) told (refile_across a.states.now a.command.now.path (tree seen.bytes) a.states.now a.command.now.to_path (tree found.bytes) a.command.now.place)
     (MakesDocuments file to_file seen.bytes found.bytes) c.plan_across.result why c.requires.between.unbroken is c.in_err-plan_across.was c.plan_across.ensures in
     subst (λ (r : Result Plan RunFault). Plans s told r held new) (sym given)
-    (subst (λ (t : Session). Does s told (Err (fault_of_move why)) t) (sym read) refused)
+    (subst (λ (t : Session). Steps s told (Err (fault_of_move why)) t) (sym read) refused)
 
 pub returns-clause-plan : goal.returns-clause-plan
 returns-clause-plan g c =
@@ -95,7 +95,7 @@ returns-clause-plan g c =
     let seen = c.held-source.result.now.text in
     let found = c.held-target.result.now.text in
     let plan = c.in_ok-plan_across.field-0 in
-    let ready : AreReady (to_file ∷ file ∷ []) held = c.in_ok-both_ready.ensures.ready [] (none_ready a.files.now.held c.requires.between.begun) in
+    let ready : AreReady (to_file ∷ file ∷ []) held = c.in_ok-both_ready.ensures.ready [] (none_ready a.files.now.held c.requires.between.unedited) in
     let names = c.both_ready.new.files.names in
     let named : is_name names file ≡ true = ap (λ (ns : List (List ℕ)). is_name ns file) c.both_ready.ensures.disk.names ∙ c.requires.file in
     let also : is_name names to_file ≡ true = ap (λ (ns : List (List ℕ)). is_name ns to_file) c.both_ready.ensures.disk.names ∙ c.requires.to_file in
@@ -122,7 +122,7 @@ returns-clause-plans g c tally honest =
     let told = refile s file a.command.now.path to_file a.command.now.to_path a.command.now.place text target in
     let plan = c.in_ok-plan_across.field-0 in
     let read : new ≡ s = c.in_ok-both_ready.ensures.reads a.states.now tally honest in
-    let ready : AreReady two held = c.in_ok-both_ready.ensures.ready [] (none_ready a.files.now.held c.requires.between.begun) in
+    let ready : AreReady two held = c.in_ok-both_ready.ensures.ready [] (none_ready a.files.now.held c.requires.between.unedited) in
     let names = c.both_ready.new.files.names in
     let named : is_name names file ≡ true = ap (λ (ns : List (List ℕ)). is_name ns file) c.both_ready.ensures.disk.names ∙ c.requires.file in
     let also : is_name names to_file ≡ true = ap (λ (ns : List (List ℕ)). is_name ns to_file) c.both_ready.ensures.disk.names ∙ c.requires.to_file in

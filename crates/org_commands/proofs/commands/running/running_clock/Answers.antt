@@ -91,9 +91,9 @@ loop-index-preserved g c =
     let file = c.in_ok-file.file in
     let back = looked.disk.accounts.was_honest in
     let whole : new.broken ≡ false = whole_behind c.running_in_file.result _ Device new.broken c.in_ok-running.was c.running_in_file.ensures.disk.breaks in
-    rw c.note_quiet.ensures (record {
+    rw c.note_clockless.ensures (record {
       unbroken = whole;
-      begun = looked.begun;
+      unedited = looked.unedited;
       keeps = keeps_then old.held c.loop-index.files.held new.held sofar.keeps looked.keeps;
       reads = only_reads_then sofar.reads (only_reads_fine (fine_is_no_fault (Ok tt) tt Broken refl) (fine_is_no_fault (Ok tt) tt Device refl) looked.disk);
       same = λ tally h. looked.reads tally h ∙ sofar.same tally (back h);
@@ -109,8 +109,8 @@ loop-index-preserved g c =
           sym (runs_later files now old.names c.loop-index.index file within at same (runs_over new.held.before (texts new.disk) file None runs)) ∙ sofar.passed (back h);
     })
 
-pub loop-index-preserved-then-is_quiet : goal.loop-index-preserved-then-is_quiet
-loop-index-preserved-then-is_quiet g c =
+pub loop-index-preserved-then-is_clockless : goal.loop-index-preserved-then-is_clockless
+loop-index-preserved-then-is_clockless g c =
     let texts : g.row.D.Denot → Image = λ disk. contents (g.D.Disk.files disk) in
     let sofar = c.loop-index.invariant in
     let index = c.loop-index.index in
@@ -120,10 +120,10 @@ loop-index-preserved-then-is_quiet g c =
     let within : index < length old.names = omega (arith, c.loop-index-test.true, c.count-index-end.ensures) in
     let at : slice_get old.names index ≡ Some file = slice_get-get_or old.names index [] within in
     let there : slice_get new.names index ≡ Some file = ap (λ (ns : List (List ℕ)). slice_get ns index) sofar.reads.names ∙ at in
-    let runs : RunsIn new.held.before file None = c.is_quiet.ensures c.if-is_quiet.true file there in
+    let runs : RunsIn new.held.before file None = c.is_clockless.ensures c.if-is_clockless.true file there in
     record {
       unbroken = sofar.unbroken;
-      begun = sofar.begun;
+      unedited = sofar.unedited;
       keeps = sofar.keeps;
       reads = sofar.reads;
       same = sofar.same;
@@ -153,13 +153,13 @@ returns-in_err-running-clause-disk g c =
     only_reads_then c.loop-index.invariant.reads (only_reads_fault given c.in_err-running.ensures.disk)
 
 pub running_in_file-requires-clause-between : goal.running_in_file-requires-clause-between
-running_in_file-requires-clause-between g c = record { unbroken = c.loop-index.invariant.unbroken; begun = c.loop-index.invariant.begun }
+running_in_file-requires-clause-between g c = record { unbroken = c.loop-index.invariant.unbroken; unedited = c.loop-index.invariant.unedited }
 
-pub note_quiet-requires-clause-begun : goal.note_quiet-requires-clause-begun
-note_quiet-requires-clause-begun g c = c.in_ok-running.ensures.begun
+pub note_clockless-requires-clause-unedited : goal.note_clockless-requires-clause-unedited
+note_clockless-requires-clause-unedited g c = c.in_ok-running.ensures.unedited
 
-pub returns-clause-begun : goal.returns-clause-begun
-returns-clause-begun g c = c.loop-index.invariant.begun
+pub returns-clause-unedited : goal.returns-clause-unedited
+returns-clause-unedited g c = c.loop-index.invariant.unedited
 
 pub returns-clause-keeps : goal.returns-clause-keeps
 returns-clause-keeps g c = c.loop-index.invariant.keeps
@@ -170,14 +170,14 @@ returns-clause-reads g c tally honest = c.loop-index.invariant.same tally honest
 pub returns-clause-disk : goal.returns-clause-disk
 returns-clause-disk g c = only_reads_fine (fine_is_no_fault _ _ Broken refl) (fine_is_no_fault _ _ Device refl) c.loop-index.invariant.reads
 
-pub returns-in-Some-clause-begun : goal.returns-in-Some-clause-begun
-returns-in-Some-clause-begun g c = c.in_ok-running.ensures.begun
+pub returns-in-Some-clause-unedited : goal.returns-in-Some-clause-unedited
+returns-in-Some-clause-unedited g c = c.in_ok-running.ensures.unedited
 
 pub returns-in_err-file-clause-keeps : goal.returns-in_err-file-clause-keeps
 returns-in_err-file-clause-keeps g c = c.loop-index.invariant.keeps
 
-pub returns-in_err-file-clause-begun : goal.returns-in_err-file-clause-begun
-returns-in_err-file-clause-begun g c = no_value _ c.from_residual.result _ (handed_on c.from_residual.result _ c.from_residual.ensures.1)
+pub returns-in_err-file-clause-unedited : goal.returns-in_err-file-clause-unedited
+returns-in_err-file-clause-unedited g c = no_value _ c.from_residual.result _ (handed_on c.from_residual.result _ c.from_residual.ensures.1)
 
 pub returns-in_err-file-clause-clock : goal.returns-in_err-file-clause-clock
 returns-in_err-file-clause-clock g c tally honest = no_value _ c.from_residual.result _ (handed_on c.from_residual.result _ c.from_residual.ensures.1)
@@ -185,8 +185,8 @@ returns-in_err-file-clause-clock g c tally honest = no_value _ c.from_residual.r
 pub returns-in_err-file-clause-found : goal.returns-in_err-file-clause-found
 returns-in_err-file-clause-found g c = no_value _ c.from_residual.result _ (handed_on c.from_residual.result _ c.from_residual.ensures.1)
 
-pub returns-in_err-running-clause-begun : goal.returns-in_err-running-clause-begun
-returns-in_err-running-clause-begun g c = no_value _ c.from_residual-in_err-running.result _ (handed_on c.from_residual-in_err-running.result _ c.from_residual-in_err-running.ensures.1)
+pub returns-in_err-running-clause-unedited : goal.returns-in_err-running-clause-unedited
+returns-in_err-running-clause-unedited g c = no_value _ c.from_residual-in_err-running.result _ (handed_on c.from_residual-in_err-running.result _ c.from_residual-in_err-running.ensures.1)
 
 pub returns-in_err-running-clause-clock : goal.returns-in_err-running-clause-clock
 returns-in_err-running-clause-clock g c tally honest = no_value _ c.from_residual-in_err-running.result _ (handed_on c.from_residual-in_err-running.result _ c.from_residual-in_err-running.ensures.1)

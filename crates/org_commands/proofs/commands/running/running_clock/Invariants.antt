@@ -14,7 +14,7 @@ invariant-loop-index g l =
     let disk = g.D.Disk in
     record {
       unbroken : l.files.broken ≡ false;
-      begun : l.files.held.now ≡ l.files.held.before;
+      unedited : l.files.held.now ≡ l.files.held.before;
       keeps : KeepsHeld l.fn.files.held l.files.held;
       reads : OnlyReads {A = Unit {0}} disk l.fn.files l.files (Ok tt);
       same : (tally : Tally) → disk.honest l.files.disk → session_over (λ d. contents (disk.files d)) l.fn.states l.files tally ≡ session_over (λ d. contents (disk.files d)) l.fn.states l.fn.files tally;

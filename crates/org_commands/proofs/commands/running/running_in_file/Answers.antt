@@ -5,8 +5,8 @@ use Rattle.org_state.specs.Clock.{running_in}
 use Rattle.org_texts.specs.Texts.{text_of}
 use Rattle.org_commands.specs.Clocks.{RunsIn}
 use Rattle.org_commands.specs.Files.{AreReady}
-use Rattle.org_commands.specs.Session.{Kept, session_over}
-use Rattle.org_commands.proofs.Acting.{kept_same}
+use Rattle.org_commands.specs.Session.{StoreView, session_over}
+use Rattle.org_commands.proofs.Acting.{view_same}
 use Rattle.org_commands.proofs.Held.{keeps_same, none_ready}
 use Rattle.org_commands.proofs.Plans.{is_ready, one_name}
 use Rattle.org_commands.proofs.Running.{runs_ready}
@@ -26,7 +26,7 @@ pub held-requires : goal.held-requires
 held-requires g c =
     let held = c.ready.new.self.held in
     let file = c.args.file.now in
-    let ready : AreReady (file ∷ []) held = c.in_ok-ready.ensures.ready [] (none_ready c.args.files.now.held c.requires.between.begun) in
+    let ready : AreReady (file ∷ []) held = c.in_ok-ready.ensures.ready [] (none_ready c.args.files.now.held c.requires.between.unedited) in
     is_ready (file ∷ []) held file ready (one_name file)
 
 pub returns-clause-runs : goal.returns-clause-runs
@@ -34,7 +34,7 @@ returns-clause-runs g c =
     let held = c.ready.new.self.held in
     let file = c.args.file.now in
     let seen = c.held.result.now.text in
-    let ready : AreReady (file ∷ []) held = c.in_ok-ready.ensures.ready [] (none_ready c.args.files.now.held c.requires.between.begun) in
+    let ready : AreReady (file ∷ []) held = c.in_ok-ready.ensures.ready [] (none_ready c.args.files.now.held c.requires.between.unedited) in
     let at : text_of held.now file ≡ Some seen = c.held.ensures.text in
     let found : running_in (tree seen.bytes) ≡ c.running-found.result = search rules in
     subst (RunsIn c.undo.new.self.held.before file) found (runs_ready held c.undo.new.self.held.before file seen ready at c.undo.ensures.before)
@@ -44,7 +44,7 @@ returns-clause-reads g c tally honest =
     let d = g.D.Disk in
     let undone = c.undo.ensures in
     let states = c.args.states.now in
-    ap (λ (k : Kept g.row.D.Denot). k.session) (kept_same d.files states c.ready.new.self c.undo.new.self tally undone.memory undone.before)
+    ap (λ (k : StoreView g.row.D.Denot). k.session) (view_same d.files states c.ready.new.self c.undo.new.self tally undone.memory undone.before)
     ∙ c.in_ok-ready.ensures.reads states tally (subst d.honest undone.memory.disk honest)
 
 pub returns-clause-keeps : goal.returns-clause-keeps

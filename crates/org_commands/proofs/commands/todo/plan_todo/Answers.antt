@@ -10,7 +10,7 @@ use Rattle.org_commands.specs.InOrder.{is_name, text_at}
 use Rattle.org_commands.specs.Keeping.{PlansOrStays, Reads, fault_of_state}
 use Rattle.org_commands.specs.Outcome.{todo}
 use Rattle.org_commands.specs.Session.{Session, session_over}
-use Rattle.org_commands.specs.Step.{Does}
+use Rattle.org_commands.specs.Step.{Steps}
 use Rattle.org_commands.proofs.Held.{none_ready}
 use Rattle.org_commands.proofs.InOrder.{none_at}
 use Rattle.org_commands.proofs.Plans.{is_ready, one_name, ready_text, text_held}
@@ -45,7 +45,7 @@ pub held-held-requires : goal.held-held-requires
 held-held-requires g c =
     let held = c.ready.new.self.held in
     let file = c.args.command.now.file in
-    let ready : AreReady (file ∷ []) held = c.in_ok-ready.ensures.ready [] (none_ready c.args.files.now.held c.requires.between.begun) in
+    let ready : AreReady (file ∷ []) held = c.in_ok-ready.ensures.ready [] (none_ready c.args.files.now.held c.requires.between.unedited) in
     is_ready (file ∷ []) held file ready (one_name file)
 
 pub returns-in_err-plan_state-clause-plans : goal.returns-in_err-plan_state-clause-plans
@@ -62,7 +62,7 @@ returns-in_err-plan_state-clause-plans g c tally honest =
     let why = c.in_err-plan_state.field-0.0 in
     let given : c.from_residual-in_err-plan_state.result ≡ Err (fault_of_state why) = handed_on c.from_residual-in_err-plan_state.result _ c.from_residual-in_err-plan_state.ensures.1 in
     let read : new ≡ s = c.in_ok-ready.ensures.reads a.states.now tally honest in
-    let ready : AreReady (file ∷ []) held = c.in_ok-ready.ensures.ready [] (none_ready a.files.now.held c.requires.between.begun) in
+    let ready : AreReady (file ∷ []) held = c.in_ok-ready.ensures.ready [] (none_ready a.files.now.held c.requires.between.unedited) in
     let there : is_name a.files.now.names file ≡ true = sym c.if-not-has.ensures in
     let named : is_name c.ready.new.self.names file ≡ true = ap (λ (ns : List (List ℕ)). is_name ns file) c.ready.ensures.disk.names ∙ there in
     let at : text_of held.now file ≡ Some seen = c.held-held.ensures.text in
@@ -71,8 +71,8 @@ returns-in_err-plan_state-clause-plans g c tally honest =
     let found : text ≡ Some old.0.bytes = subst (λ (t : Session). text_at t.names t.files file ≡ Some old.0.bytes) read before in
     let refused = todo_refused s file a.command.now.path a.command.now.state a.command.now.moment old.0.bytes seen.bytes c.plan_state.result why c.requires.between.unbroken old.2 c.in_err-plan_state.was c.plan_state.ensures in
     subst (λ (r : Result (Option Plan) RunFault). PlansOrStays s told r held new) (sym given)
-    (subst (λ o. Does s (todo s file a.command.now.path a.command.now.state a.command.now.moment o) (Err (fault_of_state why)) new) (sym found)
-    (subst (λ (t : Session). Does s (todo s file a.command.now.path a.command.now.state a.command.now.moment (Some old.0.bytes)) (Err (fault_of_state why)) t) (sym read) refused))
+    (subst (λ o. Steps s (todo s file a.command.now.path a.command.now.state a.command.now.moment o) (Err (fault_of_state why)) new) (sym found)
+    (subst (λ (t : Session). Steps s (todo s file a.command.now.path a.command.now.state a.command.now.moment (Some old.0.bytes)) (Err (fault_of_state why)) t) (sym read) refused))
 
 pub returns-clause-plan : goal.returns-clause-plan
 returns-clause-plan g c =
@@ -80,7 +80,7 @@ returns-clause-plan g c =
     let held = c.ready.new.self.held in
     let file = a.command.now.file in
     let seen = c.held-held.result.now.text in
-    let ready : AreReady (file ∷ []) held = c.in_ok-ready.ensures.ready [] (none_ready a.files.now.held c.requires.between.begun) in
+    let ready : AreReady (file ∷ []) held = c.in_ok-ready.ensures.ready [] (none_ready a.files.now.held c.requires.between.unedited) in
     let there : is_name a.files.now.names file ≡ true = sym c.if-not-has.ensures in
     let named : is_name c.ready.new.self.names file ≡ true = ap (λ (ns : List (List ℕ)). is_name ns file) c.ready.ensures.disk.names ∙ there in
     let at : text_of held.now file ≡ Some seen = c.held-held.ensures.text in
@@ -98,7 +98,7 @@ returns-clause-plans g c tally honest =
     let text = text_at s.names s.files file in
     let told = todo s file a.command.now.path a.command.now.state a.command.now.moment text in
     let read : new ≡ s = c.in_ok-ready.ensures.reads a.states.now tally honest in
-    let ready : AreReady (file ∷ []) held = c.in_ok-ready.ensures.ready [] (none_ready a.files.now.held c.requires.between.begun) in
+    let ready : AreReady (file ∷ []) held = c.in_ok-ready.ensures.ready [] (none_ready a.files.now.held c.requires.between.unedited) in
     let there : is_name a.files.now.names file ≡ true = sym c.if-not-has.ensures in
     let named : is_name c.ready.new.self.names file ≡ true = ap (λ (ns : List (List ℕ)). is_name ns file) c.ready.ensures.disk.names ∙ there in
     let at : text_of held.now file ≡ Some seen = c.held-held.ensures.text in

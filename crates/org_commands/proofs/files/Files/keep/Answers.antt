@@ -2,7 +2,7 @@ use Rattle.std.proofs.Common.{◌≡◌, false}
 use Rattle.org_journal.specs.Recovered.{contents}
 use Rattle.org_commands.specs.Files.{AreSmallToWrite}
 use Rattle.org_commands.proofs.Held.{sound_kept}
-use Rattle.org_commands.proofs.Quiet.{noted_kept}
+use Rattle.org_commands.proofs.Clockless.{noted_kept}
 use Rattle.org_commands.proofs.files.Files.keep.Goals as goal
 
 pub invariant_of-self : goal.invariant_of-self
@@ -12,5 +12,5 @@ invariant_of-self g c =
     let now = c.keep.ensures.now in
     let before = c.keep.ensures.before in (
       sound_kept inside.set.names ((inside.set.broken ≡ false) × g.D.Disk.honest inside.set.disk) (contents (g.D.Disk.files inside.set.disk)) inside.texts c.keep.new.self now before small c.self.invariant.0,
-      noted_kept inside.set.names inside.quiet.items inside.texts c.keep.new.self now before c.self.invariant.1,
+      noted_kept inside.set.names inside.clockless.items inside.texts c.keep.new.self now before c.self.invariant.1,
     )

@@ -14,20 +14,20 @@ use Rattle.org_commands.specs.declared.tally.Tally.{Tally}
 use Rattle.org_commands.specs.Files.{IsSound, OpenFiles}
 use Rattle.org_commands.specs.InOrder.{is_name}
 use Rattle.org_commands.specs.Keeping.{Reads, fault_of_set}
-use Rattle.org_commands.specs.Quiet.{IsNoted}
+use Rattle.org_commands.specs.Clockless.{IsNoted}
 use Rattle.org_commands.specs.Session.{session_over}
 use Rattle.org_commands.proofs.Faults.{fine_is_no_fault}
 use Rattle.org_commands.proofs.Held.{held_this, keeps_held, none_found, over_held, ready_held, sound_held, sound_still}
-use Rattle.org_commands.proofs.Quiet.{noted_held, noted_still}
+use Rattle.org_commands.proofs.Clockless.{noted_held, noted_still}
 use Rattle.org_commands.proofs.Reading.{only_reads_none, only_reads_set, set_back, set_on, set_works}
 use Rattle.org_commands.proofs.Sessions.{session_failed, session_still}
 use Rattle.org_commands.proofs.Handing.{handed_on}
 use Rattle.org_commands.proofs.files.Files.load.Goals as goal
 
 -- what is held is still sound and noted where the set read a file
-still_held : (names more : List (List ℕ)) (live now : Type 0) (old new : Image) (quiet : List Bool) (held : Holding) → IsSound names live old held × IsNoted names quiet held → more ≡ names → (now → live × (new ≡ old))
-    → IsSound more now new held × IsNoted more quiet held
-still_held names more live now old new quiet held was same alike = (sound_still names more live now old new held was.0 same alike, noted_still names more quiet held same was.1)
+still_held : (names more : List (List ℕ)) (live now : Type 0) (old new : Image) (clockless : List Bool) (held : Holding) → IsSound names live old held × IsNoted names clockless held → more ≡ names → (now → live × (new ≡ old))
+    → IsSound more now new held × IsNoted more clockless held
+still_held names more live now old new clockless held was same alike = (sound_still names more live now old new held was.0 same alike, noted_still names more clockless held same was.1)
 
 -- a set that didn't fail isn't broken by it
 set_whole : {X : Type 0} (result : Result X SetFault) (old new : Bool) → old ≡ false → (IsErrOf result set.Device → ⊥) → IsTrue new ↔ (IsTrue old ⊎ IsErrOf result set.Device) → new ≡ old
@@ -92,8 +92,8 @@ invariant_of-self-2 g c =
       sound_held copy c.in_ok-bytes.bytes.items c.read.new.self.names now left inside.texts c.hold.new.self none none_before named
           (λ n. c.in_ok-bytes.ensures.text n.1 ∙ ap (λ (f : Image). f own) (sym (ap contents (c.read.ensures.looks n.1).same)) ∙ ap left (sym cloned))
           c.in_ok-hold.ensures.now c.in_ok-hold.ensures.before still,
-      noted_held copy c.in_ok-bytes.bytes.items c.read.new.self.names inside.quiet.items inside.texts c.hold.new.self none none_before
-          c.in_ok-hold.ensures.now c.in_ok-hold.ensures.before (noted_still inside.set.names c.read.new.self.names inside.quiet.items inside.texts c.read.ensures.set.same_names c.self.invariant.1),
+      noted_held copy c.in_ok-bytes.bytes.items c.read.new.self.names inside.clockless.items inside.texts c.hold.new.self none none_before
+          c.in_ok-hold.ensures.now c.in_ok-hold.ensures.before (noted_still inside.set.names c.read.new.self.names inside.clockless.items inside.texts c.read.ensures.set.same_names c.self.invariant.1),
     )
 
 pub returns-clause-held : goal.returns-clause-held
@@ -176,7 +176,7 @@ returns-clause-disk g c =
     let made = c.read.ensures in
     let fine : c.read.result ≡ Ok c.in_ok-bytes.bytes = c.in_ok-bytes.was in
     let unbroken : inside.set.broken ≡ false = rw (← c.self.view_is) at c.requires.unbroken in
-    rw (← c.self.view_is) (only_reads_set c.read.result (fine_is_no_fault (Ok tt) tt Broken refl) (λ fell. absurd (fine_is_no_fault (Ok tt) tt Device refl fell)) (λ fell. absurd (fine_is_no_fault c.read.result c.in_ok-bytes.bytes set.Device fine fell)) unbroken made.set.same_names (ap (λ (s : TextSet). s.waiting) c.in_ok-hold.ensures.before) made.looks made.set.breaks made.accounts)
+    rw (← c.self.view_is) (only_reads_set c.read.result (fine_is_no_fault (Ok tt) tt Broken refl) (λ fell. absurd (fine_is_no_fault (Ok tt) tt Device refl fell)) (λ fell. absurd (fine_is_no_fault c.read.result c.in_ok-bytes.bytes set.Device fine fell)) unbroken made.set.same_names (ap (λ (s : TextSet). s.dirty) c.in_ok-hold.ensures.before) made.looks made.set.breaks made.accounts)
 
 pub invariant_of-self : goal.invariant_of-self
 invariant_of-self g c =
@@ -186,7 +186,7 @@ invariant_of-self g c =
     let files = contents (g.D.Disk.files inside.set.disk) in
     let left = contents (g.D.Disk.files c.read.new.self.disk) in
     let unbroken : inside.set.broken ≡ false = rw (← c.self.view_is) at c.requires.unbroken in
-    still_held inside.set.names c.read.new.self.names live now files left inside.quiet.items inside.texts c.self.invariant c.read.ensures.set.same_names
+    still_held inside.set.names c.read.new.self.names live now files left inside.clockless.items inside.texts c.self.invariant c.read.ensures.set.same_names
     (λ n. ((unbroken, c.read.ensures.accounts.was_honest n.1), ap contents (c.read.ensures.looks n.1).same))
 
 pub invariant_of-self-in_err-clone : goal.invariant_of-self-in_err-clone
@@ -197,7 +197,7 @@ invariant_of-self-in_err-clone g c =
     let files = contents (g.D.Disk.files inside.set.disk) in
     let left = contents (g.D.Disk.files c.read.new.self.disk) in
     let unbroken : inside.set.broken ≡ false = rw (← c.self.view_is) at c.requires.unbroken in
-    still_held inside.set.names c.read.new.self.names live now files left inside.quiet.items inside.texts c.self.invariant c.read.ensures.set.same_names
+    still_held inside.set.names c.read.new.self.names live now files left inside.clockless.items inside.texts c.self.invariant c.read.ensures.set.same_names
     (λ n. ((unbroken, c.read.ensures.accounts.was_honest n.1), ap contents (c.read.ensures.looks n.1).same))
 
 pub invariant_of-self-in_err-hold : goal.invariant_of-self-in_err-hold
@@ -208,8 +208,8 @@ invariant_of-self-in_err-hold g c =
     let files = contents (g.D.Disk.files inside.set.disk) in
     let left = contents (g.D.Disk.files c.read.new.self.disk) in
     let unbroken : inside.set.broken ≡ false = rw (← c.self.view_is) at c.requires.unbroken in
-    subst (λ (held : Holding). IsSound c.read.new.self.names now left held × IsNoted c.read.new.self.names inside.quiet.items held) (sym c.in_err-hold.ensures.err)
-    (still_held inside.set.names c.read.new.self.names live now files left inside.quiet.items inside.texts c.self.invariant c.read.ensures.set.same_names
+    subst (λ (held : Holding). IsSound c.read.new.self.names now left held × IsNoted c.read.new.self.names inside.clockless.items held) (sym c.in_err-hold.ensures.err)
+    (still_held inside.set.names c.read.new.self.names live now files left inside.clockless.items inside.texts c.self.invariant c.read.ensures.set.same_names
     (λ n. ((unbroken, c.read.ensures.accounts.was_honest n.1), ap contents (c.read.ensures.looks n.1).same)))
 
 pub hold-requires : goal.hold-requires
@@ -224,8 +224,8 @@ returns-then-is_some-clause-held g c =
 pub returns-then-is_some-clause-reads : goal.returns-then-is_some-clause-reads
 returns-then-is_some-clause-reads g c states tally honest = refl
 
-pub returns-then-is_some-clause-begun : goal.returns-then-is_some-clause-begun
-returns-then-is_some-clause-begun g c same = same
+pub returns-then-is_some-clause-unedited : goal.returns-then-is_some-clause-unedited
+returns-then-is_some-clause-unedited g c same = same
 
 pub returns-then-is_some-clause-ready : goal.returns-then-is_some-clause-ready
 returns-then-is_some-clause-ready g c names ready = ready
@@ -233,8 +233,8 @@ returns-then-is_some-clause-ready g c names ready = ready
 pub returns-then-is_some-clause-keeps : goal.returns-then-is_some-clause-keeps
 returns-then-is_some-clause-keeps g c name some = refl
 
-pub returns-clause-begun : goal.returns-clause-begun
-returns-clause-begun g c = rw (← c.self.view_is) (λ same. c.in_ok-hold.ensures.now ∙ ap (with_text c.in_ok-clone.field-0 c.in_ok-bytes.bytes.items) same ∙ sym c.in_ok-hold.ensures.before)
+pub returns-clause-unedited : goal.returns-clause-unedited
+returns-clause-unedited g c = rw (← c.self.view_is) (λ same. c.in_ok-hold.ensures.now ∙ ap (with_text c.in_ok-clone.field-0 c.in_ok-bytes.bytes.items) same ∙ sym c.in_ok-hold.ensures.before)
 
 pub returns-in_err-bytes-clause-held : goal.returns-in_err-bytes-clause-held
 returns-in_err-bytes-clause-held g c = not_ok c.from_residual.result (fault_of_set c.in_err-bytes.field-0.0) _ (handed_on c.from_residual.result _ c.from_residual.ensures.1)
@@ -251,8 +251,8 @@ returns-in_err-bytes-clause-reads g c states tally honest =
     c.read.result c.from_residual.result c.in_err-bytes.field-0.0 c.in_err-bytes.was given (λ no. false≢true (sym unbroken ∙ made.set.refuses.0 no)) unbroken made.set.breaks
     made.set.same_names (ap contents (made.looks honest).same) refl)
 
-pub returns-in_err-bytes-clause-begun : goal.returns-in_err-bytes-clause-begun
-returns-in_err-bytes-clause-begun g c = rw (← c.self.view_is) (λ same. same)
+pub returns-in_err-bytes-clause-unedited : goal.returns-in_err-bytes-clause-unedited
+returns-in_err-bytes-clause-unedited g c = rw (← c.self.view_is) (λ same. same)
 
 pub returns-in_err-bytes-clause-ready : goal.returns-in_err-bytes-clause-ready
 returns-in_err-bytes-clause-ready g c names = rw (← c.self.view_is) (λ ready. ready)
@@ -275,8 +275,8 @@ returns-in_err-clone-clause-reads g c states tally honest =
     c.read.result c.from_residual-in_err-clone.result given unbroken (fine_is_no_fault c.read.result c.in_ok-bytes.bytes set.Device c.in_ok-bytes.was) made.set.breaks
     made.set.same_names (ap contents (made.looks honest).same) refl)
 
-pub returns-in_err-clone-clause-begun : goal.returns-in_err-clone-clause-begun
-returns-in_err-clone-clause-begun g c = rw (← c.self.view_is) (λ same. same)
+pub returns-in_err-clone-clause-unedited : goal.returns-in_err-clone-clause-unedited
+returns-in_err-clone-clause-unedited g c = rw (← c.self.view_is) (λ same. same)
 
 pub returns-in_err-clone-clause-ready : goal.returns-in_err-clone-clause-ready
 returns-in_err-clone-clause-ready g c names = rw (← c.self.view_is) (λ ready. ready)
@@ -299,8 +299,8 @@ returns-in_err-hold-clause-reads g c states tally honest =
     c.read.result c.from_residual-in_err-hold.result given unbroken (fine_is_no_fault c.read.result c.in_ok-bytes.bytes set.Device c.in_ok-bytes.was) made.set.breaks
     made.set.same_names (ap contents (made.looks honest).same) (ap (λ (h : Holding). h.before) c.in_err-hold.ensures.err))
 
-pub returns-in_err-hold-clause-begun : goal.returns-in_err-hold-clause-begun
-returns-in_err-hold-clause-begun g c = rw (← c.self.view_is, c.in_err-hold.ensures.err) (λ same. same)
+pub returns-in_err-hold-clause-unedited : goal.returns-in_err-hold-clause-unedited
+returns-in_err-hold-clause-unedited g c = rw (← c.self.view_is, c.in_err-hold.ensures.err) (λ same. same)
 
 pub returns-in_err-hold-clause-ready : goal.returns-in_err-hold-clause-ready
 returns-in_err-hold-clause-ready g c names = rw (← c.self.view_is, c.in_err-hold.ensures.err) (λ ready. ready)
@@ -316,4 +316,4 @@ returns-in_err-hold-clause-disk g c =
     let fine : c.read.result ≡ Ok c.in_ok-bytes.bytes = c.in_ok-bytes.was in
     let unbroken : inside.set.broken ≡ false = rw (← c.self.view_is) at c.requires.unbroken in
     rw (← c.self.view_is) (only_reads_set c.read.result (memory_is_not_broken c.from_residual-in_err-hold.result given) (λ fell. absurd (memory_is_not_device c.from_residual-in_err-hold.result given fell)) (λ fell. absurd (fine_is_no_fault c.read.result c.in_ok-bytes.bytes set.Device fine fell))
-    unbroken made.set.same_names (ap (λ (h : Holding). h.before.waiting) c.in_err-hold.ensures.err) made.looks made.set.breaks made.accounts)
+    unbroken made.set.same_names (ap (λ (h : Holding). h.before.dirty) c.in_err-hold.ensures.err) made.looks made.set.breaks made.accounts)

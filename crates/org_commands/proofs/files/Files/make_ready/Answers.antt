@@ -3,7 +3,7 @@ use Rattle.std.specs.Option.{IsSome}
 use Rattle.org_journal.specs.Recovered.{contents}
 use Rattle.org_texts.specs.Texts.{text_of}
 use Rattle.org_commands.proofs.Held.{ready_made, sound_made_ready}
-use Rattle.org_commands.proofs.Quiet.{noted_made_ready}
+use Rattle.org_commands.proofs.Clockless.{noted_made_ready}
 use Rattle.org_commands.proofs.files.Files.make_ready.Goals as goal
 
 pub invariant_of-self : goal.invariant_of-self
@@ -13,7 +13,7 @@ invariant_of-self g c =
     let some : IsSome (text_of inside.texts.now c.args.name.now) = rw (← c.self.view_is) at c.requires in (
       sound_made_ready made.result c.args.name.now inside.set.names ((inside.set.broken ≡ false) × g.D.Disk.honest inside.set.disk) (contents (g.D.Disk.files inside.set.disk)) inside.texts made.new.self
           some made.ensures.now made.ensures.err made.ensures.before c.self.invariant.0,
-      noted_made_ready made.result c.args.name.now inside.set.names inside.quiet.items inside.texts made.new.self made.ensures.now made.ensures.err made.ensures.before c.self.invariant.1,
+      noted_made_ready made.result c.args.name.now inside.set.names inside.clockless.items inside.texts made.new.self made.ensures.now made.ensures.err made.ensures.before c.self.invariant.1,
     )
 
 pub returns-clause-ready : goal.returns-clause-ready

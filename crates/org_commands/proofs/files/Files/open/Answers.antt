@@ -1,6 +1,6 @@
 use Rattle.std.proofs.Common.{ap, rules}
 use Rattle.org_texts.specs.Texts.{Holding}
-use Rattle.org_commands.proofs.Quiet.{nothing_noted}
+use Rattle.org_commands.proofs.Clockless.{nothing_noted}
 use Rattle.org_commands.proofs.files.Files.open.Goals as goal
 
 pub returns-in-Ok-clause-reopens : goal.returns-in-Ok-clause-reopens

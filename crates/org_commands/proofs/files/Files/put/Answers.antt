@@ -7,10 +7,10 @@ use Rattle.org_commands.specs.declared.command.RunFault.{RunFault}
 use Rattle.org_commands.specs.declared.command.RunFault.TheVariants.{Refused, OutOfMemory}
 use Rattle.org_commands.specs.declared.command.Refusal.TheVariants.{TooLarge}
 use Rattle.org_commands.specs.Files.{AreReady, AreSmallToWrite, OpenFiles, PutsPlan, files_of, has_large, new_texts, texts_in}
-use Rattle.org_commands.specs.Quiet.{Forgets}
+use Rattle.org_commands.specs.Clockless.{Forgets}
 use Rattle.org_commands.proofs.Held.{first_held, second_held, small_put, sound_put, sound_undone}
 use Rattle.org_commands.proofs.Handing.{handed_on}
-use Rattle.org_commands.proofs.Quiet.{noted_put, noted_undone}
+use Rattle.org_commands.proofs.Clockless.{noted_put, noted_undone}
 use Rattle.org_commands.proofs.files.Files.put.Goals as goal
 
 pub is_large-requires-clause-first : goal.is_large-requires-clause-first
@@ -34,8 +34,8 @@ invariant_of-self-else-is_large g c =
     let before = c.in_ok-apply.ensures.before in
     let named : c.names.result.now ≡ inside.set.names = c.names.ensures in (
       sound_put plan inside.set.names ((inside.set.broken ≡ false) × g.D.Disk.honest inside.set.disk) (contents (g.D.Disk.files inside.set.disk)) inside.texts c.apply.new.self is now before c.self.invariant.0,
-      noted_put plan inside.set.names inside.quiet.items c.forget_plan.new.quiet.items inside.texts c.apply.new.self now before
-          (subst (λ (ns : List (List ℕ)). Forgets ns (files_of plan) inside.quiet.items c.forget_plan.new.quiet.items) named c.forget_plan.ensures) c.self.invariant.1,
+      noted_put plan inside.set.names inside.clockless.items c.forget_plan.new.clockless.items inside.texts c.apply.new.self now before
+          (subst (λ (ns : List (List ℕ)). Forgets ns (files_of plan) inside.clockless.items c.forget_plan.new.clockless.items) named c.forget_plan.ensures) c.self.invariant.1,
     )
 
 pub returns-clause-puts : goal.returns-clause-puts
@@ -73,9 +73,9 @@ invariant_of-self-then-is_large g c =
     let named : c.names.result.now ≡ inside.set.names = c.names.ensures in (
       sound_undone inside.set.names live files c.apply.new.self c.undo.new.self c.undo.ensures.now c.undo.ensures.before
           (sound_put plan inside.set.names live files inside.texts c.apply.new.self is now before c.self.invariant.0),
-      noted_undone inside.set.names c.forget_plan.new.quiet.items c.apply.new.self c.undo.new.self c.undo.ensures.now c.undo.ensures.before
-          (noted_put plan inside.set.names inside.quiet.items c.forget_plan.new.quiet.items inside.texts c.apply.new.self now before
-          (subst (λ (ns : List (List ℕ)). Forgets ns (files_of plan) inside.quiet.items c.forget_plan.new.quiet.items) named c.forget_plan.ensures) c.self.invariant.1),
+      noted_undone inside.set.names c.forget_plan.new.clockless.items c.apply.new.self c.undo.new.self c.undo.ensures.now c.undo.ensures.before
+          (noted_put plan inside.set.names inside.clockless.items c.forget_plan.new.clockless.items inside.texts c.apply.new.self now before
+          (subst (λ (ns : List (List ℕ)). Forgets ns (files_of plan) inside.clockless.items c.forget_plan.new.clockless.items) named c.forget_plan.ensures) c.self.invariant.1),
     )
 
 pub apply-requires : goal.apply-requires

@@ -20,6 +20,87 @@ use Rattle.org_fileset.proofs.Sets.{keeps_whole, keeps_broken, ok_apart, device_
 use Rattle.org_fileset.proofs.Committing.{committable, all_edits, changes_formed, commits_none, commits_changes, has_record}
 use Rattle.org_fileset.proofs.set.FileSet.commit_changes.Goals as goal
 
+pub returns-in_err-entries_of : goal.returns-in_err-entries_of
+returns-in_err-entries_of g c = record {
+  commits =
+      λ honest. let d = g.D.Disk in
+      let disk = c.args.self.now.disk in
+      let after = changed (g.C.Changes.pairs c.args.changes.now) (contents (d.files disk)) in
+      commits_none d after (IsOther (keys_of (g.C.Changes.pairs c.args.changes.now))) disk c.from_residual.result (λ image left. g.met.D.Disk.only_now disk image honest left) (passed_never _ _ c.from_residual.result c.from_residual.ensures.1);
+  record_stands = λ honest. passed_never _ _ c.from_residual.result c.from_residual.ensures.1;
+  memory = λ e. refl;
+  set =
+      let whole = rw (← c.self.view_is) at c.requires.whole in
+      let p = err_from_is_err_and c.from_residual.result c.from_residual.ensures.1 in
+      rw (← c.self.view_is) (keeps_whole _ _ refl whole whole c.from_residual.result (λ e. cc (e, p.1, p.2)) (λ e. cc (e, p.1, p.2)));
+  accounts = accounts_other c.from_residual.ensures.1 memory_apart (accounts_none _ _);
+}
+
+pub returns-in_err-body : goal.returns-in_err-body
+returns-in_err-body g c = record {
+  commits =
+      λ honest. let d = g.D.Disk in
+      let disk = c.args.self.now.disk in
+      let after = changed (g.C.Changes.pairs c.args.changes.now) (contents (d.files disk)) in
+      commits_none d after (IsOther (keys_of (g.C.Changes.pairs c.args.changes.now))) disk c.from_residual-in_err-body.result (λ image left. g.met.D.Disk.only_now disk image honest left) (passed_never _ _ c.from_residual-in_err-body.result c.from_residual-in_err-body.ensures.1);
+  record_stands = λ honest. passed_never _ _ c.from_residual-in_err-body.result c.from_residual-in_err-body.ensures.1;
+  memory = λ e. refl;
+  set =
+      let whole = rw (← c.self.view_is) at c.requires.whole in
+      let p = err_from_is_err_and c.from_residual-in_err-body.result c.from_residual-in_err-body.ensures.1 in
+      rw (← c.self.view_is) (keeps_whole _ _ refl whole whole c.from_residual-in_err-body.result (λ e. cc (e, p.1, p.2)) (λ e. cc (e, p.1, p.2)));
+  accounts = accounts_other c.from_residual-in_err-body.ensures.1 memory_apart (accounts_none _ _);
+}
+
+pub returns-in-Ok : goal.returns-in-Ok
+returns-in-Ok g c = record {
+  commits =
+      rw (← c.self.view_is) (λ ended.
+      let honest = c.commit_entries.ensures.accounts.was_honest ended in
+      let edits = (rw (← c.self.view_is) at c.requires.can.edits) (rw (← c.self.view_is) at c.requires.whole) in
+      let d = g.D.Disk in
+      let disk = c.self.inside.disk in
+      let after = c.commit_entries.new.disk in
+      let entries = c.in_ok-entries_of.field-0.items in
+      let files = contents (d.files disk) in
+      let made : CommitsOver {A = Unit {0}} {E = DiskFault} d (replayed entries files) (IsUnwritten entries) disk after (Ok tt) =
+      subst (λ (l : List Entry). CommitsOver {A = Unit {0}} {E = DiskFault} d (replayed l files) (IsUnwritten l) disk after (Ok tt)) (c.entries.ensures ∙ c.new-record.ensures) (c.in-Ok.ensures.commits ended) in
+      commits_changes d (g.C.Changes.pairs c.args.changes.now) entries disk after (Ok tt) (Ok tt) c.requires.some c.in_ok-entries_of.ensures.entries
+      (all_edits files (g.C.Changes.pairs c.args.changes.now) (edits honest)) made made.done);
+  record_stands =
+      λ ended. let journal = contents (g.D.Disk.files c.commit_entries.new.disk) journal_name in
+      has_record (g.C.Changes.pairs c.args.changes.now) c.in_ok-entries_of.field-0.items journal c.in_ok-entries_of.ensures.entries
+      (c.in-Ok.ensures.record ended ∙ ap (λ (l : List Entry). let o : Option (List Entry) = Some l in o) (c.entries.ensures ∙ c.new-record.ensures));
+  memory = λ e. absurd (ok_apart e);
+  set =
+      let whole = rw (← c.self.view_is) at c.requires.whole in
+      rw (← c.self.view_is) (keeps_whole _ _ refl whole whole (Ok (tt {0})) (λ e. cc e) (λ e. cc e));
+  accounts = rw (← c.self.view_is) (accounts_answered (accounts_ok c.in-Ok.ensures.accounts));
+}
+
+pub returns : goal.returns
+returns g c = record {
+  commits =
+      rw (← c.self.view_is) (λ ended.
+      let honest = c.commit_entries.ensures.accounts.was_honest ended in
+      let edits = (rw (← c.self.view_is) at c.requires.can.edits) (rw (← c.self.view_is) at c.requires.whole) in
+      let d = g.D.Disk in
+      let disk = c.self.inside.disk in
+      let after = c.commit_entries.new.disk in
+      let entries = c.in_ok-entries_of.field-0.items in
+      let files = contents (d.files disk) in
+      let made : CommitsOver {A = Unit {0}} {E = DiskFault} d (replayed entries files) (IsUnwritten entries) disk after c.commit_entries.result =
+      subst (λ (l : List Entry). CommitsOver {A = Unit {0}} {E = DiskFault} d (replayed l files) (IsUnwritten l) disk after c.commit_entries.result) (c.entries.ensures ∙ c.new-record.ensures) (c.commit_entries.ensures.commits ended) in
+      commits_changes d (g.C.Changes.pairs c.args.changes.now) entries disk after c.commit_entries.result (Err Device) c.requires.some c.in_ok-entries_of.ensures.entries
+      (all_edits files (g.C.Changes.pairs c.args.changes.now) (edits honest)) made tt);
+  record_stands = λ honest. tt;
+  memory = λ e. absurd (device_apart e);
+  set =
+      let whole = rw (← c.self.view_is) at c.requires.whole in
+      rw (← c.self.view_is) (keeps_broken _ _ refl whole refl);
+  accounts = rw (← c.self.view_is) (accounts_failed refl c.in-Err.ensures.accounts);
+}
+
 pub encode-requires : goal.encode-requires
 encode-requires g c =
     let named = rw (← c.self.view_is) at c.requires.can.named in
@@ -41,84 +122,6 @@ commit_entries-requires-clause-fits g c honest =
     subst (λ (l : List Entry). IsTrue (all_fit l files)) (sym (c.entries.ensures ∙ c.new-record.ensures))
     (changes_fit (g.C.Changes.pairs c.args.changes.now) c.in_ok-entries_of.field-0.items files c.in_ok-entries_of.ensures.entries (all_edits files (g.C.Changes.pairs c.args.changes.now) (edits honest)))
 
-pub returns-in_err-entries_of-clause-commits : goal.returns-in_err-entries_of-clause-commits
-returns-in_err-entries_of-clause-commits g c honest =
-    let d = g.D.Disk in
-    let disk = c.args.self.now.disk in
-    let after = changed (g.C.Changes.pairs c.args.changes.now) (contents (d.files disk)) in
-    commits_none d after (IsOther (keys_of (g.C.Changes.pairs c.args.changes.now))) disk c.from_residual.result (λ image left. g.met.D.Disk.only_now disk image honest left) (passed_never _ _ c.from_residual.result c.from_residual.ensures.1)
-
-pub returns-in_err-body-clause-commits : goal.returns-in_err-body-clause-commits
-returns-in_err-body-clause-commits g c honest =
-    let d = g.D.Disk in
-    let disk = c.args.self.now.disk in
-    let after = changed (g.C.Changes.pairs c.args.changes.now) (contents (d.files disk)) in
-    commits_none d after (IsOther (keys_of (g.C.Changes.pairs c.args.changes.now))) disk c.from_residual-in_err-body.result (λ image left. g.met.D.Disk.only_now disk image honest left) (passed_never _ _ c.from_residual-in_err-body.result c.from_residual-in_err-body.ensures.1)
-
-pub returns-in-Ok-clause-commits : goal.returns-in-Ok-clause-commits
-returns-in-Ok-clause-commits g c = rw (← c.self.view_is) (λ ended.
-    let honest = c.commit_entries.ensures.accounts.was_honest ended in
-    let edits = (rw (← c.self.view_is) at c.requires.can.edits) (rw (← c.self.view_is) at c.requires.whole) in
-    let d = g.D.Disk in
-    let disk = c.self.inside.disk in
-    let after = c.commit_entries.new.disk in
-    let entries = c.in_ok-entries_of.field-0.items in
-    let files = contents (d.files disk) in
-    let made : CommitsOver {A = Unit {0}} {E = DiskFault} d (replayed entries files) (IsUnwritten entries) disk after (Ok tt) =
-    subst (λ (l : List Entry). CommitsOver {A = Unit {0}} {E = DiskFault} d (replayed l files) (IsUnwritten l) disk after (Ok tt)) (c.entries.ensures ∙ c.new-record.ensures) (c.in-Ok.ensures.commits ended) in
-    commits_changes d (g.C.Changes.pairs c.args.changes.now) entries disk after (Ok tt) (Ok tt) c.requires.some c.in_ok-entries_of.ensures.entries
-    (all_edits files (g.C.Changes.pairs c.args.changes.now) (edits honest)) made made.done)
-
-pub returns-clause-commits : goal.returns-clause-commits
-returns-clause-commits g c = rw (← c.self.view_is) (λ ended.
-    let honest = c.commit_entries.ensures.accounts.was_honest ended in
-    let edits = (rw (← c.self.view_is) at c.requires.can.edits) (rw (← c.self.view_is) at c.requires.whole) in
-    let d = g.D.Disk in
-    let disk = c.self.inside.disk in
-    let after = c.commit_entries.new.disk in
-    let entries = c.in_ok-entries_of.field-0.items in
-    let files = contents (d.files disk) in
-    let made : CommitsOver {A = Unit {0}} {E = DiskFault} d (replayed entries files) (IsUnwritten entries) disk after c.commit_entries.result =
-    subst (λ (l : List Entry). CommitsOver {A = Unit {0}} {E = DiskFault} d (replayed l files) (IsUnwritten l) disk after c.commit_entries.result) (c.entries.ensures ∙ c.new-record.ensures) (c.commit_entries.ensures.commits ended) in
-    commits_changes d (g.C.Changes.pairs c.args.changes.now) entries disk after c.commit_entries.result (Err Device) c.requires.some c.in_ok-entries_of.ensures.entries
-    (all_edits files (g.C.Changes.pairs c.args.changes.now) (edits honest)) made tt)
-
--- the record of the changes
-
-pub returns-in-Ok-clause-record : goal.returns-in-Ok-clause-record
-returns-in-Ok-clause-record g c ended =
-    let journal = contents (g.D.Disk.files c.commit_entries.new.disk) journal_name in
-    has_record (g.C.Changes.pairs c.args.changes.now) c.in_ok-entries_of.field-0.items journal c.in_ok-entries_of.ensures.entries
-    (c.in-Ok.ensures.record ended ∙ ap (λ (l : List Entry). let o : Option (List Entry) = Some l in o) (c.entries.ensures ∙ c.new-record.ensures))
-
-pub returns-in_err-entries_of-clause-set : goal.returns-in_err-entries_of-clause-set
-returns-in_err-entries_of-clause-set g c =
-    let whole = rw (← c.self.view_is) at c.requires.whole in
-    let p = err_from_is_err_and c.from_residual.result c.from_residual.ensures.1 in
-    rw (← c.self.view_is) (keeps_whole _ _ refl whole whole c.from_residual.result (λ e. cc (e, p.1, p.2)) (λ e. cc (e, p.1, p.2)))
-
-pub returns-in_err-body-clause-set : goal.returns-in_err-body-clause-set
-returns-in_err-body-clause-set g c =
-    let whole = rw (← c.self.view_is) at c.requires.whole in
-    let p = err_from_is_err_and c.from_residual-in_err-body.result c.from_residual-in_err-body.ensures.1 in
-    rw (← c.self.view_is) (keeps_whole _ _ refl whole whole c.from_residual-in_err-body.result (λ e. cc (e, p.1, p.2)) (λ e. cc (e, p.1, p.2)))
-
-pub returns-in-Ok-clause-set : goal.returns-in-Ok-clause-set
-returns-in-Ok-clause-set g c =
-    let whole = rw (← c.self.view_is) at c.requires.whole in
-    rw (← c.self.view_is) (keeps_whole _ _ refl whole whole (Ok (tt {0})) (λ e. cc e) (λ e. cc e))
-
-pub returns-clause-set : goal.returns-clause-set
-returns-clause-set g c =
-    let whole = rw (← c.self.view_is) at c.requires.whole in
-    rw (← c.self.view_is) (keeps_broken _ _ refl whole refl)
-
-pub returns-in-Ok-clause-accounts : goal.returns-in-Ok-clause-accounts
-returns-in-Ok-clause-accounts g c = rw (← c.self.view_is) (accounts_answered (accounts_ok c.in-Ok.ensures.accounts))
-
-pub returns-clause-accounts : goal.returns-clause-accounts
-returns-clause-accounts g c = rw (← c.self.view_is) (accounts_failed refl c.in-Err.ensures.accounts)
-
 pub commit_entries-requires-clause-journal : goal.commit_entries-requires-clause-journal
 commit_entries-requires-clause-journal g c = c.self.invariant.journal_is
 
@@ -136,30 +139,3 @@ pub invariant_of-self-in-Err : goal.invariant_of-self-in-Err
 invariant_of-self-in-Err g c =
     let s = c.self.invariant in
     record { journal_is = s.journal_is; each = s.each; few = s.few; gate = λ fine. absurd (true≢false fine) }
-
-pub returns-in_err-entries_of-clause-record : goal.returns-in_err-entries_of-clause-record
-returns-in_err-entries_of-clause-record g c honest = passed_never _ _ c.from_residual.result c.from_residual.ensures.1
-
-pub returns-in_err-entries_of-clause-memory : goal.returns-in_err-entries_of-clause-memory
-returns-in_err-entries_of-clause-memory g c e = refl
-
-pub returns-in_err-entries_of-clause-accounts : goal.returns-in_err-entries_of-clause-accounts
-returns-in_err-entries_of-clause-accounts g c = accounts_other c.from_residual.ensures.1 memory_apart (accounts_none _ _)
-
-pub returns-in_err-body-clause-record : goal.returns-in_err-body-clause-record
-returns-in_err-body-clause-record g c honest = passed_never _ _ c.from_residual-in_err-body.result c.from_residual-in_err-body.ensures.1
-
-pub returns-in_err-body-clause-memory : goal.returns-in_err-body-clause-memory
-returns-in_err-body-clause-memory g c e = refl
-
-pub returns-in_err-body-clause-accounts : goal.returns-in_err-body-clause-accounts
-returns-in_err-body-clause-accounts g c = accounts_other c.from_residual-in_err-body.ensures.1 memory_apart (accounts_none _ _)
-
-pub returns-in-Ok-clause-memory : goal.returns-in-Ok-clause-memory
-returns-in-Ok-clause-memory g c e = absurd (ok_apart e)
-
-pub returns-clause-record : goal.returns-clause-record
-returns-clause-record g c honest = tt
-
-pub returns-clause-memory : goal.returns-clause-memory
-returns-clause-memory g c e = absurd (device_apart e)

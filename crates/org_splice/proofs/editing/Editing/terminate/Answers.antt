@@ -10,8 +10,8 @@ pub returns-then-last-eq10-clause-ok : goal.returns-then-last-eq10-clause-ok
 returns-then-last-eq10-clause-ok c =
     let text : EditedText = c.args.self.now.text in
     let last : get_or c.bytes.result.now (length c.bytes.result.now - 1) 0 ≡ 10 = sym (c.in-Some.ensures.item.3.1 0) ∙ c.if-last-eq10.true in
-    let shut : is_terminated text.bytes ≡ true = ap is_terminated (sym c.bytes.ensures.bytes) ∙ is_terminated-newline c.bytes.result.now (length c.bytes.result.now - 1) (omega (arith, c.in-Some.ensures.item.3.0)) last in
-    let same : terminated_text text ≡ text = rw shut refl in
+    let stays_terminated : is_terminated text.bytes ≡ true = ap is_terminated (sym c.bytes.ensures.bytes) ∙ is_terminated-newline c.bytes.result.now (length c.bytes.result.now - 1) (omega (arith, c.in-Some.ensures.item.3.0)) last in
+    let same : terminated_text text ≡ text = rw stays_terminated refl in
     sym (ap (revised c.args.self.now) same)
 
 pub returns-then-last-eq10-clause-bytes : goal.returns-then-last-eq10-clause-bytes

@@ -11,7 +11,7 @@ returns-in-Ok-clause-opened g c =
     record {
       session = rw (opened.2, opened.0) refl;
       set = opened.3;
-      waits = ap (λ (s : TextSet). s.waiting) opened.2;
+      dirty_files = ap (λ (s : TextSet). s.dirty) opened.2;
     }
 
 pub returns-in-Err-clause-opened : goal.returns-in-Err-clause-opened
@@ -53,4 +53,4 @@ pub invariant_of-result-in-Ok : goal.invariant_of-result-in-Ok
 invariant_of-result-in-Ok g c =
     let files = c.in-Ok.files in
     let opened = c.in-Ok.ensures.opened in
-    (none_counted, opened.1 ∙ sym opened.2, λ honest. settled_new g.D.Disk.files c.args.states files (record { accepted = 0; acknowledged = 0; group = 1; ordered = none_counted }) opened.2)
+    (opened.1 ∙ sym opened.2, λ honest. settled_new g.D.Disk.files c.args.states files (record { accepted = 0; acknowledged = 0; group = 1; ordered = none_counted }) opened.2)

@@ -24,8 +24,8 @@ returns-then-is_broken-clause-did g c = λ honest.
     record {
       step = step;
       disk = leaves_unwritten d old (IsLeft {A = Unit {0}} s files AsksToSettle (Err Broken) s.accepted)
-          (IsLeftAlone {A = Unit {0}} s old.waiting AsksToSettle (Err Broken) s.accepted) _ (λ image left. g.met.D.Disk.only_now old.disk image honest left) own (λ image holds. inl holds) old refl own;
-      waits = refl;
+          (IsLeftAlone {A = Unit {0}} s old.dirty AsksToSettle (Err Broken) s.accepted) _ (λ image left. g.met.D.Disk.only_now old.disk image honest left) own (λ image holds. inl holds) old refl own;
+      dirty_files = refl;
       idle = record { untouched = λ broken. refl; nothing = λ asks none. refl; unneeded = λ asks none. refl };
     }
 
@@ -37,16 +37,16 @@ returns-then-self-clause-did g c = λ honest.
     let s = old.session in
     let files = contents (d.files old.disk) in
     let own : s.settled ≡ texts_of files s.names = rw (← c.self.view_is) refl in
-    let unbroken : inside.files.broken ≡ false = search rules in
-    let done : inside.tally.acknowledged ≡ inside.tally.accepted = c.if-self.true in
+    let unbroken : inside.executor.files.broken ≡ false = search rules in
+    let done : inside.executor.tally.acknowledged ≡ inside.executor.tally.accepted = c.if-self.true in
     let step : d.honest old.disk → Settles s (Ok (tt {0})) s =
-    rw (← c.self.view_is) (λ honest. (unbroken, rw ((c.self.invariant.2 honest).0 unbroken done, done) refl)) in
-    let waits : d.honest old.disk → old.waiting ≡ [] = rw (← c.self.view_is) (λ honest. (c.self.invariant.2 honest).1 done) in
+    rw (← c.self.view_is) (λ honest. (unbroken, rw ((c.self.invariant.1 honest).0 unbroken done, done) refl)) in
+    let dirty_files : d.honest old.disk → old.dirty ≡ [] = rw (← c.self.view_is) (λ honest. (c.self.invariant.1 honest).1 done) in
     record {
       step = step honest;
-      disk = leaves_unwritten d old (IsLeft s files AsksToSettle (Ok (tt {0})) s.accepted) (IsLeftAlone s old.waiting AsksToSettle (Ok (tt {0})) s.accepted) _
+      disk = leaves_unwritten d old (IsLeft s files AsksToSettle (Ok (tt {0})) s.accepted) (IsLeftAlone s old.dirty AsksToSettle (Ok (tt {0})) s.accepted) _
           (λ image left. g.met.D.Disk.only_now old.disk image honest left) own (λ image holds. inl holds) old refl own;
-      waits = waits honest;
+      dirty_files = dirty_files honest;
       idle = record { untouched = λ broken. refl; nothing = λ asks none. refl; unneeded = λ asks none. refl };
     }
 
@@ -56,19 +56,19 @@ returns-in_err-commit-clause-did g c =
     let inside = c.self.inside in
     let made = c.commit.ensures in
     let fault = c.in_err-commit.field-0.0 in
-    let unbroken : inside.files.broken ≡ false = search rules in
-    let fails : Fails inside.files c.commit.new.self c.commit.result fault =
+    let unbroken : inside.executor.files.broken ≡ false = search rules in
+    let fails : Fails inside.executor.files c.commit.new.self c.commit.result fault =
     record { is = c.in_err-commit.was; unbroken = unbroken; memory = made.idle.0; works = made.set.works; breaks = made.set.breaks; names = made.set.names } in
     let given : c.from_residual.result ≡ Err (fault_of_set fault) = search rules in
-    let files = contents (d.files inside.files.disk) in
+    let files = contents (d.files inside.executor.files.disk) in
     rw (← c.self.view_is, given) (λ ended. record {
-      step = settle_failed (λ disk. contents (d.files disk)) inside.states inside.files c.commit.new.self inside.tally c.commit.result fault fails;
-      disk = settle_leaves d inside.states inside.files c.commit.new.self inside.tally
-          (λ image left. g.met.D.Disk.only_now inside.files.disk image (made.accounts.was_honest ended) left) c.commit.result fault fails
-          (λ rest. subst (λ (s : TextSet). LeavesOver d inside.files.disk c.commit.new.self.disk (HoldsEither inside.files.names files (texts_of (held_over s files) inside.files.names))) c.self.invariant.1
+      step = settle_failed (λ disk. contents (d.files disk)) inside.executor.states inside.executor.files c.commit.new.self inside.executor.tally c.commit.result fault fails;
+      disk = settle_leaves d inside.executor.states inside.executor.files c.commit.new.self inside.executor.tally
+          (λ image left. g.met.D.Disk.only_now inside.executor.files.disk image (made.accounts.was_honest ended) left) c.commit.result fault fails
+          (λ rest. subst (λ (s : TextSet). LeavesOver d inside.executor.files.disk c.commit.new.self.disk (HoldsEither inside.executor.files.names files (texts_of (held_over s files) inside.executor.files.names))) c.self.invariant.0
           ((made.commits ended).any_moment rest)) (made.commits ended).recoverable
-          (subst (λ (s : TextSet). LeavesAlone d (IsOther s.waiting) inside.files.disk c.commit.new.self.disk) c.self.invariant.1 (made.commits ended).alone);
-      waits = ap (λ (held : Holding). held.before.waiting) c.in_err-commit.ensures.held;
+          (subst (λ (s : TextSet). LeavesAlone d (IsOther s.dirty) inside.executor.files.disk c.commit.new.self.disk) c.self.invariant.0 (made.commits ended).alone);
+      dirty_files = ap (λ (held : Holding). held.before.dirty) c.in_err-commit.ensures.held;
       idle = search rules;
     })
 
@@ -86,7 +86,6 @@ returns-in_err-commit-clause-counts g c =
 -- where the commit failed, commands still wait
 pub invariant_of-self : goal.invariant_of-self
 invariant_of-self g c = (
-  c.self.invariant.0,
-  subst (λ (held : Holding). held.now ≡ held.before) (sym c.in_err-commit.ensures.held) c.self.invariant.1,
+  subst (λ (held : Holding). held.now ≡ held.before) (sym c.in_err-commit.ensures.held) c.self.invariant.0,
   λ honest. (λ unbroken done. absurd (c.if-self.false done), λ done. absurd (c.if-self.false done)),
 )

@@ -16,8 +16,8 @@ edited-followed-requires c =
     let heads : AreHeadsOf before.bytes (Some c.in-Some.heads) = subst (AreHeadsOf before.bytes) c.in-Some.is c.self.invariant in
     let after : c.bytes.result.now ≡ (spliced at removed added before).bytes = c.bytes.ensures.bytes ∙ ap (λ (e : Versions). e.text.bytes) c.in_ok-apply.ensures.ok in
     let after_old : c.bytes.result.now ≡ (spliced at removed added c.args.self.now.text).bytes = after ∙ ap (λ (t : EditedText). (spliced at removed added t).bytes) was in
-    let shut : terminated c.bytes.result.now ≡ c.bytes.result.now = ap terminated after_old ∙ c.requires.shut ∙ sym after_old in
+    let stays_terminated : terminated c.bytes.result.now ≡ c.bytes.result.now = ap terminated after_old ∙ c.requires.stays_terminated ∙ sym after_old in
     let parts : c.bytes.result.now ≡ take at before.bytes ++ (added ++ drop (at + removed) before.bytes) = after ∙ append_assoc (take at before.bytes) added (drop (at + removed) before.bytes) in
     let small : length before.bytes < 2 ^ 64 = omega (arith, c.bytes-size.type_inv.0, ap length c.bytes-size.ensures.bytes) in
     let within : at + removed ≤ length before.bytes = subst (λ (t : EditedText). at + removed ≤ length t.bytes) (sym was) c.requires.within in
-    spliced_edit c.in-Some.heads before.bytes c.bytes.result.now added at removed c.len-added.result heads.1 heads.0 shut small within parts c.len-added.ensures
+    spliced_edit c.in-Some.heads before.bytes c.bytes.result.now added at removed c.len-added.result heads.1 heads.0 stays_terminated small within parts c.len-added.ensures

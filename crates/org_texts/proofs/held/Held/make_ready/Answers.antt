@@ -22,14 +22,14 @@ returns-then-is_some-clause-ok c =
 pub read-requires : goal.read-requires
 read-requires c =
     let old = c.self.inside.text.text.bytes in
-    let shut : c.bytes.result.now ≡ terminated old = c.bytes.ensures.bytes ∙ c.in_ok-terminate.ensures.bytes in
-    ap terminated shut ∙ terminated_twice old ∙ sym shut
+    let stays_terminated : c.bytes.result.now ≡ terminated old = c.bytes.ensures.bytes ∙ c.in_ok-terminate.ensures.bytes in
+    ap terminated stays_terminated ∙ terminated_twice old ∙ sym stays_terminated
 
 pub invariant_of-self-2 : goal.invariant_of-self-2
 invariant_of-self-2 c =
     let old = c.self.inside.text.text.bytes in
     let same : c.bytes.result.now ≡ c.terminate.new.self.text.bytes = c.bytes.ensures.bytes in
-    let shut : c.terminate.new.self.text.bytes ≡ terminated old = c.in_ok-terminate.ensures.bytes in
-    let twice : terminated c.terminate.new.self.text.bytes ≡ c.terminate.new.self.text.bytes = ap terminated shut ∙ terminated_twice old ∙ sym shut in
+    let stays_terminated : c.terminate.new.self.text.bytes ≡ terminated old = c.in_ok-terminate.ensures.bytes in
+    let twice : terminated c.terminate.new.self.text.bytes ≡ c.terminate.new.self.text.bytes = ap terminated stays_terminated ∙ terminated_twice old ∙ sym stays_terminated in
     let heads : c.in_ok-heads.heads ≡ headings_of c.terminate.new.self.text.bytes = search rules in
     (twice, heads)

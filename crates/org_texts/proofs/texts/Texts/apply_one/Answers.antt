@@ -13,9 +13,9 @@ pub invariant_of-self-2 : goal.invariant_of-self-2
 invariant_of-self-2 c =
     let es = c.self.inside.held.entries in
     let name = c.args.change.now.file in
-    let waiting = c.self.inside.waiting.keys in
-    let marked : c.wait.new.names.keys ≡ with_name name waiting = search rules in
+    let dirty = c.self.inside.dirty.keys in
+    let marked : c.wait.new.names.keys ≡ with_name name dirty = search rules in
     let some : IsSome (text_of c.args.self.now.now name) = some_of (λ (t : EditedText). CanApply c.args.change.now.edits.items t.bytes) (text_of c.args.self.now.now name) c.requires in
     let held : IsSome (lookup (bytes_eq name) (map now_of es)) = subst (λ (h : Holding). IsSome (text_of h.now name)) (sym c.self.view_is) some in
-    let among : AreAmong (keys_of es) (with_name name waiting) = among_name (keys_of es) waiting name c.self.invariant.held (is_among name es held) in
-    rw (marked, c.apply_at.ensures.names) (record { held = among; first = omega (arith, c.self.invariant.first, longer name waiting) })
+    let among : AreAmong (keys_of es) (with_name name dirty) = among_name (keys_of es) dirty name c.self.invariant.held (is_among name es held) in
+    rw (marked, c.apply_at.ensures.names) (record { held = among; first = omega (arith, c.self.invariant.first, longer name dirty) })

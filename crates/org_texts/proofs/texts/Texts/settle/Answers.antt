@@ -10,7 +10,7 @@ returns-clause-now c =
     let texts : map now_of c.settle_each.new.held.entries ≡ (settled_set c.args.self.now.now).texts =
     c.settle_each.ensures.now ∙ sym (on_disk_again es) ∙ ap (λ (h : Holding). (settled_set h.now).texts) c.self.view_is in
     let none : c.clear.new.self.keys ≡ [] = c.clear.ensures.empty in
-    let with : List (List ℕ × EditedText) → List (List ℕ) → TextSet = λ l w. record { texts = l; waiting = w } in
+    let with : List (List ℕ × EditedText) → List (List ℕ) → TextSet = λ l w. record { texts = l; dirty = w } in
     ap (λ (w : List (List ℕ)). with (map now_of c.settle_each.new.held.entries) w) none ∙ ap (λ (l : List (List ℕ × EditedText)). with l []) texts
 
 pub returns-clause-before : goal.returns-clause-before
@@ -18,5 +18,5 @@ returns-clause-before c =
     let es = c.self.inside.held.entries in
     let texts : map before_of c.settle_each.new.held.entries ≡ (settled_set c.args.self.now.now).texts =
     c.settle_each.ensures.before ∙ sym (on_disk_again es) ∙ ap (λ (h : Holding). (settled_set h.now).texts) c.self.view_is in
-    let with : List (List ℕ × EditedText) → TextSet = λ l. record { texts = l; waiting = [] } in
+    let with : List (List ℕ × EditedText) → TextSet = λ l. record { texts = l; dirty = [] } in
     ap with texts
