@@ -63,15 +63,20 @@ Where one of them is in no store, call ORIGINAL."
     (cond
      ((not (orgstore--all-in-store-p markers)) (call-interactively original))
      (region
-      (let ((org-agenda-bulk-marked-entries markers)) (funcall bulk))
-      (org-agenda-redo))
+      (let ((org-agenda-bulk-marked-entries markers))
+        (orgstore--act-in-bulk bulk)))
      (t
       (with-current-buffer (marker-buffer (car markers))
         (org-with-wide-buffer
          (goto-char (car markers))
          (let ((org-loop-over-headlines-in-active-region nil))
            (call-interactively command))))
-      (org-agenda-redo)))))
+      (orgstore--redo (current-message))))))
+
+(defun orgstore--redo (said)
+  "Build the agenda anew, and say again what was SAID before, if anything."
+  (org-agenda-redo)
+  (when said (message "%s" said)))
 
 (defmacro orgstore--define-agenda (name command original &optional bulk)
   "Define the agenda command NAME: COMMAND in a store, else ORIGINAL.
@@ -136,17 +141,23 @@ They are in order."
 
 (defun orgstore--bulk-files (function)
   "Call FUNCTION for each file with marked entries, in its buffer.
-Its arguments are the file's ROOT and NAME, and the markers in order."
-  (pcase-dolist (`(,buffer . ,markers)
-                 (seq-group-by #'orgstore--base-of
-                               org-agenda-bulk-marked-entries))
-    (with-current-buffer buffer
-      (org-with-wide-buffer
-       (pcase-let ((`(,root . ,name) (orgstore--here)))
-         (orgstore--prepare root (list name))
-         (funcall function root name
-                  (mapcar #'copy-marker
-                          (sort (copy-sequence markers) #'<))))))))
+Its arguments are the file's ROOT and NAME, and the markers in order.  Return
+how many of its values, lists of an element for each entry that was done, there
+are in all."
+  (cl-loop
+   for (buffer . markers) in (seq-group-by #'orgstore--base-of
+                                           org-agenda-bulk-marked-entries)
+   sum (with-current-buffer buffer
+         (org-with-wide-buffer
+          (pcase-let ((`(,root . ,name) (orgstore--here)))
+            (orgstore--prepare root (list name))
+            (length (funcall function root name
+                             (mapcar #'copy-marker
+                                     (sort (copy-sequence markers) #'<)))))))))
+
+(defun orgstore--accepted (replies)
+  "Return those of REPLIES that say that a command was done."
+  (seq-filter (lambda (it) (eq (car it) 'ok)) replies))
 
 (defun orgstore--bulk-todo ()
   "Give all marked entries one TODO state."
@@ -165,16 +176,16 @@ Its arguments are the file's ROOT and NAME, and the markers in order."
   "Archive all marked entries."
   (orgstore--bulk-files
    (lambda (root name markers)
-     (let ((words (orgstore--words (orgstore--states)))
-           (tops (orgstore--topmost markers)))
-       (orgstore--summary
-        "Archived"
-        (orgstore--archive
-         root name
-         (mapcar (lambda (it) (list it (orgstore--path it words))) tops)
-         (orgstore--progress "Archiving..." (length tops))
-         orgstore--archive-group)
-        tops)))))
+     (let* ((words (orgstore--words (orgstore--states)))
+            (tops (orgstore--topmost markers))
+            (replies
+             (orgstore--archive
+              root name
+              (mapcar (lambda (it) (list it (orgstore--path it words))) tops)
+              (orgstore--progress "Archiving..." (length tops))
+              orgstore--archive-group)))
+       (orgstore--summary "Archived" replies tops)
+       (orgstore--accepted replies)))))
 
 (defun orgstore--bulk-refile ()
   "Refile all marked entries below one heading."
@@ -183,7 +194,14 @@ Its arguments are the file's ROOT and NAME, and the markers in order."
                    (orgstore--ask-target (list first)))))
     (orgstore--bulk-files
      (lambda (root name markers)
-       (orgstore--refile root name (orgstore--topmost markers) target)))))
+       (orgstore--accepted
+        (orgstore--refile root name (orgstore--topmost markers) target))))))
+
+(defun orgstore--act-in-bulk (action)
+  "Do ACTION on the marked entries, and tell how many were done."
+  (let ((done (funcall action)))
+    (orgstore--redo (format "Acted on %d entr%s" done
+                            (if (= done 1) "y" "ies")))))
 
 (defun orgstore-agenda-bulk-action (&optional arg)
   "Do a bulk action on the marked entries, as `org-agenda-bulk-action' does.
@@ -204,9 +222,11 @@ state are one run of it for each file.  ARG is as there."
         (progn
           (when key (push key unread-command-events))
           (org-agenda-bulk-action arg))
-      (funcall action)
-      (unless org-agenda-persistent-marks (org-agenda-bulk-unmark-all))
-      (org-agenda-redo))))
+      (orgstore--act-in-bulk
+       (lambda ()
+         (prog1 (funcall action)
+           (unless org-agenda-persistent-marks
+             (org-agenda-bulk-unmark-all))))))))
 
 (provide 'orgstore-agenda)
 ;;; orgstore-agenda.el ends here

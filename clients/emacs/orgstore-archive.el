@@ -243,7 +243,7 @@ DAYS, if it isn't nil, are the least since it was closed."
 SCOPE is region, subtree or buffer, a symbol; the buffer is its accessible
 part.  With DAYS, a numeric prefix argument, those alone that were closed at
 least so many days ago.  It is one run of the store, in groups of entries that
-each are one step; \[keyboard-quit] stops it, and what is archived by then is
+each are one step; \\[keyboard-quit] stops it, and what is archived by then is
 safe."
   (interactive
    (list (if (use-region-p) 'region

@@ -60,10 +60,26 @@ is an error where both changed, or a file can't be changed."
         (user-error "%s can't be written: change its mode, and try again"
                     name)))))
 
+(defun orgstore--file-as-read-p ()
+  "Whether the file of the current buffer is as it was read or saved.
+Where its time is a whole second, that time alone may not tell."
+  (let ((time (visited-file-modtime)))
+    (and (verify-visited-file-modtime)
+         (or (buffer-modified-p)
+             (not (consp time))
+             (not (orgstore--whole-second-p time))
+             (string= (orgstore--bytes buffer-file-name)
+                      (save-restriction
+                        (widen)
+                        (encode-coding-string
+                         (buffer-substring-no-properties (point-min)
+                                                         (point-max))
+                         (orgstore--coding))))))))
+
 (defun orgstore--prepare-buffer (name write)
   "Have the file NAME and the current buffer, which visits it, agree.
 With WRITE the command may change them."
-  (let ((same (verify-visited-file-modtime))
+  (let ((same (orgstore--file-as-read-p))
         (changed (buffer-modified-p)))
     (when (eq (coding-system-get (or buffer-file-coding-system 'utf-8) :bom) t)
       (user-error "%s begins with a byte order mark: save it without \
@@ -109,15 +125,12 @@ look at %s on the disk, then save" (file-name-nondirectory
 
 ;;;; What a command changed
 
-(defun orgstore--insert-bytes (file)
-  "Put the bytes of FILE into the current buffer, if it is there."
-  (set-buffer-multibyte nil)
-  (when (file-exists-p file)
-    (insert-file-contents-literally file)))
-
-(defvar orgstore--large 2000000
+(defvar orgstore--large 700000
   "From how many bytes on files are compared by the program cmp.
-Emacs takes 5 ms for a million bytes, and a run of cmp from 2 to 8.")
+Emacs takes some 7 ms for a million bytes, and a run of cmp from 1 to 2.")
+
+(defconst orgstore--cmp-runs 6
+  "How many changes of a large file cmp is to find the end of.")
 
 (defun orgstore--cmp (old at new there)
   "Return how many bytes of the file OLD from AT on are those of NEW from THERE.
@@ -139,24 +152,34 @@ It is t where that is so up to both ends, and nil where it can't be told."
 (defun orgstore--tail (source begin copy file gap)
   "Return how many bytes this buffer and SOURCE are known to end with alike.
 They differ from BEGIN on.  This has the bytes of COPY without GAP, a pair of
-its position here and its length, or nil; SOURCE has those of FILE."
-  (goto-char begin)
-  (beginning-of-line)
-  (let* ((at (point))
-         (last (point-max))
-         (longer (- (buffer-size source) (buffer-size)))
-         (met (orgstore--meet (orgstore--lines (current-buffer) at last)
-                              (orgstore--lines source at (+ last longer))))
-         (here (if (and met (= (+ (car met) longer) (cdr met))) (car met)
-                 ;; Nothing but text put in, or taken out.
-                 (min last (max at (- at longer))))))
-    (if (eq t (orgstore--cmp copy (+ (1- here)
-                                     (if (and gap (>= here (car gap)))
-                                         (cdr gap)
-                                       0))
-                             file (+ (1- here) longer)))
-        (- last here)
-      0)))
+its position here and its length, or nil; SOURCE has those of FILE.  From the
+end of each change on cmp looks for the next one."
+  (let* ((last (point-max))
+         (end (1+ (buffer-size source)))
+         (at begin) (there begin) (runs 0) same)
+    (while (and at (not same) (< runs orgstore--cmp-runs))
+      (setq runs (1+ runs))
+      (goto-char at)
+      (beginning-of-line)
+      (setq there (- there (- at (point)))
+            at (point))
+      (let* ((met (or (orgstore--meet
+                       (orgstore--lines (current-buffer) at last)
+                       (orgstore--lines source there end))
+                      ;; Nothing but text put in, or taken out.
+                      (let ((left (min (- last at) (- end there))))
+                        (cons (- last left) (- end left)))))
+             (before-gap (and gap (< (car met) (car gap))))
+             (alike (orgstore--cmp copy (+ (1- (car met))
+                                           (if (or before-gap (null gap)) 0
+                                             (cdr gap)))
+                                   file (1- (cdr met)))))
+        (cond ((natnump alike)
+               (setq at (and (> alike 0) (+ (car met) alike))
+                     there (+ (cdr met) alike)))
+              ((and alike (not before-gap)) (setq same (- last (car met))))
+              (t (setq at nil)))))
+    (or same 0)))
 
 (defun orgstore--file-bounds (source copy file removed)
   "Return (BEGIN . SAME) for `orgstore--hunks' of this buffer and SOURCE.

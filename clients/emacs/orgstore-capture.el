@@ -170,8 +170,8 @@ where that refuses it the buffer stays."
        (orgstore--captured root name text))
      (with-suppressed-warnings ((obsolete org-capture-bookmark))
        (with-current-buffer (orgstore--base)
-         (setq-local org-capture-bookmark nil)))
-     (message "Captured into %s" name))))
+         (setq-local save-silently t)
+         (setq-local org-capture-bookmark nil))))))
 
 (defun orgstore--capture-after ()
   "Remove the temporary file of a capture for the store."
@@ -182,6 +182,7 @@ where that refuses it the buffer stays."
           (with-current-buffer buffer (set-buffer-modified-p nil))
           (kill-buffer buffer)))
       (ignore-errors (delete-file (car it)))
+      (unless org-note-abort (message "Captured into %s" (nth 3 it)))
       (when (and orgstore--last-change (marker-buffer orgstore--last-change)
                  (not org-note-abort))
         (move-marker org-capture-last-stored-marker orgstore--last-change

@@ -58,6 +58,16 @@
              (and (null (cdr days))
                   (string-match-p "\\`[^]>0-9+-]+\\'" (car days)))))))
 
+(defun orgstore--clock-here ()
+  "Return the stamp of the open clock that the line at point is, or nil.
+It is none where the stamp can't be read."
+  (save-excursion
+    (beginning-of-line)
+    (let ((case-fold-search nil))
+      (when (looking-at orgstore--open-clock)
+        (let ((stamp (match-string-no-properties 1)))
+          (and (orgstore--clock-stamp-p stamp) stamp))))))
+
 (defun orgstore--find-clock (file)
   "Return the stamp of the first open clock line of FILE, or nil."
   (with-temp-buffer
@@ -67,13 +77,7 @@
       ;; A line before the first heading is no clock.
       (when (or (looking-at-p "\\*+ ") (re-search-forward "^\\*+ " nil t))
         (while (and (not found) (search-forward "CLOCK:" nil t))
-          (let ((end (point)))
-            (beginning-of-line)
-            (when (and (looking-at orgstore--open-clock)
-                       (save-match-data
-                         (orgstore--clock-stamp-p (match-string 1))))
-              (setq found (match-string 1)))
-            (goto-char end))))
+          (setq found (orgstore--clock-here))))
       found)))
 
 (defvar orgstore--clocks (make-hash-table :test #'equal)
@@ -85,9 +89,10 @@
    (lambda (name)
      (let* ((file (expand-file-name name root))
             (stamp (orgstore--stamp file))
+            (sure (orgstore--stamp-sure-p stamp))
             (known (gethash file orgstore--clocks)))
-       (unless (equal stamp (car known))
-         (setq known (cons stamp (orgstore--find-clock file)))
+       (unless (and sure (equal stamp (car known)))
+         (setq known (cons (and sure stamp) (orgstore--find-clock file)))
          (puthash file known orgstore--clocks))
        (and (cdr known) (cons name (cdr known)))))
    (orgstore--names root)))
@@ -117,16 +122,18 @@
     (run-hooks 'org-clock-out-hook)))
 
 (defun orgstore--clock-open-p ()
-  "Whether Org's running clock still stands in its buffer."
+  "Whether Org's running clock still stands in its buffer, under a heading.
+An edit may have put another heading above it: then it is that one's."
   (with-current-buffer (marker-buffer org-clock-marker)
     (org-with-wide-buffer
      (goto-char org-clock-marker)
-     (beginning-of-line)
-     (looking-at-p orgstore--open-clock))))
+     (let ((heading (and (orgstore--clock-here)
+                         (ignore-errors (orgstore--heading)))))
+       (when heading (move-marker org-clock-hd-marker heading))))))
 
 (defun orgstore--clocking-p ()
   "Whether Org has a clock, on a line that its buffer still has.
-Where an undo took that line away Org forgets the clock."
+Where an undo took that line away, or an edit broke it, Org forgets the clock."
   (when (org-clocking-p)
     (or (orgstore--clock-open-p)
         (progn (orgstore--clock-gone) nil))))
@@ -140,8 +147,12 @@ Where no buffer has it any more, Org forgets it."
       (with-current-buffer (marker-buffer orgstore--last-change)
         (org-with-wide-buffer
          (goto-char orgstore--last-change)
-         (when (re-search-forward orgstore--open-clock orgstore--last-end t)
-           (orgstore--clock-resume)))))))
+         (let (found)
+           (while (and (not found)
+                       (re-search-forward orgstore--open-clock
+                                          orgstore--last-end t))
+             (setq found (orgstore--clock-here)))
+           (when found (orgstore--clock-resume))))))))
 
 (add-hook 'orgstore--moved-hook #'orgstore--clock-moved)
 
@@ -224,8 +235,7 @@ outside of a store, that is what is done."
    (t
     (pcase-let ((`(,root . ,name) (orgstore--here)))
       (orgstore--prepare root (list name))
-      (let ((pos (with-current-buffer (orgstore--base)
-                   (copy-marker (orgstore--heading)))))
+      (let ((pos (orgstore--base-marker (orgstore--heading))))
         (if (and (orgstore--clocking-p) (= org-clock-hd-marker pos)
                  (eq (marker-buffer org-clock-hd-marker) (orgstore--base)))
             (message "Clock continues in %S" org-clock-heading)

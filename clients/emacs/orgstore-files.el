@@ -64,6 +64,10 @@ FILE may be a link into the folder, or one within it that leads elsewhere."
   "Return the base buffer of the current buffer."
   (or (buffer-base-buffer) (current-buffer)))
 
+(defun orgstore--base-marker (pos)
+  "Return a marker at POS in the base buffer of this one."
+  (set-marker (make-marker) pos (orgstore--base)))
+
 (defun orgstore--base-of (marker)
   "Return the base buffer of MARKER's buffer."
   (with-current-buffer (marker-buffer marker) (orgstore--base)))
@@ -131,11 +135,38 @@ They are pairs (BUFFER . NAME)."
                                (encode-coding-string b 'utf-8)))))
 
 (defun orgstore--stamp (file)
-  "Return the stamp of FILE, another one after each write, or nil."
+  "Return the stamp of FILE, or nil where it isn't there.
+A later write gives it another one, if `orgstore--stamp-sure-p'."
   (let ((it (file-attributes (file-truename file))))
     (and it (list (file-attribute-modification-time it)
                   (file-attribute-size it)
                   (file-attribute-inode-number it)))))
+
+(defun orgstore--whole-second-p (time)
+  "Whether TIME has no part of a second, as all have on some disks."
+  (= 0 (mod (car (time-convert time 1000000000)) 1000000000)))
+
+(defun orgstore--stamp-sure-p (stamp)
+  "Whether each write from now on gives its file another stamp than STAMP.
+The clock that files have their times from stands still for up to 10 ms, and
+for two seconds on a disk that knows whole ones alone."
+  (and stamp
+       (time-less-p (time-add (car stamp)
+                              (if (orgstore--whole-second-p (car stamp)) 2.1
+                                0.02))
+                    nil)))
+
+(defun orgstore--insert-bytes (file)
+  "Put the bytes of FILE into the current buffer, if it is there."
+  (set-buffer-multibyte nil)
+  (when (file-exists-p file)
+    (insert-file-contents-literally file)))
+
+(defun orgstore--bytes (file)
+  "Return the bytes of FILE, of none where it isn't there."
+  (with-temp-buffer
+    (orgstore--insert-bytes file)
+    (buffer-string)))
 
 (defun orgstore--coding ()
   "Return how the text of the current buffer is written to its file.

@@ -155,18 +155,29 @@ orgstore.journal away" dir))
        (format "The file %s in %s is past 64 MiB: split it" name dir))
       ("TooManyFiles" (format "%s has more than 256 Org files" dir))
       ("Device"
-       (format "%s can't be opened: it isn't there or isn't readable, a file \
-name in it isn't UTF-8, or the disk failed" dir))
+       (format "%s can't be opened: %s" dir
+               (if (orgstore--full-p root)
+                   "its disk is full: make room, and try again"
+                 "it isn't there or can't be written, a file name in it \
+isn't UTF-8, or the disk failed")))
       ("bad states"
        "The store can't have these TODO states: do M-x orgstore-check")
       ("bad name" (format "The store can't have that file name (%s)" message))
       (_ (format "The store on %s ended: %s" dir message)))))
 
+(defun orgstore--full-p (root)
+  "Whether the disk of ROOT has no room for a change."
+  (let ((info (file-system-info root)))
+    (and info (< (nth 2 info) 65536))))
+
 (defun orgstore--device-message (root)
   "Return what to tell where the disk of ROOT failed."
-  (format "The disk of %s failed.  Don't save or revert its files.  Find out \
-what is wrong, unmount the disk or restart the machine, and then do \
-M-x orgstore-forget-fault" (abbreviate-file-name root)))
+  (format "The disk of %s %s, and then do M-x orgstore-forget-fault"
+          (abbreviate-file-name root)
+          (if (orgstore--full-p root)
+              "is full.  Don't save or revert its files.  Make room"
+            "failed.  Don't save or revert its files.  Find out what is \
+wrong, unmount the disk or restart the machine")))
 
 ;;;; The process
 
@@ -271,6 +282,7 @@ Where another store is open on the folder it is tried for two seconds."
              (and (equal (nth 1 answer) 3)
                   (string-match-p "open: Locked" (car answer))
                   (> (setq tries (1- tries)) 0)))
+      (message "Another store is open on the folder; waiting for it...")
       ;; No `sleep-for', which would serve timers.
       (call-process "sleep" nil nil nil "0.1"))
     answer))
@@ -295,8 +307,11 @@ STATUS is as in `orgstore--run-once', ANSWER as in `orgstore--replies'."
 the first %d are done" count (if (= count 1) "" "s") safe))
      ((stringp status)
       (user-error "The store was killed (%s).  It was opened again, and the \
-files are whole; the first %d of %d commands are done, others may be: look, \
-and try again" status safe count))
+files are whole; %s: look, and try again"
+                  status
+                  (if (= count 1) "the command is done, or not at all"
+                    (format "the first %d of %d commands are done, others may \
+be" safe count))))
      ((/= status 0)
       (user-error "%s" (orgstore--open-message
                         (or message (format "status %d" status)) root)))

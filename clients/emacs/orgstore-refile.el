@@ -43,7 +43,7 @@ heading, or use M-x org-refile"))
 (defun orgstore--refile-target (arg tops)
   "Return a marker at the target of refiling TOPS with ARG."
   (cond ((not (eql arg 2)) (orgstore--ask-target tops))
-        ((org-clocking-p) (copy-marker org-clock-hd-marker))
+        ((orgstore--clocking-p) (copy-marker org-clock-hd-marker))
         (t (user-error "No clock is running"))))
 
 (defun orgstore--refile-step (root name tops target into words)
@@ -75,7 +75,7 @@ states.  Return the replies."
 
 (defun orgstore--refile (root name tops target)
   "Move the subtrees at TOPS of this buffer below the heading at TARGET.
-The buffer visits the file NAME of ROOT."
+The buffer visits the file NAME of ROOT.  Return the replies."
   (pcase-let* ((`(,there . ,into)
                 (orgstore--place (buffer-file-name
                                   (orgstore--base-of target))))
@@ -97,7 +97,8 @@ which no crash-safe step is"))
                  (with-current-buffer (marker-buffer target)
                    (org-with-wide-buffer
                     (goto-char target)
-                    (nth 1 (orgstore--here-parts words)))))))))
+                    (nth 1 (orgstore--here-parts words))))))
+      replies)))
 
 ;;;###autoload
 (defun orgstore-refile (&optional arg target)

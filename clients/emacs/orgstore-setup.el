@@ -117,7 +117,8 @@ DIR.  Signal an error where it doesn't do that."
         (save-excursion
           (goto-char (point-max))
           (unless (bolp) (insert "\n"))
-          (insert "\n" lines))
+          (unless (bobp) (insert "\n"))
+          (insert lines))
         (save-buffer))
       file)))
 

@@ -210,11 +210,10 @@ With TOPS, those alone whose parent isn't in the region."
 
 (defun orgstore--extents (positions)
   "Return a pair of markers round the subtree at each of POSITIONS."
-  (with-current-buffer (orgstore--base)
-    (mapcar (lambda (pos)
-              (cons (copy-marker pos)
-                    (copy-marker (orgstore--subtree-end pos))))
-            positions)))
+  (mapcar (lambda (pos)
+            (cons (orgstore--base-marker pos)
+                  (orgstore--base-marker (orgstore--subtree-end pos))))
+          positions))
 
 (defun orgstore--progress (words count)
   "Return a function that reports how many of COUNT are done, with WORDS.
@@ -257,12 +256,21 @@ With OWN its line is among them.  Nil where none has a statistics cookie."
       (let ((text (string-join lines "\n")))
         (and (string-match-p orgstore--cookie text) text)))))
 
+(defun orgstore--undo-join ()
+  "Have one undo take back the last command and what is edited next.
+This is so where the command changed the current buffer."
+  (when (and orgstore--last-change
+             (eq (marker-buffer orgstore--last-change) (current-buffer)))
+    (while (and (consp buffer-undo-list) (null (car buffer-undo-list)))
+      (pop buffer-undo-list))))
+
 (defun orgstore--update-cookies (root name positions &optional own)
   "Bring the statistics cookies above POSITIONS up to date, as Org does.
 With OWN, those in the headings there.  Then save the buffer, of the file NAME
 of ROOT, where that changed it: this is no part of the step."
   (when org-provide-todo-statistics
     (with-current-buffer (orgstore--base)
+      (orgstore--undo-join)
       (org-with-wide-buffer
        (let (tried changed)
          (dolist (pos positions)
@@ -274,6 +282,7 @@ of ROOT, where that changed it: this is no part of the step."
                  (org-update-parent-todo-statistics))
                (unless (equal before (orgstore--cookies-above pos own))
                  (setq changed t)))))
+         (undo-boundary)
          (cond (changed (orgstore--save root name))
                ;; Org writes the same cookie anew.
                (tried (restore-buffer-modified-p nil))))))))

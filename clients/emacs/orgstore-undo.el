@@ -13,7 +13,8 @@
 ;;
 ;; A command's copies stand in a folder of their own, which is named by the
 ;; time.  The file `command' there has its record: a list (ROOT WORDS . FILES),
-;; in which FILES are lists (NAME BEFORE AFTER) with the stamps of each file.
+;; in which FILES are lists (NAME BEFORE AFTER) with the stamp of each file before
+;; the command and its mark after it.
 
 ;;; Code:
 
@@ -47,15 +48,39 @@
 It isn't there where NAME wasn't."
   (expand-file-name name (orgstore--kept-dir kept)))
 
+(defun orgstore--mark (file)
+  "Return the stamp of FILE, by which its text is to be known again.
+Where its time is a whole second, which may not tell of a write soon after, a
+hash of its bytes is added."
+  (let ((stamp (orgstore--stamp file)))
+    (if (or (null stamp) (orgstore--stamp-sure-p stamp)
+            (not (orgstore--whole-second-p (car stamp))))
+        stamp
+      (append stamp (list (secure-hash 'sha1 (orgstore--bytes file)))))))
+
+(defun orgstore--marked-p (mark stamp file)
+  "Whether a text of MARK is that of STAMP, whose bytes FILE has."
+  (and (equal (seq-take mark 3) stamp)
+       (or (null (nth 3 mark))
+           (equal (nth 3 mark) (secure-hash 'sha1 (orgstore--bytes file))))))
+
+(defun orgstore--keep-name ()
+  "Return a name for the folder of a command's copies, after all others.
+The clock may have been put back."
+  (let ((name (format-time-string "%Y%m%dT%H%M%S.%9N" nil t))
+        (last (file-name-nondirectory (or (car (orgstore--keep-dirs)) ""))))
+    (if (string< last name) name
+      (pcase-let ((`(,front ,end) (split-string last "\\.")))
+        (format "%s.%09d" front (1+ (string-to-number (or end "0"))))))))
+
 (defun orgstore--keep (root names words)
   "Copy the files NAMES of ROOT before a command, which WORDS tell.
 Return what is kept, or nil where it can't be."
   (condition-case err
       (let ((kept (orgstore--kept-make
                    :root root :words words
-                   :dir (expand-file-name
-                         (format-time-string "%Y%m%dT%H%M%S.%9N")
-                         orgstore-undo-directory))))
+                   :dir (expand-file-name (orgstore--keep-name)
+                                          orgstore-undo-directory))))
         (with-file-modes #o700 (make-directory (orgstore--kept-dir kept) t))
         (dolist (name names)
           (let ((file (expand-file-name name root)))
@@ -84,10 +109,14 @@ Return what is kept, or nil where it can't be."
   "Note in KEPT which files its command changed; forget the others."
   (let (changed)
     (pcase-dolist (`(,name ,before ,_) (orgstore--kept-files kept))
-      (let ((after (orgstore--stamp
-                    (expand-file-name name (orgstore--kept-root kept)))))
-        (if (equal before after)
-            (when before (delete-file (orgstore--kept-copy kept name)))
+      (let* ((file (expand-file-name name (orgstore--kept-root kept)))
+             (copy (orgstore--kept-copy kept name))
+             (after (orgstore--mark file)))
+        ;; Two writes within one tick of the clock have one stamp.
+        (if (and (equal before (seq-take after 3))
+                 (or (null before)
+                     (string= (orgstore--bytes file) (orgstore--bytes copy))))
+            (when before (delete-file copy))
           (push (list name before after) changed))))
     (setf (orgstore--kept-files kept) changed)
     (if (null changed)
@@ -131,8 +160,8 @@ The last command kept can be undone then all the same."
   (when-let* ((kept (seq-some #'orgstore--keep-read (orgstore--keep-dirs)))
               ((equal root (orgstore--kept-root kept)))
               (it (assoc name (orgstore--kept-files kept)))
-              ((equal from (nth 2 it))))
-    (setf (nth 2 it) (orgstore--stamp (expand-file-name name root)))
+              ((equal from (seq-take (nth 2 it) 3))))
+    (setf (nth 2 it) (orgstore--mark (expand-file-name name root)))
     (orgstore--keep-write kept)))
 
 (defun orgstore--save (root name)
@@ -150,7 +179,8 @@ The last command kept can be undone then all the same."
   (let ((root (orgstore--kept-root kept)))
     (orgstore--prepare root (mapcar #'car (orgstore--kept-files kept)))
     (pcase-dolist (`(,name ,_ ,after) (orgstore--kept-files kept))
-      (unless (equal after (orgstore--stamp (expand-file-name name root)))
+      (unless (let ((file (expand-file-name name root)))
+                (orgstore--marked-p after (orgstore--stamp file) file))
         (user-error "%s changed since that command, so that it isn't undone; \
 its copy from before is %s"
                     name (abbreviate-file-name
@@ -195,15 +225,19 @@ Without BEFORE it wasn't there, and becomes empty."
 (defun orgstore--undo-chain (undone)
   "Let the command before UNDONE be undone too, where it came right before.
 Its files have the stamps of a save now, and not those that it left."
-  (when-let ((kept (seq-some #'orgstore--keep-read (orgstore--keep-dirs))))
+  (when-let ((kept (seq-some #'orgstore--keep-read
+                             (remove (orgstore--kept-dir undone)
+                                     (orgstore--keep-dirs)))))
     (pcase-dolist (`(,name ,before ,_) (orgstore--kept-files undone))
       (let ((it (assoc name (orgstore--kept-files kept))))
-        (when (and it (equal before (nth 2 it))
+        (when (and it
                    (equal (orgstore--kept-root kept)
-                          (orgstore--kept-root undone)))
+                          (orgstore--kept-root undone))
+                   (orgstore--marked-p (nth 2 it) before
+                                       (orgstore--kept-copy undone name)))
           (setf (nth 2 it)
-                (orgstore--stamp (expand-file-name
-                                  name (orgstore--kept-root kept)))))))
+                (orgstore--mark (expand-file-name
+                                 name (orgstore--kept-root kept)))))))
     (orgstore--keep-write kept)))
 
 ;;;###autoload
@@ -228,8 +262,8 @@ twice, and loses none."
       (pcase-dolist (`(,name ,before ,_)
                      (seq-sort-by grows #'> (orgstore--kept-files kept)))
         (orgstore--undo-file kept name before)))
-    (orgstore--keep-forget (orgstore--kept-dir kept))
     (orgstore--undo-chain kept)
+    (orgstore--keep-forget (orgstore--kept-dir kept))
     (run-hooks 'orgstore--moved-hook)
     (message "Undone: %s" (orgstore--kept-words kept))))
 

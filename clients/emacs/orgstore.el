@@ -25,6 +25,9 @@
 ;; narrowing, indirect buffers and undo are kept.
 ;;
 ;; Outside of `orgstore-directory' every command is Org's own.
+;;
+;; The package has no public address yet: that in the head is of a domain
+;; which is reserved for examples.
 
 ;;; Code:
 

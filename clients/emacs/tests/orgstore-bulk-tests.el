@@ -210,6 +210,13 @@
       (orgstore-todo "DONE")
       (orgstore-test-files "a.org" (concat "* P [0/1]\n** Q [50%]\n*** DONE A\nCLOSED: [2026-07-01 Wed 10:00]\n"
                                            "*** TODO B\n** TODO C\n"))
+      ;; One undo takes both back.
+      (undo-boundary)
+      (setq last-command nil)
+      (undo)
+      (should (equal (orgstore-test-text) "* P [0/1]\n** Q [0%]\n*** TODO A\n*** TODO B\n** TODO C\n"))
+      (should (buffer-modified-p))
+      (orgstore-todo "DONE")
       ;; The cookie is part of the title, and the path is that of this moment.
       (orgstore-test-goto "B")
       (orgstore-todo "DONE")

@@ -48,6 +48,83 @@ A pair is a closed clock, one alone is open."
     (orgstore-test-goto "A")
     (should (= 90 (orgstore-time)))))
 
+(ert-deftest orgstore-test-a-clock-line-that-an-edit-broke ()
+  "It is no running clock, to the store and so to Org."
+  (orgstore-test-store '(("a.org" . "* A\n"))
+    (orgstore-test-visit "a.org" "A")
+    (orgstore-clock-in)
+    (save-excursion
+      (search-forward "10:00")
+      (insert "x"))
+    (orgstore-test-at 10 5)
+    (orgstore-clock-in)
+    (orgstore-test-files "a.org" (concat "* A\n:LOGBOOK:\nCLOCK: [2026-07-01 Wed 10:05]\n"
+                                         "CLOCK: [2026-07-01 Wed 10:00x]\n:END:\n"))
+    (should (org-clocking-p))
+    (orgstore-test-at 10 7)
+    (orgstore-clock-out)
+    (orgstore-test-files "a.org" (concat "* A\n:LOGBOOK:\nCLOCK: [2026-07-01 Wed 10:05]--[2026-07-01 Wed 10:07] =>  0:02\n"
+                                         "CLOCK: [2026-07-01 Wed 10:00x]\n:END:\n"))))
+
+(ert-deftest orgstore-test-a-clock-line-that-came-under-another-heading ()
+  "It is that heading's clock, to the store and so to Org."
+  (orgstore-test-store '(("a.org" . "* A\n"))
+    (orgstore-test-visit "a.org" "A")
+    (orgstore-clock-in)
+    (save-excursion
+      (search-forward "CLOCK")
+      (beginning-of-line)
+      (insert "* B\n"))
+    (orgstore-test-at 10 5)
+    (orgstore-clock-in)
+    (orgstore-test-files "a.org" (concat "* A\n" (orgstore-test-clocked '(5)) ":LOGBOOK:\n* B\n"
+                                         "CLOCK: [2026-07-01 Wed 10:00]--[2026-07-01 Wed 10:05] =>  0:05\n:END:\n"))
+    ;; Before all headings it is none.
+    (orgstore-test-goto "A")
+    (delete-char 1)
+    (orgstore-test-goto "B")
+    (orgstore-test-at 10 7)
+    (orgstore-test-error "[Nn]o clock" (orgstore-clock-out))))
+
+(ert-deftest orgstore-test-clocking-in-from-an-indirect-buffer ()
+  "The entry is that at point there, whatever the other buffer's point is."
+  (orgstore-test-store '(("a.org" . "* A\n* B\n"))
+    (orgstore-test-visit "a.org" "A")
+    (with-current-buffer (make-indirect-buffer (current-buffer) "indirect" t)
+      (orgstore-test-goto "B")
+      (orgstore-test-at 10 0)
+      (orgstore-clock-in)
+      (should (equal org-clock-current-task "B")))
+    (orgstore-test-files "a.org" (concat "* A\n* B\n" (orgstore-test-clocked '(0))))))
+
+(ert-deftest orgstore-test-a-clock-of-the-same-size-and-time ()
+  "What is known of a file by its stamp isn't older than the file's last tick."
+  (orgstore-test-store '(("a.org" . "* A\n"))
+    (let* ((file (orgstore-test-path "a.org"))
+           (stamp-at (lambda (text time)
+                       (let ((coding-system-for-write 'utf-8-unix))
+                         (write-region text nil file nil 'quiet))
+                       (set-file-times file time)
+                       (orgstore--running-clock (file-truename orgstore-test-dir))))
+           (open "* A\nCLOCK: [2026-07-01 Wed 09:00]\n")
+           (none "* A\nCLOCK: (2026-07-01 Wed 09:00)\n"))
+      ;; Not older than a tick, or than two seconds on a disk that knows whole ones alone.
+      (dolist (time (list (time-add nil 1000) (time-add (time-convert nil 'integer) 1000)))
+        (should-not (orgstore--stamp-sure-p (list time)))
+        (should (funcall stamp-at open time))
+        (should-not (funcall stamp-at none time))
+        (should (funcall stamp-at open time)))
+      ;; What is older is known.
+      (dolist (time (list (time-add nil -0.03) (time-add (time-convert nil 'integer) -3)))
+        (should (orgstore--stamp-sure-p (list time))))
+      (let ((time (time-add nil -10)) (read 0))
+        (cl-letf* ((find (symbol-function 'orgstore--find-clock))
+                   ((symbol-function 'orgstore--find-clock)
+                    (lambda (it) (setq read (1+ read)) (funcall find it))))
+          (should (funcall stamp-at open time))
+          (should (orgstore--running-clock (file-truename orgstore-test-dir)))
+          (should (= read 1)))))))
+
 (ert-deftest orgstore-test-one-clock-over-two-files ()
   "Clocking in elsewhere closes the first clock by the same step."
   (orgstore-test-store '(("a.org" . "* A\n") ("b.org" . "* D\n** E\n"))

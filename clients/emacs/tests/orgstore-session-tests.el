@@ -12,7 +12,8 @@
 ;; known to be older than it.
 ;;
 ;; ORGSTORE_SEED is the first session's seed, ORGSTORE_SESSIONS how many there are.
-;; A session that fails tells its seed and its steps.
+;; A session that fails tells its seed and its steps, each with Org's time, and what
+;; is unlike the model.  It is the same alone, with tests/stops.c as before.
 
 ;;; Code:
 
@@ -108,7 +109,8 @@
 
 (defun orgstore-test-step (form &rest args)
   "Note a step, as `format' makes it of FORM and ARGS."
-  (push (apply #'format form args) orgstore-test-steps))
+  (push (concat (format-time-string "%H:%M " orgstore-test-now) (apply #'format form args))
+        orgstore-test-steps))
 
 (defun orgstore-test-buffer (name)
   "Return the buffer that visits the file NAME, or nil."
@@ -348,7 +350,12 @@ command may leave, TOUCHED the files that it names, ERR its error or nil."
                    names))
                 results)))
     (unless fits
-      (ert-fail (list 'files left 'wanted results)))
+      (ert-fail (cons 'unlike
+                      (mapcar (lambda (store)
+                                (cl-loop for (file . text) in left
+                                         unless (equal text (funcall wanted store file))
+                                         collect (list file 'is text 'wanted (funcall wanted store file))))
+                              results))))
     (setq orgstore-test-undoable
           (and (not err)
                (cl-loop for (file . text) in left
@@ -380,7 +387,8 @@ RESULT the store of the model after it, or why the model refuses it."
          (buffer (current-buffer))
          err)
     (when stops (delete-directory (concat orgstore-program ".once") t))
-    (orgstore-test-step "%s in %s: %s%s%s" what name (if (symbolp result) result "accepted")
+    (orgstore-test-step "%s in %s%s: %s%s%s" what name (if (buffer-base-buffer) " (indirect)" "")
+                        (if (symbolp result) result "accepted")
                         (if held (format ", %s are held" held) "")
                         (if stops (format ", killed at call %d" stops) ""))
     (setq err (condition-case err
@@ -407,10 +415,15 @@ RESULT the store of the model after it, or why the model refuses it."
   (let* ((word (orgstore-test-one-of '("TODO" "WAIT" "DONE" "CANCELLED" "BUG" "FIXED" nil)))
          (result (orgstore-model-todo bases name path word orgstore-test-now))
          (clocked (and (org-clocking-p) (member word (cdr orgstore-model-states))
-                       (equal (buffer-file-name (marker-buffer org-clock-hd-marker))
+                       (equal (buffer-file-name (marker-buffer org-clock-marker))
                               (orgstore-test-path name))
-                       (= org-clock-hd-marker
-                          (org-with-wide-buffer (ignore-errors (org-back-to-heading t)) (point)))))
+                       ;; An edit may have broken its line, or put another heading above it.
+                       (equal (org-with-wide-buffer (ignore-errors (org-back-to-heading t)) (point))
+                              (org-with-point-at org-clock-marker
+                                (beginning-of-line)
+                                (and (string-match-p orgstore-model-open (orgstore-test-line))
+                                     (ignore-errors (org-back-to-heading t))
+                                     (point))))))
          (both (if (and clocked (not (symbolp result)))
                    (orgstore-model-clock-out result orgstore-test-now)
                  result)))
@@ -509,13 +522,14 @@ Return nil, or how it failed."
                 (orgstore-test-check))
               nil)
           ((error ert-test-failed)
-           (format "session %d, step %d: %S\n  %s\n" seed (length orgstore-test-steps) err
-                   (string-join (reverse orgstore-test-steps) "\n  "))))))))
+           (let ((print-escape-newlines t))
+             (format "session %d failed; again: ORGSTORE_SEED=%d ORGSTORE_SESSIONS=1 tests/emacs PROGRAM session\n  %s\n  %S\n"
+                     seed seed (string-join (reverse orgstore-test-steps) "\n  ") err))))))))
 
 (ert-deftest orgstore-test-random-sessions ()
   "Org, the store, undo and a second Emacs, on three files, against the model."
   (let ((seed (string-to-number (or (getenv "ORGSTORE_SEED") "1")))
-        (count (string-to-number (or (getenv "ORGSTORE_SESSIONS") "100")))
+        (count (string-to-number (or (getenv "ORGSTORE_SESSIONS") "500")))
         (failures nil))
     ;; Its buffer isn't one that a test kills.
     (orgstore-test-other-do t)

@@ -396,8 +396,10 @@ TARGET is nil for the top level, or a path."
 
 ;;;; Clocks
 
-(defconst orgstore-model-open "\\`[ \t]*CLOCK:[ \t]+\\(\\[[0-9]\\{4\\}-[0-9][0-9]-[0-9][0-9] [A-Z][a-z][a-z] \\([0-9]+\\):\\([0-9]+\\)]\\)[ \t\r]*\\'"
-  "An open clock line as the sessions have them.")
+(defconst orgstore-model-open
+  (concat "\\`[ \t]*CLOCK:[ \t]+\\(\\[[0-9]\\{4\\}-[0-9][0-9]-[0-9][0-9]\\(?:[ \t]+[^]>0-9+ \t\n-]+\\)?"
+          "[ \t]+\\([01]?[0-9]\\|2[0-3]\\):\\([0-5][0-9]\\)]\\)[ \t\r]*\\'")
+  "An open clock line as the sessions have them; an edit may have changed its day's name.")
 
 (defun orgstore-model-running (store)
   "Return (NAME PATH LINE) of the running clock of STORE, or nil.

@@ -92,6 +92,15 @@ Each later one is the store's own.  See tests/stops.c."
   (seq-remove #'file-directory-p
               (directory-files temporary-file-directory t "\\`orgstore-")))
 
+(defun orgstore-test-timeless (name)
+  "Return a program that is the store's, and leaves the time of the file NAME.
+So it is where a command writes within one tick of the clock."
+  (orgstore-test-script
+   "timeless"
+   (format "touch -r \"$1/%s\" \"$0.time\"" name)
+   (format "'%s' \"$@\"; status=$?" orgstore-test-program)
+   (format "touch -r \"$0.time\" \"$1/%s\"; exit $status" name)))
+
 ;;;; The store
 
 (defun orgstore-test--close (before)
