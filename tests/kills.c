@@ -1,0 +1,114 @@
+// Preloaded into a program, it kills the program before one of the calls with which it changes the folder KILLS_IN: the one
+// whose number, from 1, is in KILLS_AT. Such a call opens a file for writing, writes or cuts one, renames or deletes. Where
+// KILLS_FROM names a file, calls count from when that one is deleted.
+#define _GNU_SOURCE
+#include <dlfcn.h>
+#include <fcntl.h>
+#include <limits.h>
+#include <signal.h>
+#include <stdarg.h>
+#include <stdio.h>
+#include <stdlib.h>
+#include <string.h>
+#include <unistd.h>
+
+static unsigned long made;
+static int counts;
+
+__attribute__((constructor)) static void start(void) { counts = getenv("KILLS_FROM") == NULL; }
+
+static int is_below(const char *path) {
+    const char *folder = getenv("KILLS_IN");
+    size_t length = folder ? strlen(folder) : 0;
+    return length > 0 && strncmp(path, folder, length) == 0 && path[length] == '/';
+}
+
+// Kills the program, where this call in the folder is the one.
+static void count(void) {
+    const char *at = getenv("KILLS_AT");
+    if (counts && at && ++made == strtoul(at, NULL, 10)) kill(getpid(), SIGKILL);
+}
+
+static void count_file(int file) {
+    char link[64], path[PATH_MAX] = "";
+    snprintf(link, sizeof link, "/proc/self/fd/%d", file);
+    if (readlink(link, path, sizeof path - 1) > 0 && is_below(path)) count();
+}
+
+static void count_path(int folder, const char *path) {
+    char link[64], whole[2 * PATH_MAX] = "";
+    if (path[0] != '/') {
+        snprintf(link, sizeof link, folder == AT_FDCWD ? "/proc/self/cwd" : "/proc/self/fd/%d", folder);
+        if (readlink(link, whole, PATH_MAX - 1) < 0) return;
+        strcat(whole, "/");
+    }
+    strncat(whole, path, PATH_MAX - 1);
+    if (is_below(whole)) count();
+}
+
+static void count_opening(int folder, const char *path, int flags) {
+    if ((flags & O_ACCMODE) != O_RDONLY) count_path(folder, path);
+}
+
+// The call of this type that the library stands before.
+#define REAL(type, name) ((type)dlsym(RTLD_NEXT, name))
+
+static mode_t mode_in(int flags, va_list more) { return flags & O_CREAT ? va_arg(more, mode_t) : 0; }
+
+int open(const char *path, int flags, ...) {
+    va_list more;
+    va_start(more, flags);
+    mode_t mode = mode_in(flags, more);
+    va_end(more);
+    count_opening(AT_FDCWD, path, flags);
+    return REAL(int (*)(const char *, int, ...), "open")(path, flags, mode);
+}
+
+int openat(int folder, const char *path, int flags, ...) {
+    va_list more;
+    va_start(more, flags);
+    mode_t mode = mode_in(flags, more);
+    va_end(more);
+    count_opening(folder, path, flags);
+    return REAL(int (*)(int, const char *, int, ...), "openat")(folder, path, flags, mode);
+}
+
+int open64(const char *path, int flags, ...) __attribute__((alias("open")));
+
+int openat64(int folder, const char *path, int flags, ...) __attribute__((alias("openat")));
+
+ssize_t write(int file, const void *bytes, size_t size) {
+    count_file(file);
+    return REAL(ssize_t (*)(int, const void *, size_t), "write")(file, bytes, size);
+}
+
+ssize_t pwrite(int file, const void *bytes, size_t size, off_t from) {
+    count_file(file);
+    return REAL(ssize_t (*)(int, const void *, size_t, off_t), "pwrite")(file, bytes, size, from);
+}
+
+ssize_t pwrite64(int file, const void *bytes, size_t size, off_t from) __attribute__((alias("pwrite")));
+
+int ftruncate(int file, off_t size) {
+    count_file(file);
+    return REAL(int (*)(int, off_t), "ftruncate")(file, size);
+}
+
+int ftruncate64(int file, off_t size) __attribute__((alias("ftruncate")));
+
+int rename(const char *from, const char *to) {
+    count_path(AT_FDCWD, from);
+    return REAL(int (*)(const char *, const char *), "rename")(from, to);
+}
+
+int renameat2(int folder, const char *from, int other, const char *to, unsigned int flags) {
+    count_path(folder, from);
+    return REAL(int (*)(int, const char *, int, const char *, unsigned int), "renameat2")(folder, from, other, to, flags);
+}
+
+int unlink(const char *path) {
+    const char *from = getenv("KILLS_FROM");
+    if (from && strcmp(path, from) == 0) counts = 1;
+    count_path(AT_FDCWD, path);
+    return REAL(int (*)(const char *), "unlink")(path);
+}
