@@ -1,0 +1,1 @@
+"""The rows of tests/commands, by command."""
